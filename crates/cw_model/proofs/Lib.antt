@@ -1,0 +1,14 @@
+mod Paths
+pub mod Regrouping
+mod Sites
+mod Closure
+pub mod Cutting
+pub mod Terminals
+pub mod Deriving
+pub mod Found
+pub mod Refusing
+pub mod Endings
+pub mod Parts
+mod Halves
+mod LoopTrees
+pub mod Spending

@@ -1,0 +1,49 @@
+-- The serial answer: what the elision of main gives within a limit.
+use Rattle.std.specs.Prelude.{ℕ, suc, ℤ, pos, ◌+ℤ◌, if◌then◌else◌, List, [], ◌∷◌, map, Option, Some, None}
+use Rattle.cw_model.specs.declared.trap.Trap.{Trap}
+use Rattle.cw_model.specs.Syntax.{Name, Param, Reducer, Program}
+use Rattle.cw_model.specs.Names.{same_name}
+use Rattle.cw_model.specs.Frames.{Frame, no_frame, new_int}
+use Rattle.cw_model.specs.Trees.{Tree, Invocation, Marked, tree_of, normal}
+use Rattle.cw_model.specs.Outcome.{Outcome, Done, Trapped, Over}
+use Rattle.cw_model.specs.Meaning.{Returned, Deeper, function_of, call}
+
+-- the run ended, with its value, printed lines, sums and tree in normal form; or it trapped, with the lines printed
+-- before; or its cost passed the limit, and nothing else is fixed
+pub data Answer : Type 0 where
+  Ended : (value : ℤ) (lines sums : List ℤ) (tree : Tree) → Answer
+  TrappedAt : (trap : Trap) (line : ℕ) (lines : List ℤ) → Answer
+  OverLimit : Answer
+
+-- the sum of the additions to a reducer
+abbrev pub sum_to : Name → List (Name × ℤ) → ℤ
+sum_to s [] = pos 0
+sum_to s (a ∷ additions) = if same_name s a.0 then a.1 +ℤ sum_to s additions else sum_to s additions
+
+-- the value of main, which gives one
+abbrev pub int_given : Option ℤ → ℤ
+int_given (Some v) = v
+int_given None = pos 0
+
+-- what an outcome of main comes to
+abbrev pub answer_of : List Reducer → Outcome Returned → Answer
+answer_of reducers (Done returned left t) =
+    Ended (int_given returned.0) t.lines (map (λ r. sum_to r.name t.additions) reducers) (normal (Marked (Invocation 0) (tree_of t.events)))
+answer_of reducers (Trapped trap line lines) = TrappedAt trap line lines
+answer_of reducers Over = OverLimit
+
+-- the arguments by the parameters
+abbrev pub main_frame : List Param → List ℤ → Frame → Frame
+main_frame [] vs frame = frame
+main_frame (p ∷ ps) [] frame = frame
+main_frame (p ∷ ps) (v ∷ vs) frame = main_frame ps vs (new_int p.name v frame)
+
+-- "main"
+abbrev pub main_name : Name
+main_name = 109 ∷ 97 ∷ 105 ∷ 110 ∷ []
+
+-- main on as many arguments as it has parameters, at depth 1, within a limit
+unfoldable pub serial_answer : Program → List ℤ → ℕ → Answer
+serial_answer program args limit =
+    let main = function_of main_name program.functions in
+    answer_of program.reducers (call (suc limit) 0 program.functions Deeper main (main_frame main.params args no_frame) main.line limit)

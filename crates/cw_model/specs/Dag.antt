@@ -1,0 +1,100 @@
+-- The strand dag of a tree: its vertices are the leaves by place, and span is the weight of a heaviest path.
+use Rattle.std.specs.Prelude.{ℕ, ◌+◌, ◌*◌, ◌≤◌, ◌≡◌, List, [], ◌∷◌}
+use Rattle.cw_model.specs.Trees.{Tree, Leaf, Seq, Par, Marked}
+
+-- the way down to a leaf: into the first or the second part of each series and each fork on it
+pub data Place : Type 0 where
+  Here : Place
+  First : Place → Place
+  Second : Place → Place
+
+-- a leaf that nothing comes before
+abbrev pub IsFirst : Tree → Place → Type 0
+IsFirst (Leaf k) Here = Unit {0}
+IsFirst (Leaf k) (First p) = ⊥
+IsFirst (Leaf k) (Second p) = ⊥
+IsFirst (Seq a b) Here = ⊥
+IsFirst (Seq a b) (First p) = IsFirst a p
+IsFirst (Seq a b) (Second p) = ⊥
+IsFirst (Par child rest) Here = ⊥
+IsFirst (Par child rest) (First p) = IsFirst child p
+IsFirst (Par child rest) (Second p) = IsFirst rest p
+IsFirst (Marked mark t) p = IsFirst t p
+
+-- a leaf that nothing comes after
+abbrev pub IsLast : Tree → Place → Type 0
+IsLast (Leaf k) Here = Unit {0}
+IsLast (Leaf k) (First p) = ⊥
+IsLast (Leaf k) (Second p) = ⊥
+IsLast (Seq a b) Here = ⊥
+IsLast (Seq a b) (First p) = ⊥
+IsLast (Seq a b) (Second p) = IsLast b p
+IsLast (Par child rest) Here = ⊥
+IsLast (Par child rest) (First p) = IsLast child p
+IsLast (Par child rest) (Second p) = IsLast rest p
+IsLast (Marked mark t) p = IsLast t p
+
+-- an edge goes from each last leaf of a part to each first leaf of the part after it
+abbrev pub HasEdge : Tree → Place → Place → Type 0
+HasEdge (Seq a b) (First p) (First q) = HasEdge a p q
+HasEdge (Seq a b) (First p) (Second q) = IsLast a p × IsFirst b q
+HasEdge (Seq a b) (Second p) (Second q) = HasEdge b p q
+HasEdge (Par child rest) (First p) (First q) = HasEdge child p q
+HasEdge (Par child rest) (Second p) (Second q) = HasEdge rest p q
+HasEdge (Marked mark t) p q = HasEdge t p q
+HasEdge _ _ _ = ⊥
+
+-- the instructions of a leaf
+abbrev pub weight_at : Tree → Place → ℕ
+weight_at (Leaf k) p = k
+weight_at (Seq a b) (First p) = weight_at a p
+weight_at (Seq a b) (Second p) = weight_at b p
+weight_at (Par child rest) (First p) = weight_at child p
+weight_at (Par child rest) (Second p) = weight_at rest p
+weight_at (Marked mark t) p = weight_at t p
+weight_at _ Here = 0
+
+-- of how many rests a first leaf is the first
+abbrev pub rests_begun : Tree → Place → ℕ
+rests_begun (Seq a b) (First p) = rests_begun a p
+rests_begun (Par child rest) (First p) = rests_begun child p
+rests_begun (Par child rest) (Second p) = rests_begun rest p + 1
+rests_begun (Marked mark t) p = rests_begun t p
+rests_begun _ _ = 0
+
+-- how many rests an edge goes into: it is the continuation edge of so many spawns
+abbrev pub rests_entered : Tree → Place → Place → ℕ
+rests_entered (Seq a b) (First p) (First q) = rests_entered a p q
+rests_entered (Seq a b) (First p) (Second q) = rests_begun b q
+rests_entered (Seq a b) (Second p) (Second q) = rests_entered b p q
+rests_entered (Par child rest) (First p) (First q) = rests_entered child p q
+rests_entered (Par child rest) (Second p) (Second q) = rests_entered rest p q
+rests_entered (Marked mark t) p q = rests_entered t p q
+rests_entered _ _ _ = 0
+
+-- from a leaf along edges through these leaves to a last leaf
+abbrev pub IsWalk : Tree → Place → List Place → Type 0
+IsWalk t p [] = IsLast t p
+IsWalk t p (q ∷ qs) = HasEdge t p q × IsWalk t q qs
+
+-- a walk from a first leaf
+abbrev pub IsPath : Tree → Place → List Place → Type 0
+IsPath t p qs = IsFirst t p × IsWalk t p qs
+
+-- the leaves of a walk, and a burden for each rest that it goes into
+abbrev pub walk_weight : ℕ → Tree → Place → List Place → ℕ
+walk_weight burden t p [] = weight_at t p
+walk_weight burden t p (q ∷ qs) = weight_at t p + burden * rests_entered t p q + walk_weight burden t q qs
+
+-- the leaves of a path, and a burden for each rest that it runs through
+abbrev pub path_weight : ℕ → Tree → Place → List Place → ℕ
+path_weight burden t p qs = burden * rests_begun t p + walk_weight burden t p qs
+
+-- some path weighs so much, and no path weighs more
+pub record IsBurdenedSpan (burden : ℕ) (t : Tree) (s : ℕ) : Type 0 where
+  pub path : (p : Place) × (qs : List Place) × IsPath t p qs × (path_weight burden t p qs ≡ s)
+  pub heaviest : (p : Place) (qs : List Place) → IsPath t p qs → path_weight burden t p qs ≤ s
+
+-- the same with no burden
+abbrev pub IsSpan : Tree → ℕ → Type 0
+IsSpan t s = IsBurdenedSpan 0 t s

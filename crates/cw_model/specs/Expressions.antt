@@ -1,0 +1,80 @@
+-- What an expression gives in the state of a call, and at which cost.
+use Rattle.std.specs.Prelude.{ℕ, ◌+◌, ℤ, pos, negsuc, ◌+ℤ◌, ◌-ℤ◌, ◌*ℤ◌, neg_ℤ, int_lt, int_le, not, if◌then◌else◌, List, length, Option, Some, None, slice_get}
+use Rattle.cw_model.specs.declared.trap.Trap.{Trap}
+use Rattle.cw_model.specs.declared.trap.Trap.TheVariants as trap
+use Rattle.cw_model.specs.Ints.{Result, Value, Fails, exact, truth, quotient, remainder, is_zero, int_eq}
+use Rattle.cw_model.specs.Syntax.{Name, Operator, Equal, Unequal, Less, AtMost, Greater, AtLeast, Plus, Minus, Times, Divide, Modulo, Expr, Number, Variable, Element, Length, Negative, Not, Binary}
+use Rattle.cw_model.specs.Names.{is_among}
+use Rattle.cw_model.specs.Frames.{Frame, int_of, array_of}
+
+-- what an expression comes to, and the cost up to and with the last instruction done
+pub data Evaluated : Type 0 where
+  Gives : (value : ℤ) (cost : ℕ) → Evaluated
+  Traps : (trap : Trap) (cost : ℕ) → Evaluated
+
+-- an instruction is done, or traps
+abbrev pub done_at : ℕ → Result → Evaluated
+done_at cost (Value v) = Gives v cost
+done_at cost (Fails trap) = Traps trap cost
+
+-- one more instruction, on a value
+abbrev pub and_then : Evaluated → (ℤ → Result) → Evaluated
+and_then (Traps trap cost) operation = Traps trap cost
+and_then (Gives v cost) operation = done_at (cost + 1) (operation v)
+
+-- a second expression after the first, and one more instruction on both values
+abbrev pub also : Evaluated → Evaluated → (ℤ → ℤ → Result) → Evaluated
+also (Traps trap cost) second operation = Traps trap cost
+also (Gives v cost) (Traps trap cost') operation = Traps trap (cost + cost')
+also (Gives v cost) (Gives w cost') operation = and_then (Gives w (cost + cost')) (operation v)
+
+-- so many further instructions, which do not trap
+abbrev pub dearer : ℕ → Evaluated → Evaluated
+dearer k (Gives v cost) = Gives v (cost + k)
+dearer k (Traps trap cost) = Traps trap cost
+
+-- the element at an index, where there is one
+abbrev pub element : List ℤ → ℤ → Option ℤ
+element xs (pos i) = slice_get xs i
+element xs (negsuc i) = None
+
+-- an element, or a trap where there is none
+abbrev pub in_bounds : Option ℤ → Result
+in_bounds None = Fails trap.OutOfBounds
+in_bounds (Some v) = Value v
+
+-- a value may be written where there is an element
+abbrev pub written : List ℤ → ℤ → ℤ → Result
+written xs i v = in_place (element xs i)
+  where
+    in_place : Option ℤ → Result
+    in_place None = Fails trap.OutOfBounds
+    in_place (Some w) = Value v
+
+-- an index into an array of a loop around costs two more: the loop's function counts from its own lower end
+abbrev pub index_cost : Frame → Name → ℕ
+index_cost frame a = if is_among a frame.sliced then 2 else 0
+
+-- an operator on two values
+abbrev pub apply : Operator → ℤ → ℤ → Result
+apply Equal a b = truth (int_eq a b)
+apply Unequal a b = truth (not (int_eq a b))
+apply Less a b = truth (int_lt a b)
+apply AtMost a b = truth (int_le a b)
+apply Greater a b = truth (int_lt b a)
+apply AtLeast a b = truth (int_le b a)
+apply Plus a b = exact (a +ℤ b)
+apply Minus a b = exact (a -ℤ b)
+apply Times a b = exact (a *ℤ b)
+apply Divide a b = quotient a b
+apply Modulo a b = remainder a b
+
+-- the value of an expression, or its trap, with the cost
+abbrev pub evaluate : Expr → Frame → Evaluated
+evaluate (Number n) frame = Gives n 1
+evaluate (Variable x) frame = Gives (int_of frame x) 1
+evaluate (Element a e) frame = and_then (dearer (index_cost frame a) (evaluate e frame)) (λ i. in_bounds (element (array_of frame a) i))
+evaluate (Length a) frame = Gives (pos (length (array_of frame a))) 1
+evaluate (Negative e) frame = and_then (evaluate e frame) (λ v. exact (neg_ℤ v))
+evaluate (Not e) frame = and_then (evaluate e frame) (λ v. truth (is_zero v))
+evaluate (Binary operator d e) frame = also (evaluate d frame) (evaluate e frame) (apply operator)

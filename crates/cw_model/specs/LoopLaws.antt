@@ -1,0 +1,77 @@
+-- A loop by halves is the plain loop: the same turns in the same order, with the costs and the tree of the halves.
+use Rattle.std.specs.Prelude.{◌≡◌, ◌<◌, ◌≤◌, ℕ, suc, ◌+◌, ◌-◌, ℤ, pos, ◌+ℤ◌, List, ◌++◌, length, map, flat_map, sum_by}
+use Rattle.cw_model.specs.declared.trap.Trap.{Trap}
+use Rattle.cw_model.specs.Syntax.{Name, Expr, Block, Function}
+use Rattle.cw_model.specs.Trees.{Tree, Series, tree_of, normal}
+use Rattle.cw_model.specs.Frames.{Frame, array_of, new_int, inside_loop, leave}
+use Rattle.cw_model.specs.Outcome.{Trace, Done, Trapped, Piece, ◌>>=◌, gives, value_of, pay, as_one}
+use Rattle.cw_model.specs.Loops.{Turn, TurnsLead, loop_turns, halves, loop_cost, loop_tree}
+use Rattle.cw_model.specs.Meaning.{Calls, Way, going, run_all, frame_of}
+use Rattle.cw_model.specs.Captured.{captured}
+use Rattle.cw_model.specs.Expressions.{evaluate, and_then, Gives}
+use Rattle.cw_model.specs.Ints.{natural}
+
+-- the body of a loop is one part in series, and a turn leaves no more of the budget than it was given
+pub record IsBody (body inner : ℤ → Frame → Piece Frame) : Type 0 where
+  pub in_series : (i : ℤ) (frame : Frame) (left : ℕ) → body i frame left ≡ as_one Series (inner i frame) left
+  pub spends : (i : ℤ) (frame frame' : Frame) (given left : ℕ) (t : Trace) → inner i frame given ≡ Done frame' left t → left ≤ given
+
+-- one turn of a `cilk_for` of the source: its block on a frame with the turn's number, whose own names are gone at its end
+abbrev pub for_turn : Name → List Name → Block → List Function → Calls → ℤ → Frame → Piece Frame
+for_turn x over b fs calls i now = do
+  way ← run_all b fs calls (inside_loop over (new_int x i now))
+  gives (leave now (frame_of way))
+
+-- the body of a `cilk_for`: the block of a turn is one part in series
+abbrev pub for_body : Name → List Name → Block → List Function → Calls → ℤ → Frame → Piece Frame
+for_body x over b fs calls i now = do
+  way ← as_one Series (run_all b fs calls (inside_loop over (new_int x i now)))
+  gives (leave now (frame_of way))
+
+-- a `cilk_for`: its bounds, what it captures, the number of its turns, and the loop by halves of its body as one part in series
+abbrev pub for_piece : Name → (from to : Expr) → (grain : ℕ) → List Name → Block → (line : ℕ) → List Function → Calls → Frame → Piece Way
+for_piece x from to grain over b line fs calls frame = do
+  let k = length (captured x b)
+  lo ← value_of (evaluate from frame) line
+  hi ← value_of (evaluate to frame) line
+  _ ← pay k
+  n ← value_of (and_then (Gives (pos 0) 0) (λ v. loop_turns lo hi (map (array_of frame) over))) line
+  frame' ← as_one Series (halves (suc (natural n)) grain k (length over) (natural n) lo (for_body x over b fs calls) frame)
+  going frame'
+
+-- what turns took of the budget
+abbrev pub spent : List Turn → ℕ
+spent turns = sum_by (λ turn. turn.given - turn.left) turns
+
+-- what turns printed, in order
+abbrev pub lines_of : List Turn → List ℤ
+lines_of turns = flat_map (λ turn. turn.trace.lines) turns
+
+-- what turns added to reducers, in order
+abbrev pub additions_of : List Turn → List (Name × ℤ)
+additions_of turns = flat_map (λ turn. turn.trace.additions) turns
+
+-- the tree of each turn
+abbrev pub trees_of : List Turn → List Tree
+trees_of turns = map (λ turn. tree_of turn.trace.events) turns
+
+-- a loop of n turns that is done did what n turns of the plain loop do in order, at the cost of the halves and in their tree
+pub record RunsAsPlain (inner : ℤ → Frame → Piece Frame) (grain k q n : ℕ) (from : ℤ) (frame : Frame) (left : ℕ) (frame' : Frame) (left' : ℕ) (t : Trace) : Type 0 where
+  pub turns : List Turn
+  pub as_many : length turns ≡ n
+  pub in_order : TurnsLead inner from frame turns frame'
+  pub same_lines : t.lines ≡ lines_of turns
+  pub same_additions : t.additions ≡ additions_of turns
+  pub cost : left ≡ left' + loop_cost grain k q n + spent turns
+  pub tree : normal (tree_of t.events) ≡ normal (loop_tree (suc n) grain k q (trees_of turns))
+
+-- a loop of n turns that traps did what fewer turns of the plain loop do in order, and the turn after them traps so
+pub record TrapsAsPlain (inner : ℤ → Frame → Piece Frame) (n : ℕ) (from : ℤ) (frame : Frame) (trap : Trap) (line : ℕ) (lines : List ℤ) : Type 0 where
+  pub turns : List Turn
+  pub fewer : length turns < n
+  pub reached : Frame
+  pub in_order : TurnsLead inner from frame turns reached
+  pub given : ℕ
+  pub own_lines : List ℤ
+  pub next_traps : inner (from +ℤ pos (length turns)) reached given ≡ Trapped trap line own_lines
+  pub same_lines : lines ≡ lines_of turns ++ own_lines

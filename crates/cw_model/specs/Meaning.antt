@@ -1,0 +1,280 @@
+-- What a program does as its serial elision, within a budget of instructions: a spawn runs its call at once.
+use Rattle.std.specs.Prelude.{ℕ, zero, suc, ◌+◌, false, ℤ, pos, negsuc, ◌+ℤ◌, if◌then◌else◌, nat_lt, List, [], ◌∷◌, ◌++◌, length, drop, take, map, replicate, Option, Some, None, slice_set}
+use Rattle.cw_model.specs.declared.trap.Trap.TheVariants as trap
+use Rattle.cw_model.specs.Limits.{most_elements, most_depth}
+use Rattle.cw_model.specs.Ints.{Result, Value, Fails, is_zero, natural}
+use Rattle.cw_model.specs.Syntax.{Name, Expr, Variable, CallKind, Plain, Spawned, Stmt, Declare, DeclareArray, Assign, AssignElement, AddTo, Call, Start, Begin, Sync, If, IfElse, While, For, Scope, Cut, Region, Print, Return, Block, End, Then, Param, Function}
+use Rattle.cw_model.specs.Names.{same_name}
+use Rattle.cw_model.specs.Captured.{captured}
+use Rattle.cw_model.specs.Frames.{Frame, no_frame, int_of, array_of, set_int, set_array, new_int, new_array, inside_loop, leave, set_result}
+use Rattle.cw_model.specs.Expressions.{Evaluated, Gives, and_then, dearer, written, index_cost, evaluate}
+use Rattle.cw_model.specs.Trees.{Tree, Invocation, Execution, Marked, Event, Series, Fork, Join}
+use Rattle.cw_model.specs.Outcome.{shows, Trapped, Over, Piece, ◌>>=◌, gives, show, pay, value_of, as_one}
+use Rattle.cw_model.specs.Loops.{loop_turns, halves}
+
+-- where a statement leaves off: it goes on, or the call returns
+pub data Way : Type 0 where
+  Onward : Frame → Way
+  Back : Option ℤ → Frame → Way
+
+-- a statement that goes on, and what follows it
+abbrev pub onward : Way → (Frame → Piece Way) → Piece Way
+onward (Onward frame) next = next frame
+onward (Back v frame) next = gives (Back v frame)
+
+-- it goes on with this frame
+abbrev pub going : Frame → Piece Way
+going frame = gives (Onward frame)
+
+-- the frame where a statement leaves off
+abbrev pub frame_of : Way → Frame
+frame_of (Onward frame) = frame
+frame_of (Back v frame) = frame
+
+-- a block whose names are gone at its end
+abbrev pub scoped : Frame → Piece Way → Piece Way
+scoped before piece = do
+  way ← piece
+  onward way (λ frame. going (leave before frame))
+
+-- what the call of a function gives: its value, and the frame that it leaves
+abbrev pub Returned : Type 0
+Returned = Option ℤ × Frame
+
+-- whether a call is one deeper, or that of a loop's function, which is not
+pub data Entry : Type 0 where
+  Deeper : Entry
+  SameDepth : Entry
+
+-- how deep a call is, made at this depth
+abbrev pub depth_of : Entry → ℕ → ℕ
+depth_of Deeper depth = depth + 1
+depth_of SameDepth depth = depth
+
+-- a call of a function on a frame of arguments, in the line of its statement
+abbrev pub Calls : Type 0
+Calls = Entry → Function → Frame → (line : ℕ) → Piece Returned
+
+-- what stands for a function that is not there
+abbrev pub no_function : Function
+no_function = record { name = []; line = 0; gives_int = false; params = []; body = End }
+
+-- the first function of a name
+abbrev pub function_of : Name → List Function → Function
+function_of f [] = no_function
+function_of f (g ∷ gs) = if same_name f g.name then g else function_of f gs
+
+-- the array that stands alone as an argument
+abbrev pub given_array : Expr → Frame → List ℤ
+given_array (Variable a) frame = array_of frame a
+given_array _ frame = []
+
+-- the frame of a call: each integer argument evaluated in turn, and each array whole, at no cost
+abbrev pub arguments : List Param → List Expr → Frame → (line : ℕ) → Frame → Piece Frame
+arguments [] es frame line given = gives given
+arguments (p ∷ ps) [] frame line given = gives given
+arguments (p ∷ ps) (e ∷ es) frame line given =
+    if p.is_array
+    then arguments ps es frame line (new_array p.name (given_array e frame) given)
+    else (do
+      v ← value_of (evaluate e frame) line
+      arguments ps es frame line (new_int p.name v given))
+
+-- the array of one argument stands under its own name again
+abbrev pub returned_array : Param → Expr → Frame → Frame → Frame
+returned_array p (Variable a) callee frame = if p.is_array then set_array a (array_of callee p.name) frame else frame
+returned_array p _ callee frame = frame
+
+-- the arrays of a call stand under their own names again
+abbrev pub returned_arrays : List Param → List Expr → Frame → Frame → Frame
+returned_arrays [] es callee frame = frame
+returned_arrays (p ∷ ps) [] callee frame = frame
+returned_arrays (p ∷ ps) (e ∷ es) callee frame = returned_arrays ps es callee (returned_array p e callee frame)
+
+-- a call stands in series, a spawn beside what follows it
+abbrev pub call_event : CallKind → ℕ → Tree → Event
+call_event Plain site t = Series (Marked (Invocation site) t)
+call_event Spawned site t = Fork (Marked (Invocation site) t)
+
+-- the same of a loop's function, which is no site
+abbrev pub start_event : CallKind → Tree → Event
+start_event Plain t = Series t
+start_event Spawned t = Fork t
+
+-- the turns of a while, at most as many as the bound says
+abbrev pub turns : ℕ → (Frame → Evaluated) → (line : ℕ) → (Frame → Piece Way) → Frame → Piece Way
+turns zero test line body frame = λ left. Over
+turns (suc bound) test line body frame = do
+  v ← value_of (test frame) line
+  _ ← pay 1
+  if is_zero v then going frame else (do
+    way ← body frame
+    onward way (λ frame'. do
+      _ ← pay 1
+      turns bound test line body frame'))
+
+-- the length of a new array
+abbrev pub new_length : ℤ → Result
+new_length (negsuc n) = Fails trap.BadLength
+new_length (pos n) = if nat_lt most_elements n then Fails trap.BadLength else Value (pos n)
+
+-- the place where an array is cut
+abbrev pub cut_place : List ℤ → ℤ → Result
+cut_place xs (negsuc n) = Fails trap.OutOfBounds
+cut_place xs (pos n) = if nat_lt (length xs) n then Fails trap.OutOfBounds else Value (pos n)
+
+-- at a cut's end the array is its left part followed by its right part
+abbrev pub uncut : (a l r : Name) → Frame → Frame → Frame
+uncut a l r before frame = set_array a (array_of frame l ++ array_of frame r) (leave before frame)
+
+-- the frame of a loop's function: its integers, and then its arrays
+abbrev pub loop_frame : List Param → List ℤ → List (List ℤ) → Frame → Frame
+loop_frame [] vs slices given = given
+loop_frame (p ∷ ps) (v ∷ vs) slices given = loop_frame ps vs slices (new_int p.name v given)
+loop_frame (p ∷ ps) [] [] given = given
+loop_frame (p ∷ ps) [] (xs ∷ slices) given = loop_frame ps [] slices (new_array p.name xs given)
+
+-- an array with its elements from a place on replaced by a slice
+abbrev pub with_slice : List ℤ → ℕ → List ℤ → List ℤ
+with_slice xs from slice = take from xs ++ (slice ++ drop (from + length slice) xs)
+
+-- the slices of a loop's function stand in their arrays again
+abbrev pub slices_back : List Name → ℕ → Frame → Frame → Frame
+slices_back [] from callee frame = frame
+slices_back (a ∷ over) from callee frame =
+    slices_back over from callee (set_array a (with_slice (array_of frame a) from (array_of callee a)) frame)
+
+abbrev mutual
+  -- a statement in its line, on a frame
+  pub run : Stmt → ℕ → List Function → Calls → Frame → Piece Way
+  run (Declare x e) line fs calls frame = do
+    v ← value_of (evaluate e frame) line
+    _ ← pay 1
+    going (new_int x v frame)
+  run (DeclareArray a e) line fs calls frame = do
+    v ← value_of (and_then (evaluate e frame) new_length) line
+    going (new_array a (replicate (natural v) (pos 0)) frame)
+  run (Assign x e) line fs calls frame = do
+    v ← value_of (evaluate e frame) line
+    _ ← pay 1
+    going (set_int x v frame)
+  -- the index comes first, and the last instruction tests it
+  run (AssignElement a i e) line fs calls frame = do
+    at ← value_of (dearer (index_cost frame a) (evaluate i frame)) line
+    v ← value_of (and_then (evaluate e frame) (written (array_of frame a) at)) line
+    going (set_array a (slice_set (array_of frame a) (natural at) v) frame)
+  run (AddTo s e) line fs calls frame = do
+    v ← value_of (evaluate e frame) line
+    _ ← pay 1
+    _ ← show (record { lines = []; additions = (s, v) ∷ []; events = [] })
+    going frame
+  run (Call kind site target callee es) line fs calls frame = do
+    let f = function_of callee fs
+    given ← arguments f.params es frame line no_frame
+    _ ← pay 1
+    returned ← as_one (call_event kind site) (calls Deeper f given line)
+    going (set_result target returned.0 (returned_arrays f.params es returned.1 frame))
+  run (Start kind callee es) line fs calls frame = do
+    let f = function_of callee fs
+    given ← arguments f.params es frame line no_frame
+    _ ← pay 1
+    returned ← as_one (start_event kind) (calls SameDepth f given line)
+    going (returned_arrays f.params es returned.1 frame)
+  run (Begin callee from to captured over) line fs calls frame = do
+    lo ← value_of (evaluate from frame) line
+    hi ← value_of (evaluate to frame) line
+    _ ← pay (length captured)
+    n ← value_of (and_then (Gives (pos 0) 0) (λ v. loop_turns lo hi (map (array_of frame) over))) line
+    let f = function_of callee fs
+    let given = loop_frame f.params (lo ∷ (lo +ℤ n) ∷ map (int_of frame) captured) (map (λ a. take (natural n) (drop (natural lo) (array_of frame a))) over) no_frame
+    returned ← as_one Series (calls SameDepth f given line)
+    going (slices_back over (natural lo) returned.1 frame)
+  -- the instruction of a sync comes after the join
+  run Sync line fs calls frame = do
+    _ ← show (shows (Join ∷ []))
+    _ ← pay 1
+    going frame
+  run (If e b) line fs calls frame = do
+    v ← value_of (evaluate e frame) line
+    _ ← pay 1
+    if is_zero v then going frame else scoped frame (run_all b fs calls frame)
+  run (IfElse e b c) line fs calls frame = do
+    v ← value_of (evaluate e frame) line
+    _ ← pay 1
+    if is_zero v then scoped frame (run_all c fs calls frame) else (do
+      way ← scoped frame (run_all b fs calls frame)
+      onward way (λ frame'. do
+        _ ← pay 1
+        going frame'))
+  -- each turn costs at least one, so that there are no more turns than the budget
+  run (While e b) line fs calls frame =
+      λ left. turns (suc left) (evaluate e) line (λ frame'. scoped frame' (run_all b fs calls frame')) frame left
+  run (For x y z from to grain over b) line fs calls frame = do
+    let k = length (captured x b)
+    lo ← value_of (evaluate from frame) line
+    hi ← value_of (evaluate to frame) line
+    _ ← pay k
+    n ← value_of (and_then (Gives (pos 0) 0) (λ v. loop_turns lo hi (map (array_of frame) over))) line
+    frame' ← as_one Series (halves (suc (natural n)) grain k (length over) (natural n) lo (λ i now. do
+      way ← as_one Series (run_all b fs calls (inside_loop over (new_int x i now)))
+      gives (leave now (frame_of way))) frame)
+    going frame'
+  run (Scope b) line fs calls frame = do
+    _ ← pay 1
+    way ← as_one Series (scoped frame (run_all b fs calls frame))
+    onward way (λ frame'. do
+      _ ← pay 1
+      going frame')
+  run (Cut a e l r b) line fs calls frame = do
+    v ← value_of (and_then (evaluate e frame) (cut_place (array_of frame a))) line
+    let xs = array_of frame a
+    let inside = new_array r (drop (natural v) xs) (new_array l (take (natural v) xs) frame)
+    way ← as_one Series (scoped inside (run_all b fs calls inside))
+    onward way (λ frame'. do
+      _ ← pay 1
+      going (uncut a l r frame frame'))
+  -- the two instructions of a region lie outside it
+  run (Region tag b) line fs calls frame = do
+    _ ← pay 1
+    way ← as_one (λ t. Series (Marked (Execution tag) t)) (scoped frame (run_all b fs calls frame))
+    onward way (λ frame'. do
+      _ ← pay 1
+      going frame')
+  run (Print e) line fs calls frame = do
+    v ← value_of (evaluate e frame) line
+    _ ← pay 1
+    _ ← show (record { lines = v ∷ []; additions = []; events = [] })
+    going frame
+  run (Return None) line fs calls frame = do
+    _ ← show (shows (Join ∷ []))
+    _ ← pay 1
+    gives (Back None frame)
+  -- the expression of a return is counted before the join
+  run (Return (Some e)) line fs calls frame = do
+    v ← value_of (evaluate e frame) line
+    _ ← show (shows (Join ∷ []))
+    _ ← pay 1
+    gives (Back (Some v) frame)
+
+  -- the statements of a block in order
+  pub run_all : Block → List Function → Calls → Frame → Piece Way
+  run_all End fs calls frame = going frame
+  run_all (Then line s b) fs calls frame = do
+    way ← run s line fs calls frame
+    onward way (λ frame'. run_all b fs calls frame')
+
+-- what a function's body leaves: its value, and the frame for the arrays that go back; its end joins
+abbrev pub end_of_call : Way → Piece Returned
+end_of_call (Back v frame) = gives (v, frame)
+end_of_call (Onward frame) = do
+  _ ← show (shows (Join ∷ []))
+  _ ← pay 1
+  gives (None, frame)
+
+-- a call from this depth; each call costs one, so that no more than the budget stand inside one another
+unfoldable pub call : (bound depth : ℕ) → List Function → Calls
+call zero depth fs entry f given line = λ left. Over
+call (suc bound) depth fs entry f given line =
+    if nat_lt most_depth (depth_of entry depth) then (λ left. Trapped trap.TooDeep line []) else (do
+      way ← run_all f.body fs (λ e g given' line' left. call bound (depth_of entry depth) fs e g given' line' left) given
+      end_of_call way)

@@ -1,0 +1,162 @@
+-- The texts that are reported, byte by byte.
+use Rattle.std.specs.Prelude.{ℕ, ◌+◌, ◌*◌, ◌/◌, ◌%◌, zero, suc, ℤ, List, [], ◌∷◌, ◌++◌, flat_map, codes, decimal}
+use Rattle.std.specs.Fmt.{signed_decimal}
+use Rattle.cw_model.specs.Syntax.{Name, CallKind, Plain, Spawned, Stmt, Call, If, IfElse, While, For, Scope, Cut, Region, Block, End, Then, Reducer, Program}
+use Rattle.cw_model.specs.Names.{new_names}
+use Rattle.cw_model.specs.Trees.{Tree, work, span, burdened_span}
+use Rattle.cw_model.specs.Rows.{site_row, region_row}
+use Rattle.cw_model.specs.Meaning.{function_of}
+use Rattle.cw_model.specs.Answers.{Answer, Ended, TrappedAt, OverLimit, main_name}
+
+-- what is asked for
+pub data Mode : Type 0 where
+  Check : Mode
+  Run : Mode
+  Scale : Mode
+  Sites : Mode
+
+-- LF
+abbrev pub end_of_line : List ℕ
+end_of_line = 10 ∷ []
+
+-- fields with commas between them, and the end of the line
+abbrev pub csv_line : List (List ℕ) → List ℕ
+csv_line [] = end_of_line
+csv_line (field ∷ []) = field ++ end_of_line
+csv_line (field ∷ next ∷ fields) = field ++ (codes "," ++ csv_line (next ∷ fields))
+
+-- of a source that is accepted
+abbrev pub check_text : List ℕ
+check_text = codes "ok" ++ end_of_line
+
+-- a number on a line
+abbrev pub value_line : ℤ → List ℕ
+value_line v = signed_decimal v ++ end_of_line
+
+-- the sum of each reducer on a line
+abbrev pub sum_lines : List Reducer → List ℤ → List ℕ
+sum_lines [] sums = []
+sum_lines (r ∷ rs) [] = []
+sum_lines (r ∷ rs) (v ∷ vs) = codes "sum " ++ (r.name ++ (codes " = " ++ (value_line v ++ sum_lines rs vs)))
+
+-- of a plain run: the printed lines, the sums and the value; before a trap the printed lines alone
+abbrev pub run_text : Program → Answer → List ℕ
+run_text program (Ended v lines sums t) =
+    flat_map value_line lines ++ (sum_lines program.reducers sums ++ (codes "return " ++ value_line v))
+run_text program (TrappedAt trap line lines) = flat_map value_line lines
+run_text program OverLimit = []
+
+-- a number below 1000 in three digits
+abbrev pub three_digits : ℕ → List ℕ
+three_digits n = (48 + n / 100) ∷ (48 + n / 10 % 10) ∷ (48 + n % 10) ∷ []
+
+-- so many thousandths
+abbrev pub thousandths : ℕ → List ℕ
+thousandths n = decimal (n / 1000) ++ (codes "." ++ three_digits (n % 1000))
+
+-- work by span to three digits, rounded down
+abbrev pub parallelism : ℕ → ℕ → List ℕ
+parallelism work zero = codes "0.000"
+parallelism work (suc span) = thousandths (1000 * work / suc span)
+
+-- the names of the columns
+abbrev pub scale_header : List ℕ
+scale_header = codes "tag,work,span,parallelism,burdened_span,burdened_parallelism" ++ end_of_line
+
+-- a row of the scale report
+abbrev pub scale_line : Name → (work span burdened : ℕ) → List ℕ
+scale_line tag work span burdened =
+    csv_line (tag ∷ decimal work ∷ decimal span ∷ parallelism work span ∷ decimal burdened ∷ parallelism work burdened ∷ [])
+
+abbrev mutual
+  -- the tags in a statement, by place
+  pub tags_in : Stmt → List Name
+  tags_in (If e b) = tags_in_block b
+  tags_in (IfElse e b c) = tags_in_block b ++ tags_in_block c
+  tags_in (While e b) = tags_in_block b
+  tags_in (For x y z from to grain over b) = tags_in_block b
+  tags_in (Scope b) = tags_in_block b
+  tags_in (Cut a e l r b) = tags_in_block b
+  tags_in (Region tag b) = tag ∷ tags_in_block b
+  tags_in _ = []
+
+  -- the same of a block
+  pub tags_in_block : Block → List Name
+  tags_in_block End = []
+  tags_in_block (Then line s b) = tags_in s ++ tags_in_block b
+
+-- the different tags of a program, by their first place
+abbrev pub tags_of : Program → List Name
+tags_of program = new_names (flat_map (λ f. tags_in_block f.body) program.functions) []
+
+-- the row of a tag
+abbrev pub region_line : ℕ → Tree → Name → List ℕ
+region_line burden t tag = let row = region_row burden tag t in scale_line tag row.work row.span row.burdened
+
+-- the whole program, with an empty tag, and then each tag of the source
+abbrev pub scale_text : Program → ℕ → Answer → List ℕ
+scale_text program burden (Ended v lines sums t) =
+    scale_header ++ (scale_line [] (work t) (span t) (burdened_span burden t) ++ flat_map (region_line burden t) (tags_of program))
+scale_text program burden (TrappedAt trap line lines) = []
+scale_text program burden OverLimit = []
+
+-- a site: the root, or a call statement of the source
+pub record CallSite : Type 0 where
+  pub number : ℕ
+  pub kind : List ℕ
+  pub line : ℕ
+  pub callee : Name
+
+-- how a kind of call is written
+abbrev pub kind_text : CallKind → List ℕ
+kind_text Plain = codes "call"
+kind_text Spawned = codes "spawn"
+
+abbrev mutual
+  -- the call statements in a statement of a line, by place
+  pub sites_in : ℕ → Stmt → List CallSite
+  sites_in line (Call kind site target callee es) = record { number = site; kind = kind_text kind; line = line; callee = callee } ∷ []
+  sites_in line (If e b) = sites_in_block b
+  sites_in line (IfElse e b c) = sites_in_block b ++ sites_in_block c
+  sites_in line (While e b) = sites_in_block b
+  sites_in line (For x y z from to grain over b) = sites_in_block b
+  sites_in line (Scope b) = sites_in_block b
+  sites_in line (Cut a e l r b) = sites_in_block b
+  sites_in line (Region tag b) = sites_in_block b
+  sites_in line _ = []
+
+  -- the same of a block
+  pub sites_in_block : Block → List CallSite
+  sites_in_block End = []
+  sites_in_block (Then line s b) = sites_in line s ++ sites_in_block b
+
+-- the call statements of a program
+abbrev pub call_sites : Program → List CallSite
+call_sites program = flat_map (λ f. sites_in_block f.body) program.functions
+
+-- the invocation of main by the run itself
+abbrev pub root_site : Program → CallSite
+root_site program = record { number = 0; kind = codes "root"; line = (function_of main_name program.functions).line; callee = main_name }
+
+-- the names of the columns
+abbrev pub sites_header : List ℕ
+sites_header = codes "site,kind,line,callee,calls,own_work,own_span,work,span" ++ end_of_line
+
+-- the row of a site
+abbrev pub site_line : Tree → CallSite → List ℕ
+site_line t s =
+    let row = site_row s.number t in
+    csv_line (decimal s.number ∷ s.kind ∷ decimal s.line ∷ s.callee ∷ decimal row.calls ∷ decimal row.own_work ∷ decimal row.own_span ∷ decimal row.work ∷ decimal row.span ∷ [])
+
+-- the root, and then each call statement
+abbrev pub sites_text : Program → Answer → List ℕ
+sites_text program (Ended v lines sums t) = sites_header ++ flat_map (site_line t) (root_site program ∷ call_sites program)
+sites_text program (TrappedAt trap line lines) = []
+sites_text program OverLimit = []
+
+-- the text of a report
+abbrev pub report_text : Mode → Program → (burden : ℕ) → Answer → List ℕ
+report_text Check program burden answer = check_text
+report_text Run program burden answer = run_text program answer
+report_text Scale program burden answer = scale_text program burden answer
+report_text Sites program burden answer = sites_text program answer

@@ -1,0 +1,89 @@
+-- The source program as a tree.
+use Rattle.std.specs.Prelude.{ℕ, ℤ, Bool, List, Option}
+
+-- a name by its bytes
+abbrev pub Name : Type 0
+Name = List ℕ
+
+-- an operator between two operands
+pub data Operator : Type 0 where
+  Equal : Operator
+  Unequal : Operator
+  Less : Operator
+  AtMost : Operator
+  Greater : Operator
+  AtLeast : Operator
+  Plus : Operator
+  Minus : Operator
+  Times : Operator
+  Divide : Operator
+  Modulo : Operator
+
+-- an expression
+pub data Expr : Type 0 where
+  Number : ℤ → Expr
+  Variable : Name → Expr
+  Element : Name → Expr → Expr
+  Length : Name → Expr
+  Negative : Expr → Expr
+  Not : Expr → Expr
+  Binary : Operator → Expr → Expr → Expr
+
+-- whether a call may run beside what follows it
+pub data CallKind : Type 0 where
+  Plain : CallKind
+  Spawned : CallKind
+
+mutual
+  -- a statement
+  pub data Stmt : Type 0 where
+    Declare : Name → Expr → Stmt
+    DeclareArray : Name → Expr → Stmt
+    Assign : Name → Expr → Stmt
+    AssignElement : Name → Expr → Expr → Stmt
+    AddTo : Name → Expr → Stmt
+    -- call statements are numbered from 1 by place: each is a site
+    Call : (kind : CallKind) (site : ℕ) (target : Option Name) (callee : Name) → List Expr → Stmt
+    -- a call by the function that a loop was lowered to of itself: with no site and no depth of its own
+    Start : (kind : CallKind) (callee : Name) → List Expr → Stmt
+    -- the first call of the function that a loop was lowered to, on a range and on the slices of its arrays there
+    Begin : (callee : Name) (from to : Expr) (captured over : List Name) → Stmt
+    Sync : Stmt
+    If : Expr → Block → Stmt
+    IfElse : Expr → Block → Block → Stmt
+    While : Expr → Block → Stmt
+    -- the three names of a loop's head: typing asks that they are one
+    For : (variable tested stepped : Name) (from to : Expr) (grain : ℕ) (over : List Name) → Block → Stmt
+    Scope : Block → Stmt
+    Cut : (array : Name) (at : Expr) (left right : Name) → Block → Stmt
+    Region : (tag : Name) → Block → Stmt
+    Print : Expr → Stmt
+    Return : Option Expr → Stmt
+
+  -- statements in order, each with the line of its first token
+  pub data Block : Type 0 where
+    End : Block
+    Then : (line : ℕ) → Stmt → Block → Block
+
+-- a parameter
+pub record Param : Type 0 where
+  pub name : Name
+  pub is_array : Bool
+
+-- a function, with the line of its name
+pub record Function : Type 0 where
+  pub name : Name
+  pub line : ℕ
+  pub gives_int : Bool
+  pub params : List Param
+  pub body : Block
+
+-- a reducer that sums, with the line of its first token
+pub record Reducer : Type 0 where
+  pub name : Name
+  pub line : ℕ
+
+-- a source: its reducers and its functions, each in their order
+pub record Program : Type 0 where
+  pub reducers : List Reducer
+  pub functions : List Function

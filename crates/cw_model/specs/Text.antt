@@ -1,0 +1,42 @@
+-- The text of a source, and its lines.
+use Rattle.std.specs.Prelude.{◌≡◌, ℕ, ◌+◌, ◌-◌, ◌<◌, ◌≤◌, List, length, take, drop, All, slice_index, count_by, ◌==◌}
+use Rattle.cw_model.specs.Limits.{most_source_bytes}
+
+-- each byte is ASCII
+abbrev pub IsAscii : List ℕ → Type 0
+IsAscii bytes = All (λ b. b < 128) bytes
+
+-- what a source can be: ASCII, within its length
+pub record IsSourceText (bytes : List ℕ) : Type 0 where
+  pub short : length bytes ≤ most_source_bytes
+  pub ascii : IsAscii bytes
+
+-- the line of a place: 1 and the LF bytes before it
+abbrev pub line_at : List ℕ → ℕ → ℕ
+line_at text at = 1 + count_by (λ b. b == 10) (take at text)
+
+-- the line of a text's end
+abbrev pub end_line : List ℕ → ℕ
+end_line text = 1 + count_by (λ b. b == 10) text
+
+-- the bytes from one place up to another
+abbrev pub between : List ℕ → ℕ → ℕ → List ℕ
+between text from to = take (to - from) (drop from text)
+
+-- the first byte that is not ASCII
+pub record IsFirstAbove (bytes : List ℕ) (at : ℕ) : Type 0 where
+  pub within : at < length bytes
+  pub above : 128 ≤ slice_index bytes at
+  pub before : (k : ℕ) → k < at → slice_index bytes k < 128
+
+-- bytes that are too many for a source count at line 1, before every other fault
+pub record IsTooLong (bytes : List ℕ) (line : ℕ) : Type 0 where
+  pub long : most_source_bytes < length bytes
+  pub first : line ≡ 1
+
+-- a byte above 127 counts at its line, before every other fault but bytes that are too many
+pub record IsNotAscii (bytes : List ℕ) (line : ℕ) : Type 0 where
+  pub short : length bytes ≤ most_source_bytes
+  pub at : ℕ
+  pub above : IsFirstAbove bytes at
+  pub same_line : line ≡ line_at bytes at

@@ -1,0 +1,31 @@
+-- What the normal form of a tree keeps, and which trees have the same one.
+use Rattle.std.specs.Prelude.{◌≡◌, ℕ, ◌+◌, sum_by}
+use Rattle.std.specs.List.{range_with_len}
+use Rattle.cw_model.specs.Syntax.{Name}
+use Rattle.cw_model.specs.Trees.{Mark, Tree, Leaf, Seq, Par, Marked, work, span, burdened_span}
+use Rattle.cw_model.specs.Rows.{site_row, region_row}
+
+-- trees that differ only in how series are grouped, how strands are cut, and where strands of no instructions stand
+pub data Regrouped : Tree → Tree → Type 0 where
+  same : (t : Tree) → Regrouped t t
+  back : {t u : Tree} → Regrouped t u → Regrouped u t
+  further : {t u v : Tree} → Regrouped t u → Regrouped u v → Regrouped t v
+  to_the_right : (a b c : Tree) → Regrouped (Seq (Seq a b) c) (Seq a (Seq b c))
+  as_one_strand : (j k : ℕ) → Regrouped (Seq (Leaf j) (Leaf k)) (Leaf (j + k))
+  nothing_before : (t : Tree) → Regrouped (Seq (Leaf 0) t) t
+  nothing_after : (t : Tree) → Regrouped (Seq t (Leaf 0)) t
+  in_series : {a a' b b' : Tree} → Regrouped a a' → Regrouped b b' → Regrouped (Seq a b) (Seq a' b')
+  in_fork : {child child' rest rest' : Tree} → Regrouped child child' → Regrouped rest rest' → Regrouped (Par child rest) (Par child' rest')
+  in_mark : {t t' : Tree} → (mark : Mark) → Regrouped t t' → Regrouped (Marked mark t) (Marked mark t')
+
+-- all that is read off two trees is the same: work, burdened spans, and the rows of every site and every region
+pub record ReadSame (t u : Tree) : Type 0 where
+  pub same_work : work t ≡ work u
+  pub same_span : (burden : ℕ) → burdened_span burden t ≡ burdened_span burden u
+  pub same_site_row : (site : ℕ) → site_row site t ≡ site_row site u
+  pub same_region_row : (burden : ℕ) (tag : Name) → region_row burden tag t ≡ region_row burden tag u
+
+-- the own work of the sites below a number adds up to the work of a tree, and their own span to its span
+pub record SitesAddUp (count : ℕ) (t : Tree) : Type 0 where
+  pub work_adds_up : sum_by (λ site. (site_row site t).own_work) (range_with_len 0 count) ≡ work t
+  pub span_adds_up : sum_by (λ site. (site_row site t).own_span) (range_with_len 0 count) ≡ span t

@@ -1,0 +1,197 @@
+-- Names, kinds and returns: which lines of a program break a rule.
+use Rattle.std.specs.Prelude.{◌≡◌, ℕ, Bool, true, false, not, ◌&&◌, ◌||◌, nat_le, if◌then◌else◌, List, [], ◌∷◌, ◌++◌, Option, Some, None, flat_map, map}
+use Rattle.std.specs.List.{list_any, list_all}
+use Rattle.cw_model.specs.Limits.{most_grain}
+use Rattle.cw_model.specs.Lines.{unless}
+use Rattle.cw_model.specs.Syntax.{Name, Expr, Number, Variable, Element, Length, Negative, Not, Binary, Stmt, Declare, DeclareArray, Assign, AssignElement, AddTo, Call, Start, Begin, Sync, If, IfElse, While, For, Scope, Cut, Region, Print, Return, Block, End, Then, Param, Function, Program}
+use Rattle.cw_model.specs.Names.{same_name, is_among, differ}
+use Rattle.cw_model.specs.Answers.{main_name}
+
+-- the local names that are known, the newest first, and whether each is an array
+abbrev pub Known : Type 0
+Known = List (Name × Bool)
+
+-- the newest name that is spelled so is an array, or an integer
+abbrev pub is_known : Name → Bool → Known → Bool
+is_known x array [] = false
+is_known x array (k ∷ ks) = if same_name x k.0 then (if array then k.1 else not k.1) else is_known x array ks
+
+-- a known integer
+abbrev pub is_int : Known → Name → Bool
+is_int known x = is_known x false known
+
+-- a known array
+abbrev pub is_array : Known → Name → Bool
+is_array known a = is_known a true known
+
+-- the names of functions and reducers
+abbrev pub globals : Program → List Name
+globals program = map (λ f. f.name) program.functions ++ map (λ r. r.name) program.reducers
+
+-- a name that may be declared: it is not known, and no function or reducer has it
+abbrev pub is_new : Program → Known → Name → Bool
+is_new program known x = not (is_among x (map (λ k. k.0) known) || is_among x (globals program))
+
+-- an expression of integers
+abbrev pub is_fine : Known → Expr → Bool
+is_fine known (Number n) = true
+is_fine known (Variable x) = is_int known x
+is_fine known (Element a e) = is_array known a && is_fine known e
+is_fine known (Length a) = is_array known a
+is_fine known (Negative e) = is_fine known e
+is_fine known (Not e) = is_fine known e
+is_fine known (Binary operator d e) = is_fine known d && is_fine known e
+
+-- an array alone for an array, and an expression for an integer
+abbrev pub is_argument : Known → Bool → Expr → Bool
+is_argument known false e = is_fine known e
+is_argument known true (Variable a) = is_array known a
+is_argument known true _ = false
+
+-- one argument for each parameter
+abbrev pub are_arguments : Known → List Param → List Expr → Bool
+are_arguments known [] [] = true
+are_arguments known (p ∷ ps) (e ∷ es) = is_argument known p.is_array e && are_arguments known ps es
+are_arguments known _ _ = false
+
+-- the first function of a name, if there is one
+abbrev pub called : Name → List Function → Option Function
+called f [] = None
+called f (g ∷ gs) = if same_name f g.name then Some g else called f gs
+
+-- the target of a call is an integer, and the function gives one
+abbrev pub is_target : Known → Function → Option Name → Bool
+is_target known f None = true
+is_target known f (Some x) = is_int known x && f.gives_int
+
+-- a call of a function that is there and is not main
+abbrev pub is_call : Known → Option Name → Option Function → List Expr → Bool
+is_call known target None es = false
+is_call known target (Some f) es = is_target known f target && are_arguments known f.params es && not (same_name f.name main_name)
+
+-- a reducer of the program
+abbrev pub is_reducer : Program → Name → Bool
+is_reducer program s = is_among s (map (λ r. r.name) program.reducers)
+
+abbrev mutual
+  -- a return, or an if with two branches that surely return
+  pub surely_returns : Stmt → Bool
+  surely_returns (Return e) = true
+  surely_returns (IfElse e b c) = block_returns b && block_returns c
+  surely_returns _ = false
+
+  -- its last statement does
+  pub block_returns : Block → Bool
+  block_returns End = false
+  block_returns (Then line s End) = surely_returns s
+  block_returns (Then line s b) = block_returns b
+
+-- which returns may stand here: none, those with an integer, or those without
+pub data Returns : Type 0 where
+  Nowhere : Returns
+  WithInt : Returns
+  Alone : Returns
+
+-- this return may stand here
+abbrev pub may_return : Returns → Known → Option Expr → Bool
+may_return WithInt known (Some e) = is_fine known e
+may_return Alone known None = true
+may_return _ known _ = false
+
+-- the names that are known after a statement
+abbrev pub declares : Stmt → Known → Known
+declares (Declare x e) known = (x, false) ∷ known
+declares (DeclareArray a e) known = (a, true) ∷ known
+declares _ known = known
+
+-- the three names of a loop's head are one new name, its ends are integers, its grain is in range, and it is over arrays
+abbrev pub is_head_of_loop : Program → Known → (variable tested stepped : Name) → (from to : Expr) → (grain : ℕ) → (over : List Name) → Bool
+is_head_of_loop program known x y z from to grain over =
+    is_new program known x && same_name y x && same_name z x && is_fine known from && is_fine known to
+    && nat_le 1 grain && nat_le grain most_grain && list_all (λ a. is_array known a) over
+
+-- an array is cut at an integer into two new names that differ
+abbrev pub is_cut : Program → Known → (a : Name) → Expr → (l r : Name) → Bool
+is_cut program known a e l r =
+    is_array known a && is_fine known e && is_new program known l && is_new program known r && not (same_name l r)
+
+-- nothing follows
+abbrev pub ends_block : Block → Bool
+ends_block End = true
+ends_block (Then line s b) = false
+
+abbrev mutual
+  -- the lines of the statements that break a rule, in a statement of a line
+  pub faults_in : Program → Returns → Known → ℕ → Stmt → List ℕ
+  faults_in program returns known line (Declare x e) = unless (is_fine known e && is_new program known x) line
+  faults_in program returns known line (DeclareArray a e) = unless (is_fine known e && is_new program known a) line
+  faults_in program returns known line (Assign x e) = unless (is_int known x && is_fine known e) line
+  faults_in program returns known line (AssignElement a i e) = unless (is_array known a && is_fine known i && is_fine known e) line
+  faults_in program returns known line (AddTo s e) = unless (is_reducer program s && is_fine known e) line
+  faults_in program returns known line (Call kind site target f es) = unless (is_call known target (called f program.functions) es) line
+  -- no source has one
+  faults_in program returns known line (Start kind callee es) = line ∷ []
+  faults_in program returns known line (Begin callee from to captured over) = line ∷ []
+  faults_in program returns known line Sync = []
+  faults_in program returns known line (If e b) = unless (is_fine known e) line ++ faults_in_block program returns known b
+  faults_in program returns known line (IfElse e b c) =
+      unless (is_fine known e) line ++ (faults_in_block program returns known b ++ faults_in_block program returns known c)
+  faults_in program returns known line (While e b) = unless (is_fine known e) line ++ faults_in_block program returns known b
+  faults_in program returns known line (For x y z from to grain over b) =
+      unless (is_head_of_loop program known x y z from to grain over) line ++ faults_in_block program Nowhere ((x, false) ∷ known) b
+  faults_in program returns known line (Scope b) = faults_in_block program Nowhere known b
+  faults_in program returns known line (Cut a e l r b) =
+      unless (is_cut program known a e l r) line ++ faults_in_block program Nowhere ((r, true) ∷ (l, true) ∷ known) b
+  faults_in program returns known line (Region tag b) = faults_in_block program Nowhere known b
+  faults_in program returns known line (Print e) = unless (is_fine known e) line
+  faults_in program returns known line (Return e) = unless (may_return returns known e) line
+
+  -- in a block, where a statement that surely returns is the last one
+  pub faults_in_block : Program → Returns → Known → Block → List ℕ
+  faults_in_block program returns known End = []
+  faults_in_block program returns known (Then line s b) =
+      faults_in program returns known line s
+      ++ (unless (not (surely_returns s) || ends_block b) line ++ faults_in_block program returns (declares s known) b)
+
+-- the parameters, the last one first
+abbrev pub known_of : List Param → Known
+known_of [] = []
+known_of (p ∷ ps) = known_of ps ++ (p.name, p.is_array) ∷ []
+
+-- its parameters are new names that differ, an int function surely returns, and main is an int function of integers
+abbrev pub is_head : Program → Function → Bool
+is_head program f =
+    differ (map (λ p. p.name) f.params) && not (list_any (λ p. is_among p.name (globals program)) f.params) && (not f.gives_int || block_returns f.body)
+    && (not (same_name f.name main_name) || (f.gives_int && not (list_any (λ p. p.is_array) f.params)))
+
+-- the lines that break a rule in a function
+abbrev pub faults_of : Program → Function → List ℕ
+faults_of program f =
+    unless (is_head program f) f.line
+    ++ faults_in_block program (if f.gives_int then WithInt else Alone) (known_of f.params) f.body
+
+-- the lines of names that an earlier one equals
+abbrev pub repeated : List (Name × ℕ) → List Name → List ℕ
+repeated [] earlier = []
+repeated (d ∷ ds) earlier = unless (not (is_among d.0 earlier)) d.1 ++ repeated ds (d.0 ∷ earlier)
+
+-- of a reducer and each function of its name the later line
+abbrev pub of_both_kinds : List (Name × ℕ) → (Name × ℕ) → List ℕ
+of_both_kinds [] d = []
+of_both_kinds (e ∷ es) d = unless (not (same_name d.0 e.0)) (if nat_le d.1 e.1 then e.1 else d.1) ++ of_both_kinds es d
+
+-- the lines of functions and reducers whose name an earlier one has
+abbrev pub repeated_names : Program → List ℕ
+repeated_names program =
+    let functions = map (λ f. (f.name, f.line)) program.functions in
+    let reducers = map (λ r. (r.name, r.line)) program.reducers in
+    repeated functions [] ++ (repeated reducers [] ++ flat_map (of_both_kinds functions) reducers)
+
+-- all lines that break a rule; a missing main counts as line 1
+abbrev pub type_faults : Program → List ℕ
+type_faults program =
+    unless (is_among main_name (map (λ f. f.name) program.functions)) 1 ++ (repeated_names program ++ flat_map (faults_of program) program.functions)
+
+-- no line breaks a rule
+abbrev pub IsWellTyped : Program → Type 0
+IsWellTyped program = type_faults program ≡ []

@@ -1,0 +1,43 @@
+//! Worked examples, each proved by computing.
+
+ghost use Rattle.cw_model.specs.Examples.{CallExamples, ArrayExamples, DeepExamples, ChainExamples, FaultExamples, LimitExamples, TreeExamples, SizeExamples};
+
+/// Calls, spawns, prints, sums, operators and regions: texts, costs, traps and limits.
+pub fn calls_and_sums()
+    ensures { CallExamples }
+{}
+
+/// Arrays, cuts and loops: texts, costs, traps and limits.
+pub fn arrays_and_loops()
+    ensures { ArrayExamples }
+{}
+
+/// Calls and signs far inside one another.
+pub fn deep_calls()
+    ensures { DeepExamples }
+{}
+
+/// A chain of calls, each spawned by the one before.
+pub fn long_chains()
+    ensures { ChainExamples }
+{}
+
+/// What is accepted, and the lines at which other programs are refused.
+pub fn refusals()
+    ensures { FaultExamples }
+{}
+
+/// The lines at which limits are passed.
+pub fn limits()
+    ensures { LimitExamples }
+{}
+
+/// The strand tree of a run.
+pub fn strand_trees()
+    ensures { TreeExamples }
+{}
+
+/// Static sizes and counts of call statements.
+pub fn static_sizes()
+    ensures { SizeExamples }
+{}

@@ -1,0 +1,11 @@
+//! What the language means, what is counted, and worked examples that compute.
+#![tactic(auto)]
+
+pub mod examples;
+pub mod laws;
+pub mod monoid;
+#[cfg(test)]
+mod tests;
+pub mod texts;
+pub mod token;
+pub mod trap;
