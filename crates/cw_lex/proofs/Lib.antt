@@ -1,0 +1,10 @@
+pub mod Apart
+pub mod Fronts
+pub mod Grow
+pub mod Lines
+pub mod Longest
+pub mod Reached
+pub mod Values
+pub mod Walks
+pub mod OneAnswer
+pub mod Spans

@@ -1,0 +1,3 @@
+pub mod Front
+pub mod Faults
+pub mod Laws

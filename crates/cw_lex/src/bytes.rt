@@ -1,0 +1,56 @@
+//! Classes of bytes, and runs of bytes of one class.
+
+ghost use Rattle.std.specs.Prelude.{◌≡◌, ◌≤◌, length};
+ghost use Rattle.std.specs.List.{prefix_len};
+ghost use Rattle.cw_model.specs.Pieces as spec;
+ghost use Rattle.cw_lex.specs.Front.{passes};
+
+/// What the bytes of a number, a word and a comment are.
+#[derive(Clone, Copy, Debug)]
+pub enum Class {
+    Digit,
+    Word,
+    Inner,
+}
+
+fn passes(class: Class, byte: u8) -> bool
+    ensures { result ≡ passes class byte }
+{
+    match class {
+        Class::Digit => is_digit(byte),
+        Class::Word => is_letter(byte) || is_digit(byte),
+        Class::Inner => byte != b'\n',
+    }
+}
+
+pub fn is_digit(byte: u8) -> bool
+    ensures { result ≡ spec.is_digit byte }
+{
+    byte >= b'0' && byte <= b'9'
+}
+
+/// Whether the byte is a letter or `_`.
+pub fn is_letter(byte: u8) -> bool
+    ensures { result ≡ spec.is_letter byte }
+{
+    (byte >= b'a' && byte <= b'z') || (byte >= b'A' && byte <= b'Z') || byte == b'_'
+}
+
+/// Whether the byte is a space, a tab, a CR or an LF.
+pub fn is_separator(byte: u8) -> bool
+    ensures { result ≡ spec.is_separator byte }
+{
+    byte == b' ' || byte == b'\t' || byte == b'\r' || byte == b'\n'
+}
+
+/// How many bytes from the front on are of the class.
+pub fn run(class: Class, bytes: &[u8]) -> usize
+    ensures value { result ≡ prefix_len (passes class) bytes.now }
+    ensures within { result ≤ length bytes.now }
+{
+    let mut len = 0;
+    while len < bytes.len() && passes(class, bytes[len]) {
+        len += 1;
+    }
+    len
+}

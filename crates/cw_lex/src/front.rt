@@ -1,0 +1,117 @@
+//! What stands at the front of a text.
+
+ghost use Rattle.std.specs.Prelude.{◌≡◌, ◌<◌, length, take, slice_index, true, false};
+ghost use Rattle.cw_model.specs.Pieces as spec;
+ghost use Rattle.cw_model.specs.Tokens.{IsLongest};
+ghost use Rattle.cw_lex.specs.Front.{IsFront};
+
+use crate::bytes::{Class, is_digit, is_letter, is_separator, run};
+use crate::numbers::value_of_digits;
+use crate::tables::{one_byte, two_bytes, word_kind};
+use cw_model::token::Kind;
+
+/// The most bytes of a name.
+const MOST_NAME_BYTES: usize = 64;
+
+/// What stands at the front of a text. A comment and a token have their length in bytes.
+#[derive(Clone, Copy, Debug)]
+pub enum Front {
+    Separator,
+    Comment(usize),
+    Token(Kind, usize),
+    /// A byte that starts nothing, or a number that is too great.
+    Faulty,
+    /// A name that is too long.
+    LongName,
+}
+
+// The second byte, or 0.
+fn second(bytes: &[u8]) -> u8
+    ensures { result ≡ slice_index bytes.now 1 }
+{
+    if bytes.len() > 1 { bytes[1] } else { 0 }
+}
+
+// A symbol or a comment.
+fn symbol(bytes: &[u8]) -> Front
+    requires some { 0 < length bytes.now }
+    requires mark { spec.is_word_byte (slice_index bytes.now 0) ≡ false }
+    requires separator { spec.is_separator (slice_index bytes.now 0) ≡ false }
+    ensures { IsFront bytes.now result }
+{
+    let first = bytes[0];
+    let second = second(bytes);
+    if first == b'/' && second == b'/' {
+        return Front::Comment(run(Class::Inner, bytes));
+    }
+    if let Some(kind) = two_bytes(first, second) {
+        return Front::Token(kind, 2);
+    }
+    match one_byte(first) {
+        Some(kind) => Front::Token(kind, 1),
+        None => Front::Faulty,
+    }
+}
+
+// How many bytes the number has.
+fn digits_len(bytes: &[u8]) -> usize
+    requires some { 0 < length bytes.now }
+    requires digit { spec.is_digit (slice_index bytes.now 0) ≡ true }
+    ensures longest { IsLongest bytes.now result }
+    ensures some { 0 < result }
+    ensures number { spec.is_number (take result bytes.now) ≡ true }
+{
+    if bytes[0] == b'0' {
+        1
+    } else {
+        run(Class::Digit, bytes)
+    }
+}
+
+// A number.
+fn digits(bytes: &[u8]) -> Front
+    requires some { 0 < length bytes.now }
+    requires digit { spec.is_digit (slice_index bytes.now 0) ≡ true }
+    ensures { IsFront bytes.now result }
+{
+    let len = digits_len(bytes);
+    match value_of_digits(&bytes[..len]) {
+        Some(value) => Front::Token(Kind::Number(value), len),
+        None => Front::Faulty,
+    }
+}
+
+// A keyword or a name.
+fn word(bytes: &[u8]) -> Front
+    requires some { 0 < length bytes.now }
+    requires letter { spec.is_letter (slice_index bytes.now 0) ≡ true }
+    ensures { IsFront bytes.now result }
+{
+    let len = run(Class::Word, bytes);
+    match word_kind(&bytes[..len]) {
+        Kind::Name => {
+            if len > MOST_NAME_BYTES {
+                Front::LongName
+            } else {
+                Front::Token(Kind::Name, len)
+            }
+        }
+        kind => Front::Token(kind, len),
+    }
+}
+
+/// What stands at the front of a text that is not empty.
+pub fn front_of(bytes: &[u8]) -> Front
+    requires { 0 < length bytes.now }
+    ensures { IsFront bytes.now result }
+{
+    if is_separator(bytes[0]) {
+        Front::Separator
+    } else if is_letter(bytes[0]) {
+        word(bytes)
+    } else if is_digit(bytes[0]) {
+        digits(bytes)
+    } else {
+        symbol(bytes)
+    }
+}

@@ -1,0 +1,15 @@
+//! Cuts the text of a source into tokens.
+#![tactic(auto)]
+
+mod bytes;
+mod front;
+pub mod laws;
+mod lexer;
+mod numbers;
+mod tables;
+
+pub use cw_model::token::{Kind, Token};
+pub use lexer::lex;
+
+#[cfg(test)]
+mod tests;

@@ -1,0 +1,63 @@
+//! The text of a program.
+
+ghost use Rattle.std.specs.Prelude.{◌≡◌, MatchResult};
+ghost use Rattle.cw_model.specs.Text.{IsSourceText};
+ghost use Rattle.cw_text.specs.Sources.{IsNoSource};
+
+use crate::fault::{Fault, Place};
+use std::alloc::Global;
+use std::marker::Model;
+
+/// The greatest length of a source, in bytes.
+pub const MOST_BYTES: usize = 1_048_576;
+
+/// The text of a program: ASCII bytes, at most `MOST_BYTES` of them.
+#[derive(Drop, Debug)]
+pub struct Source {
+    bytes: Vec<u8>,
+}
+
+impl Model for Source {
+    ghost use Rattle.std.specs.Prelude.{List, ℕ};
+    ghost use Rattle.cw_model.specs.Text.{IsSourceText};
+
+    ghost Value = { List ℕ };
+
+    ghost view = { λ s. s.bytes.items };
+
+    ghost invariant = { λ s. IsSourceText s.bytes.items };
+}
+
+impl Source {
+    /// The source with this text.
+    ///
+    /// Answers `Size` at line 1 where the text is too long, else `Lexical` at the line of the
+    /// first byte above 127, and `Memory` where there is none for a copy of the text.
+    pub fn read(alloc: Global, bytes: &[u8]) -> Result<Source, Fault>
+        ensures { MatchResult result (λ s. s ≡ bytes.now) (IsNoSource bytes.now) }
+    {
+        if bytes.len() > MOST_BYTES {
+            return Err(Fault::Size(Place { line: 1 }));
+        }
+        let mut line = 1;
+        for byte in bytes {
+            if *byte >= 128 {
+                return Err(Fault::Lexical(Place { line }));
+            }
+            if *byte == b'\n' {
+                line += 1;
+            }
+        }
+        Ok(Source {
+            bytes: Vec::from_slice(alloc, bytes)?,
+        })
+    }
+
+    /// The text, in full.
+    pub fn bytes(&self) -> &[u8]
+        ensures value { result.now ≡ self.now }
+        ensures valid { IsSourceText self.now }
+    {
+        self.bytes.as_slice()
+    }
+}
