@@ -1,0 +1,13 @@
+pub mod Reader
+pub mod Exact
+pub mod Only
+pub mod Turns
+pub mod Depths
+pub mod Parentheses
+pub mod Expressions
+pub mod Statements
+pub mod Functions
+pub mod Rooms
+pub mod Items
+pub mod Cuts
+pub mod FaultLaws

@@ -1,0 +1,95 @@
+-- The tree of the definitions that a tree of the code stands for.
+use Rattle.std.specs.Prelude.{ℕ, List, [], ◌∷◌, map, option_map}
+use Rattle.cw_parse.specs.declared.tree.Operator.{Operator}
+use Rattle.cw_parse.specs.declared.tree.Operator.TheVariants.{Equal, Unequal, Less, AtMost, Greater, AtLeast, Plus, Minus, Times, Divide, Modulo}
+use Rattle.cw_parse.specs.declared.tree.CallKind.{CallKind}
+use Rattle.cw_parse.specs.declared.tree.CallKind.TheVariants.{Plain, Spawned}
+use Rattle.cw_parse.specs.declared.tree.Expr.{Expr}
+use Rattle.cw_parse.specs.declared.tree.Expr.TheVariants.{Number, Variable, Element', Length, Negative', Not', Binary'}
+use Rattle.cw_parse.specs.declared.tree.Stmt.{Stmt, fold-Stmt}
+use Rattle.cw_parse.specs.declared.tree.Line.{Line, fold-Line}
+use Rattle.cw_parse.specs.declared.tree.Stmt.TheOpen.{Stmt-F, Line-F}
+use Rattle.cw_parse.specs.declared.tree.Param.{Param}
+use Rattle.cw_parse.specs.declared.tree.Function.{Function}
+use Rattle.cw_parse.specs.declared.tree.Reducer.{Reducer}
+use Rattle.cw_parse.specs.declared.tree.Ast.{Ast}
+use Rattle.cw_model.specs.Syntax as model
+
+abbrev pub operator_of : Operator → model.Operator
+operator_of Equal = model.Equal
+operator_of Unequal = model.Unequal
+operator_of Less = model.Less
+operator_of AtMost = model.AtMost
+operator_of Greater = model.Greater
+operator_of AtLeast = model.AtLeast
+operator_of Plus = model.Plus
+operator_of Minus = model.Minus
+operator_of Times = model.Times
+operator_of Divide = model.Divide
+operator_of Modulo = model.Modulo
+
+abbrev pub expr_of : Expr → model.Expr
+expr_of (Number n) = model.Number n
+expr_of (Variable x) = model.Variable x
+expr_of (Element' a p e) = model.Element a (expr_of e)
+expr_of (Length a) = model.Length a
+expr_of (Negative' p e) = model.Negative (expr_of e)
+expr_of (Not' p e) = model.Not (expr_of e)
+expr_of (Binary' o p d q e) = model.Binary (operator_of o) (expr_of d) (expr_of e)
+
+abbrev pub exprs_of : List Expr → List model.Expr
+exprs_of es = map expr_of es
+
+abbrev pub call_kind_of : CallKind → model.CallKind
+call_kind_of Plain = model.Plain
+call_kind_of Spawned = model.Spawned
+
+-- statements in order, each beside its line
+abbrev pub block_from : List (ℕ × model.Stmt) → model.Block
+block_from [] = model.End
+block_from (l ∷ ls) = model.Then l.0 l.1 (block_from ls)
+
+-- one level, with each statement inside already seen
+abbrev pub stmt_step : Stmt-F model.Stmt (ℕ × model.Stmt) → model.Stmt
+stmt_step (Stmt-F.Declare x e) = model.Declare x (expr_of e)
+stmt_step (Stmt-F.DeclareArray x e) = model.DeclareArray x (expr_of e)
+stmt_step (Stmt-F.Assign x e) = model.Assign x (expr_of e)
+stmt_step (Stmt-F.AssignElement x i e) = model.AssignElement x (expr_of i) (expr_of e)
+stmt_step (Stmt-F.AddTo x e) = model.AddTo x (expr_of e)
+stmt_step (Stmt-F.Call c) = model.Call (call_kind_of c.kind) c.site c.target c.callee (exprs_of c.arguments.items)
+stmt_step Stmt-F.Sync = model.Sync
+stmt_step (Stmt-F.If e b) = model.If (expr_of e) (block_from b.items)
+stmt_step (Stmt-F.IfElse e b c) = model.IfElse (expr_of e) (block_from b.items) (block_from c.items)
+stmt_step (Stmt-F.While e b) = model.While (expr_of e) (block_from b.items)
+stmt_step (Stmt-F.For h b) =
+    model.For h.variable h.tested h.stepped (expr_of h.from) (expr_of h.to) h.grain h.over.items (block_from b.items)
+stmt_step (Stmt-F.Scope b) = model.Scope (block_from b.items)
+stmt_step (Stmt-F.Cut c b) = model.Cut c.array (expr_of c.at) c.left c.right (block_from b.items)
+stmt_step (Stmt-F.Region tag b) = model.Region tag (block_from b.items)
+stmt_step (Stmt-F.Print e) = model.Print (expr_of e)
+stmt_step (Stmt-F.Return e) = model.Return (option_map expr_of e)
+
+abbrev pub line_step : Line-F model.Stmt (ℕ × model.Stmt) → ℕ × model.Stmt
+line_step l = (l.line, l.stmt)
+
+abbrev pub stmt_of : Stmt → model.Stmt
+stmt_of = fold-Stmt model.Stmt (ℕ × model.Stmt) stmt_step line_step
+
+-- a statement beside its line
+abbrev pub line_of : Line → ℕ × model.Stmt
+line_of = fold-Line model.Stmt (ℕ × model.Stmt) stmt_step line_step
+
+abbrev pub block_of : List Line → model.Block
+block_of ls = block_from (map line_of ls)
+
+abbrev pub param_of : Param → model.Param
+param_of p = record { name = p.name; is_array = p.is_array }
+
+abbrev pub function_of : Function → model.Function
+function_of f = record { name = f.name; line = f.line; gives_int = f.gives_int; params = map param_of f.params.items; body = block_of f.body.items }
+
+abbrev pub reducer_of : Reducer → model.Reducer
+reducer_of r = record { name = r.name; line = r.line }
+
+abbrev pub program_of : Ast → model.Program
+program_of ast = record { reducers = map reducer_of ast.reducers.items; functions = map function_of ast.functions.items }

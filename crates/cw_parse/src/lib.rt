@@ -1,0 +1,18 @@
+//! Reads the tree of a source from its tokens.
+#![tactic(auto)]
+
+mod call;
+mod expr;
+mod input;
+mod item;
+pub mod laws;
+mod marks;
+mod parser;
+mod stmt;
+mod stop;
+pub mod tree;
+
+pub use parser::parse;
+
+#[cfg(test)]
+mod tests;

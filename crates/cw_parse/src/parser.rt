@@ -1,0 +1,73 @@
+//! The tree of a whole source.
+
+ghost use Rattle.std.specs.Prelude.{◌≡◌, ◌-◌, ◌≤◌, length, drop, MatchResult};
+ghost use Rattle.cw_model.specs.Limits.{most_source_bytes};
+ghost use Rattle.cw_model.specs.Text.{end_line};
+ghost use Rattle.cw_model.specs.Tokens.{IsTokenCut};
+ghost use Rattle.cw_model.specs.Grammar.{first_line};
+ghost use Rattle.cw_parse.specs.View.{program_of};
+ghost use Rattle.cw_parse.specs.FirstFault.{DerivesFirst, IsUnparsed};
+
+use crate::input::Reading;
+use crate::item::whole;
+use crate::stop::Stop;
+use crate::tree::Ast;
+use cw_model::token::Token;
+use cw_text::{Fault, Place, Source};
+use std::alloc::Global;
+
+// The line of a text's end.
+fn end_line(text: &[u8]) -> u32
+    requires { length text.now ≤ most_source_bytes }
+    ensures { result ≡ end_line text.now }
+{
+    let mut line = 1;
+    for byte in text {
+        if *byte == b'\n' {
+            line += 1;
+        }
+    }
+    line
+}
+
+// The line of the first one of the last tokens, or of the text's end where none is left.
+fn line_of(text: &[u8], tokens: &[Token], left: usize) -> u32
+    requires { length text.now ≤ most_source_bytes }
+    ensures { result ≡ first_line text.now (drop (length tokens.now - left) tokens.now) }
+{
+    match &tokens[tokens.len().saturating_sub(left)..] {
+        [] => end_line(text),
+        [first, ..] => first.line,
+    }
+}
+
+/// The tree of a source, from its tokens, if it is one of the first grammar: functions with integer
+/// parameters, declarations, `cilk_sync`, calls and spawns into a name, and one `return` at the end
+/// of each body. Call statements are numbered from 1 in the order of the source; each statement has
+/// the line of its first token, and each function that of its name.
+///
+/// Answers `Syntax` at the line of the first token that can continue no such source, or at the
+/// line of the text's end where the source ends too early, and `Memory` where none is left.
+pub fn parse(alloc: Global, source: &Source, tokens: &[Token]) -> Result<Ast, Fault>
+    requires { IsTokenCut source.now tokens.now }
+    ensures { MatchResult result (λ ast. DerivesFirst source.now tokens.now (program_of ast))
+        (IsUnparsed source.now tokens.now) }
+{
+    let text = source.bytes();
+    let reading = Reading {
+        alloc,
+        text,
+        limit: tokens.len(),
+    };
+    match whole(reading, tokens) {
+        Ok(functions) => Ok(Ast {
+            reducers: Vec::new(alloc),
+            functions,
+        }),
+        Err(Stop::Memory) => Err(Fault::Memory),
+        Err(Stop::At(left)) => {
+            let line = line_of(text, tokens, left);
+            Err(Fault::Syntax(Place { line }))
+        }
+    }
+}
