@@ -1,0 +1,11 @@
+//! Ownership: which sources touch what a spawn has taken.
+#![tactic(auto)]
+
+pub mod own;
+pub mod owned;
+mod rules;
+#[cfg(test)]
+mod sample;
+mod taken;
+#[cfg(test)]
+mod tests;

@@ -1,0 +1,38 @@
+//! The test of ownership.
+
+ghost use Rattle.std.specs.Prelude.{◌≡◌, map, flat_map, true, MatchResult};
+ghost use Rattle.cw_types.specs.Bounds.{are_fitting};
+ghost use Rattle.cw_types.specs.Least.{lowest};
+ghost use Rattle.cw_types.specs.View.{program_of, function_of};
+ghost use Rattle.cw_own.specs.Faults.{BreaksOwnership};
+ghost use Rattle.cw_own.specs.Slots.{taken_lines_of};
+
+use crate::owned::Owned;
+use crate::rules::note_taken;
+use cw_text::fault::{Fault, Place};
+use cw_types::least::LeastLine;
+use cw_types::tree::Function;
+use cw_types::typed::Typed;
+
+/// The same tree, which keeps ownership.
+///
+/// Answers `Ownership` at the least line that breaks its rule.
+pub fn own(typed: Typed) -> Result<Owned, Fault>
+    ensures { MatchResult result (λ owned. owned.typed.tree ≡ typed.tree) (BreaksOwnership (program_of typed.tree)) }
+{
+    let mut least = LeastLine::new();
+    note_all(&typed.tree.functions, &mut least);
+    match least.line {
+        Some(line) => Err(Fault::Ownership(Place { line })),
+        None => Ok(Owned { typed }),
+    }
+}
+
+fn note_all(functions: &[Function], least: &mut LeastLine)
+    requires { are_fitting (map function_of functions.now) ≡ true }
+    ensures { least.new.line ≡ lowest least.old.line (flat_map taken_lines_of (map function_of functions.now)) }
+{
+    for function in functions {
+        note_taken(&function.body, least);
+    }
+}

@@ -1,0 +1,13 @@
+pub mod Looked
+pub mod Places
+pub mod Lowest
+pub mod Simple
+pub mod Fine
+pub mod Bodies
+pub mod Known
+pub mod Typing
+pub mod Kept
+pub mod Small
+pub mod Checked
+pub mod Bounds
+pub mod Samples

@@ -1,0 +1,91 @@
+-- The least line, and what is left of lines.
+use Rattle.std.proofs.Common.{◌≡◌, ℕ, zero, suc, ◌-◌, ◌≤◌, ◌<◌, Bool, true, false, nat_le, if◌then◌else◌, List, [], ◌∷◌, ◌++◌, drop, Option, Some, None, All, Contains, ◌⊎◌, refl, sym, ap, ◌∙◌, arith, inl, inr, subst}
+use Rattle.std.proofs.lemmas.List.Elements.{All-cons, Contains-append_left, Contains-append_right, Contains-push}
+use Rattle.std.proofs.lemmas.Bool.Decides.{nat_tests}
+use Rattle.cw_model.specs.Lines.{IsLeastLine}
+use Rattle.cw_types.specs.Least.{lesser, lowest}
+
+pub lowest-append : (least : Option ℕ) (xs ys : List ℕ) → lowest least (xs ++ ys) ≡ lowest (lowest least xs) ys
+lowest-append least [] ys = refl
+lowest-append least (x ∷ xs) ys = lowest-append (lesser least x) xs ys
+
+pub drop_room : (room line : ℕ) (lines : List ℕ) → (room ≡ 0 → ⊥) → drop room (line ∷ lines) ≡ drop (room - 1) lines
+drop_room zero line lines h = absurd (h refl)
+drop_room (suc room) line lines h =
+    let e : suc room - 1 ≡ room = omega arith in
+    ap (λ n. drop n lines) (sym e)
+
+lesser-lesser : (o : Option ℕ) (x y : ℕ) → lesser (lesser o x) y ≡ lesser (lesser o y) x
+lesser-lesser None x y = ap Some (grind (arith, nat_tests))
+lesser-lesser (Some m) x y = ap Some (grind (arith, nat_tests))
+
+lowest-lesser : (o : Option ℕ) (x : ℕ) (ys : List ℕ) → lowest (lesser o x) ys ≡ lesser (lowest o ys) x
+lowest-lesser o x [] = refl
+lowest-lesser o x (y ∷ ys) = ap (λ p. lowest p ys) (lesser-lesser o x y) ∙ lowest-lesser (lesser o y) x ys
+
+-- the order of the lines says nothing
+pub lowest-swap : (o : Option ℕ) (xs ys : List ℕ) → lowest (lowest o xs) ys ≡ lowest (lowest o ys) xs
+lowest-swap o [] ys = refl
+lowest-swap o (x ∷ xs) ys = lowest-swap (lesser o x) xs ys ∙ ap (λ p. lowest p xs) (lowest-lesser o x ys)
+
+-- what the least of lines is
+record Lowest (m : ℕ) (xs : List ℕ) : Type 0 where
+  pub least : ℕ
+  pub is : lowest (Some m) xs ≡ Some least
+  pub below : least ≤ m
+  pub all : All (λ o. least ≤ o) xs
+  pub from : (least ≡ m) ⊎ Contains xs least
+
+later : (x : ℕ) (xs : List ℕ) (n : ℕ) → Contains xs n → Contains (x ∷ xs) n
+later x xs n c = Contains-append_right (x ∷ []) xs n c
+
+here : (x : ℕ) (xs : List ℕ) (n : ℕ) → n ≡ x → Contains (x ∷ xs) n
+here x xs n e = let P : ℕ → Type 0 = λ k. Contains (x ∷ xs) k in subst P (sym e) (Contains-append_left (x ∷ []) xs x (Contains-push [] x))
+
+at_most : (m x : ℕ) → nat_le m x ≡ true → m ≤ x
+at_most m x e = grind (arith, nat_tests)
+
+above : (m x : ℕ) → nat_le m x ≡ false → x < m
+above m x e = grind (arith, nat_tests)
+
+one_more : (m x : ℕ) (xs : List ℕ) (b : Bool) → nat_le m x ≡ b → Lowest (if b then m else x) xs → Lowest m (x ∷ xs)
+one_more m x xs true e l =
+    let bound = at_most m x e in
+    let less : l.least ≤ x = omega (arith, bound, l.below) in
+    record {
+      least = l.least;
+      is = ap (λ b. lowest (Some (if b then m else x)) xs) e ∙ l.is;
+      below = l.below;
+      all = All-cons (λ o. l.least ≤ o) x xs less l.all;
+      from = elim l.from [ inl h ↦ inl h | inr c ↦ inr (later x xs l.least c) ];
+    }
+one_more m x xs false e l =
+    let bound = above m x e in
+    record {
+      least = l.least;
+      is = ap (λ b. lowest (Some (if b then m else x)) xs) e ∙ l.is;
+      below = omega (arith, bound, l.below);
+      all = All-cons (λ o. l.least ≤ o) x xs l.below l.all;
+      from = inr (elim l.from [ inl h ↦ here x xs l.least h | inr c ↦ later x xs l.least c ]);
+    }
+
+some_lowest : (m : ℕ) (xs : List ℕ) → Lowest m xs
+some_lowest m [] = record { least = m; is = refl; below = omega arith; all = λ k d h. absurd (omega (arith, h)); from = inl refl }
+some_lowest m (x ∷ xs) = one_more m x xs (nat_le m x) refl (some_lowest (if nat_le m x then m else x) xs)
+
+pub no_lines : (xs : List ℕ) → lowest None xs ≡ None → xs ≡ []
+no_lines [] h = refl
+no_lines (x ∷ xs) h = let l = some_lowest x xs in cc (l.is, h)
+
+pub least_line : (xs : List ℕ) (n : ℕ) → lowest None xs ≡ Some n → IsLeastLine xs n
+least_line [] n h = cc
+least_line (x ∷ xs) n h =
+    let l = some_lowest x xs in
+    let same : l.least ≡ n = cc (l.is, h) in
+    let P : ℕ → Type 0 = λ k. IsLeastLine (x ∷ xs) k in
+    subst P same (record {
+      there = elim l.from [ inl e ↦ here x xs l.least e | inr c ↦ later x xs l.least c ];
+      least = All-cons (λ o. l.least ≤ o) x xs l.below l.all;
+    })
+
+pub ruleset lines = (lowest-append, drop_room)

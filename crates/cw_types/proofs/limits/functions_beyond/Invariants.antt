@@ -1,0 +1,9 @@
+use Rattle.std.proofs.Common.{◌≡◌, drop, map}
+use Rattle.cw_parse.specs.View.{function_of}
+use Rattle.cw_types.specs.Least.{lowest}
+use Rattle.cw_types.proofs.limits.functions_beyond.Given as goal
+
+abbrev pub invariant-loop-function : goal.invariant-loop-function
+invariant-loop-function l =
+    lowest l.least.line (drop l.room (map (λ f. f.line) (map function_of (drop l.function-index l.functions))))
+    ≡ lowest l.fn.least.line (drop 1024 (map (λ f. f.line) (map function_of l.functions)))

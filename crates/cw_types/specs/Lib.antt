@@ -1,0 +1,8 @@
+pub mod Resolved
+pub mod View
+pub mod Faults
+pub mod Least
+pub mod Places
+pub mod Slots
+pub mod Declares
+pub mod Bounds

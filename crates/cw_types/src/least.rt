@@ -1,0 +1,37 @@
+//! The least line of those that break a rule.
+
+ghost use Rattle.std.specs.Prelude.{◌≡◌, None, MatchOption, [], List, ℕ};
+ghost use Rattle.cw_model.specs.Lines.{unless, IsLeastLine};
+ghost use Rattle.cw_types.specs.Least.{lowest};
+
+/// The least line so far, if there is one.
+#[derive(Clone, Copy, Debug, PartialEq, Eq)]
+pub struct LeastLine {
+    pub line: Option<u32>,
+}
+
+impl LeastLine {
+    /// No line so far.
+    pub fn new() -> LeastLine
+        ensures { result.line ≡ None }
+    {
+        LeastLine { line: None }
+    }
+
+    /// One line more, unless the rule is kept.
+    pub fn note(&mut self, kept: bool, line: u32)
+        ensures { self.new.line ≡ lowest self.old.line (unless kept line) }
+    {
+        if kept {
+            return;
+        }
+        match self.line {
+            None => self.line = Some(line),
+            Some(least) => {
+                if line < least {
+                    self.line = Some(line);
+                }
+            }
+        }
+    }
+}

@@ -1,0 +1,83 @@
+//! Names by their places.
+
+ghost use Rattle.std.specs.Prelude.{◌≡◌, ◌<◌, ◌+◌, ◌^◌, [], ◌∷◌, ◌++◌, length, OnOk};
+ghost use Rattle.cw_model.specs.Names.{is_among};
+ghost use Rattle.cw_types.specs.Resolved.{slot_of};
+
+use std::alloc::{AllocError, Global};
+use std::collections::HashMap;
+use std::marker::Model;
+
+/// Names in order, each found by its bytes: fewer than 2^32 - 1 of them.
+#[derive(Drop)]
+pub struct Table<'a> {
+    names: Vec<&'a [u8]>,
+    places: HashMap<&'a [u8], u32>,
+}
+
+impl<'a> Model for Table<'a> {
+    ghost use Rattle.std.specs.Prelude.{List, ℕ, map, length, ◌<◌, ◌^◌, ◌≡◌};
+    ghost use Rattle.cw_types.specs.Places.{ArePlaces};
+
+    ghost Value = { List (List ℕ) };
+
+    ghost view = { λ t. map (λ k. k.now) t.names.items };
+
+    ghost invariant = { λ t. ArePlaces t.places (map (λ k. k.now) t.names.items) };
+}
+
+impl<'a> Table<'a> {
+    /// A table with no name.
+    pub fn new(alloc: Global) -> Table<'a>
+        ensures { result ≡ [] }
+    {
+        Table {
+            names: Vec::new(alloc),
+            places: HashMap::new(alloc),
+        }
+    }
+
+    #[tactic(auto, using(crate::proofs::Places::found, std::proofs::lemmas::Grind::common_steps))]
+    /// The first place of a name, or how many names there are.
+    pub fn find(&self, name: &[u8]) -> u32
+        ensures { result ≡ slot_of name.now self.now }
+    {
+        match self.places.get(name) {
+            Some(place) => *place,
+            None => self.names.len() as u32,
+        }
+    }
+
+    /// How many names there are.
+    pub fn len(&self) -> u32
+        ensures { result ≡ length self.now }
+    {
+        self.names.len() as u32
+    }
+
+    /// Whether a name is there.
+    pub fn has(&self, name: &[u8]) -> bool
+        ensures { result ≡ is_among name.now self.now }
+    {
+        self.places.contains_key(name)
+    }
+
+    /// One name more, at the end.
+    pub fn add(&mut self, name: &'a [u8]) -> Result<(), AllocError>
+        requires { length self.old + 1 < 2 ^ 32 }
+        ensures { OnOk result (self.new ≡ self.old ++ name.now ∷ []) }
+    {
+        let place = self.names.len() as u32;
+        self.names.push(name)?;
+        if self.places.contains_key(name) {
+            return Ok(());
+        }
+        match self.places.insert(name, place) {
+            Ok(_) => Ok(()),
+            Err(_) => {
+                self.names.pop();
+                Err(AllocError)
+            }
+        }
+    }
+}
