@@ -1,0 +1,10 @@
+pub mod Places
+pub mod Traces
+pub mod Names
+pub mod Laws
+pub mod Program
+pub mod Emits
+pub mod Accepted
+pub mod Counts
+pub mod Small
+pub mod Fitting

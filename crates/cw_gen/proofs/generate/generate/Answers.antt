@@ -1,0 +1,16 @@
+use Rattle.std.proofs.Common.{refl, sym, ◌∙◌}
+use Rattle.cw_gen.proofs.Small.{counts, generated}
+use Rattle.cw_gen.proofs.generate.generate.Goals as goal
+
+pub returns-then-not-is_small : goal.returns-then-not-is_small
+returns-then-not-is_small c =
+    let owned = c.args.owned.now in
+    let typed = owned.typed in
+    (sym (counts typed.tree c.in_ok-code.code c.in_ok-code.ensures typed.resolved typed.first typed.typed owned.owned) ∙ sym c.is_small.ensures ∙ c.if-not-is_small.true, refl)
+
+pub returns : goal.returns
+returns c =
+    let owned = c.args.owned.now in
+    let typed = owned.typed in
+    generated typed.tree c.in_ok-code.code c.in_ok-code.ensures typed.resolved typed.first typed.typed owned.owned
+    (sym (counts typed.tree c.in_ok-code.code c.in_ok-code.ensures typed.resolved typed.first typed.typed owned.owned) ∙ sym c.is_small.ensures ∙ c.if-not-is_small.false)

@@ -1,0 +1,7 @@
+//! The code of a program.
+#![tactic(auto)]
+
+mod emit;
+pub mod generate;
+#[cfg(test)]
+mod tests;

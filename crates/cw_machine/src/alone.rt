@@ -1,0 +1,60 @@
+//! A run with one worker.
+
+ghost use Rattle.std.specs.Prelude.{◌≡◌, MatchResult};
+ghost use Rattle.cw_code.specs.Code.{code_view};
+ghost use Rattle.cw_machine.specs.Runs as runs;
+
+use crate::machine::{Machine, Moved};
+use crate::verified::Verified;
+use cw_text::fault::Fault;
+use std::alloc::Global;
+use std::sync::Arc;
+
+/// How a run ended.
+#[derive(Clone, Copy, Debug, PartialEq, Eq)]
+pub struct Ended {
+    /// The value of `main`.
+    pub value: i64,
+}
+
+/// Runs code on these arguments within `n` instructions: its value, exactly where the code's meaning gives one.
+///
+/// `burden` is the cost of a spawn in instructions; the value does not depend on it.
+///
+/// The error is `Arguments` exactly where the count of the arguments is not that of `main`'s parameters, or `n` is not
+/// in 1..=2^62, or `burden` is above 1,000,000,000; otherwise `OverLimit` exactly where the run costs more than `n`,
+/// `Trap` exactly where it traps, with its line and the values printed before, and `Memory` where memory runs out.
+pub fn run_alone(
+    alloc: Global,
+    code: Arc<Verified>,
+    args: &[i64],
+    n: u64,
+    burden: u64,
+) -> Result<Ended, Fault>
+    ensures { MatchResult result (λ e. runs.Runs (code_view code.value.code) args.now n burden e.value) (runs.Why (code_view code.value.code) args.now n burden) }
+{
+    let verified: &Verified = &code;
+    let f = verified.code.funcs[verified.code.main as usize];
+    if !is_asked(f.params, args.len(), n, burden) {
+        return Err(Fault::Arguments);
+    }
+    let mut machine = Machine::new(alloc, f, args)?;
+    match machine.run(&verified.code, n) {
+        Moved::Gave(value) => Ok(Ended { value }),
+        Moved::On => Err(Fault::OverLimit),
+        Moved::Trapped(trap, line) => Err(Fault::Trap {
+            code: trap,
+            line,
+            output: Vec::new(alloc),
+        }),
+        Moved::NoMemory => Err(Fault::Memory),
+        Moved::Stuck => Err(Fault::Code),
+    }
+}
+
+// Whether there are as many arguments as parameters, and the limit and the burden are in their ranges.
+fn is_asked(params: usize, count: usize, n: u64, burden: u64) -> bool
+    ensures { result ≡ runs.is_asked params count n burden }
+{
+    count == params && 1 <= n && n <= 4_611_686_018_427_387_904 && burden <= 1_000_000_000
+}

@@ -1,0 +1,9 @@
+//! The machine that runs code.
+#![tactic(auto)]
+
+pub mod alone;
+pub mod machine;
+pub mod program;
+#[cfg(test)]
+mod tests;
+pub mod verified;
