@@ -1,0 +1,74 @@
+//! The program `cilkwork`: reads its words, opens the source, and answers.
+#![tactic(auto)]
+
+ghost use Rattle.std.specs.Prelude.{◌<◌, ◌-◌, ◌^◌};
+
+use cw_cli::{Request, Said, request, tool, unread};
+use cw_report::sink::{Counted, Sink};
+use cw_report::writing::{write_fault, write_text};
+use cw_text::Fault;
+use std::alloc::Global;
+use std::fs::File;
+use std::io::ErrorKind;
+use std::process::ExitCode;
+use std::rt::Env;
+use std::{env, io};
+
+fn main(rt: HostRuntime) -> ExitCode {
+    let alloc = rt.alloc();
+    let mut out = Counted::new(io::writer(&rt));
+    let mut err = Counted::new(rt.stderr());
+    let words = match words_of(&rt, alloc) {
+        Ok(words) => words,
+        Err(fault) => return ExitCode::from(refuse(&fault, &mut err)),
+    };
+    if words.is_empty() {
+        let asked = Request::of_standard_input(alloc);
+        return ExitCode::from(tool(alloc, &asked, rt.reader(), &mut out, &mut err));
+    }
+    let asked = match request(alloc, words.as_slice()) {
+        Ok(asked) => asked,
+        Err(said) => return ExitCode::from(say(&said, &mut out, &mut err)),
+    };
+    let status = match File::open(&rt, asked.file.as_str()) {
+        Ok(file) => tool(alloc, &asked, file, &mut out, &mut err),
+        Err(error) => unread(&error, &mut err),
+    };
+    ExitCode::from(status)
+}
+
+// The words behind the program's own name.
+fn words_of(rt: &(impl Env + AllocGlobal), alloc: Global) -> Result<Vec<String>, Fault> {
+    match env::args(rt) {
+        Ok(args) => Ok(args.skip(1).collect(alloc)?),
+        Err(error) if error.kind() == ErrorKind::OutOfMemory => Err(Fault::Memory),
+        Err(_) => Err(Fault::Arguments),
+    }
+}
+
+// Writes the help, or what is wrong with the words; gives the exit status.
+fn say<W: Sink, E: Sink>(said: &Said, out: &mut W, err: &mut E) -> u8
+    requires out { W.failed out.old < 2 ^ 64 - 1 }
+    requires err { E.failed err.old < 2 ^ 64 - 1 }
+{
+    let text = said.text.as_bytes();
+    match said.status {
+        0 => match write_text(out, text) {
+            Ok(()) => 0,
+            Err(fault) => refuse(&fault, err),
+        },
+        6 => refuse(&Fault::Memory, err),
+        status => {
+            let _ = write_text(err, text);
+            status
+        }
+    }
+}
+
+// Writes the line of a fault; gives the exit status.
+fn refuse<E: Sink>(fault: &Fault, err: &mut E) -> u8
+    requires { E.failed err.old < 2 ^ 64 - 1 }
+{
+    let _ = write_fault(err, fault);
+    fault.status()
+}

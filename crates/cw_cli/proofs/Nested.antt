@@ -1,0 +1,17 @@
+-- The least line, token by token.
+use Rattle.std.proofs.Common.{◌≡◌, ℕ, List, ◌∷◌, ◌++◌, nat_le, Option, ◌∙◌}
+use Rattle.cw_model.specs.declared.token.Token.{Token}
+use Rattle.cw_model.specs.Lines.{unless}
+use Rattle.cw_model.specs.Limits.{most_open_brackets, most_tokens_in_a_row}
+use Rattle.cw_model.specs.Sizes.{token_faults, open_after, row_after}
+use Rattle.cw_types.specs.Least.{lowest}
+use Rattle.cw_types.proofs.Lowest.{lowest-append}
+
+pub one_token : (o : Option ℕ) (opened row : ℕ) (t : Token) (ts : List Token) →
+    lowest o (token_faults opened row (t ∷ ts)) ≡
+    lowest (lowest (lowest o (unless (nat_le (open_after opened t.kind) most_open_brackets) t.line)) (unless (nat_le (row_after row t.kind) most_tokens_in_a_row) t.line)) (token_faults (open_after opened t.kind) (row_after row t.kind) ts)
+one_token o opened row t ts =
+    let rest = token_faults (open_after opened t.kind) (row_after row t.kind) ts in
+    let second = unless (nat_le (row_after row t.kind) most_tokens_in_a_row) t.line in
+    lowest-append o (unless (nat_le (open_after opened t.kind) most_open_brackets) t.line) (second ++ rest)
+    ∙ lowest-append (lowest o (unless (nat_le (open_after opened t.kind) most_open_brackets) t.line)) second rest

@@ -1,0 +1,184 @@
+-- From what a run of code answers to what its program means.
+use Rattle.std.proofs.Common.{◌≡◌, ℕ, ℤ, Bool, true, false, ◌&&◌, ◌≤◌, List, [], ◌∷◌, ◌++◌, length, Option, Some, Result, Ok, Err, MatchResult, flat_map, refl, sym, ap, ◌∙◌, subst, arith}
+use Rattle.std.specs.Prelude.{nat_eq, nat_le}
+use Rattle.std.proofs.lemmas.Bool.Decides.{nat_tests}
+use Rattle.cw_model.specs.Syntax.{Program, Reducer}
+use Rattle.cw_model.specs.Limits.{most_limit, most_burden}
+use Rattle.cw_model.specs.Trees.{Tree}
+use Rattle.cw_model.specs.Answers.{Answer, Ended, TrappedAt, OverLimit}
+use Rattle.cw_model.specs.declared.trap.Trap.{Trap}
+use Rattle.cw_model.specs.Report.{value_line, run_text, sum_lines, report_text}
+use Rattle.cw_code.specs.Code.{Code}
+use Rattle.cw_code.specs.Run.{code_serial}
+use Rattle.cw_code.specs.Fits.{main_params}
+use Rattle.cw_machine.specs.Runs.{Runs, Why, is_request}
+use Rattle.cw_machine.specs.declared.alone.Ended as run
+use Rattle.cw_text.specs.declared.fault.Fault.{Fault}
+use Rattle.cw_text.specs.declared.fault.Fault.TheVariants as fault
+use Rattle.cw_report.specs.Sinks.{WritesAll, WritesPart}
+use Rattle.cw_report.specs.Answers.{AnswersLess}
+use Rattle.cw_report.specs.Texts.{ended_text, handed_text}
+use Rattle.cw_cli.specs.Compiled.{IsCompiled}
+use Rattle.cw_cli.specs.Sources.{IsRefused}
+use Rattle.cw_cli.specs.Analyses as analyses
+use Rattle.cw_cli.specs.declared.asked.Mode.{Mode}
+use Rattle.cw_cli.specs.declared.asked.Mode.TheVariants as mode
+use Rattle.cw_cli.specs.declared.asked.Options.{Options}
+use Rattle.cw_cli.proofs.Quiet.{ends_quietly}
+
+both : (a b : Bool) → (a && b) ≡ true → (a ≡ true) × (b ≡ true)
+both true b h = (refl, h)
+both false b h = cc
+
+is_same : (a b : ℕ) → nat_eq a b ≡ true → a ≡ b
+is_same a b h = grind (arith, nat_tests)
+
+is_most : (a b : ℕ) → nat_le a b ≡ true → a ≤ b
+is_most a b h = grind (arith, nat_tests)
+
+same_is : (a b : ℕ) → a ≡ b → nat_eq a b ≡ true
+same_is a b h = grind (arith, nat_tests)
+
+most_is : (a b : ℕ) → a ≤ b → nat_le a b ≡ true
+most_is a b h = grind (arith, nat_tests)
+
+true_both : (a b : Bool) → a ≡ true → b ≡ true → (a && b) ≡ true
+true_both true true p q = refl
+true_both true false p q = q
+true_both false b p q = p
+
+no_sums : (reducers : List Reducer) → sum_lines reducers [] ≡ []
+no_sums [] = refl
+no_sums (r ∷ rs) = refl
+
+-- the report of a run that printed nothing and has no sums
+ended_report : (program : Program) (v : ℤ) (tree : Tree) → run_text program (Ended v [] [] tree) ≡ ended_text v
+ended_report program v tree = ap (λ text. text ++ ended_text v) (no_sums program.reducers)
+
+some_is : {A : Type 0} (a b : A) → Some a ≡ Some b → a ≡ b
+some_is a b e = cc
+
+false_true : false ≡ true → ⊥
+false_true e = cc
+
+not_over : {v : ℤ} {lines sums : List ℤ} {tree : Tree} → Ended v lines sums tree ≡ OverLimit → ⊥
+not_over e = cc
+
+trap_not_over : {trap : Trap} {line : ℕ} {lines : List ℤ} → TrappedAt trap line lines ≡ OverLimit → ⊥
+trap_not_over e = cc
+
+report_is : (m : Mode) (program : Program) (burden : ℕ) (v : ℤ) (tree : Tree) → report_text (analyses.mode_of m) program burden (Ended v [] [] tree) ≡ ended_text v
+report_is mode.Run program burden v tree = ended_report program v tree
+
+printed_is : (m : Mode) (program : Program) (burden : ℕ) (trap : Trap) (line : ℕ) (lines : List ℤ) → report_text (analyses.mode_of m) program burden (TrappedAt trap line lines) ≡ flat_map value_line lines
+printed_is mode.Run program burden trap line lines = refl
+
+-- a sink that stayed as it was counts no further failed write
+no_part : {W : Type 0} (contents : W → Option (List ℕ)) (failed : W → ℕ) (old new : W) (text : List ℕ) → new ≡ old → WritesPart (contents old) (contents new) (failed old) (failed new) text → ⊥
+no_part contents failed old new text same part = let e : failed new ≡ failed old = ap failed same in omega (arith, e, part.failed)
+
+module _ (bytes : List ℕ) (args : List ℤ) (options : Options) (code : Code) (compiled : IsCompiled bytes code) where
+  may : is_request code args options.limit options.burden ≡ true → analyses.MayRun compiled.program args options
+  may h =
+      let n = both (nat_eq (length args) (main_params code)) (nat_le 1 options.limit && (nat_le options.limit most_limit && nat_le options.burden most_burden)) h in
+      let l = both (nat_le 1 options.limit) (nat_le options.limit most_limit && nat_le options.burden most_burden) n.1 in
+      let b = both (nat_le options.limit most_limit) (nat_le options.burden most_burden) l.1 in
+      record {
+        count = is_same (length args) (main_params code) n.0 ∙ compiled.generates.params;
+        in_range = record { some_limit = is_most 1 options.limit l.0; limit = is_most options.limit most_limit b.0; burden = is_most options.burden most_burden b.1 };
+      }
+
+  must : analyses.MayRun compiled.program args options → is_request code args options.limit options.burden ≡ true
+  must m =
+      true_both (nat_eq (length args) (main_params code)) _ (same_is (length args) (main_params code) (m.count ∙ sym compiled.generates.params))
+      (true_both (nat_le 1 options.limit) _ (most_is 1 options.limit m.in_range.some_limit)
+      (true_both (nat_le options.limit most_limit) _ (most_is options.limit most_limit m.in_range.limit) (most_is options.burden most_burden m.in_range.burden)))
+
+  run_of : analyses.MayRun compiled.program args options → analyses.IsRunOf bytes args options compiled.program
+  run_of m = record { compiles = compiled.compiles; may = m }
+
+  answer_is : analyses.MayRun compiled.program args options → (a : Answer) → code_serial code args options.limit ≡ Some a → analyses.answer_to compiled.program args options ≡ a
+  answer_is m a e = some_is _ _ (sym (compiled.generates.serial args m.count options.limit) ∙ e)
+
+  ended_is : (v : ℤ) (r : Runs code args options.limit options.burden v) → analyses.answer_to compiled.program args options ≡ Ended v [] [] r.tree
+  ended_is v r =
+      let quiet = ends_quietly code args options.limit v r.lines r.sums r.tree r.answer in
+      answer_is (may r.asked) (Ended v r.lines r.sums r.tree) r.answer ∙ ap (λ lines. Ended v lines r.sums r.tree) quiet.0 ∙ ap (λ sums. Ended v [] sums r.tree) quiet.1
+
+  ended_text_is : (v : ℤ) (r : Runs code args options.limit options.burden v) → ended_text v ≡ analyses.text_of compiled.program args options
+  ended_text_is v r =
+      sym (ap (λ a. report_text (analyses.mode_of options.mode) compiled.program options.burden a) (ended_is v r) ∙ report_is options.mode compiled.program options.burden v r.tree)
+
+  printed_text_is : (trap : Trap) (line : ℕ) (lines : List ℤ) → analyses.answer_to compiled.program args options ≡ TrappedAt trap line lines → flat_map value_line lines ≡ analyses.text_of compiled.program args options
+  printed_text_is trap line lines e =
+      sym (ap (λ a. report_text (analyses.mode_of options.mode) compiled.program options.burden a) e ∙ printed_is options.mode compiled.program options.burden trap line lines)
+
+  module _ {W : Type 0} (contents : W → Option (List ℕ)) (failed : W → ℕ) (old new : W) where
+    -- a run that ended, and its text was written
+    reported : (v : ℤ) → Runs code args options.limit options.burden v → WritesAll (contents old) (contents new) (failed old) (failed new) (ended_text v) → analyses.IsReported contents failed old new bytes args options
+    reported v r took = record {
+      program = compiled.program;
+      run = run_of (may r.asked);
+      ended = subst analyses.HasEnded (sym (ended_is v r)) tt;
+      took = subst (λ text. WritesAll (contents old) (contents new) (failed old) (failed new) text) (ended_text_is v r) took;
+    }
+
+    -- a run that did not end, and what it printed was written
+    unreported : (f : Fault) → Why code args options.limit options.burden f → WritesAll (contents old) (contents new) (failed old) (failed new) (handed_text (Err f)) → (handed_text (Err f) ≡ [] → new ≡ old) → analyses.IsUnreported contents failed old new bytes args options f
+    unreported fault.OverLimit h took idle =
+        record { program = compiled.program; run = run_of (may h.0); over = answer_is (may h.0) OverLimit h.1; untouched = idle refl }
+    unreported (fault.Trap trap line lines) h took idle =
+        let e = answer_is (may h.0) (TrappedAt trap line lines.items) h.1 in
+        record {
+          program = compiled.program;
+          run = run_of (may h.0);
+          trapped = e;
+          took = subst (λ text. WritesAll (contents old) (contents new) (failed old) (failed new) text) (printed_text_is trap line lines.items e) took;
+        }
+    unreported fault.Memory h took idle = idle refl
+    unreported fault.Arguments h took idle =
+        record { program = compiled.program; compiles = compiled.compiles; misused = λ m. false_true (sym h ∙ must m); untouched = idle refl }
+    unreported _ h took idle = absurd h
+
+    finished_itself : (ended : Result run.Ended Fault) → MatchResult ended (λ e. Runs code args options.limit options.burden e.value) (Why code args options.limit options.burden) → WritesAll (contents old) (contents new) (failed old) (failed new) (handed_text ended) → (handed_text ended ≡ [] → new ≡ old) → MatchResult ended (λ _. analyses.IsReported contents failed old new bytes args options) (analyses.IsUnreported contents failed old new bytes args options)
+    finished_itself (Ok e) r took idle = reported e.value r took
+    finished_itself (Err f) h took idle = unreported f h took idle
+
+    -- a run whose text was written
+    pub finished : (ended other : Result run.Ended Fault) → ended ≡ other → MatchResult ended (λ e. Runs code args options.limit options.burden e.value) (Why code args options.limit options.burden) → WritesAll (contents old) (contents new) (failed old) (failed new) (handed_text ended) → (handed_text ended ≡ [] → new ≡ old) → MatchResult other (λ _. analyses.IsReported contents failed old new bytes args options) (analyses.IsUnreported contents failed old new bytes args options)
+    finished ended other same h took idle =
+        subst (λ r. MatchResult r (λ _. analyses.IsReported contents failed old new bytes args options) (analyses.IsUnreported contents failed old new bytes args options)) same (finished_itself ended h took idle)
+
+    -- a write that failed
+    cut_short : (ended : Result run.Ended Fault) → MatchResult ended (λ e. Runs code args options.limit options.burden e.value) (Why code args options.limit options.burden) → WritesPart (contents old) (contents new) (failed old) (failed new) (handed_text ended) → (handed_text ended ≡ [] → new ≡ old) → analyses.IsCutShort contents failed old new bytes args options
+    cut_short (Ok e) r part idle = record {
+      program = compiled.program;
+      run = run_of (may r.asked);
+      within = λ over. not_over (sym (ended_is e.value r) ∙ over);
+      took = subst (λ text. WritesPart (contents old) (contents new) (failed old) (failed new) text) (ended_text_is e.value r) part;
+    }
+    cut_short (Err (fault.Trap trap line lines)) h part idle =
+        let e = answer_is (may h.0) (TrappedAt trap line lines.items) h.1 in
+        record {
+          program = compiled.program;
+          run = run_of (may h.0);
+          within = λ over. trap_not_over (sym e ∙ over);
+          took = subst (λ text. WritesPart (contents old) (contents new) (failed old) (failed new) text) (printed_text_is trap line lines.items e) part;
+        }
+    cut_short (Err _) h part idle = absurd (no_part contents failed old new [] (idle refl) part)
+
+    -- a text that was not written
+    pub unwritten : (ended : Result run.Ended Fault) → MatchResult ended (λ e. Runs code args options.limit options.burden e.value) (Why code args options.limit options.burden) → (handed_text ended ≡ [] → new ≡ old) → (f : Fault) → AnswersLess contents failed old new (handed_text ended) f → analyses.IsUnreported contents failed old new bytes args options f
+    unwritten ended r idle fault.Memory h = h
+    unwritten ended r idle fault.Write h = cut_short ended r h idle
+    unwritten ended r idle _ h = absurd h
+
+-- bytes that are refused
+pub refusal : {W : Type 0} (contents : W → Option (List ℕ)) (failed : W → ℕ) (old : W) (bytes : List ℕ) (args : List ℤ) (options : Options) (f : Fault) → IsRefused bytes f → analyses.IsUnreported contents failed old old bytes args options f
+refusal contents failed old bytes args options (fault.Lexical p) h = record { refused = h; untouched = refl }
+refusal contents failed old bytes args options (fault.Syntax p) h = record { refused = h; untouched = refl }
+refusal contents failed old bytes args options (fault.Types p) h = record { refused = h; untouched = refl }
+refusal contents failed old bytes args options (fault.Ownership p) h = record { refused = h; untouched = refl }
+refusal contents failed old bytes args options (fault.Size p) h = record { refused = h; untouched = refl }
+refusal contents failed old bytes args options fault.Memory h = refl
+refusal contents failed old bytes args options _ h = absurd h

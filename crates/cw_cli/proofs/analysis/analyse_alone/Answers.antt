@@ -1,0 +1,30 @@
+use Rattle.std.proofs.Common.{◌≡◌, rules, sym, subst}
+use Rattle.cw_code.specs.Code.{code_view}
+use Rattle.cw_cli.specs.Compiled.{IsCompiled}
+use Rattle.cw_cli.proofs.Refusals.{handed_on}
+use Rattle.cw_cli.proofs.Runs.{refusal, finished, unwritten}
+use Rattle.cw_cli.proofs.analysis.analyse_alone.Goals as goal
+
+pub returns-in_err-compile : goal.returns-in_err-compile
+returns-in_err-compile g c =
+    handed_on _ _ _ c.from_residual.result (refusal g.W.Write.contents g.W.Sink.failed c.args.out.now c.args.bytes.now c.args.args.now c.args.options _ c.in_err-compile.ensures) (search rules)
+
+pub returns-in_err-answer : goal.returns-in_err-answer
+returns-in_err-answer g c =
+    let same : c.in_ok-share.share.value ≡ c.in_ok-compile.field-0 = search rules in
+    let compiled : IsCompiled c.args.bytes.now (code_view c.in_ok-share.share.value.code) = subst (λ v. IsCompiled c.args.bytes.now (code_view v.code)) (sym same) c.in_ok-compile.ensures in
+    handed_on _ _ _ c.from_residual-in_err-answer.result
+    (unwritten c.args.bytes.now c.args.args.now c.args.options _ compiled g.W.Write.contents g.W.Sink.failed c.args.out.now c.answer.new.to c.run_alone-ended.result c.run_alone-ended.ensures c.in_err-answer.ensures.idle _ c.in_err-answer.ensures.answers)
+    (search rules)
+
+pub returns-in-Ok : goal.returns-in-Ok
+returns-in-Ok g c =
+    let same : c.in_ok-share.share.value ≡ c.in_ok-compile.field-0 = search rules in
+    let compiled : IsCompiled c.args.bytes.now (code_view c.in_ok-share.share.value.code) = subst (λ v. IsCompiled c.args.bytes.now (code_view v.code)) (sym same) c.in_ok-compile.ensures in
+    finished c.args.bytes.now c.args.args.now c.args.options _ compiled g.W.Write.contents g.W.Sink.failed c.args.out.now c.answer.new.to c.run_alone-ended.result _ c.in-Ok.is c.run_alone-ended.ensures c.in_ok-answer.ensures.answers c.in_ok-answer.ensures.idle
+
+pub returns : goal.returns
+returns g c =
+    let same : c.in_ok-share.share.value ≡ c.in_ok-compile.field-0 = search rules in
+    let compiled : IsCompiled c.args.bytes.now (code_view c.in_ok-share.share.value.code) = subst (λ v. IsCompiled c.args.bytes.now (code_view v.code)) (sym same) c.in_ok-compile.ensures in
+    finished c.args.bytes.now c.args.args.now c.args.options _ compiled g.W.Write.contents g.W.Sink.failed c.args.out.now c.answer.new.to c.run_alone-ended.result _ c.in-Err.is c.run_alone-ended.ensures c.in_ok-answer.ensures.answers c.in_ok-answer.ensures.idle

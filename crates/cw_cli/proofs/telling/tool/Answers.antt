@@ -1,0 +1,19 @@
+use Rattle.std.proofs.Common.{refl, Ok, Err}
+use Rattle.cw_cli.specs.Tools.{unread}
+use Rattle.cw_cli.proofs.Tools.{tries, idle, of_any, answered}
+use Rattle.cw_cli.proofs.telling.tool.Goals as goal
+
+pub returns-in-Err : goal.returns-in-Err
+returns-in-Err g c = of_any (g.D.Read.remaining c.args.source) _ (λ bytes. unread refl c.unread.ensures)
+
+pub returns-in-Ok : goal.returns-in-Ok
+returns-in-Ok g c =
+    answered g.D.Read.remaining g.W.Write.contents g.W.Sink.failed g.E.Write.contents g.E.Sink.failed c.args.source c.take.result.inner c.take.result.limit c.args.out.now c.analyse_alone.new.out c.args.err.now c.args.err.now c.new-bytes.result.items c.read_to_end.new.buf.items c.as_slice.result.now c.as_slice-args.result.now c.args.asked.now
+    c.take.ensures.limit c.take.ensures.inner c.new-bytes.ensures.items c.as_slice.ensures.value c.as_slice-args.ensures.value c.in_default.ensures.bytes
+    (Ok tt) 0 refl c.in-Ok.ensures (idle g.E.Write.contents g.E.Sink.failed c.args.err.now)
+
+pub returns : goal.returns
+returns g c =
+    answered g.D.Read.remaining g.W.Write.contents g.W.Sink.failed g.E.Write.contents g.E.Sink.failed c.args.source c.take.result.inner c.take.result.limit c.args.out.now c.analyse_alone.new.out c.args.err.now c.write_fault.new.to c.new-bytes.result.items c.read_to_end.new.buf.items c.as_slice.result.now c.as_slice-args.result.now c.args.asked.now
+    c.take.ensures.limit c.take.ensures.inner c.new-bytes.ensures.items c.as_slice.ensures.value c.as_slice-args.ensures.value c.in_default.ensures.bytes
+    (Err c.in-Err-analyse_alone.fault) c.status.result c.status.ensures c.in-Err-analyse_alone.ensures (tries g.E.Write.contents g.E.Sink.failed c.args.err.now c.write_fault.new.to _ c.write_fault.result c.write_fault.ensures)

@@ -1,0 +1,101 @@
+-- What an analysis of bytes answers, and what it writes.
+use Rattle.std.specs.Prelude.{◌≡◌, ◌≢◌, ℕ, ℤ, List, length, Option}
+use Rattle.cw_model.specs.declared.trap.Trap.{Trap}
+use Rattle.cw_model.specs.Syntax.{Program}
+use Rattle.cw_model.specs.Meaning.{function_of}
+use Rattle.cw_model.specs.Answers.{Answer, Ended, TrappedAt, OverLimit, main_name, serial_answer}
+use Rattle.cw_model.specs.Report as report
+use Rattle.cw_model.specs.Report.{report_text}
+use Rattle.cw_text.specs.declared.fault.Fault.{Fault}
+use Rattle.cw_text.specs.declared.fault.Fault.TheVariants as fault
+use Rattle.cw_report.specs.Sinks.{WritesAll, WritesPart}
+use Rattle.cw_cli.specs.Requests.{AreInRange}
+use Rattle.cw_cli.specs.Sources.{Compiles, IsRefused}
+use Rattle.cw_cli.specs.declared.asked.Mode.{Mode}
+use Rattle.cw_cli.specs.declared.asked.Mode.TheVariants as mode
+use Rattle.cw_cli.specs.declared.asked.Options.{Options}
+
+abbrev pub mode_of : Mode → report.Mode
+mode_of mode.Run = report.Run
+
+-- main has so many parameters, and the limit and the burden are in range
+pub record MayRun (program : Program) (args : List ℤ) (options : Options) : Type 0 where
+  pub count : length args ≡ length (function_of main_name program.functions).params
+  pub in_range : AreInRange options
+
+-- the bytes are a source of this program, and it may be run so
+pub record IsRunOf (bytes : List ℕ) (args : List ℤ) (options : Options) (program : Program) : Type 0 where
+  pub compiles : Compiles bytes program
+  pub may : MayRun program args options
+
+-- what the serial elision of a program answers within the limit
+abbrev pub answer_to : Program → List ℤ → Options → Answer
+answer_to program args options = serial_answer program args options.limit
+
+-- the report of a program
+abbrev pub text_of : Program → List ℤ → Options → List ℕ
+text_of program args options = report_text (mode_of options.mode) program options.burden (answer_to program args options)
+
+abbrev pub HasEnded : Answer → Type 0
+HasEnded (Ended v lines sums tree) = Unit {0}
+HasEnded _ = ⊥
+
+-- a sink, by the bytes that it took and by its count of failed writes, goes from one state to another
+module _ {W : Type 0} (contents : W → Option (List ℕ)) (failed : W → ℕ) (old new : W) where
+  -- it took all of a text
+  abbrev pub Took : List ℕ → Type 0
+  Took text = WritesAll (contents old) (contents new) (failed old) (failed new) text
+
+  -- it took a beginning of a text, and then a write failed
+  abbrev pub TookPart : List ℕ → Type 0
+  TookPart text = WritesPart (contents old) (contents new) (failed old) (failed new) text
+
+  module _ (bytes : List ℕ) (args : List ℤ) (options : Options) where
+    -- the program that the bytes mean ended within its limit, and the sink took its report
+    pub record IsReported : Type 0 where
+      pub program : Program
+      pub run : IsRunOf bytes args options program
+      pub ended : HasEnded (answer_to program args options)
+      pub took : Took (text_of program args options)
+
+    -- its serial elision costs more than the limit
+    pub record IsOverLimit : Type 0 where
+      pub program : Program
+      pub run : IsRunOf bytes args options program
+      pub over : answer_to program args options ≡ OverLimit
+      pub untouched : new ≡ old
+
+    -- it trapped, and the sink took what it printed before
+    pub record IsTrapped (trap : Trap) (line : ℕ) (printed : List ℤ) : Type 0 where
+      pub program : Program
+      pub run : IsRunOf bytes args options program
+      pub trapped : answer_to program args options ≡ TrappedAt trap line printed
+      pub took : Took (text_of program args options)
+
+    -- it did not pass its limit, and a write of its report failed
+    pub record IsCutShort : Type 0 where
+      pub program : Program
+      pub run : IsRunOf bytes args options program
+      pub within : answer_to program args options ≢ OverLimit
+      pub took : TookPart (text_of program args options)
+
+    -- its main has another count of parameters, or the limit or the burden is out of range
+    pub record IsMisused : Type 0 where
+      pub program : Program
+      pub compiles : Compiles bytes program
+      pub misused : ¬ (MayRun program args options)
+      pub untouched : new ≡ old
+
+    -- the bytes are refused for this reason
+    pub record IsRefusedFor (f : Fault) : Type 0 where
+      pub refused : IsRefused bytes f
+      pub untouched : new ≡ old
+
+    -- what must hold where this fault is answered
+    abbrev pub IsUnreported : Fault → Type 0
+    IsUnreported fault.OverLimit = IsOverLimit
+    IsUnreported (fault.Trap trap line printed) = IsTrapped trap line printed.items
+    IsUnreported fault.Memory = new ≡ old
+    IsUnreported fault.Write = IsCutShort
+    IsUnreported fault.Arguments = IsMisused
+    IsUnreported f = IsRefusedFor f

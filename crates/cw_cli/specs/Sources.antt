@@ -1,0 +1,79 @@
+-- Which program bytes are a source of, and why bytes are refused.
+use Rattle.std.specs.Prelude.{◌≡◌, ℕ, List, [], true, false}
+use Rattle.cw_model.specs.declared.token.Token.{Token}
+use Rattle.cw_model.specs.Lines.{IsLeastLine}
+use Rattle.cw_model.specs.Text.{IsSourceText, IsTooLong, IsNotAscii}
+use Rattle.cw_model.specs.Tokens.{IsTokenCut, HasLexicalFault, HasNameFault}
+use Rattle.cw_model.specs.Syntax.{Program}
+use Rattle.cw_model.specs.Ownership.{ownership_faults}
+use Rattle.cw_model.specs.Sizes.{token_faults, limit_faults}
+use Rattle.cw_parse.specs.FirstFault.{DerivesFirst, HasFirstFault}
+use Rattle.cw_types.specs.Faults.{typing_lines}
+use Rattle.cw_gen.specs.Generates.{is_small}
+use Rattle.cw_text.specs.declared.fault.Fault.{Fault}
+use Rattle.cw_text.specs.declared.fault.Fault.TheVariants as fault
+
+-- the bytes are a source text with these tokens
+pub record HasTokens (bytes : List ℕ) (tokens : List Token) : Type 0 where
+  pub text : IsSourceText bytes
+  pub cut : IsTokenCut bytes tokens
+
+-- the bytes are a source of this program, by the grammar alone; so far of the first grammar
+pub record IsSourceOf (bytes : List ℕ) (program : Program) : Type 0 where
+  pub tokens : List Token
+  pub has_tokens : HasTokens bytes tokens
+  pub short : token_faults 0 0 tokens ≡ []
+  pub derived : DerivesFirst bytes tokens program
+
+-- the bytes are a source of this program, which keeps every limit and every rule
+pub record Compiles (bytes : List ℕ) (program : Program) : Type 0 where
+  pub source : IsSourceOf bytes program
+  pub within : limit_faults program ≡ []
+  pub typed : typing_lines program ≡ []
+  pub owned : ownership_faults program ≡ []
+  pub small : is_small program ≡ true
+
+-- the bytes are no source text, or their first fault is a byte that starts nothing or a number that is too great
+pub data IsLexicallyRefused (bytes : List ℕ) (line : ℕ) : Type 0 where
+  byte : IsNotAscii bytes line → IsLexicallyRefused bytes line
+  token : IsSourceText bytes → HasLexicalFault bytes line → IsLexicallyRefused bytes line
+
+pub record IsSyntacticallyRefused (bytes : List ℕ) (line : ℕ) : Type 0 where
+  pub tokens : List Token
+  pub has_tokens : HasTokens bytes tokens
+  pub short : token_faults 0 0 tokens ≡ []
+  pub syntax : HasFirstFault bytes tokens line
+
+-- no limit is passed, and this is the least line that breaks a rule of names and types
+pub record IsIllTyped (bytes : List ℕ) (line : ℕ) : Type 0 where
+  pub program : Program
+  pub source : IsSourceOf bytes program
+  pub within : limit_faults program ≡ []
+  pub least : IsLeastLine (typing_lines program) line
+
+-- the types are right, and this is the least line that breaks a rule of ownership
+pub record IsDisowned (bytes : List ℕ) (line : ℕ) : Type 0 where
+  pub program : Program
+  pub source : IsSourceOf bytes program
+  pub within : limit_faults program ≡ []
+  pub typed : typing_lines program ≡ []
+  pub least : IsLeastLine (ownership_faults program) line
+
+-- the first limit that is passed, stage by stage: bytes, a name, tokens, the program's parts, and its code, at line 1
+pub data PassesLimit (bytes : List ℕ) (line : ℕ) : Type 0 where
+  length : IsTooLong bytes line → PassesLimit bytes line
+  name : IsSourceText bytes → HasNameFault bytes line → PassesLimit bytes line
+  tokens : (ts : List Token) → HasTokens bytes ts → IsLeastLine (token_faults 0 0 ts) line → PassesLimit bytes line
+  parts : (program : Program) → IsSourceOf bytes program → IsLeastLine (limit_faults program) line → PassesLimit bytes line
+  code : (program : Program) → IsSourceOf bytes program → limit_faults program ≡ [] → typing_lines program ≡ [] → ownership_faults program ≡ [] →
+      is_small program ≡ false → line ≡ 1 → PassesLimit bytes line
+
+-- what must hold of the bytes where this fault is answered for them: the first stage that refuses them, and its line
+abbrev pub IsRefused : List ℕ → Fault → Type 0
+IsRefused bytes (fault.Lexical p) = IsLexicallyRefused bytes p.line
+IsRefused bytes (fault.Syntax p) = IsSyntacticallyRefused bytes p.line
+IsRefused bytes (fault.Types p) = IsIllTyped bytes p.line
+IsRefused bytes (fault.Ownership p) = IsDisowned bytes p.line
+IsRefused bytes (fault.Size p) = PassesLimit bytes p.line
+IsRefused bytes fault.Memory = Unit {0}
+IsRefused bytes _ = ⊥

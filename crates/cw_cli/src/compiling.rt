@@ -1,0 +1,38 @@
+//! From bytes to code.
+
+ghost use Rattle.std.specs.Prelude.{MatchResult};
+ghost use Rattle.cw_code.specs.Code.{code_view};
+ghost use Rattle.cw_cli.specs.Compiled.{IsCompiled};
+ghost use Rattle.cw_cli.specs.Sources.{IsRefused};
+
+use crate::nesting::test_nesting;
+use cw_gen::generate::generate;
+use cw_lex::lex;
+use cw_machine::verified::Verified;
+use cw_own::own::own;
+use cw_parse::parse;
+use cw_text::{Fault, Source};
+use cw_types::check::check;
+use std::alloc::Global;
+
+/// The code of the program that these bytes are the source of: on all arguments and within all
+/// limits it does what the program's serial elision does.
+///
+/// The first stage that refuses the bytes decides, with its line: `Size` for too many bytes, else
+/// `Lexical` for one that is not ASCII; `Lexical` and `Size` for tokens, and `Size` for too many in
+/// brackets or in a row; `Syntax`; `Size` for the
+/// parts of the program and `Types`; `Ownership`; and `Size` for its code, at line 1. `Memory`
+/// where memory runs out.
+pub fn compile(alloc: Global, bytes: &[u8]) -> Result<Verified, Fault>
+    ensures { MatchResult result (λ made. IsCompiled bytes.now (code_view made.code)) (IsRefused bytes.now) }
+{
+    let source = Source::read(alloc, bytes)?;
+    let list = lex(alloc, &source)?;
+    let tokens = list.as_slice();
+    test_nesting(tokens)?;
+    let ast = parse(alloc, &source, tokens)?;
+    let typed = check(alloc, ast)?;
+    let owned = own(typed)?;
+    let code = generate(alloc, &owned)?;
+    Ok(Verified { code })
+}

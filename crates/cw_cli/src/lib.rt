@@ -1,0 +1,17 @@
+//! The analysis as a library, and the words of the program.
+#![tactic(auto)]
+
+mod analysis;
+mod asked;
+mod compiling;
+pub mod laws;
+mod nesting;
+mod number;
+mod telling;
+mod words;
+
+pub use analysis::analyse_alone;
+pub use asked::{Mode, Options, Request, Said};
+pub use compiling::compile;
+pub use telling::{tool, unread};
+pub use words::request;

@@ -1,0 +1,67 @@
+//! The limits on brackets that are open at once and on tokens in a row.
+
+ghost use Rattle.std.specs.Prelude.{◌≡◌, ◌+◌, ◌<◌, ◌≤◌, ◌^◌, [], None, MatchResult};
+ghost use Rattle.cw_model.specs.Sizes as spec;
+ghost use Rattle.cw_types.specs.Least.{lowest};
+ghost use Rattle.cw_cli.specs.Nesting.{IsTooNested};
+
+use cw_model::token::{Kind, Token};
+use cw_text::{Fault, Place};
+use cw_types::least::LeastLine;
+
+/// The most brackets of any kind that are open at once.
+const MOST_OPEN: usize = 64;
+
+/// The most tokens in a row without a semicolon or a brace.
+const MOST_IN_A_ROW: usize = 256;
+
+/// Answers `Size` at the least line of a token at which too many brackets are open or which
+/// stands too far in a row, if there is one.
+pub fn test_nesting(tokens: &[Token]) -> Result<(), Fault>
+    ensures { MatchResult result (λ _. spec.token_faults 0 0 tokens.now ≡ []) (IsTooNested tokens.now) }
+{
+    match least_fault(tokens).line {
+        None => Ok(()),
+        Some(line) => Err(Fault::Size(Place { line })),
+    }
+}
+
+fn least_fault(tokens: &[Token]) -> LeastLine
+    ensures { result.line ≡ lowest None (spec.token_faults 0 0 tokens.now) }
+{
+    let mut least = LeastLine::new();
+    let mut brackets = 0usize;
+    let mut row = 0usize;
+    for token in tokens {
+        brackets = open_after(brackets, token.kind);
+        row = row_after(row, token.kind);
+        least.note(brackets <= MOST_OPEN, token.line);
+        least.note(row <= MOST_IN_A_ROW, token.line);
+    }
+    least
+}
+
+// Brackets that are open after a token.
+fn open_after(brackets: usize, kind: Kind) -> usize
+    requires { brackets + 1 < 2 ^ 64 }
+    ensures is { result ≡ spec.open_after brackets kind }
+    ensures within { result ≤ brackets + 1 }
+{
+    match kind {
+        Kind::LeftParen | Kind::LeftBracket | Kind::LeftBrace => brackets + 1,
+        Kind::RightParen | Kind::RightBracket | Kind::RightBrace => brackets.saturating_sub(1),
+        _ => brackets,
+    }
+}
+
+// Tokens in a row after a token.
+fn row_after(row: usize, kind: Kind) -> usize
+    requires { row + 1 < 2 ^ 64 }
+    ensures is { result ≡ spec.row_after row kind }
+    ensures within { result ≤ row + 1 }
+{
+    match kind {
+        Kind::Semicolon | Kind::LeftBrace | Kind::RightBrace => 0,
+        _ => row + 1,
+    }
+}

@@ -1,0 +1,60 @@
+//! What the program answers on a source.
+
+ghost use Rattle.std.specs.Prelude.{◌<◌, ◌-◌, ◌^◌, IfSome};
+ghost use Rattle.cw_cli.specs.Tools.{IsToolAnswer, IsUnreadAnswer};
+
+use crate::analysis::analyse_alone;
+use crate::asked::Request;
+use cw_report::sink::Sink;
+use cw_report::writing::{write_fault, write_text};
+use cw_text::Fault;
+use std::alloc::Global;
+use std::io;
+use std::io::Read;
+
+/// One byte more than a source may have: as much as is read of one.
+const MOST_READ: u64 = 1_048_577;
+
+/// Reads the source, analyses it as asked, and writes the report to `out`; gives the exit status.
+///
+/// A fault's line is written to `err`, and `file` where the source cannot be read; whether that
+/// write fails changes nothing.
+pub fn tool<D: Read + Drop, W: Sink, E: Sink>(
+    alloc: Global,
+    asked: &Request,
+    source: D,
+    out: &mut W,
+    err: &mut E,
+) -> u8
+    requires out { W.failed out.old < 2 ^ 64 - 1 }
+    requires err { E.failed err.old < 2 ^ 64 - 1 }
+    ensures { IfSome (D.remaining source) (λ bytes. IsToolAnswer W.contents W.failed out.old out.new
+        E.contents E.failed err.old err.new bytes asked.now result) }
+{
+    let mut bytes = Vec::new(alloc);
+    if let Err(error) = source.take(MOST_READ).read_to_end(&mut bytes) {
+        return unread(&error, err);
+    }
+    let args = asked.args.as_slice();
+    match analyse_alone(alloc, bytes.as_slice(), args, asked.options, out) {
+        Ok(()) => 0,
+        Err(fault) => {
+            let _ = write_fault(err, &fault);
+            fault.status()
+        }
+    }
+}
+
+/// Says that a source cannot be read, or that memory ran out meanwhile; gives the exit status.
+pub fn unread<E: Sink>(error: &io::Error, err: &mut E) -> u8
+    requires { E.failed err.old < 2 ^ 64 - 1 }
+    ensures { IsUnreadAnswer E.contents E.failed err.old err.new result }
+{
+    if error.kind() == io::ErrorKind::OutOfMemory {
+        let fault = Fault::Memory;
+        let _ = write_fault(err, &fault);
+        return fault.status();
+    }
+    let _ = write_text(err, b"file\n");
+    5
+}

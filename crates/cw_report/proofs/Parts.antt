@@ -1,0 +1,51 @@
+-- How a text is written part by part.
+use Rattle.std.proofs.Common.{◌≡◌, ◌==◌, false, [], ◌∷◌, ℕ, ◌+◌, ◌-◌, List, ◌++◌, length, take, drop, sym, ap, ◌∙◌, append_assoc, take-append-drop, Option, Some, None, Result, Ok, Err, IsErrAnd}
+use Rattle.std.specs.Io.KnownBytes.{Appends}
+use Rattle.std.proofs.lemmas.List.{take_rest}
+use Rattle.cw_report.specs.Sinks.{AppendsBefore, AppendsPart, WritesAll, WritesPart, Writes}
+use Rattle.cw_text.specs.declared.fault.Fault.{Fault}
+use Rattle.cw_text.specs.declared.fault.Fault.TheVariants as fault
+
+-- two parts in a row
+then-Appends : (a b c : Option (List ℕ)) (xs ys : List ℕ) → Appends a b xs → Appends b c ys → Appends a c (xs ++ ys)
+then-Appends None b c xs ys p q = tt
+then-Appends (Some x) None c xs ys p q = absurd p
+then-Appends (Some x) (Some y) None xs ys p q = absurd q
+then-Appends (Some x) (Some y) (Some z) xs ys p q = q ∙ ap (λ l. l ++ ys) p ∙ append_assoc x xs ys
+
+-- n more bytes of the text
+pub more-AppendsBefore : (n : ℕ) (left text : List ℕ) (a b c : Option (List ℕ)) → AppendsBefore left a b text → Appends b c (take n left) → AppendsBefore (take (length left - n) (drop n left)) a c text
+more-AppendsBefore n left text a b c (done, split, wrote) more =
+    (done ++ take n left, split ∙ ap (λ l. done ++ l) (sym (take-append-drop n left)) ∙ sym (append_assoc done (take n left) (drop n left)) ∙ ap (λ l. (done ++ take n left) ++ l) (sym (take_rest left n)), then-Appends a b c done (take n left) wrote more)
+
+-- what comes after a text that was written
+after-AppendsPart : (a b c : Option (List ℕ)) (xs ys : List ℕ) → Appends a b xs → AppendsPart b c ys → AppendsPart a c (xs ++ ys)
+after-AppendsPart a b c xs ys p (left, (done, split, wrote)) =
+    (left, (xs ++ done, ap (λ l. xs ++ l) split ∙ sym (append_assoc xs done left), then-Appends a b c xs done p wrote))
+
+-- a beginning of a text is one of a longer text
+longer-AppendsPart : (a b : Option (List ℕ)) (xs ys : List ℕ) → AppendsPart a b xs → AppendsPart a b (xs ++ ys)
+longer-AppendsPart a b xs ys (left, (done, split, wrote)) = (left ++ ys, (done, ap (λ l. l ++ ys) split ∙ append_assoc done left ys, wrote))
+
+-- one text after another
+pub then-Writes : {A : Type 0} (a b c : Option (List ℕ)) (f g h : ℕ) (xs ys : List ℕ) (r : Result A Fault) → WritesAll a b f g xs → Writes b c g h ys r → Writes a c f h (xs ++ ys) r
+then-Writes a b c f g h xs ys (Ok x) p q = record { bytes = then-Appends a b c xs ys p.bytes q.bytes; failed = q.failed ∙ p.failed }
+then-Writes a b c f g h xs ys (Err e) p q =
+    (q.0, record { bytes = after-AppendsPart a b c xs ys p.bytes q.1.bytes; failed = q.1.failed ∙ ap (λ n. n + 1) p.failed })
+
+-- no text after one that was not written
+longer-WritesPart : (a b : Option (List ℕ)) (f g : ℕ) (xs ys : List ℕ) → WritesPart a b f g xs → WritesPart a b f g (xs ++ ys)
+longer-WritesPart a b f g xs ys p = record { bytes = longer-AppendsPart a b xs ys p.bytes; failed = p.failed }
+
+pub still-Writes : {A : Type 0} (a b : Option (List ℕ)) (f g : ℕ) (xs ys : List ℕ) (e : Fault) (r : Result A Fault) → (e ≡ fault.Write) × WritesPart a b f g xs → IsErrAnd r (λ x. x ≡ e) → Writes a b f g (xs ++ ys) r
+still-Writes a b f g xs ys e (Ok x) p h = absurd h
+still-Writes a b f g xs ys e (Err x) p h = (h ∙ p.0, longer-WritesPart a b f g xs ys p.1)
+
+-- while something is left there is a text
+pub some_left : (left text : List ℕ) (a b : Option (List ℕ)) → AppendsBefore left a b text → text ≡ [] → false ≡ (length left == 0) → ⊥
+some_left left text a b (done, split, wrote) none some = rest done left (sym split ∙ none) some
+  where
+    rest : (xs ys : List ℕ) → xs ++ ys ≡ [] → false ≡ (length ys == 0) → ⊥
+    rest [] [] e h = cc
+    rest [] (y ∷ ys) e h = cc
+    rest (x ∷ xs) ys e h = cc

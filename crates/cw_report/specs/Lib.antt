@@ -1,0 +1,4 @@
+pub mod Sinks
+pub mod Counters
+pub mod Texts
+pub mod Answers

@@ -1,0 +1,112 @@
+ghost use Rattle.std.specs.Prelude.{Some};
+
+use crate::sink::{Counted, Sink};
+use crate::text::{ended_line, printed_text};
+use crate::writing::{write_fault, write_text};
+use cw_model::trap::Trap;
+use cw_text::{Fault, Place};
+use std::alloc::Global;
+use std::io;
+use std::io::Write;
+use std::test::Fail;
+
+// Takes `room` bytes, and then fails or takes none.
+#[derive(Drop)]
+struct Narrow {
+    taken: Vec<u8>,
+    room: usize,
+    fails: bool,
+}
+
+impl Write for Narrow {
+    ghost contents = { λ w. Some w.taken.items };
+
+    fn write(&mut self, bytes: &[u8]) -> io::Result<usize> {
+        let n = bytes.len().min(self.room);
+        if n == 0 && self.fails {
+            return Err(io::Error::from(io::ErrorKind::BrokenPipe));
+        }
+        self.taken.extend_from_slice(&bytes[..n])?;
+        self.room -= n;
+        Ok(n)
+    }
+
+    fn flush(&mut self) -> io::Result<()> {
+        Ok(())
+    }
+}
+
+#[test]
+fn writes_a_beginning(rt: HostRuntime) -> Result<(), Fail> {
+    let text = b"return 1\n";
+    for fails in [true, false] {
+        for room in 0..12 {
+            let taken = Vec::new(rt.alloc());
+            let mut sink = Counted::new(Narrow { taken, room, fails });
+            let answer = write_text(&mut sink, text);
+            let failures = sink.failures();
+            let narrow = sink.into_inner();
+            let wanted = text.len().min(room);
+            assert_eq!(rt; narrow.taken.as_slice(), &text[..wanted]);
+            if room < text.len() {
+                assert!(rt; matches!(answer, Err(Fault::Write)));
+                assert_eq!(rt; failures, 1);
+            } else {
+                assert!(rt; answer.is_ok());
+                assert_eq!(rt; failures, 0);
+            }
+        }
+    }
+    Ok(())
+}
+
+#[test]
+fn prints_numbers(rt: HostRuntime) -> Result<(), Fail> {
+    let alloc = rt.alloc();
+    let least = ended_line(alloc, -9223372036854775808)?;
+    assert_eq!(rt;
+        least.as_slice(),
+        b"return -9223372036854775808\n".as_slice()
+    );
+    let printed = printed_text(alloc, &[0, -1, 9223372036854775807])?;
+    assert_eq!(rt;
+        printed.as_slice(),
+        b"0\n-1\n9223372036854775807\n".as_slice()
+    );
+    Ok(())
+}
+
+fn trap(alloc: Global) -> Fault {
+    Fault::Trap {
+        code: Trap::DivisionByZero,
+        line: 4_294_967_295,
+        output: Vec::new(alloc),
+    }
+}
+
+#[test]
+fn tells_faults(rt: HostRuntime) -> Result<(), Fail> {
+    let alloc = rt.alloc();
+    for (fault, line) in [
+        (Fault::Lexical(Place { line: 1 }), "refused 1 line 1\n"),
+        (Fault::Syntax(Place { line: 20 }), "refused 2 line 20\n"),
+        (Fault::Types(Place { line: 3 }), "refused 3 line 3\n"),
+        (Fault::Ownership(Place { line: 4 }), "refused 4 line 4\n"),
+        (
+            Fault::Size(Place { line: 1048576 }),
+            "refused 5 line 1048576\n",
+        ),
+        (Fault::Code, "refused 6\n"),
+        (Fault::OverLimit, "over limit\n"),
+        (trap(alloc), "trap 2 line 4294967295\n"),
+        (Fault::Memory, "memory\n"),
+        (Fault::Write, "write failed\n"),
+        (Fault::Arguments, "arguments\n"),
+    ] {
+        let mut sink = Counted::new(Vec::new(alloc));
+        let answer = write_fault(&mut sink, &fault);
+        assert!(rt; answer.is_ok(), "{line}");
+        assert_eq!(rt; sink.into_inner().as_slice(), line.as_bytes());
+    }
+    Ok(())
+}

@@ -1,0 +1,82 @@
+//! The one loop that writes a text to a sink, and the line of a fault.
+
+ghost use Rattle.std.specs.Prelude.{◌≡◌, [], ◌<◌, ◌-◌, ◌^◌, ◌++◌, codes, decimal};
+ghost use Rattle.cw_text.specs.Faults.{fault_text};
+ghost use Rattle.cw_report.specs.Sinks.{Writes};
+
+use crate::sink::Sink;
+use cw_text::fault::Fault;
+use itoa::Buffer;
+
+/// Writes the whole text; a failed write is not tried again.
+///
+/// Answers `Write` where a write fails or takes no byte: the sink took a beginning of the text
+/// then, and counts one more failed write. With no text the sink is left alone.
+pub fn write_text<W: Sink>(to: &mut W, text: &[u8]) -> Result<(), Fault>
+    requires { W.failed to.old < 2 ^ 64 - 1 }
+    ensures idle { text.now ≡ [] → to.new ≡ to.old }
+    ensures writes { Writes (W.contents to.old) (W.contents to.new) (W.failed to.old) (W.failed to.new)
+        text.now result }
+{
+    let mut rest = text;
+    while !rest.is_empty() {
+        match to.put(rest) {
+            Ok(0) => return Err(Fault::Write),
+            Ok(n) => rest = &rest[n..],
+            Err(_) => return Err(Fault::Write),
+        }
+    }
+    Ok(())
+}
+
+/// Writes the line of a fault, as `write_text` writes. No memory is taken.
+pub fn write_fault<W: Sink>(to: &mut W, fault: &Fault) -> Result<(), Fault>
+    requires { W.failed to.old < 2 ^ 64 - 1 }
+    ensures { Writes (W.contents to.old) (W.contents to.new) (W.failed to.old) (W.failed to.new)
+        (fault_text fault.now ++ codes "\n") result }
+{
+    match fault {
+        Fault::Lexical(place) => write_line(to, b"refused 1 line ", place.line),
+        Fault::Syntax(place) => write_line(to, b"refused 2 line ", place.line),
+        Fault::Types(place) => write_line(to, b"refused 3 line ", place.line),
+        Fault::Ownership(place) => write_line(to, b"refused 4 line ", place.line),
+        Fault::Size(place) => write_line(to, b"refused 5 line ", place.line),
+        Fault::Code => write_text(to, b"refused 6\n"),
+        Fault::OverLimit => write_text(to, b"over limit\n"),
+        Fault::Trap { code, line, .. } => { write_trap(to, u32::from(code.number()), *line) }
+        Fault::Memory => write_text(to, b"memory\n"),
+        Fault::Write => write_text(to, b"write failed\n"),
+        Fault::Arguments => write_text(to, b"arguments\n"),
+    }
+}
+
+// The line of a trap.
+fn write_trap<W: Sink>(to: &mut W, number: u32, line: u32) -> Result<(), Fault>
+    requires { W.failed to.old < 2 ^ 64 - 1 }
+    ensures { Writes (W.contents to.old) (W.contents to.new) (W.failed to.old) (W.failed to.new)
+        ((codes "trap " ++ decimal number) ++ (codes " line " ++ decimal line ++ codes "\n")) result }
+{
+    write_number(to, b"trap ", number)?;
+    write_line(to, b" line ", line)
+}
+
+// A number after some text, and the end of the line.
+fn write_line<W: Sink>(to: &mut W, front: &[u8], number: u32) -> Result<(), Fault>
+    requires { W.failed to.old < 2 ^ 64 - 1 }
+    ensures { Writes (W.contents to.old) (W.contents to.new) (W.failed to.old) (W.failed to.new)
+        (front.now ++ decimal number ++ codes "\n") result }
+{
+    write_number(to, front, number)?;
+    write_text(to, b"\n")
+}
+
+// A number after some text.
+fn write_number<W: Sink>(to: &mut W, front: &[u8], number: u32) -> Result<(), Fault>
+    requires { W.failed to.old < 2 ^ 64 - 1 }
+    ensures { Writes (W.contents to.old) (W.contents to.new) (W.failed to.old) (W.failed to.new)
+        (front.now ++ decimal number) result }
+{
+    write_text(to, front)?;
+    let mut buffer = Buffer::new();
+    write_text(to, buffer.format(number).as_bytes())
+}

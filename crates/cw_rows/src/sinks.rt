@@ -1,0 +1,115 @@
+//! Sinks that fail in the middle of a report, and sources that cannot be read.
+
+ghost use Rattle.std.specs.Prelude.{Some};
+
+use crate::words::words_of;
+use cw_cli::{request, tool};
+use cw_report::sink::{Counted, Sink};
+use std::io;
+use std::io::{Read, Write};
+use std::test::Fail;
+
+// Takes `room` bytes, and then fails or takes none.
+#[derive(Drop)]
+struct Narrow {
+    taken: Vec<u8>,
+    room: usize,
+    fails: bool,
+}
+
+impl Write for Narrow {
+    ghost contents = { λ w. Some w.taken.items };
+
+    fn write(&mut self, bytes: &[u8]) -> io::Result<usize> {
+        let n = bytes.len().min(self.room);
+        if n == 0 && self.fails {
+            return Err(io::Error::from(io::ErrorKind::BrokenPipe));
+        }
+        self.taken.extend_from_slice(&bytes[..n])?;
+        self.room -= n;
+        Ok(n)
+    }
+
+    fn flush(&mut self) -> io::Result<()> {
+        Ok(())
+    }
+}
+
+// Fails at the first read.
+#[derive(Drop)]
+struct Broken {
+    kind: io::ErrorKind,
+}
+
+impl Read for Broken {
+    fn read(&mut self, _bytes: &mut [u8]) -> io::Result<usize> {
+        Err(io::Error::from(self.kind))
+    }
+}
+
+#[test]
+fn reports_to_narrow_sinks(rt: HostRuntime) -> Result<(), Fail> {
+    let alloc = rt.alloc();
+    let words = words_of(alloc, "run f 42")?;
+    let asked = request(alloc, words.as_slice()).map_err(|_| Fail::from("the words are faulty"))?;
+    let source = b"int main(int n) { return n; }".as_slice();
+    let text = b"return 42\n".as_slice();
+    for fails in [true, false] {
+        for room in 0..12 {
+            let taken = Vec::new(alloc);
+            let mut out = Counted::new(Narrow { taken, room, fails });
+            let mut err = Counted::new(Vec::new(alloc));
+            let status = tool(alloc, &asked, source, &mut out, &mut err);
+            let failures = out.failures();
+            let taken = out.into_inner().taken;
+            let told = err.into_inner();
+            if room < text.len() {
+                assert_eq!(rt; (status, failures), (7, 1), "{room}");
+                assert_eq!(rt; taken.as_slice(), &text[..room], "{room}");
+                assert_eq!(rt; told.as_slice(), b"write failed\n".as_slice());
+            } else {
+                assert_eq!(rt; (status, failures), (0, 0), "{room}");
+                assert_eq!(rt; taken.as_slice(), text, "{room}");
+                assert_eq!(rt; told.as_slice(), b"".as_slice());
+            }
+        }
+    }
+    Ok(())
+}
+
+#[test]
+fn tells_of_unread_sources(rt: HostRuntime) -> Result<(), Fail> {
+    let alloc = rt.alloc();
+    let words = words_of(alloc, "run f")?;
+    let asked = request(alloc, words.as_slice()).map_err(|_| Fail::from("the words are faulty"))?;
+    for (kind, status, line) in [
+        (io::ErrorKind::PermissionDenied, 5, "file\n"),
+        (io::ErrorKind::OutOfMemory, 6, "memory\n"),
+    ] {
+        let mut out = Counted::new(Vec::new(alloc));
+        let mut err = Counted::new(Vec::new(alloc));
+        let got = tool(alloc, &asked, Broken { kind }, &mut out, &mut err);
+        assert_eq!(rt; got, status, "{line}");
+        assert_eq!(rt; out.into_inner().as_slice(), b"".as_slice());
+        assert_eq!(rt; err.into_inner().as_slice(), line.as_bytes());
+    }
+    Ok(())
+}
+
+#[test]
+fn keeps_its_status_where_the_line_is_not_taken(rt: HostRuntime) -> Result<(), Fail> {
+    let alloc = rt.alloc();
+    let words = words_of(alloc, "run f")?;
+    let asked = request(alloc, words.as_slice()).map_err(|_| Fail::from("the words are faulty"))?;
+    let mut out = Counted::new(Vec::new(alloc));
+    let taken = Vec::new(alloc);
+    let mut err = Counted::new(Narrow {
+        taken,
+        room: 9,
+        fails: true,
+    });
+    let status = tool(alloc, &asked, b"".as_slice(), &mut out, &mut err);
+    assert_eq!(rt; (status, err.failures()), (2, 1));
+    assert_eq!(rt; err.into_inner().taken.as_slice(), b"refused 2".as_slice());
+    Ok(())
+}

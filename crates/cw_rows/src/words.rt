@@ -1,0 +1,95 @@
+//! The words of the program.
+
+use cw_cli::{Mode, Options, request};
+use std::alloc::{AllocError, Global};
+use std::test::Fail;
+
+pub fn words_of(alloc: Global, line: &str) -> Result<Vec<String>, AllocError> {
+    let mut words = Vec::new(alloc);
+    for word in line.split_whitespace() {
+        words.push(word.to_string(alloc)?)?;
+    }
+    Ok(words)
+}
+
+#[test]
+fn reads_requests(rt: HostRuntime) -> Result<(), Fail> {
+    let alloc = rt.alloc();
+    for (line, file, args, limit) in [
+        ("run f.cilk", "f.cilk", [].as_slice(), 1_000_000_000),
+        (
+            "run --limit 9 f.cilk 4 9223372036854775807",
+            "f.cilk",
+            [4, 9223372036854775807].as_slice(),
+            9,
+        ),
+        (
+            "run f.cilk 007 --limit 4611686018427387904 00000000000000000000000000000000000012",
+            "f.cilk",
+            [7, 12].as_slice(),
+            4_611_686_018_427_387_904,
+        ),
+        ("run --limit=1 -- f.cilk 0", "f.cilk", [0].as_slice(), 1),
+    ] {
+        let words = words_of(alloc, line)?;
+        let asked = request(alloc, words.as_slice()).map_err(|_| Fail::from("said"))?;
+        let options = Options {
+            mode: Mode::Run,
+            limit,
+            burden: 15_000,
+        };
+        assert_eq!(rt; asked.file.as_str(), file, "{line}");
+        assert_eq!(rt; asked.args.as_slice(), args, "{line}");
+        assert_eq!(rt; asked.options, options, "{line}");
+    }
+    Ok(())
+}
+
+#[test]
+fn refuses_words(rt: HostRuntime) -> Result<(), Fail> {
+    let alloc = rt.alloc();
+    for (line, status, text) in [
+        ("run f 9223372036854775808", 5, "arguments\n"),
+        ("run f +1", 5, "arguments\n"),
+        ("run f 1a", 5, "arguments\n"),
+        ("run f 1 --limit 0", 5, "arguments\n"),
+        ("run f --limit 4611686018427387905", 5, "arguments\n"),
+        ("run f --limit 1e3", 5, "arguments\n"),
+        ("run f --limit +1", 5, "arguments\n"),
+        ("run f -1", 5, "error: unexpected argument '-1' found\n"),
+        (
+            "run",
+            5,
+            "error: the following required arguments were not provided:\n",
+        ),
+        (
+            "run f --limit",
+            5,
+            "error: a value is required for '--limit <N>'",
+        ),
+        (
+            "run f --workers 2",
+            5,
+            "error: unexpected argument '--workers' found\n",
+        ),
+        ("walk f", 5, "error: unrecognized subcommand 'walk'\n"),
+        ("f", 5, "error: unrecognized subcommand 'f'\n"),
+        ("--help", 0, "Work and span of fork-join programs\n"),
+        ("run --help", 0, "Runs a program and writes"),
+        ("help run", 0, "Runs a program and writes"),
+    ] {
+        let words = words_of(alloc, line)?;
+        match request(alloc, words.as_slice()) {
+            Ok(_) => return Err(Fail::from("it was read")),
+            Err(said) => {
+                let told = said.text.as_str();
+                assert_eq!(rt; said.status, status, "{line}");
+                assert!(rt; told.starts_with(text), "{line}: {told}");
+                if status == 0 {
+                    assert!(rt; told.contains("  4  over limit "), "{line}");
+                }
+            }
+        }
+    }
+    Ok(())
+}
