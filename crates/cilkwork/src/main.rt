@@ -1,11 +1,8 @@
 //! The program `cilkwork`: reads its words, opens the source, and answers.
 #![tactic(auto)]
 
-ghost use Rattle.std.specs.Prelude.{◌<◌, ◌-◌, ◌^◌};
-
-use cw_cli::{Request, Said, request, tool, unread};
-use cw_report::sink::{Counted, Sink};
-use cw_report::writing::{write_fault, write_text};
+use cw_cli::{Request, refuse, request, say, tool, unread};
+use cw_report::sink::Counted;
 use cw_text::Fault;
 use std::alloc::Global;
 use std::fs::File;
@@ -44,31 +41,4 @@ fn words_of(rt: &(impl Env + AllocGlobal), alloc: Global) -> Result<Vec<String>,
         Err(error) if error.kind() == ErrorKind::OutOfMemory => Err(Fault::Memory),
         Err(_) => Err(Fault::Arguments),
     }
-}
-
-// Writes the help, or what is wrong with the words; gives the exit status.
-fn say<W: Sink, E: Sink>(said: &Said, out: &mut W, err: &mut E) -> u8
-    requires out { W.failed out.old < 2 ^ 64 - 1 }
-    requires err { E.failed err.old < 2 ^ 64 - 1 }
-{
-    let text = said.text.as_bytes();
-    match said.status {
-        0 => match write_text(out, text) {
-            Ok(()) => 0,
-            Err(fault) => refuse(&fault, err),
-        },
-        6 => refuse(&Fault::Memory, err),
-        status => {
-            let _ = write_text(err, text);
-            status
-        }
-    }
-}
-
-// Writes the line of a fault; gives the exit status.
-fn refuse<E: Sink>(fault: &Fault, err: &mut E) -> u8
-    requires { E.failed err.old < 2 ^ 64 - 1 }
-{
-    let _ = write_fault(err, fault);
-    fault.status()
 }

@@ -1,7 +1,5 @@
 mod Digits
 mod Texts
 mod Refusals
-mod Quiet
-mod Nested
 mod Runs
 mod Tools

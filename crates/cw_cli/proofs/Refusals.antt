@@ -5,17 +5,15 @@ use Rattle.cw_model.specs.Syntax.{Program}
 use Rattle.cw_model.specs.Text.{IsSourceText}
 use Rattle.cw_model.specs.Tokens.{IsTokenCut}
 use Rattle.cw_model.specs.Ownership.{ownership_faults}
-use Rattle.cw_model.specs.Sizes.{token_faults}
 use Rattle.cw_text.specs.declared.fault.Fault.{Fault}
 use Rattle.cw_text.specs.declared.fault.Fault.TheVariants as fault
-use Rattle.cw_parse.specs.FirstFault.{IsUnparsed, DerivesFirst}
+use Rattle.cw_parse.specs.Parsed.{IsParsed, IsUnparsed}
 use Rattle.cw_types.specs.Faults.{IsTyped, IsIllTyped}
 use Rattle.cw_types.specs.View.{program_of}
 use Rattle.cw_types.specs.declared.tree.Tree.{Tree}
 use Rattle.cw_own.specs.Faults.{BreaksOwnership}
 use Rattle.cw_gen.specs.Generates as gen
 use Rattle.cw_code.specs.Code.{Code}
-use Rattle.cw_cli.specs.Nesting.{IsTooNested}
 use Rattle.cw_cli.specs.Sources
 use Rattle.cw_cli.specs.Compiled.{IsCompiled}
 
@@ -24,33 +22,23 @@ pub handed_on : {A : Type 0} (Q : A → Type 0) (P : Fault → Type 0) (e : Faul
 handed_on Q P e (Ok x) p h = absurd h
 handed_on Q P e (Err x) p h = subst P (sym h) p
 
-no_tree : (bytes : List ℕ) (ts : List Token) → Sources.HasTokens bytes ts → token_faults 0 0 ts ≡ [] → (f : Fault) → IsUnparsed bytes ts f → Sources.IsRefused bytes f
-no_tree bytes ts has short (fault.Syntax p) h = record { tokens = ts; has_tokens = has; short = short; syntax = h }
-no_tree bytes ts has short fault.Memory h = tt
-no_tree bytes ts has short _ h = absurd h
-
-too_nested : (bytes : List ℕ) (ts : List Token) → Sources.HasTokens bytes ts → (f : Fault) → IsTooNested ts f → Sources.IsRefused bytes f
-too_nested bytes ts has (fault.Size p) h = Sources.tokens ts has h
-too_nested bytes ts has _ h = absurd h
+unparsed : (bytes : List ℕ) (ts : List Token) → Sources.HasTokens bytes ts → (f : Fault) → IsUnparsed bytes ts f → Sources.IsRefused bytes f
+unparsed bytes ts has (fault.Size p) h = Sources.tokens ts has h
+unparsed bytes ts has (fault.Syntax p) h = record { tokens = ts; has_tokens = has; syntax = h }
+unparsed bytes ts has fault.Memory h = tt
+unparsed bytes ts has _ h = absurd h
 
 -- the text that the bytes were read to, its tokens, and the slice of them
 module _ (bytes text : List ℕ) (ts slice : List Token) (e : text ≡ bytes) (s : slice ≡ ts) (valid : IsSourceText text) (cut : IsTokenCut text ts) where
   tokens_of : Sources.HasTokens bytes ts
   tokens_of = record { text = subst IsSourceText e valid; cut = subst (λ x. IsTokenCut x ts) e cut }
 
-  pub tokens_refused : (f : Fault) → IsTooNested slice f → Sources.IsRefused bytes f
-  tokens_refused f h = too_nested bytes ts tokens_of f (subst (λ x. IsTooNested x f) s h)
+  pub tree_refused : (f : Fault) → IsUnparsed text slice f → Sources.IsRefused bytes f
+  tree_refused f h = unparsed bytes ts tokens_of f (subst (λ x. IsUnparsed x ts f) e (subst (λ x. IsUnparsed text x f) s h))
 
-  module _ (nested : token_faults 0 0 slice ≡ []) where
-    short : token_faults 0 0 ts ≡ []
-    short = subst (λ x. token_faults 0 0 x ≡ []) s nested
-
-    pub tree_refused : (f : Fault) → IsUnparsed text slice f → Sources.IsRefused bytes f
-    tree_refused f h = no_tree bytes ts tokens_of short f (subst (λ x. IsUnparsed x ts f) e (subst (λ x. IsUnparsed text x f) s h))
-
-    pub source_of : (program : Program) → DerivesFirst text slice program → Sources.IsSourceOf bytes program
-    source_of program tree =
-        record { tokens = ts; has_tokens = tokens_of; short = short; derived = subst (λ x. DerivesFirst x ts program) e (subst (λ x. DerivesFirst text x program) s tree) }
+  pub source_of : (program : Program) → IsParsed text slice program → Sources.IsSourceOf bytes program
+  source_of program tree =
+      record { tokens = ts; has_tokens = tokens_of; parsed = subst (λ x. IsParsed x ts program) e (subst (λ x. IsParsed text x program) s tree) }
 
 pub types_refused : (bytes : List ℕ) (program : Program) → Sources.IsSourceOf bytes program → (f : Fault) → IsIllTyped program f → Sources.IsRefused bytes f
 types_refused bytes program source (fault.Size p) h = Sources.parts program source h
@@ -75,7 +63,7 @@ module _ (bytes : List ℕ) (program : Program) (source : Sources.IsSourceOf byt
     keeps = subst (λ p. ownership_faults p ≡ []) is_program owned
 
     code_refused : (f : Fault) → gen.Why program f → Sources.IsRefused bytes f
-    code_refused (fault.Size p) h = Sources.code program source typed.within typed.typed keeps h.0 h.1
+    code_refused (fault.Size p) h = Sources.code program source typed.within typed.typed keeps h
     code_refused fault.Memory h = tt
     code_refused _ h = absurd h
 

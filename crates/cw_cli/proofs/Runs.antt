@@ -24,7 +24,6 @@ use Rattle.cw_cli.specs.Analyses as analyses
 use Rattle.cw_cli.specs.declared.asked.Mode.{Mode}
 use Rattle.cw_cli.specs.declared.asked.Mode.TheVariants as mode
 use Rattle.cw_cli.specs.declared.asked.Options.{Options}
-use Rattle.cw_cli.proofs.Quiet.{ends_quietly}
 
 both : (a b : Bool) → (a && b) ≡ true → (a ≡ true) × (b ≡ true)
 both true b h = (refl, h)
@@ -101,9 +100,7 @@ module _ (bytes : List ℕ) (args : List ℤ) (options : Options) (code : Code) 
   answer_is m a e = some_is _ _ (sym (compiled.generates.serial args m.count options.limit) ∙ e)
 
   ended_is : (v : ℤ) (r : Runs code args options.limit options.burden v) → analyses.answer_to compiled.program args options ≡ Ended v [] [] r.tree
-  ended_is v r =
-      let quiet = ends_quietly code args options.limit v r.lines r.sums r.tree r.answer in
-      answer_is (may r.asked) (Ended v r.lines r.sums r.tree) r.answer ∙ ap (λ lines. Ended v lines r.sums r.tree) quiet.0 ∙ ap (λ sums. Ended v [] sums r.tree) quiet.1
+  ended_is v r = answer_is (may r.asked) (Ended v [] [] r.tree) r.answer
 
   ended_text_is : (v : ℤ) (r : Runs code args options.limit options.burden v) → ended_text v ≡ analyses.text_of compiled.program args options
   ended_text_is v r =

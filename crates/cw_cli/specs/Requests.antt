@@ -1,13 +1,16 @@
 -- What the words ask for.
-use Rattle.std.specs.Prelude.{◌≡◌, ◌≤◌, ◌⊎◌, ℕ, ℤ, pos, List, [], ◌++◌, map, All, Some, unwrap_or, option_map, codes, string_bytes}
+use Rattle.std.specs.Prelude.{◌≡◌, ◌≤◌, ℕ, ℤ, pos, List, [], map, All, Some, unwrap_or, option_map, codes, string_bytes}
 use Rattle.clap.specs.Matches.{first_value, matched_of, raw_values}
 use Rattle.clap.specs.declared.parser.matches.Found.{Found}
 use Rattle.cw_model.specs.Limits.{most_limit, most_burden, most_number}
 use Rattle.cw_model.specs.Pieces.{value_of}
+use Rattle.cw_text.specs.declared.fault.Fault.{Fault}
+use Rattle.cw_text.specs.declared.fault.Fault.TheVariants as fault
 use Rattle.cw_cli.specs.Numbers.{IsNumberWithin}
 use Rattle.cw_cli.specs.declared.asked.Options.{Options}
 use Rattle.cw_cli.specs.declared.asked.Request.{Request}
 use Rattle.cw_cli.specs.declared.asked.Said.{Said}
+use Rattle.cw_cli.specs.declared.asked.Said.TheVariants as said
 
 -- the limit and the burden are in range
 pub record AreInRange (options : Options) : Type 0 where
@@ -40,13 +43,13 @@ pub record IsAskedBy (found : Found) (r : Request) : Type 0 where
   pub limit_value : r.options.limit ≡ value_of (limit_text found)
   pub burden : r.options.burden ≤ most_burden
 
-abbrev pub IsNoMemory : Said → Type 0
-IsNoMemory s = (s.status ≡ 6) × (string_bytes s.text ≡ [])
+-- a word that is no number or one out of range, or no memory
+abbrev pub IsWordFault : Fault → Type 0
+IsWordFault fault.Arguments = Unit {0}
+IsWordFault fault.Memory = Unit {0}
+IsWordFault _ = ⊥
 
--- words that are no request: at 5 this text, and for want of memory no text at 6
-abbrev pub IsArguments : Said → Type 0
-IsArguments s = ((s.status ≡ 5) × (string_bytes s.text ≡ codes "arguments" ++ codes "\n")) ⊎ IsNoMemory s
-
--- help at 0, a fault at 5, and for want of memory no text at 6
+-- the help, a text on words that are no request, or a fault of the numbers among them
 abbrev pub IsSaid : Said → Type 0
-IsSaid s = (s.status ≡ 0) ⊎ ((s.status ≡ 5) ⊎ IsNoMemory s)
+IsSaid (said.Fault f) = IsWordFault f
+IsSaid _ = Unit {0}

@@ -1,15 +1,14 @@
 -- Which program bytes are a source of, and why bytes are refused.
-use Rattle.std.specs.Prelude.{◌≡◌, ℕ, List, [], true, false}
+use Rattle.std.specs.Prelude.{◌≡◌, ℕ, List, []}
 use Rattle.cw_model.specs.declared.token.Token.{Token}
 use Rattle.cw_model.specs.Lines.{IsLeastLine}
 use Rattle.cw_model.specs.Text.{IsSourceText, IsTooLong, IsNotAscii}
 use Rattle.cw_model.specs.Tokens.{IsTokenCut, HasLexicalFault, HasNameFault}
 use Rattle.cw_model.specs.Syntax.{Program}
 use Rattle.cw_model.specs.Ownership.{ownership_faults}
-use Rattle.cw_model.specs.Sizes.{token_faults, limit_faults}
-use Rattle.cw_parse.specs.FirstFault.{DerivesFirst, HasFirstFault}
+use Rattle.cw_model.specs.Sizes.{token_faults, limit_faults, program_faults}
+use Rattle.cw_parse.specs.Parsed.{IsParsed, IsNoSource}
 use Rattle.cw_types.specs.Faults.{typing_lines}
-use Rattle.cw_gen.specs.Generates.{is_small}
 use Rattle.cw_text.specs.declared.fault.Fault.{Fault}
 use Rattle.cw_text.specs.declared.fault.Fault.TheVariants as fault
 
@@ -18,12 +17,11 @@ pub record HasTokens (bytes : List ℕ) (tokens : List Token) : Type 0 where
   pub text : IsSourceText bytes
   pub cut : IsTokenCut bytes tokens
 
--- the bytes are a source of this program, by the grammar alone; so far of the first grammar
+-- the bytes are a source of this program, by the limits on tokens and the grammar alone; so far of the first grammar
 pub record IsSourceOf (bytes : List ℕ) (program : Program) : Type 0 where
   pub tokens : List Token
   pub has_tokens : HasTokens bytes tokens
-  pub short : token_faults 0 0 tokens ≡ []
-  pub derived : DerivesFirst bytes tokens program
+  pub parsed : IsParsed bytes tokens program
 
 -- the bytes are a source of this program, which keeps every limit and every rule
 pub record Compiles (bytes : List ℕ) (program : Program) : Type 0 where
@@ -31,7 +29,7 @@ pub record Compiles (bytes : List ℕ) (program : Program) : Type 0 where
   pub within : limit_faults program ≡ []
   pub typed : typing_lines program ≡ []
   pub owned : ownership_faults program ≡ []
-  pub small : is_small program ≡ true
+  pub small : program_faults program ≡ []
 
 -- the bytes are no source text, or their first fault is a byte that starts nothing or a number that is too great
 pub data IsLexicallyRefused (bytes : List ℕ) (line : ℕ) : Type 0 where
@@ -41,8 +39,7 @@ pub data IsLexicallyRefused (bytes : List ℕ) (line : ℕ) : Type 0 where
 pub record IsSyntacticallyRefused (bytes : List ℕ) (line : ℕ) : Type 0 where
   pub tokens : List Token
   pub has_tokens : HasTokens bytes tokens
-  pub short : token_faults 0 0 tokens ≡ []
-  pub syntax : HasFirstFault bytes tokens line
+  pub syntax : IsNoSource bytes tokens line
 
 -- no limit is passed, and this is the least line that breaks a rule of names and types
 pub record IsIllTyped (bytes : List ℕ) (line : ℕ) : Type 0 where
@@ -59,14 +56,14 @@ pub record IsDisowned (bytes : List ℕ) (line : ℕ) : Type 0 where
   pub typed : typing_lines program ≡ []
   pub least : IsLeastLine (ownership_faults program) line
 
--- the first limit that is passed, stage by stage: bytes, a name, tokens, the program's parts, and its code, at line 1
+-- the first limit that is passed, stage by stage: bytes, a name, tokens, the program's parts, and its code
 pub data PassesLimit (bytes : List ℕ) (line : ℕ) : Type 0 where
   length : IsTooLong bytes line → PassesLimit bytes line
   name : IsSourceText bytes → HasNameFault bytes line → PassesLimit bytes line
   tokens : (ts : List Token) → HasTokens bytes ts → IsLeastLine (token_faults 0 0 ts) line → PassesLimit bytes line
   parts : (program : Program) → IsSourceOf bytes program → IsLeastLine (limit_faults program) line → PassesLimit bytes line
   code : (program : Program) → IsSourceOf bytes program → limit_faults program ≡ [] → typing_lines program ≡ [] → ownership_faults program ≡ [] →
-      is_small program ≡ false → line ≡ 1 → PassesLimit bytes line
+      IsLeastLine (program_faults program) line → PassesLimit bytes line
 
 -- what must hold of the bytes where this fault is answered for them: the first stage that refuses them, and its line
 abbrev pub IsRefused : List ℕ → Fault → Type 0

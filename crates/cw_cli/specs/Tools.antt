@@ -1,11 +1,14 @@
 -- What the program answers on a source: an exit status, a line on standard error, and what standard output took.
-use Rattle.std.specs.Prelude.{◌≡◌, ℕ, ℤ, List, [], ◌++◌, ◌⊎◌, codes, Option, Result, Ok, Err, MatchResult}
+use Rattle.std.specs.Prelude.{◌≡◌, ℕ, ℤ, List, [], ◌++◌, ◌⊎◌, codes, string_bytes, Option, Result, Ok, Err, MatchResult}
 use Rattle.cw_text.specs.declared.fault.Fault.{Fault}
+use Rattle.cw_text.specs.declared.fault.Fault.TheVariants as fault
 use Rattle.cw_text.specs.Faults.{fault_status, fault_text}
 use Rattle.cw_report.specs.Sinks.{WritesAll, WritesPart}
 use Rattle.cw_cli.specs.Analyses.{IsReported, IsUnreported}
 use Rattle.cw_cli.specs.declared.asked.Options.{Options}
 use Rattle.cw_cli.specs.declared.asked.Request.{Request}
+use Rattle.cw_cli.specs.declared.asked.Said.{Said}
+use Rattle.cw_cli.specs.declared.asked.Said.TheVariants as said
 
 abbrev pub status_of : Result (Unit {0}) Fault → ℕ
 status_of (Ok done) = 0
@@ -21,10 +24,15 @@ abbrev pub TriesText : {W : Type 0} → (W → Option (List ℕ)) → (W → ℕ
 TriesText contents failed old new text =
     WritesAll (contents old) (contents new) (failed old) (failed new) text ⊎ WritesPart (contents old) (contents new) (failed old) (failed new) text
 
+-- standard error was given the line of a fault, whose status this is
+pub record IsRefusal {E : Type 0} (contents : E → Option (List ℕ)) (failed : E → ℕ) (old new : E) (f : Fault) (status : ℕ) : Type 0 where
+  pub line : TriesText contents failed old new (fault_text f ++ codes "\n")
+  pub status_is : status ≡ fault_status f
+
 -- the source cannot be read, or memory ran out as it was read
-pub data IsUnreadAnswer {E : Type 0} (contents : E → Option (List ℕ)) (failed : E → ℕ) (old new : E) : ℕ → Type 0 where
-  file : TriesText contents failed old new (codes "file" ++ codes "\n") → IsUnreadAnswer contents failed old new 5
-  memory : TriesText contents failed old new (codes "memory" ++ codes "\n") → IsUnreadAnswer contents failed old new 6
+pub data IsUnreadAnswer {E : Type 0} (contents : E → Option (List ℕ)) (failed : E → ℕ) (old new : E) (status : ℕ) : Type 0 where
+  file : TriesText contents failed old new (codes "file" ++ codes "\n") → status ≡ 5 → IsUnreadAnswer contents failed old new status
+  memory : IsRefusal contents failed old new fault.Memory status → IsUnreadAnswer contents failed old new status
 
 module _ {W : Type 0} (contents : W → Option (List ℕ)) (failed : W → ℕ) (old new : W) where
   -- what an analysis comes to
@@ -37,3 +45,26 @@ module _ {W : Type 0} (contents : W → Option (List ℕ)) (failed : W → ℕ) 
     pub data IsToolAnswer : ℕ → Type 0 where
       unread : {status : ℕ} → new ≡ old → IsUnreadAnswer contents' failed' old' new' status → IsToolAnswer status
       analysed : (r : Result (Unit {0}) Fault) → IsAnalysed bytes asked.args.items asked.options r → TriesText contents' failed' old' new' (line_of r) → IsToolAnswer (status_of r)
+
+-- two sinks, standard output and standard error, go from one state to another
+module _ {W E : Type 0} (contents : W → Option (List ℕ)) (failed : W → ℕ) (old new : W) (contents' : E → Option (List ℕ)) (failed' : E → ℕ) (old' new' : E) where
+  -- standard output took the help, or a beginning of it and standard error the line of the failed write
+  pub data IsHelpAnswer (text : List ℕ) (status : ℕ) : Type 0 where
+    whole : WritesAll (contents old) (contents new) (failed old) (failed new) text → new' ≡ old' → status ≡ 0 → IsHelpAnswer text status
+    cut_short : WritesPart (contents old) (contents new) (failed old) (failed new) text → IsRefusal contents' failed' old' new' fault.Write status → IsHelpAnswer text status
+
+  -- standard error was given the text on the words
+  pub record IsMisuseAnswer (text : List ℕ) (status : ℕ) : Type 0 where
+    pub untouched : new ≡ old
+    pub text_is : TriesText contents' failed' old' new' text
+    pub status_is : status ≡ 5
+
+  -- standard error was given the line of the fault
+  pub record IsFaultAnswer (f : Fault) (status : ℕ) : Type 0 where
+    pub untouched : new ≡ old
+    pub refusal : IsRefusal contents' failed' old' new' f status
+
+  abbrev pub IsSaidAnswer : Said → ℕ → Type 0
+  IsSaidAnswer (said.Help text) = IsHelpAnswer (string_bytes text)
+  IsSaidAnswer (said.Misuse text) = IsMisuseAnswer (string_bytes text)
+  IsSaidAnswer (said.Fault f) = IsFaultAnswer f

@@ -1,5 +1,9 @@
 //! What is asked for.
 
+ghost use Rattle.std.specs.Prelude.{◌≡◌};
+ghost use Rattle.cw_cli.specs.declared.asked.Said.TheVariants.{Fault};
+
+use cw_text::Fault;
 use std::alloc::Global;
 
 /// The limit of a run that is given none.
@@ -35,12 +39,23 @@ pub struct Request {
     pub options: Options,
 }
 
-/// What the program says in place of running: the help, with status 0, or a fault, with status 5.
-/// Where memory ran out the text is empty and the status 6.
+/// What the program says in place of running.
 #[derive(Debug, Drop)]
-pub struct Said {
-    pub text: String,
-    pub status: u8,
+pub enum Said {
+    /// The help, for standard output.
+    Help(String),
+    /// What is wrong with the words, for standard error.
+    Misuse(String),
+    /// `Arguments` for a word that is no number, or one out of range, and `Memory`.
+    Fault(Fault),
+}
+
+impl From<Fault> for Said {
+    ghost from_gives = { λ fault said. said ≡ Fault fault };
+
+    fn from(fault: Fault) -> Said {
+        Said::Fault(fault)
+    }
 }
 
 impl Request {

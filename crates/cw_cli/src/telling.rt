@@ -1,10 +1,10 @@
-//! What the program answers on a source.
+//! What the program answers on a source, and what it says in place of a run.
 
 ghost use Rattle.std.specs.Prelude.{◌<◌, ◌-◌, ◌^◌, IfSome};
-ghost use Rattle.cw_cli.specs.Tools.{IsToolAnswer, IsUnreadAnswer};
+ghost use Rattle.cw_cli.specs.Tools.{IsRefusal, IsSaidAnswer, IsToolAnswer, IsUnreadAnswer};
 
 use crate::analysis::analyse_alone;
-use crate::asked::Request;
+use crate::asked::{Request, Said};
 use cw_report::sink::Sink;
 use cw_report::writing::{write_fault, write_text};
 use cw_text::Fault;
@@ -38,10 +38,7 @@ pub fn tool<D: Read + Drop, W: Sink, E: Sink>(
     let args = asked.args.as_slice();
     match analyse_alone(alloc, bytes.as_slice(), args, asked.options, out) {
         Ok(()) => 0,
-        Err(fault) => {
-            let _ = write_fault(err, &fault);
-            fault.status()
-        }
+        Err(fault) => refuse(&fault, err),
     }
 }
 
@@ -51,10 +48,42 @@ pub fn unread<E: Sink>(error: &io::Error, err: &mut E) -> u8
     ensures { IsUnreadAnswer E.contents E.failed err.old err.new result }
 {
     if error.kind() == io::ErrorKind::OutOfMemory {
-        let fault = Fault::Memory;
-        let _ = write_fault(err, &fault);
-        return fault.status();
+        return refuse(&Fault::Memory, err);
     }
     let _ = write_text(err, b"file\n");
     5
+}
+
+/// Writes what stands in place of a run: the help to `out`, and anything else to `err`; gives the
+/// exit status.
+///
+/// Where the help cannot be written, the fault's line goes to `err`. Whether a write to `err` fails
+/// changes nothing.
+pub fn say<W: Sink, E: Sink>(said: &Said, out: &mut W, err: &mut E) -> u8
+    requires out { W.failed out.old < 2 ^ 64 - 1 }
+    requires err { E.failed err.old < 2 ^ 64 - 1 }
+    ensures { IsSaidAnswer W.contents W.failed out.old out.new E.contents E.failed err.old err.new
+        said.now result }
+{
+    match said {
+        Said::Help(text) => match write_text(out, text.as_bytes()) {
+            Ok(()) => 0,
+            Err(fault) => refuse(&fault, err),
+        },
+        Said::Misuse(text) => {
+            let _ = write_text(err, text.as_bytes());
+            5
+        }
+        Said::Fault(fault) => refuse(fault, err),
+    }
+}
+
+/// Writes the line of a fault to `err`; gives the exit status. Whether the write fails changes
+/// nothing.
+pub fn refuse<E: Sink>(fault: &Fault, err: &mut E) -> u8
+    requires { E.failed err.old < 2 ^ 64 - 1 }
+    ensures { IsRefusal E.contents E.failed err.old err.new fault.now result }
+{
+    let _ = write_fault(err, fault);
+    fault.status()
 }

@@ -3,13 +3,13 @@
 ghost use Rattle.std.specs.Prelude.{◌≡◌, ◌∷◌, [], ◌++◌, All, IfErr, IfOk, OnOk, map, pos};
 ghost use Rattle.clap.specs.Matches.{found_of};
 ghost use Rattle.cw_model.specs.Pieces.{value_of};
-ghost use Rattle.cw_cli.specs.Requests.{AreInRange, IsArgument, IsArguments, IsAskedBy, IsNoMemory, IsSaid};
+ghost use Rattle.cw_cli.specs.Requests.{AreInRange, IsArgument, IsAskedBy, IsSaid, IsWordFault};
 
 use crate::asked::{Mode, Options, Request, Said, USUAL_BURDEN};
 use crate::number::read_number;
 use clap::error::ErrorKind;
 use clap::{Arg, ArgAction, ArgMatches, Command, Error};
-use cw_text::fault::Fault;
+use cw_text::Fault;
 use std::alloc::{AllocError, Global};
 
 /// The greatest argument of `main`.
@@ -40,19 +40,19 @@ Exit status and standard error (L is a line of the source):
 
 /// Reads the program's words, without the program's own name.
 ///
-/// The error is what to say in place of a run: the help, a fault of the words, or, with status 6
-/// and no text, that memory ran out.
+/// The error is what to say in place of a run: the help, what is wrong with the words, `Arguments`
+/// where the limit or an argument of `main` is no number or out of range, or `Memory`.
 pub fn request(alloc: Global, words: &[String]) -> Result<Request, Said>
     ensures ok { IfOk result (λ r. AreInRange r.options) }
     ensures why { IfErr result IsSaid }
 {
     let matches = match matches_of(alloc, words) {
         Ok(matches) => matches,
-        Err(error) => return Err(say(alloc, &error)),
+        Err(error) => return Err(said_of(alloc, &error)),
     };
     match matches.subcommand() {
         Some((_, given)) => Ok(run_request(alloc, given)?),
-        None => Err(arguments(alloc)),
+        None => Err(Said::Fault(Fault::Arguments)),
     }
 }
 
@@ -90,19 +90,17 @@ fn run_command<'a>(alloc: Global) -> Result<Command<'a>, AllocError> {
         .arg(limit)
 }
 
-fn run_request(alloc: Global, given: &ArgMatches<'_>) -> Result<Request, Said>
+fn run_request(alloc: Global, given: &ArgMatches<'_>) -> Result<Request, Fault>
     ensures ok { IfOk result (λ r. IsAskedBy (found_of given.now) r) }
-    ensures why { IfErr result IsArguments }
+    ensures why { IfErr result IsWordFault }
 {
     let limit = given.get_str("limit").unwrap_or(USUAL_LIMIT);
     let (Some(file), Some(limit)) = (given.get_str("FILE"), read_number(limit, 1, MOST_LIMIT))
     else {
-        return Err(arguments(alloc));
+        return Err(Fault::Arguments);
     };
     let args = args_of(alloc, given.get_strs("ARGS").unwrap_or(&[]))?;
-    let Ok(file) = String::from_str(alloc, file) else {
-        return Err(no_memory(alloc));
-    };
+    let file = String::from_str(alloc, file)?;
     let options = Options {
         mode: Mode::Run,
         limit,
@@ -115,65 +113,43 @@ fn run_request(alloc: Global, given: &ArgMatches<'_>) -> Result<Request, Said>
     })
 }
 
-fn args_of(alloc: Global, texts: &[&str]) -> Result<Vec<i64>, Said>
+fn args_of(alloc: Global, texts: &[&str]) -> Result<Vec<i64>, Fault>
     ensures ok { IfOk result (λ v. v.items ≡ map (λ text. pos (value_of text.now)) texts.now) }
     ensures digits { OnOk result (All (λ text. IsArgument text.now) texts.now) }
-    ensures why { IfErr result IsArguments }
+    ensures why { IfErr result IsWordFault }
 {
     let mut args = Vec::new(alloc);
     for text in texts {
-        push_arg(alloc, &mut args, text)?;
+        push_arg(&mut args, text)?;
     }
     Ok(args)
 }
 
-fn push_arg(alloc: Global, args: &mut Vec<i64>, text: &str) -> Result<(), Said>
+fn push_arg(args: &mut Vec<i64>, text: &str) -> Result<(), Fault>
     ensures ok { OnOk result (args.new.items ≡ args.old.items ++ pos (value_of text.now) ∷ []) }
     ensures digits { OnOk result (IsArgument text.now) }
-    ensures why { IfErr result IsArguments }
+    ensures why { IfErr result IsWordFault }
 {
-    let Some(value) = read_number(text, 0, MOST_ARGUMENT) else {
-        return Err(arguments(alloc));
-    };
-    match args.push(value as i64) {
-        Ok(()) => Ok(()),
-        Err(_) => Err(no_memory(alloc)),
+    match read_number(text, 0, MOST_ARGUMENT) {
+        Some(value) => {
+            args.push(value as i64)?;
+            Ok(())
+        }
+        None => Err(Fault::Arguments),
     }
 }
 
 // The help, or what is wrong with the words.
-fn say(alloc: Global, error: &Error) -> Said
+fn said_of(alloc: Global, error: &Error) -> Said
     ensures { IsSaid result }
 {
-    let status = match error.kind() {
-        ErrorKind::OutOfMemory => return no_memory(alloc),
-        ErrorKind::DisplayHelp | ErrorKind::DisplayVersion => 0,
-        _ => 5,
+    let text = match error.to_string(alloc) {
+        Ok(text) => text,
+        Err(_) => return Said::Fault(Fault::Memory),
     };
-    match error.to_string(alloc) {
-        Ok(text) => Said { text, status },
-        Err(_) => no_memory(alloc),
-    }
-}
-
-fn arguments(alloc: Global) -> Said
-    ensures { IsArguments result }
-{
-    let fault = Fault::Arguments;
-    match format!(in alloc; "{fault}\n") {
-        Ok(text) => Said {
-            text,
-            status: fault.status(),
-        },
-        Err(_) => no_memory(alloc),
-    }
-}
-
-fn no_memory(alloc: Global) -> Said
-    ensures { IsNoMemory result }
-{
-    Said {
-        text: String::new(alloc),
-        status: 6,
+    match error.kind() {
+        ErrorKind::OutOfMemory => Said::Fault(Fault::Memory),
+        ErrorKind::DisplayHelp | ErrorKind::DisplayVersion => Said::Help(text),
+        _ => Said::Misuse(text),
     }
 }

@@ -5,7 +5,8 @@ use Rattle.std.proofs.lemmas.List.{length-set, length-map, length-reverse, lengt
 use Rattle.std.proofs.lemmas.Option.{slice_get_within}
 use Rattle.cw_model.specs.declared.trap.Trap.TheVariants as trap
 use Rattle.cw_model.specs.Limits.{most_depth}
-use Rattle.cw_model.specs.Syntax.{CallKind, Plain, Spawned}
+use Rattle.cw_model.specs.declared.syntax.CallKind.{CallKind}
+use Rattle.cw_model.specs.declared.syntax.CallKind.TheVariants.{Plain, Spawned}
 use Rattle.cw_model.specs.Outcome.{Trace}
 use Rattle.cw_model.specs.Answers.{answer_of}
 use Rattle.cw_code.specs.declared.code.Callee.{Callee}

@@ -1,11 +1,6 @@
 //! Instructions, functions and call sites.
 
-/// Whether a call may run beside what follows it.
-#[derive(Clone, Copy, Debug, PartialEq, Eq)]
-pub enum CallKind {
-    Plain,
-    Spawned,
-}
+use cw_model::syntax::CallKind;
 
 /// What a call names: the index of its function, its site, the line of its statement, and the slot that takes its
 /// result.

@@ -4,7 +4,9 @@ use Rattle.std.specs.Prelude.{flat_map, slice_get}
 use Rattle.std.proofs.Math.Seq.{get_or-append_seam}
 use Rattle.std.proofs.lemmas.List.{append-nil, length-map}
 use Rattle.std.proofs.lemmas.Option.{slice_get-get_or, slice_get_within}
-use Rattle.cw_model.specs.Syntax.{Name, Expr, Number, Variable, CallKind, Plain, Spawned, Stmt, Declare, Assign, Call, Sync, Return, Block, End, Then, Param, Function, Program}
+use Rattle.cw_model.specs.declared.syntax.CallKind.{CallKind}
+use Rattle.cw_model.specs.declared.syntax.CallKind.TheVariants.{Plain, Spawned}
+use Rattle.cw_model.specs.Syntax.{Name, Expr, Number, Variable, Stmt, Declare, Assign, Call, Sync, Return, Block, End, Then, Param, Function, Program}
 use Rattle.cw_model.specs.Names.{is_among}
 use Rattle.cw_model.specs.Meaning.{function_of}
 use Rattle.cw_model.specs.Answers.{main_name}

@@ -5,7 +5,9 @@ use mathlib.Core.List.{reverse_aux}
 use Rattle.std.proofs.lemmas.List.{append-nil, length-set, length-reverse, length-replicate, length-map, reverse-reverse}
 use Rattle.cw_model.specs.declared.trap.Trap.TheVariants as trap
 use Rattle.cw_model.specs.Limits.{most_depth}
-use Rattle.cw_model.specs.Syntax.{Name, Expr, Number, Variable, CallKind, Plain, Spawned, Stmt, Declare, Assign, Call, Sync, Return, Block, End, Then, Param, Function}
+use Rattle.cw_model.specs.declared.syntax.CallKind.{CallKind}
+use Rattle.cw_model.specs.declared.syntax.CallKind.TheVariants.{Plain, Spawned}
+use Rattle.cw_model.specs.Syntax.{Name, Expr, Number, Variable, Stmt, Declare, Assign, Call, Sync, Return, Block, End, Then, Param, Function}
 use Rattle.cw_model.specs.Trees.{Join, works}
 use Rattle.cw_model.specs.Frames.{Frame, no_frame, int_of, array_of, new_int, new_array, set_int, set_array, set_result}
 use Rattle.cw_model.specs.Expressions.{evaluate}

@@ -1,6 +1,6 @@
 -- The instructions of a program whose names are looked up.
 use Rattle.std.specs.Prelude.{ℕ, ◌+◌, List, [], ◌∷◌, ◌++◌, length, Option, Some, None}
-use Rattle.cw_model.specs.Syntax.{CallKind}
+use Rattle.cw_model.specs.declared.syntax.CallKind.{CallKind}
 use Rattle.cw_model.specs.Report.{CallSite, kind_text}
 use Rattle.cw_types.specs.Resolved.{Use, Expr, Number, Variable, Stmt, Declare, Call, Sync, Return, Block, End, Then, Function, Resolved}
 use Rattle.cw_code.specs.declared.code.Func.{Func}

@@ -1,6 +1,8 @@
 -- The instructions of a program: a name's slot is its place among the names that its function declares.
 use Rattle.std.specs.Prelude.{ℕ, ◌+◌, List, [], ◌∷◌, ◌++◌, length, Option, Some, None}
-use Rattle.cw_model.specs.Syntax.{Name, Expr, Number, Variable, CallKind, Plain, Spawned, Stmt, Declare, Assign, Call, Sync, Return, Block, End, Then, Function, Program}
+use Rattle.cw_model.specs.declared.syntax.CallKind.{CallKind}
+use Rattle.cw_model.specs.declared.syntax.CallKind.TheVariants.{Plain, Spawned}
+use Rattle.cw_model.specs.Syntax.{Name, Expr, Number, Variable, Stmt, Declare, Assign, Call, Sync, Return, Block, End, Then, Function, Program}
 use Rattle.cw_model.specs.Answers.{main_name}
 use Rattle.cw_model.specs.Report.{call_sites}
 use Rattle.cw_types.specs.Resolved.{slot_of, names_after, function_names, param_names}

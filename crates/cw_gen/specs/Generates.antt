@@ -1,11 +1,11 @@
 -- What the generator answers.
-use Rattle.std.specs.Prelude.{◌≡◌, ℕ, ℤ, Bool, true, false, ◌&&◌, nat_le, List, length, Some}
+use Rattle.std.specs.Prelude.{◌≡◌, ℕ, ℤ, List, [], length, Some}
 use Rattle.cw_model.specs.Syntax.{Program}
-use Rattle.cw_model.specs.Limits.{most_instructions, most_call_statements}
+use Rattle.cw_model.specs.Lines.{IsLeastLine}
 use Rattle.cw_model.specs.Meaning.{function_of}
 use Rattle.cw_model.specs.Answers.{main_name, serial_answer}
 use Rattle.cw_model.specs.Report.{call_sites}
-use Rattle.cw_model.specs.Sizes.{static_size, call_count}
+use Rattle.cw_model.specs.Sizes.{program_faults}
 use Rattle.cw_text.specs.declared.fault.Fault.{Fault}
 use Rattle.cw_text.specs.declared.fault.Fault.TheVariants as fault
 use Rattle.cw_code.specs.Code.{Code}
@@ -16,10 +16,6 @@ use Rattle.cw_code.specs.Fits.{main_params, Fits}
 abbrev pub main_count : Program → ℕ
 main_count program = length (function_of main_name program.functions).params
 
--- the static size and the count of call statements are within their limits
-abbrev pub is_small : Program → Bool
-is_small program = nat_le (static_size program) most_instructions && nat_le (call_count program) most_call_statements
-
 -- on all arguments and within all limits the code gives the serial answer of the program, tree included; it fits, it
 -- takes the arguments of the program's main, it carries the program's call statements, and the program is small enough
 pub record Generates (program : Program) (code : Code) : Type 0 where
@@ -27,10 +23,10 @@ pub record Generates (program : Program) (code : Code) : Type 0 where
   pub fits : Fits code
   pub params : main_params code ≡ main_count program
   pub sites : code.sites ≡ call_sites program
-  pub small : is_small program ≡ true
+  pub small : program_faults program ≡ []
 
--- why there is no code: the program is too large, which counts at line 1, or memory ran out
+-- why there is no code: the program is too large, or memory ran out
 abbrev pub Why : Program → Fault → Type 0
-Why program (fault.Size place) = (is_small program ≡ false) × (place.line ≡ 1)
+Why program (fault.Size place) = IsLeastLine (program_faults program) place.line
 Why program fault.Memory = Unit {0}
 Why program _ = ⊥

@@ -1,9 +1,8 @@
 -- A call statement of the resolved tree.
 use Rattle.std.specs.Prelude.{map, option_map}
-use Rattle.cw_parse.specs.View.{call_kind_of}
 use Rattle.cw_types.specs.declared.tree.Call as declared
 use Rattle.cw_types.specs.Resolved.{Stmt, Call}
 use Rattle.cw_types.specs.View.{use_of, expr_of}
 
 abbrev pub call_of : declared.Call → Stmt
-call_of c = Call (call_kind_of c.kind) c.site (option_map use_of c.target) c.callee c.index (map expr_of c.arguments.items)
+call_of c = Call c.kind c.site (option_map use_of c.target) c.callee c.index (map expr_of c.arguments.items)

@@ -6,8 +6,8 @@ ghost use Rattle.cw_gen.specs.Emit as spec;
 ghost use Rattle.cw_types.specs.View as view;
 ghost use Rattle.cw_gen.specs.View.{call_of};
 
-use cw_code::code::{CallKind, Callee, Code, Func, Instr, Site};
-use cw_parse::tree as parsed;
+use cw_code::code::{Callee, Code, Func, Instr, Site};
+use cw_model::syntax::CallKind;
 use cw_types::tree::{Call, Expr, Function, Line, Stmt, Tree};
 use std::alloc::{AllocError, Global};
 
@@ -96,8 +96,8 @@ fn call(instrs: &mut Vec<Instr>, line: u32, c: &Call) -> Result<(), AllocError>
         },
     };
     match c.kind {
-        parsed::CallKind::Plain => put(instrs, Instr::Call(callee)),
-        parsed::CallKind::Spawned => put(instrs, Instr::Spawn(callee)),
+        CallKind::Plain => put(instrs, Instr::Call(callee)),
+        CallKind::Spawned => put(instrs, Instr::Spawn(callee)),
     }
 }
 
@@ -153,10 +153,7 @@ fn site_of(alloc: Global, line: u32, c: &Call) -> Result<Site, AllocError>
     let callee = Vec::from_slice(alloc, c.callee.as_bytes())?;
     Ok(Site {
         number: c.site,
-        kind: match c.kind {
-            parsed::CallKind::Plain => CallKind::Plain,
-            parsed::CallKind::Spawned => CallKind::Spawned,
-        },
+        kind: c.kind,
         line,
         callee,
     })

@@ -1,83 +1,37 @@
-use crate::emit::emit;
-use cw_code::code::{CallKind, Callee, Func, Instr};
-use cw_parse::tree as parsed;
-use cw_parse::tree::Name;
-use cw_types::tree::{Call, Expr, Function, Line, Stmt, Tree, Use};
-use std::alloc::{AllocError, Global};
+//! The code of a whole source, by hand.
 
-fn name_use(alloc: Global, text: &[u8], slot: u32) -> Result<Use, AllocError> {
-    Ok(Use {
-        name: Name::new(alloc, text)?,
-        slot,
-    })
-}
+use crate::generate::generate;
+use cw_code::code::{Callee, Code, Func, Instr};
+use cw_lex::lex;
+use cw_model::syntax::CallKind;
+use cw_own::own::own;
+use cw_parse::parse;
+use cw_text::{Fault, Source};
+use cw_types::check::check;
+use std::alloc::Global;
+use std::test::Fail;
 
-fn line(line: u32, stmt: Stmt) -> Line {
-    Line { line, stmt }
-}
+const PROGRAM: &str = "int second(int a, int b) { return b; }
+int main() {
+  int x = 4;
+  x = second(5, x);
+  x = cilk_spawn second(6, 7);
+  cilk_sync;
+  return x;
+}";
 
-// 1: int second(int a, int b) { return b; }
-fn second(alloc: Global) -> Result<Function, AllocError> {
-    let params = vec![in alloc; Name::new(alloc, b"a")?, Name::new(alloc, b"b")?]?;
-    let given = Expr::Variable(name_use(alloc, b"b", 1)?);
-    Ok(Function {
-        name: Name::new(alloc, b"second")?,
-        line: 1,
-        params,
-        slots: 2,
-        body: vec![in alloc; line(1, Stmt::Return(Some(given)))]?,
-    })
-}
-
-fn call(
-    alloc: Global,
-    kind: parsed::CallKind,
-    site: u32,
-    first: i64,
-    then: Expr,
-) -> Result<Stmt, AllocError> {
-    Ok(Stmt::Call(Call {
-        kind,
-        site,
-        target: Some(name_use(alloc, b"x", 0)?),
-        callee: Name::new(alloc, b"second")?,
-        index: 0,
-        arguments: vec![in alloc; Expr::Number(first), then]?,
-    }))
-}
-
-// 2: int main() {
-// 3:   int x = 4;
-// 4:   x = second(5, x);
-// 5:   x = cilk_spawn second(6, 7);
-// 6:   cilk_sync;
-// 7:   return x; }
-fn main_function(alloc: Global) -> Result<Function, AllocError> {
-    let x = Expr::Variable(name_use(alloc, b"x", 0)?);
-    let plain = call(alloc, parsed::CallKind::Plain, 1, 5, x)?;
-    let spawned = call(alloc, parsed::CallKind::Spawned, 2, 6, Expr::Number(7))?;
-    let given = Expr::Variable(name_use(alloc, b"x", 0)?);
-    let declared = Stmt::Declare(name_use(alloc, b"x", 0)?, Expr::Number(4));
-    Ok(Function {
-        name: Name::new(alloc, b"main")?,
-        line: 2,
-        params: Vec::new(alloc),
-        slots: 1,
-        body: vec![in alloc;
-            line(3, declared),
-            line(4, plain),
-            line(5, spawned),
-            line(6, Stmt::Sync),
-            line(7, Stmt::Return(Some(given))),
-        ]?,
-    })
+fn code_of(alloc: Global, text: &str) -> Result<Code, Fault> {
+    let source = Source::read(alloc, text.as_bytes())?;
+    let tokens = lex(alloc, &source)?;
+    let ast = parse(alloc, &source, tokens.as_slice())?;
+    let typed = check(alloc, ast)?;
+    let owned = own(typed)?;
+    generate(alloc, &owned)
 }
 
 #[test]
-fn a_program_is_emitted(rt: HostRuntime) -> Result<(), AllocError> {
-    let alloc = rt.alloc();
-    let functions = vec![in alloc; second(alloc)?, main_function(alloc)?]?;
-    let code = emit(alloc, &Tree { functions, main: 1 })?;
+fn a_program_has_its_code(rt: HostRuntime) -> Result<(), Fail> {
+    let code = code_of(rt.alloc(), PROGRAM)?;
     let callee = Callee {
         function: 0,
         site: 1,

@@ -1,7 +1,8 @@
 -- What is taken after a `while` is the least set closed under its body.
 use Rattle.std.proofs.Common.{◌≡◌, ℕ, zero, suc, ◌+◌, ◌<◌, Bool, true, false, cond, List, [], ◌∷◌, ◌++◌, get_or, filter, Contains, ◌⊎◌, inl, inr, ⊎_elim, arith, refl, zero-lt-suc}
 use Rattle.std.proofs.lemmas.List.Elements.{Contains-append_left, Contains-append_right, Contains-append_cases, All-filter, All-contains, All-contains_itself, filter_passes}
-use Rattle.cw_model.specs.Syntax.{Name, Expr, Spawned, Stmt, Call, Sync, If, IfElse, While, For, Scope, Cut, Region, Return, Block, End, Then, Function}
+use Rattle.cw_model.specs.declared.syntax.CallKind.TheVariants.{Spawned}
+use Rattle.cw_model.specs.Syntax.{Name, Expr, Stmt, Call, Sync, If, IfElse, While, For, Scope, Cut, Region, Return, Block, End, Then, Function}
 use Rattle.cw_model.specs.Typing.{block_returns}
 use Rattle.cw_model.specs.Ownership.{Holder, CutOf, Taken, freed, uncut, without, where_it_goes_on, own_names, taken_after, taken_after_all, IsLeastClosed}
 use Rattle.cw_model.specs.WhileLaw.{one_turn}

@@ -5,7 +5,8 @@ use Rattle.cw_model.specs.declared.token.Token.{Token}
 use Rattle.cw_model.specs.declared.token.Kind.{Kind}
 use Rattle.cw_model.specs.declared.token.Kind.TheVariants as kind
 use Rattle.cw_model.specs.Limits.{most_number}
-use Rattle.cw_model.specs.Syntax.{Name, Operator, Expr, Stmt, Block, Param, Function, Reducer, Program}
+use Rattle.cw_model.specs.declared.syntax.Operator.{Operator}
+use Rattle.cw_model.specs.Syntax.{Name, Expr, Stmt, Block, Param, Function, Reducer, Program}
 use Rattle.cw_model.specs.Grammar as grammar
 use Rattle.cw_model.specs.Grammar.{name_of, infix_of, Part, level, chain, ReadsExpr, operand, operators, infixed, ReadsOperand, ReadsWhole, ReadsMoreArguments, ReadsArguments, ReadsCall, ReadsMoreNames, ReadsGrain, ReadsOver, Head, ReadsHead, ReadsAssigned, ReadsNamed, ReadsDeclared, ReadsReturned, ReadsStmt, begins, ReadsStmtBy, ReadsBlock, braces, ReadsStmts, ReadsParam, ReadsMoreParams, ReadsParams, gives_int_of, ReadsFunction, ReadsItems, Derives}
 use Rattle.cw_model.proofs.Cutting.{passes, fails, test}

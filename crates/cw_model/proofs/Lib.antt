@@ -12,3 +12,4 @@ pub mod Parts
 mod Halves
 mod LoopTrees
 pub mod Spending
+pub mod Lowest

@@ -4,7 +4,8 @@ use Rattle.cw_model.specs.declared.token.Token.{Token}
 use Rattle.cw_model.specs.declared.token.Kind.{Kind}
 use Rattle.cw_model.specs.declared.token.Kind.TheVariants as kind
 use Rattle.cw_model.specs.Text.{end_line}
-use Rattle.cw_model.specs.Syntax.{Operator, Expr, Stmt, Block, Param, Function, Reducer, Program}
+use Rattle.cw_model.specs.declared.syntax.Operator.{Operator}
+use Rattle.cw_model.specs.Syntax.{Expr, Stmt, Block, Param, Function, Reducer, Program}
 use Rattle.cw_model.specs.Grammar as grammar
 use Rattle.cw_model.specs.Grammar.{infix_of, Part, level, chain, ReadsExpr, operand, operators, end, infixed, ReadsOperand, ReadsReturned, ReadsStmtBy, ReadsStmt, begins, ReadsBlock, braces, ReadsStmts, ReadsParam, ReadsParams, ReadsFunction, function, ReadsItems, Derives, CanBegin, first_line, HasSyntaxFault}
 use Rattle.cw_model.proofs.Cutting.{passes, fails, test}

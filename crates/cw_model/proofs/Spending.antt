@@ -8,7 +8,9 @@ use Rattle.cw_model.specs.LoopLaws.{IsBody, for_body, for_turn}
 use Rattle.cw_model.specs.Ints.{is_zero, natural}
 use Rattle.cw_model.specs.Limits.{most_depth}
 use Rattle.cw_model.specs.Trees.{Execution, Tree, Marked, Event, Work, Series, Fork, Join, works, tree_of, work}
-use Rattle.cw_model.specs.Syntax.{Name, Expr, CallKind, Plain, Spawned, Stmt, Declare, DeclareArray, Assign, AssignElement, AddTo, Call, Start, Begin, Sync, If, IfElse, While, For, Scope, Cut, Region, Print, Return, Block, End, Then, Param, Function}
+use Rattle.cw_model.specs.declared.syntax.CallKind.{CallKind}
+use Rattle.cw_model.specs.declared.syntax.CallKind.TheVariants.{Plain, Spawned}
+use Rattle.cw_model.specs.Syntax.{Name, Expr, Stmt, Declare, DeclareArray, Assign, AssignElement, AddTo, Call, Start, Begin, Sync, If, IfElse, While, For, Scope, Cut, Region, Print, Return, Block, End, Then, Param, Function}
 use Rattle.cw_model.specs.Frames.{Frame, no_frame, leave, inside_loop, new_array, new_int}
 use Rattle.cw_model.specs.Expressions.{Evaluated, Gives, Traps, evaluate}
 use Rattle.cw_model.specs.Outcome.{Trace, shows, Outcome, Done, Trapped, Over, then_do, Piece, ◌>>=◌, gives, show, pay, value_of, joined_up, as_one}

@@ -1,6 +1,9 @@
 -- Programs whose meaning was worked out by hand.
 use Rattle.std.specs.Prelude.{ℕ, pos, zero, suc, true, false, List, [], ◌∷◌, Some, None, codes}
-use Rattle.cw_model.specs.Syntax.{Name, Operator, Less, Plus, Minus, Times, Divide, Expr, Number, Variable, Element, Length, Negative, Binary, Plain, Spawned, Stmt, Declare, DeclareArray, Assign, AssignElement, AddTo, Call, Sync, If, While, For, Cut, Region, Print, Return, Block, End, Then, Param, Function, Program}
+use Rattle.cw_model.specs.declared.syntax.Operator.{Operator}
+use Rattle.cw_model.specs.declared.syntax.Operator.TheVariants.{Less, Plus, Minus, Times, Divide}
+use Rattle.cw_model.specs.declared.syntax.CallKind.TheVariants.{Plain, Spawned}
+use Rattle.cw_model.specs.Syntax.{Name, Expr, Number, Variable, Element, Length, Negative, Binary, Stmt, Declare, DeclareArray, Assign, AssignElement, AddTo, Call, Sync, If, While, For, Cut, Region, Print, Return, Block, End, Then, Param, Function, Program}
 
 -- names, by how they are spelled
 

@@ -3,7 +3,9 @@ use Rattle.std.specs.Prelude.{ℕ, false, List, [], ◌∷◌, ◌++◌, replica
 use Rattle.cw_model.specs.declared.token.Token.{Token}
 use Rattle.cw_model.specs.declared.token.Kind.{Kind}
 use Rattle.cw_model.specs.declared.token.Kind.TheVariants as kind
-use Rattle.cw_model.specs.Syntax.{Name, Equal, Unequal, Less, AtMost, Greater, AtLeast, Plus, Minus, Times, Divide, Modulo, Variable, Element, Length, Negative, Not, Binary, Spawned, Declare, DeclareArray, Assign, AssignElement, AddTo, Call, IfElse, While, For, Scope, Sync, Cut, Region, Print, Return, End, Then, Function, Program}
+use Rattle.cw_model.specs.declared.syntax.Operator.TheVariants.{Equal, Unequal, Less, AtMost, Greater, AtLeast, Plus, Minus, Times, Divide, Modulo}
+use Rattle.cw_model.specs.declared.syntax.CallKind.TheVariants.{Spawned}
+use Rattle.cw_model.specs.Syntax.{Name, Variable, Element, Length, Negative, Not, Binary, Declare, DeclareArray, Assign, AssignElement, AddTo, Call, IfElse, While, For, Scope, Sync, Cut, Region, Print, Return, End, Then, Function, Program}
 use Rattle.cw_model.specs.Tokens.{IsTokenCut, HasLexicalFault, HasNameFault}
 use Rattle.cw_model.specs.Grammar.{Derives, HasSyntaxFault}
 use Rattle.cw_model.specs.ExampleSources as source

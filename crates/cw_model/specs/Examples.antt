@@ -5,7 +5,8 @@ use Rattle.cw_model.specs.declared.trap.Trap.TheVariants as trap
 use Rattle.cw_model.specs.declared.token.Token.{Token}
 use Rattle.cw_model.specs.declared.token.Kind.{Kind}
 use Rattle.cw_model.specs.declared.token.Kind.TheVariants as kind
-use Rattle.cw_model.specs.Syntax.{Divide, Modulo, Negative, Declare, Sync, Scope, If, Region, For, End, Program}
+use Rattle.cw_model.specs.declared.syntax.Operator.TheVariants.{Divide, Modulo}
+use Rattle.cw_model.specs.Syntax.{Negative, Declare, Sync, Scope, If, Region, For, End, Program}
 use Rattle.cw_model.specs.Trees.{Leaf, Seq, Par, Marked, Invocation, work}
 use Rattle.cw_model.specs.Answers.{Answer, Ended, TrappedAt, OverLimit, serial_answer}
 use Rattle.cw_model.specs.Report.{Check, Run, Scale, Sites, report_text, end_of_line, scale_header, sites_header}

@@ -3,7 +3,9 @@ use Rattle.std.specs.Prelude.{ℕ, ◌+◌, ℤ, pos, negsuc, ◌+ℤ◌, ◌-�
 use Rattle.cw_model.specs.declared.trap.Trap.{Trap}
 use Rattle.cw_model.specs.declared.trap.Trap.TheVariants as trap
 use Rattle.cw_model.specs.Ints.{Result, Value, Fails, exact, truth, quotient, remainder, is_zero, int_eq}
-use Rattle.cw_model.specs.Syntax.{Name, Operator, Equal, Unequal, Less, AtMost, Greater, AtLeast, Plus, Minus, Times, Divide, Modulo, Expr, Number, Variable, Element, Length, Negative, Not, Binary}
+use Rattle.cw_model.specs.declared.syntax.Operator.{Operator}
+use Rattle.cw_model.specs.declared.syntax.Operator.TheVariants.{Equal, Unequal, Less, AtMost, Greater, AtLeast, Plus, Minus, Times, Divide, Modulo}
+use Rattle.cw_model.specs.Syntax.{Name, Expr, Number, Variable, Element, Length, Negative, Not, Binary}
 use Rattle.cw_model.specs.Names.{is_among}
 use Rattle.cw_model.specs.Frames.{Frame, int_of, array_of}
 

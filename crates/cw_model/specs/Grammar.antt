@@ -8,7 +8,10 @@ use Rattle.cw_model.specs.declared.token.Kind.TheVariants as kind
 use Rattle.cw_model.specs.Limits.{most_number}
 use Rattle.cw_model.specs.Text.{between, end_line}
 use Rattle.cw_model.specs.Syntax as tree
-use Rattle.cw_model.specs.Syntax.{Name, Operator, Expr, Plain, Spawned, Stmt, Block, Param, Function, Reducer, Program}
+use Rattle.cw_model.specs.declared.syntax.Operator.{Operator}
+use Rattle.cw_model.specs.declared.syntax.Operator.TheVariants as operator
+use Rattle.cw_model.specs.declared.syntax.CallKind.TheVariants.{Plain, Spawned}
+use Rattle.cw_model.specs.Syntax.{Name, Expr, Stmt, Block, Param, Function, Reducer, Program}
 
 -- the text of a token
 abbrev pub name_of : List ℕ → Token → Name
@@ -16,17 +19,17 @@ name_of text t = between text t.start t.end
 
 -- the operator of a kind of token, and its level: 1 binds most tightly
 abbrev pub infix_of : Kind → Option (ℕ × Operator)
-infix_of kind.Equal = Some (4, tree.Equal)
-infix_of kind.NotEqual = Some (4, tree.Unequal)
-infix_of kind.Less = Some (3, tree.Less)
-infix_of kind.LessEqual = Some (3, tree.AtMost)
-infix_of kind.Greater = Some (3, tree.Greater)
-infix_of kind.GreaterEqual = Some (3, tree.AtLeast)
-infix_of kind.Plus = Some (2, tree.Plus)
-infix_of kind.Minus = Some (2, tree.Minus)
-infix_of kind.Star = Some (1, tree.Times)
-infix_of kind.Slash = Some (1, tree.Divide)
-infix_of kind.Percent = Some (1, tree.Modulo)
+infix_of kind.Equal = Some (4, operator.Equal)
+infix_of kind.NotEqual = Some (4, operator.Unequal)
+infix_of kind.Less = Some (3, operator.Less)
+infix_of kind.LessEqual = Some (3, operator.AtMost)
+infix_of kind.Greater = Some (3, operator.Greater)
+infix_of kind.GreaterEqual = Some (3, operator.AtLeast)
+infix_of kind.Plus = Some (2, operator.Plus)
+infix_of kind.Minus = Some (2, operator.Minus)
+infix_of kind.Star = Some (1, operator.Times)
+infix_of kind.Slash = Some (1, operator.Divide)
+infix_of kind.Percent = Some (1, operator.Modulo)
 infix_of _ = None
 
 -- the parts of an expression

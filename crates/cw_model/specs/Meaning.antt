@@ -3,7 +3,9 @@ use Rattle.std.specs.Prelude.{ℕ, zero, suc, ◌+◌, false, ℤ, pos, negsuc, 
 use Rattle.cw_model.specs.declared.trap.Trap.TheVariants as trap
 use Rattle.cw_model.specs.Limits.{most_elements, most_depth}
 use Rattle.cw_model.specs.Ints.{Result, Value, Fails, is_zero, natural}
-use Rattle.cw_model.specs.Syntax.{Name, Expr, Variable, CallKind, Plain, Spawned, Stmt, Declare, DeclareArray, Assign, AssignElement, AddTo, Call, Start, Begin, Sync, If, IfElse, While, For, Scope, Cut, Region, Print, Return, Block, End, Then, Param, Function}
+use Rattle.cw_model.specs.declared.syntax.CallKind.{CallKind}
+use Rattle.cw_model.specs.declared.syntax.CallKind.TheVariants.{Plain, Spawned}
+use Rattle.cw_model.specs.Syntax.{Name, Expr, Variable, Stmt, Declare, DeclareArray, Assign, AssignElement, AddTo, Call, Start, Begin, Sync, If, IfElse, While, For, Scope, Cut, Region, Print, Return, Block, End, Then, Param, Function}
 use Rattle.cw_model.specs.Names.{same_name}
 use Rattle.cw_model.specs.Captured.{captured}
 use Rattle.cw_model.specs.Frames.{Frame, no_frame, int_of, array_of, set_int, set_array, new_int, new_array, inside_loop, leave, set_result}

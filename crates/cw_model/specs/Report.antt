@@ -1,7 +1,9 @@
 -- The texts that are reported, byte by byte.
 use Rattle.std.specs.Prelude.{ℕ, ◌+◌, ◌*◌, ◌/◌, ◌%◌, zero, suc, ℤ, List, [], ◌∷◌, ◌++◌, flat_map, codes, decimal}
 use Rattle.std.specs.Fmt.{signed_decimal}
-use Rattle.cw_model.specs.Syntax.{Name, CallKind, Plain, Spawned, Stmt, Call, If, IfElse, While, For, Scope, Cut, Region, Block, End, Then, Reducer, Program}
+use Rattle.cw_model.specs.declared.syntax.CallKind.{CallKind}
+use Rattle.cw_model.specs.declared.syntax.CallKind.TheVariants.{Plain, Spawned}
+use Rattle.cw_model.specs.Syntax.{Name, Stmt, Call, If, IfElse, While, For, Scope, Cut, Region, Block, End, Then, Reducer, Program}
 use Rattle.cw_model.specs.Names.{new_names}
 use Rattle.cw_model.specs.Trees.{Tree, work, span, burdened_span}
 use Rattle.cw_model.specs.Rows.{site_row, region_row}

@@ -1,23 +1,11 @@
 -- The source program as a tree.
 use Rattle.std.specs.Prelude.{ℕ, ℤ, Bool, List, Option}
+use Rattle.cw_model.specs.declared.syntax.Operator.{Operator}
+use Rattle.cw_model.specs.declared.syntax.CallKind.{CallKind}
 
 -- a name by its bytes
 abbrev pub Name : Type 0
 Name = List ℕ
-
--- an operator between two operands
-pub data Operator : Type 0 where
-  Equal : Operator
-  Unequal : Operator
-  Less : Operator
-  AtMost : Operator
-  Greater : Operator
-  AtLeast : Operator
-  Plus : Operator
-  Minus : Operator
-  Times : Operator
-  Divide : Operator
-  Modulo : Operator
 
 -- an expression
 pub data Expr : Type 0 where
@@ -28,11 +16,6 @@ pub data Expr : Type 0 where
   Negative : Expr → Expr
   Not : Expr → Expr
   Binary : Operator → Expr → Expr → Expr
-
--- whether a call may run beside what follows it
-pub data CallKind : Type 0 where
-  Plain : CallKind
-  Spawned : CallKind
 
 mutual
   -- a statement

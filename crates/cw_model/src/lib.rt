@@ -4,6 +4,7 @@
 pub mod examples;
 pub mod laws;
 pub mod monoid;
+pub mod syntax;
 #[cfg(test)]
 mod tests;
 pub mod texts;

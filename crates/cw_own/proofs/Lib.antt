@@ -1,3 +1,2 @@
 pub mod Bits
 pub mod Ownership
-pub mod Samples

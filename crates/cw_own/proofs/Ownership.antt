@@ -4,7 +4,8 @@ use Rattle.std.specs.List.{list_all}
 use Rattle.std.proofs.lemmas.Bool.{ltb-true}
 use Rattle.std.proofs.lemmas.Bool.Decides.{nat_tests}
 use Rattle.std.proofs.lemmas.Slice.Eq.{bytes_eq-Decides}
-use Rattle.cw_model.specs.Syntax.{Name, Param, Expr, Number, Variable, Element, Length, Negative, Not, Binary, Plain, Spawned, Declare, DeclareArray, Assign, AssignElement, AddTo, Call, Start, Begin, Sync, If, IfElse, While, For, Scope, Cut, Region, Print, Return, Block, End, Then, Function}
+use Rattle.cw_model.specs.declared.syntax.CallKind.TheVariants.{Plain, Spawned}
+use Rattle.cw_model.specs.Syntax.{Name, Param, Expr, Number, Variable, Element, Length, Negative, Not, Binary, Declare, DeclareArray, Assign, AssignElement, AddTo, Call, Start, Begin, Sync, If, IfElse, While, For, Scope, Cut, Region, Print, Return, Block, End, Then, Function}
 use Rattle.cw_model.specs.Names.{same_name, is_among, differ}
 use Rattle.cw_model.specs.Lines.{unless}
 use Rattle.cw_model.specs.Answers.{main_name}

@@ -4,8 +4,6 @@
 pub mod own;
 pub mod owned;
 mod rules;
-#[cfg(test)]
-mod sample;
 mod taken;
 #[cfg(test)]
 mod tests;

@@ -2,7 +2,7 @@
 
 ghost use Rattle.std.specs.Prelude.{◌≡◌, map, flat_map, true, MatchResult};
 ghost use Rattle.cw_types.specs.Bounds.{are_fitting};
-ghost use Rattle.cw_types.specs.Least.{lowest};
+ghost use Rattle.cw_model.specs.Lines.{lowest};
 ghost use Rattle.cw_types.specs.View.{program_of, function_of};
 ghost use Rattle.cw_own.specs.Faults.{BreaksOwnership};
 ghost use Rattle.cw_own.specs.Slots.{taken_lines_of};
@@ -10,7 +10,7 @@ ghost use Rattle.cw_own.specs.Slots.{taken_lines_of};
 use crate::owned::Owned;
 use crate::rules::note_taken;
 use cw_text::fault::{Fault, Place};
-use cw_types::least::LeastLine;
+use cw_text::LeastLine;
 use cw_types::tree::Function;
 use cw_types::typed::Typed;
 

@@ -2,16 +2,15 @@
 
 ghost use Rattle.std.specs.Prelude.{◌≡◌, map, option_map, true};
 ghost use Rattle.std.specs.List.{list_all};
-ghost use Rattle.cw_parse.specs.View.{call_kind_of};
 ghost use Rattle.cw_types.specs.Bounds.{below_expr, below_target, below_return, below_stmt, below_block};
-ghost use Rattle.cw_types.specs.Least.{lowest};
+ghost use Rattle.cw_model.specs.Lines.{lowest};
 ghost use Rattle.cw_types.specs.View.{use_of, expr_of, stmt_of, block_of};
 ghost use Rattle.cw_own.specs.Sets.{no_slot, slots_of};
 ghost use Rattle.cw_own.specs.Slots.{free_expr, free_target, free_return, free_stmt, slots_after, taken_by_call, taken_lines};
 
 use crate::taken::Taken;
-use cw_parse::tree::CallKind;
-use cw_types::least::LeastLine;
+use cw_model::syntax::CallKind;
+use cw_text::LeastLine;
 use cw_types::tree::{Call, Expr, Line, Stmt, Use};
 
 // Whether an expression names nothing taken.
@@ -87,7 +86,7 @@ fn after(taken: Taken, stmt: &Stmt) -> Taken
 
 fn after_call(taken: Taken, call: &Call) -> Taken
     requires { below_target 256 (option_map use_of call.now.target) ≡ true }
-    ensures { slots_of result.rows ≡ taken_by_call (call_kind_of call.now.kind) (option_map use_of call.now.target) (slots_of taken.rows) }
+    ensures { slots_of result.rows ≡ taken_by_call call.now.kind (option_map use_of call.now.target) (slots_of taken.rows) }
 {
     let mut after = taken;
     match call.kind {

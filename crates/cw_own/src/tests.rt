@@ -1,39 +1,35 @@
 //! The rules of names, types and ownership on whole sources, with the lines by hand.
 
 use crate::own::own;
-use crate::sample::read;
-use cw_text::fault::{Fault, Place};
+use crate::owned::Owned;
+use cw_lex::lex;
+use cw_parse::parse;
+use cw_text::{Fault, Place, Source};
 use cw_types::check::check;
-use std::alloc::{AllocError, Global};
+use std::alloc::Global;
 use std::test::Fail;
 
-// The fault of a source, if there is one.
-fn fault_of(alloc: Global, text: &str) -> Result<Option<Fault>, AllocError> {
-    let ast = read(alloc, text)?;
-    let typed = match check(alloc, ast) {
-        Ok(typed) => typed,
-        Err(fault) => return Ok(Some(fault)),
-    };
-    match own(typed) {
-        Ok(_) => Ok(None),
-        Err(fault) => Ok(Some(fault)),
-    }
+fn owned(alloc: Global, text: &str) -> Result<Owned, Fault> {
+    let source = Source::read(alloc, text.as_bytes())?;
+    let tokens = lex(alloc, &source)?;
+    let ast = parse(alloc, &source, tokens.as_slice())?;
+    let typed = check(alloc, ast)?;
+    own(typed)
 }
 
 #[test]
 fn sources_that_keep_the_rules(rt: HostRuntime) -> Result<(), Fail> {
     let alloc = rt.alloc();
     for text in [
-        "main\nreturn 0",
-        "main a b\nreturn b",
-        "f a b\nint c a\nreturn b.\nmain\nint x 1\nint y x\nx = f x y\nreturn x",
-        "f a\nreturn a.\nmain\nint x 0\nint y 0\nx spawn f 1\ny = f 2\nsync\nreturn x",
-        "f a\nreturn a.\nmain\nint x 0\nx spawn f 1\nsync\nx spawn f x\nreturn 0",
-        "f\nreturn 1.\nmain\nint x 0\nint y 0\nx spawn f\ny spawn f\nint z 2\nsync\nreturn y",
+        "int main() {\nreturn 0; }",
+        "int main(int a, int b) {\nreturn b; }",
+        "int f(int a, int b) {\nint c = a;\nreturn b; }\nint main() {\nint x = 1;\nint y = x;\nx = f(x, y);\nreturn x; }",
+        "int f(int a) {\nreturn a; }\nint main() {\nint x = 0;\nint y = 0;\nx = cilk_spawn f(1);\ny = f(2);\ncilk_sync;\nreturn x; }",
+        "int f(int a) {\nreturn a; }\nint main() {\nint x = 0;\nx = cilk_spawn f(1);\ncilk_sync;\nx = cilk_spawn f(x);\nreturn 0; }",
+        "int f() {\nreturn 1; }\nint main() {\nint x = 0;\nint y = 0;\nx = cilk_spawn f();\ny = cilk_spawn f();\nint z = 2;\ncilk_sync;\nreturn y; }",
     ] {
-        match fault_of(alloc, text)? {
-            None => {}
-            Some(fault) => assert!(rt; false, "{fault} in\n{text}"),
+        if let Err(fault) = owned(alloc, text) {
+            assert!(rt; false, "{fault} in\n{text}");
         }
     }
     Ok(())
@@ -46,36 +42,39 @@ fn sources_that_touch_taken_names(rt: HostRuntime) -> Result<(), Fail> {
         // read before the join, as a value, an argument and what is returned
         (
             6,
-            "f\nreturn 1.\nmain\nint x 0\nx spawn f\nint y x\nreturn 0",
+            "int f() {\nreturn 1; }\nint main() {\nint x = 0;\nx = cilk_spawn f();\nint y = x;\nreturn 0; }",
         ),
         (
             6,
-            "f a\nreturn a.\nmain\nint x 0\nx spawn f 1\nx = f 2\nreturn 0",
+            "int f(int a) {\nreturn a; }\nint main() {\nint x = 0;\nx = cilk_spawn f(1);\nx = f(2);\nreturn 0; }",
         ),
         (
             7,
-            "f a\nreturn a.\nmain\nint x 0\nint y 0\nx spawn f 1\ny = f x\nreturn 0",
+            "int f(int a) {\nreturn a; }\nint main() {\nint x = 0;\nint y = 0;\nx = cilk_spawn f(1);\ny = f(x);\nreturn 0; }",
         ),
-        (6, "f\nreturn 1.\nmain\nint x 0\nx spawn f\nreturn x"),
+        (
+            6,
+            "int f() {\nreturn 1; }\nint main() {\nint x = 0;\nx = cilk_spawn f();\nreturn x; }",
+        ),
         // two spawns into one name
         (
             6,
-            "f\nreturn 1.\nmain\nint x 0\nx spawn f\nx spawn f\nreturn 0",
+            "int f() {\nreturn 1; }\nint main() {\nint x = 0;\nx = cilk_spawn f();\nx = cilk_spawn f();\nreturn 0; }",
         ),
         // a spawn after the join takes anew
         (
             8,
-            "f\nreturn 1.\nmain\nint x 0\nx spawn f\nsync\nx spawn f\nint y x\nreturn 0",
+            "int f() {\nreturn 1; }\nint main() {\nint x = 0;\nx = cilk_spawn f();\ncilk_sync;\nx = cilk_spawn f();\nint y = x;\nreturn 0; }",
         ),
         // two faults: the first
         (
             6,
-            "f\nreturn 1.\nmain\nint x 0\nx spawn f\nint y x\nint z x\nreturn x",
+            "int f() {\nreturn 1; }\nint main() {\nint x = 0;\nx = cilk_spawn f();\nint y = x;\nint z = x;\nreturn x; }",
         ),
     ] {
-        match fault_of(alloc, text)? {
-            None => assert!(rt; false, "taken:\n{text}"),
-            Some(fault) => assert_eq!(rt; fault, Fault::Ownership(Place { line }), "{text}"),
+        match owned(alloc, text) {
+            Ok(_) => assert!(rt; false, "taken:\n{text}"),
+            Err(fault) => assert_eq!(rt; fault, Fault::Ownership(Place { line }), "{text}"),
         }
     }
     Ok(())

@@ -11,3 +11,4 @@ pub mod Rooms
 pub mod Items
 pub mod Cuts
 pub mod FaultLaws
+pub mod Nested

@@ -5,7 +5,9 @@ use Rattle.cw_model.specs.declared.token.Token.{Token}
 use Rattle.cw_model.specs.declared.token.Kind.{Kind}
 use Rattle.cw_model.specs.declared.token.Kind.TheVariants as kind
 use Rattle.cw_model.specs.Syntax as tree
-use Rattle.cw_model.specs.Syntax.{Name, Expr, CallKind, Plain, Spawned, Stmt, Block}
+use Rattle.cw_model.specs.declared.syntax.CallKind.{CallKind}
+use Rattle.cw_model.specs.declared.syntax.CallKind.TheVariants.{Plain, Spawned}
+use Rattle.cw_model.specs.Syntax.{Name, Expr, Stmt, Block}
 use Rattle.cw_model.specs.Grammar as grammar
 use Rattle.cw_model.specs.Grammar.{name_of, ReadsWhole, ReadsCall, ReadsAssigned, ReadsNamed, ReadsDeclared, ReadsReturned, ReadsStmt, ReadsStmtBy, ReadsBlock, ReadsStmts}
 use Rattle.cw_model.specs.FirstGrammar.{is_first_expr, is_first_stmt, is_first_body}

@@ -26,11 +26,11 @@ pub record HasFirstFault (text : List ℕ) (ts : List Token) (line : ℕ) : Type
   pub no_end : rest ≡ [] → (program : Program) → DerivesFirst text ts program → ⊥
   pub same_line : line ≡ first_line text rest
 
--- what must hold of a text's tokens where parsing answers this fault
-abbrev pub IsUnparsed : List ℕ → List Token → Fault → Type 0
-IsUnparsed text ts (fault.Syntax p) = HasFirstFault text ts p.line
-IsUnparsed text ts fault.Memory = Unit {0}
-IsUnparsed text ts _ = ⊥
+-- what must hold of a text's tokens where there is this fault in place of a tree
+abbrev pub HasNoTree : List ℕ → List Token → Fault → Type 0
+HasNoTree text ts (fault.Syntax p) = HasFirstFault text ts p.line
+HasNoTree text ts fault.Memory = Unit {0}
+HasNoTree text ts _ = ⊥
 
 -- tokens have at most one tree in the first grammar
 abbrev pub HasOneTree : List ℕ → List Token → Type 0

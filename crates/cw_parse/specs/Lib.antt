@@ -5,3 +5,5 @@ pub mod Parts
 pub mod Parentheses
 pub mod Seen
 pub mod FirstFault
+pub mod Nesting
+pub mod Parsed

@@ -5,7 +5,9 @@ use Rattle.cw_model.specs.declared.token.Kind.{Kind}
 use Rattle.cw_model.specs.declared.token.Kind.TheVariants as kind
 use Rattle.cw_model.specs.Limits.{most_number}
 use Rattle.cw_model.specs.Syntax as tree
-use Rattle.cw_model.specs.Syntax.{Name, Expr, CallKind, Plain, Spawned, Stmt, Block, Param, Function}
+use Rattle.cw_model.specs.declared.syntax.CallKind.{CallKind}
+use Rattle.cw_model.specs.declared.syntax.CallKind.TheVariants.{Plain, Spawned}
+use Rattle.cw_model.specs.Syntax.{Name, Expr, Stmt, Block, Param, Function}
 use Rattle.cw_model.specs.Grammar.{name_of}
 use Rattle.cw_parse.specs.Reading.{Reader, ◌>>=◌, token, by_first, unless_token, Step, turn, last, row}
 use Rattle.cw_parse.specs.Marks.{is_name, is_int, is_left_paren, is_right_paren, is_left_brace, is_right_brace, is_assign, is_semicolon}

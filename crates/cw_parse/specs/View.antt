@@ -1,9 +1,5 @@
 -- The tree of the definitions that a tree of the code stands for.
 use Rattle.std.specs.Prelude.{ℕ, List, [], ◌∷◌, map, option_map}
-use Rattle.cw_parse.specs.declared.tree.Operator.{Operator}
-use Rattle.cw_parse.specs.declared.tree.Operator.TheVariants.{Equal, Unequal, Less, AtMost, Greater, AtLeast, Plus, Minus, Times, Divide, Modulo}
-use Rattle.cw_parse.specs.declared.tree.CallKind.{CallKind}
-use Rattle.cw_parse.specs.declared.tree.CallKind.TheVariants.{Plain, Spawned}
 use Rattle.cw_parse.specs.declared.tree.Expr.{Expr}
 use Rattle.cw_parse.specs.declared.tree.Expr.TheVariants.{Number, Variable, Element', Length, Negative', Not', Binary'}
 use Rattle.cw_parse.specs.declared.tree.Stmt.{Stmt, fold-Stmt}
@@ -15,19 +11,6 @@ use Rattle.cw_parse.specs.declared.tree.Reducer.{Reducer}
 use Rattle.cw_parse.specs.declared.tree.Ast.{Ast}
 use Rattle.cw_model.specs.Syntax as model
 
-abbrev pub operator_of : Operator → model.Operator
-operator_of Equal = model.Equal
-operator_of Unequal = model.Unequal
-operator_of Less = model.Less
-operator_of AtMost = model.AtMost
-operator_of Greater = model.Greater
-operator_of AtLeast = model.AtLeast
-operator_of Plus = model.Plus
-operator_of Minus = model.Minus
-operator_of Times = model.Times
-operator_of Divide = model.Divide
-operator_of Modulo = model.Modulo
-
 abbrev pub expr_of : Expr → model.Expr
 expr_of (Number n) = model.Number n
 expr_of (Variable x) = model.Variable x
@@ -35,14 +18,10 @@ expr_of (Element' a p e) = model.Element a (expr_of e)
 expr_of (Length a) = model.Length a
 expr_of (Negative' p e) = model.Negative (expr_of e)
 expr_of (Not' p e) = model.Not (expr_of e)
-expr_of (Binary' o p d q e) = model.Binary (operator_of o) (expr_of d) (expr_of e)
+expr_of (Binary' o p d q e) = model.Binary o (expr_of d) (expr_of e)
 
 abbrev pub exprs_of : List Expr → List model.Expr
 exprs_of es = map expr_of es
-
-abbrev pub call_kind_of : CallKind → model.CallKind
-call_kind_of Plain = model.Plain
-call_kind_of Spawned = model.Spawned
 
 -- statements in order, each beside its line
 abbrev pub block_from : List (ℕ × model.Stmt) → model.Block
@@ -56,7 +35,7 @@ stmt_step (Stmt-F.DeclareArray x e) = model.DeclareArray x (expr_of e)
 stmt_step (Stmt-F.Assign x e) = model.Assign x (expr_of e)
 stmt_step (Stmt-F.AssignElement x i e) = model.AssignElement x (expr_of i) (expr_of e)
 stmt_step (Stmt-F.AddTo x e) = model.AddTo x (expr_of e)
-stmt_step (Stmt-F.Call c) = model.Call (call_kind_of c.kind) c.site c.target c.callee (exprs_of c.arguments.items)
+stmt_step (Stmt-F.Call c) = model.Call c.kind c.site c.target c.callee (exprs_of c.arguments.items)
 stmt_step Stmt-F.Sync = model.Sync
 stmt_step (Stmt-F.If e b) = model.If (expr_of e) (block_from b.items)
 stmt_step (Stmt-F.IfElse e b c) = model.IfElse (expr_of e) (block_from b.items) (block_from c.items)

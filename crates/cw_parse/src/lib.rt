@@ -7,6 +7,7 @@ mod input;
 mod item;
 pub mod laws;
 mod marks;
+mod nesting;
 mod parser;
 mod stmt;
 mod stop;

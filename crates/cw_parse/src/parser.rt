@@ -6,10 +6,12 @@ ghost use Rattle.cw_model.specs.Text.{end_line};
 ghost use Rattle.cw_model.specs.Tokens.{IsTokenCut};
 ghost use Rattle.cw_model.specs.Grammar.{first_line};
 ghost use Rattle.cw_parse.specs.View.{program_of};
-ghost use Rattle.cw_parse.specs.FirstFault.{DerivesFirst, IsUnparsed};
+ghost use Rattle.cw_parse.specs.FirstFault.{DerivesFirst, HasNoTree};
+ghost use Rattle.cw_parse.specs.Parsed.{IsParsed, IsUnparsed};
 
 use crate::input::Reading;
 use crate::item::whole;
+use crate::nesting::test_nesting;
 use crate::stop::Stop;
 use crate::tree::Ast;
 use cw_model::token::Token;
@@ -46,12 +48,24 @@ fn line_of(text: &[u8], tokens: &[Token], left: usize) -> u32
 /// of each body. Call statements are numbered from 1 in the order of the source; each statement has
 /// the line of its first token, and each function that of its name.
 ///
-/// Answers `Syntax` at the line of the first token that can continue no such source, or at the
-/// line of the text's end where the source ends too early, and `Memory` where none is left.
+/// The errors, in this order: `Size` at the least line of a token at which more than 64 brackets of
+/// any kind are open, or which is more than the 256th in a row without a semicolon or a brace;
+/// `Syntax` at the line of the first token that can continue no such source, or at the line of the
+/// text's end where the source ends too early. `Memory` where none is left.
 pub fn parse(alloc: Global, source: &Source, tokens: &[Token]) -> Result<Ast, Fault>
     requires { IsTokenCut source.now tokens.now }
-    ensures { MatchResult result (λ ast. DerivesFirst source.now tokens.now (program_of ast))
+    ensures { MatchResult result (λ ast. IsParsed source.now tokens.now (program_of ast))
         (IsUnparsed source.now tokens.now) }
+{
+    test_nesting(tokens)?;
+    tree_of(alloc, source, tokens)
+}
+
+// The tree of a source, from its tokens alone.
+fn tree_of(alloc: Global, source: &Source, tokens: &[Token]) -> Result<Ast, Fault>
+    requires { IsTokenCut source.now tokens.now }
+    ensures { MatchResult result (λ ast. DerivesFirst source.now tokens.now (program_of ast))
+        (HasNoTree source.now tokens.now) }
 {
     let text = source.bytes();
     let reading = Reading {

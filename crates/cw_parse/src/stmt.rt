@@ -1,7 +1,7 @@
 //! Statements and bodies.
 
 ghost use Rattle.std.specs.Prelude.{◌≡◌, ◌+◌, ◌<◌, ◌^◌, length};
-ghost use Rattle.cw_parse.specs.View.{call_kind_of, expr_of, stmt_of, block_of};
+ghost use Rattle.cw_parse.specs.View.{expr_of, stmt_of, block_of};
 ghost use Rattle.cw_parse.specs.Seen.{next_of};
 ghost use Rattle.cw_parse.specs.Reading.{Gives, by_first};
 ghost use Rattle.cw_parse.specs.Parts.{expr, called, call_into, assigned, named, declared, stmt, returned, next_line, lines, body};
@@ -11,7 +11,8 @@ use crate::expr::{expr, name_of};
 use crate::input::{Read, Reading};
 use crate::marks::{assign, left_brace, name, right_brace, semicolon};
 use crate::stop::Stop;
-use crate::tree::{Call, CallKind, Expr, Line, Name, Stmt};
+use crate::tree::{Call, Expr, Line, Name, Stmt};
+use cw_model::syntax::CallKind;
 use cw_model::token::{Kind, Token};
 
 // A call into a name, after the name of its callee, and the number after its own.
@@ -26,7 +27,7 @@ fn call_into<'a>(
 ) -> Read<'a, (Stmt, u32)>
     requires { site + 1 < 2 ^ 32 }
     ensures { Gives (λ x. ((stmt_of x.0.0, x.0.1), x.1.now)) result
-        (call_into reading.entry.text.now reading.entry.limit (call_kind_of kind) site target callee tokens.now) }
+        (call_into reading.entry.text.now reading.entry.limit kind site target callee tokens.now) }
 {
     let (arguments, rest) = called(reading, tokens)?;
     let call = Call {

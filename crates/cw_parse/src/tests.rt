@@ -1,8 +1,9 @@
 //! Sources with their trees, and sources that are refused, by the rules of the first grammar.
 
 use crate::parse;
-use crate::tree::{Ast, CallKind, Expr, Function, Name, Stmt};
+use crate::tree::{Ast, Expr, Function, Name, Stmt};
 use cw_lex::lex;
+use cw_model::syntax::CallKind;
 use cw_text::{Fault, Source};
 use std::alloc::{AllocError, Global};
 use std::test::Fail;
@@ -299,20 +300,58 @@ fn nested(alloc: Global, open: usize, closed: usize, end: &str) -> Result<String
     Ok(text)
 }
 
+// The line in which a text is refused for its size, and 0 where it is not.
+fn too_large_at(alloc: Global, text: &[u8]) -> u32 {
+    match tree_of(alloc, text) {
+        Err(Fault::Size(place)) => place.line,
+        _ => 0,
+    }
+}
+
 #[test]
-fn parentheses_lie_in_one_another_without_bound(rt: HostRuntime) -> Result<(), Fail> {
+fn at_most_sixty_four_brackets_are_open(rt: HostRuntime) -> Result<(), Fail> {
     let alloc = rt.alloc();
-    let endless = nested(alloc, 100_000, 0, "")?;
-    assert_eq!(rt; refused_at(alloc, endless.as_bytes())?, 1);
-    let balanced = nested(alloc, 20_000, 20_000, "; }")?;
-    let ast = tree_of(alloc, balanced.as_bytes())?;
+    // the brace of the body is one of them
+    let deepest = nested(alloc, 63, 63, "; }")?;
+    let ast = tree_of(alloc, deepest.as_bytes())?;
     let shown = shown(alloc, &ast)?;
     assert_eq!(rt; shown.as_str(), "1 main: 1 return 7;\n");
+    let deeper = nested(alloc, 64, 64, "; }")?;
+    assert_eq!(rt; too_large_at(alloc, deeper.as_bytes()), 1);
     // one parenthesis too many, or too few, is missed where it stands
-    let many = nested(alloc, 20_000, 20_000, "\n); }")?;
+    let many = nested(alloc, 63, 63, "\n); }")?;
     assert_eq!(rt; refused_at(alloc, many.as_bytes())?, 2);
-    let few = nested(alloc, 20_000, 19_999, "\n; }")?;
+    let few = nested(alloc, 63, 62, "\n; }")?;
     assert_eq!(rt; refused_at(alloc, few.as_bytes())?, 2);
+    // a limit comes before the grammar, at whatever line
+    let endless = nested(alloc, 100_000, 0, "")?;
+    assert_eq!(rt; too_large_at(alloc, endless.as_bytes()), 1);
+    let faulty = nested(alloc, 64, 0, "\n; }")?;
+    assert_eq!(rt; too_large_at(alloc, faulty.as_bytes()), 1);
+    Ok(())
+}
+
+// "int main() { x = f(", so many ones, and the rest; the last one stands in a line of its own
+fn long_call(alloc: Global, ones: usize) -> Result<String, AllocError> {
+    let mut text = String::new(alloc);
+    text.push_str("int main() { x = f(")?;
+    for _ in 1..ones {
+        text.push_str("1, ")?;
+    }
+    text.push_str("\n1); return 0; }")?;
+    Ok(text)
+}
+
+#[test]
+fn at_most_two_hundred_and_fifty_six_tokens_stand_in_a_row(rt: HostRuntime) -> Result<(), Fail> {
+    let alloc = rt.alloc();
+    // "x = f(" are 4 tokens, 126 arguments 251 with their commas, and ")" is the last one
+    let longest = long_call(alloc, 126)?;
+    let ast = tree_of(alloc, longest.as_bytes())?;
+    assert_eq!(rt; ast.functions.len(), 1);
+    // the 127th argument is the 257th token
+    let longer = long_call(alloc, 127)?;
+    assert_eq!(rt; too_large_at(alloc, longer.as_bytes()), 2);
     Ok(())
 }
 

@@ -3,6 +3,7 @@
 
 ghost use Rattle.std.specs.Prelude.{◌≡◌, ◌↔◌, IfOk, IsTrue};
 
+use cw_model::syntax::{CallKind, Operator};
 use std::alloc::{AllocError, Global};
 use std::marker::Model;
 
@@ -45,22 +46,6 @@ impl Name {
     }
 }
 
-/// An operator between two operands.
-#[derive(Clone, Copy, Debug, PartialEq, Eq)]
-pub enum Operator {
-    Equal,
-    Unequal,
-    Less,
-    AtMost,
-    Greater,
-    AtLeast,
-    Plus,
-    Minus,
-    Times,
-    Divide,
-    Modulo,
-}
-
 /// An expression.
 #[derive(Drop, Debug)]
 pub enum Expr {
@@ -74,13 +59,6 @@ pub enum Expr {
     Negative(Box<Expr>),
     Not(Box<Expr>),
     Binary(Operator, Box<Expr>, Box<Expr>),
-}
-
-/// Whether a call may run beside what follows it.
-#[derive(Clone, Copy, Debug, PartialEq, Eq)]
-pub enum CallKind {
-    Plain,
-    Spawned,
 }
 
 /// A call statement.

@@ -1,7 +1,7 @@
 //! Runs of small programs, from the words to the exit status.
 
 use crate::words::words_of;
-use cw_cli::{request, tool};
+use cw_cli::{request, say, tool};
 use cw_report::sink::Counted;
 use std::alloc::Global;
 use std::test::Fail;
@@ -20,10 +20,12 @@ pub struct Row<'a> {
 /// The exit status, standard output and standard error.
 pub fn answer(alloc: Global, words: &str, source: &[u8]) -> Result<(u8, Vec<u8>, Vec<u8>), Fail> {
     let words = words_of(alloc, words)?;
-    let asked = request(alloc, words.as_slice()).map_err(|_| Fail::from("the words are faulty"))?;
     let mut out = Counted::new(Vec::new(alloc));
     let mut err = Counted::new(Vec::new(alloc));
-    let status = tool(alloc, &asked, source, &mut out, &mut err);
+    let status = match request(alloc, words.as_slice()) {
+        Ok(asked) => tool(alloc, &asked, source, &mut out, &mut err),
+        Err(said) => say(&said, &mut out, &mut err),
+    };
     Ok((status, out.into_inner(), err.into_inner()))
 }
 

@@ -1,5 +1,6 @@
 //! The words of the program.
 
+use crate::rows::answer;
 use cw_cli::{Mode, Options, request};
 use std::alloc::{AllocError, Global};
 use std::test::Fail;
@@ -78,17 +79,14 @@ fn refuses_words(rt: HostRuntime) -> Result<(), Fail> {
         ("run --help", 0, "Runs a program and writes"),
         ("help run", 0, "Runs a program and writes"),
     ] {
-        let words = words_of(alloc, line)?;
-        match request(alloc, words.as_slice()) {
-            Ok(_) => return Err(Fail::from("it was read")),
-            Err(said) => {
-                let told = said.text.as_str();
-                assert_eq!(rt; said.status, status, "{line}");
-                assert!(rt; told.starts_with(text), "{line}: {told}");
-                if status == 0 {
-                    assert!(rt; told.contains("  4  over limit "), "{line}");
-                }
-            }
+        let (told_status, out, err) = answer(alloc, line, b"")?;
+        assert_eq!(rt; told_status, status, "{line}");
+        let (told, silent) = if status == 0 { (out, err) } else { (err, out) };
+        assert!(rt; silent.is_empty(), "{line}");
+        assert!(rt; told.starts_with(text.as_bytes()), "{line}");
+        if status == 0 {
+            let help = String::from_utf8(told).map_err(|_| Fail::from("no text"))?;
+            assert!(rt; help.as_str().contains("  4  over limit "), "{line}");
         }
     }
     Ok(())

@@ -13,11 +13,11 @@ use Rattle.cw_types.proofs.Bounds.{functions_fit}
 use Rattle.cw_types.proofs.Known.{without}
 use Rattle.cw_types.proofs.Simple.{no_reducers, all_first}
 use Rattle.cw_types.specs.Faults.{typing_lines}
-use Rattle.cw_types.specs.Least.{lowest}
+use Rattle.cw_model.specs.Lines.{lowest}
 use Rattle.cw_types.specs.Resolved as spec
 use Rattle.cw_types.specs.Resolved.{slot_of, function_names, resolved_function, resolved, Resolved}
 use Rattle.cw_types.specs.Slots.{slot_faults_of, repeated_after, below, slot_lines}
-use Rattle.cw_types.proofs.Lowest.{lowest-append, no_lines}
+use Rattle.cw_model.proofs.Lowest.{lowest-append, no_lines}
 use Rattle.cw_types.proofs.Small.{left_none, right_none}
 use Rattle.cw_types.proofs.Typing.{lines_by_slot}
 

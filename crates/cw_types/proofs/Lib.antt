@@ -1,6 +1,5 @@
 pub mod Looked
 pub mod Places
-pub mod Lowest
 pub mod Simple
 pub mod Fine
 pub mod Bodies
@@ -10,4 +9,3 @@ pub mod Kept
 pub mod Small
 pub mod Checked
 pub mod Bounds
-pub mod Samples

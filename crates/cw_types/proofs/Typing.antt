@@ -9,10 +9,10 @@ use Rattle.cw_model.specs.Answers.{main_name}
 use Rattle.cw_model.specs.FirstGrammar.{is_first_expr, is_first_body, is_first_function, is_first, calls_beyond, calls_below}
 use Rattle.cw_model.specs.Typing.{globals, block_returns, WithInt, Alone, Returns, faults_in_block, known_of, is_head, faults_of, repeated}
 use Rattle.cw_types.specs.Faults.{typing_lines}
-use Rattle.cw_types.specs.Least.{lowest}
+use Rattle.cw_model.specs.Lines.{lowest}
 use Rattle.cw_types.specs.Resolved.{slot_of, param_names, function_names, resolved_block, resolved_function}
 use Rattle.cw_types.specs.Slots.{are_new, slot_faults_of, repeated_after, below_lines, below, slot_lines}
-use Rattle.cw_types.proofs.Lowest.{lowest-append, lowest-swap}
+use Rattle.cw_model.proofs.Lowest.{lowest-append, lowest-swap}
 use Rattle.cw_types.proofs.Places.{turned}
 use Rattle.cw_types.proofs.Looked.{both_left, both_right}
 use Rattle.cw_types.proofs.Known.{back, ints, without, among_push, slot_before, body_by_slot}

@@ -1,7 +1,6 @@
 pub mod Resolved
 pub mod View
 pub mod Faults
-pub mod Least
 pub mod Places
 pub mod Slots
 pub mod Declares

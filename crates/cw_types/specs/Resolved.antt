@@ -11,7 +11,8 @@
 -- slots, and that is at most 256.
 use Rattle.std.specs.Prelude.{ℕ, suc, ℤ, pos, ◌==◌, Bool, true, false, ◌&&◌, if◌then◌else◌, List, [], ◌∷◌, ◌++◌, length, map, Option, Some, None, option_map}
 use Rattle.std.specs.List.{list_all}
-use Rattle.cw_model.specs.Syntax.{Name, CallKind, Param}
+use Rattle.cw_model.specs.declared.syntax.CallKind.{CallKind}
+use Rattle.cw_model.specs.Syntax.{Name, Param}
 use Rattle.cw_model.specs.Syntax as model
 use Rattle.cw_model.specs.Names.{same_name}
 use Rattle.cw_model.specs.Answers.{main_name}

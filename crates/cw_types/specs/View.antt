@@ -1,6 +1,5 @@
 -- The resolved tree of the definitions that a tree of the code stands for, and its program.
 use Rattle.std.specs.Prelude.{List, [], ◌∷◌, map, option_map}
-use Rattle.cw_parse.specs.View.{call_kind_of}
 use Rattle.cw_types.specs.declared.tree.Use as code_use
 use Rattle.cw_types.specs.declared.tree.Expr.{Expr}
 use Rattle.cw_types.specs.declared.tree.Expr.TheVariants as expr
@@ -21,7 +20,7 @@ expr_of (expr.Variable u) = spec.Variable (use_of u)
 
 abbrev pub stmt_of : Stmt → spec.Stmt
 stmt_of (stmt.Declare u e) = spec.Declare (use_of u) (expr_of e)
-stmt_of (stmt.Call c) = spec.Call (call_kind_of c.kind) c.site (option_map use_of c.target) c.callee c.index (map expr_of c.arguments.items)
+stmt_of (stmt.Call c) = spec.Call c.kind c.site (option_map use_of c.target) c.callee c.index (map expr_of c.arguments.items)
 stmt_of stmt.Sync = spec.Sync
 stmt_of (stmt.Return e) = spec.Return (option_map expr_of e)
 

@@ -5,17 +5,17 @@ ghost use Rattle.cw_model.specs.FirstGrammar.{is_first};
 ghost use Rattle.cw_model.specs.Sizes.{limit_faults};
 ghost use Rattle.cw_parse.specs.View.{program_of};
 ghost use Rattle.cw_types.specs.Faults.{IsTyped, IsIllTyped};
-ghost use Rattle.cw_types.specs.Least.{lowest};
+ghost use Rattle.cw_model.specs.Lines.{lowest};
 ghost use Rattle.cw_types.specs.Resolved.{resolved};
 ghost use Rattle.cw_types.specs.Slots.{slot_lines};
 ghost use Rattle.cw_types.specs.View.{resolved_of};
 
 use crate::functions::{below, functions, globals};
-use crate::least::LeastLine;
 use crate::limits::limits;
 use crate::tree::Tree;
 use crate::typed::Typed;
 use cw_parse::tree::Ast;
+use cw_text::LeastLine;
 use cw_text::fault::{Fault, Place};
 use std::alloc::{AllocError, Global};
 

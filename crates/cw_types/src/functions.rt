@@ -4,17 +4,17 @@ ghost use Rattle.std.specs.Prelude.{◌≡◌, ◌<◌, ◌+◌, ◌^◌, ◌++�
 ghost use Rattle.cw_model.specs.FirstGrammar.{is_first};
 ghost use Rattle.cw_parse.specs.View as parsed;
 ghost use Rattle.cw_types.specs.Declares.{is_declare, one_if, declares_in};
-ghost use Rattle.cw_types.specs.Least.{lowest};
+ghost use Rattle.cw_model.specs.Lines.{lowest};
 ghost use Rattle.cw_types.specs.Resolved as spec;
 ghost use Rattle.cw_types.specs.Slots.{are_new, slot_faults, slot_faults_of, repeated_after, below as below_of, below_lines as below_lines_of};
 ghost use Rattle.cw_types.specs.View.{block_of, function_of};
 
-use crate::least::LeastLine;
 use crate::resolve::{copy, statement};
 use crate::rules::keeps_types;
 use crate::table::Table;
 use crate::tree;
 use cw_parse::tree::{Function, Line, Name, Param, Stmt};
+use cw_text::LeastLine;
 use std::alloc::{AllocError, Global};
 
 /// The names of the functions; notes each function whose name an earlier one has.

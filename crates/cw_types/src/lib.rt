@@ -3,12 +3,9 @@
 
 pub mod check;
 mod functions;
-pub mod least;
 mod limits;
 mod resolve;
 mod rules;
-#[cfg(test)]
-mod sample;
 mod table;
 #[cfg(test)]
 mod tests;

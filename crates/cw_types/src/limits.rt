@@ -6,12 +6,12 @@ ghost use Rattle.cw_model.specs.FirstGrammar.{is_first, is_first_function};
 ghost use Rattle.cw_model.specs.Limits.{most_functions};
 ghost use Rattle.cw_model.specs.Sizes.{limit_faults, function_limits as limits_of, declaring_lines_in, lines_beyond};
 ghost use Rattle.cw_parse.specs.View.{program_of, function_of, block_of, stmt_of};
-ghost use Rattle.cw_types.specs.Least.{lowest};
+ghost use Rattle.cw_model.specs.Lines.{lowest};
 ghost use Rattle.cw_types.specs.Slots.{are_simple};
 ghost use Rattle.cw_types.specs.Declares.{is_declare};
 
-use crate::least::LeastLine;
 use cw_parse::tree::{Ast, Function, Line, Param, Stmt};
+use cw_text::LeastLine;
 
 /// The most functions of a program.
 pub const MOST_FUNCTIONS: usize = 1_024;

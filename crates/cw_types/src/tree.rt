@@ -3,7 +3,8 @@
 //! A slot is the place of a name among the names that are declared in its function so far, parameters first, each in
 //! order of declaration, from 0. An index is the place of a function among the functions of the source, from 0.
 
-use cw_parse::tree::{CallKind, Name};
+use cw_model::syntax::CallKind;
+use cw_parse::tree::Name;
 
 /// A use of a name, or its declaration, with its slot.
 #[derive(Drop, Debug)]

@@ -1,6 +1,6 @@
 use Rattle.std.proofs.Common.{refl, Ok, Err}
 use Rattle.cw_cli.specs.Tools.{unread}
-use Rattle.cw_cli.proofs.Tools.{tries, idle, of_any, answered}
+use Rattle.cw_cli.proofs.Tools.{idle, of_any, answered}
 use Rattle.cw_cli.proofs.telling.tool.Goals as goal
 
 pub returns-in-Err : goal.returns-in-Err
@@ -14,6 +14,6 @@ returns-in-Ok g c =
 
 pub returns : goal.returns
 returns g c =
-    answered g.D.Read.remaining g.W.Write.contents g.W.Sink.failed g.E.Write.contents g.E.Sink.failed c.args.source c.take.result.inner c.take.result.limit c.args.out.now c.analyse_alone.new.out c.args.err.now c.write_fault.new.to c.new-bytes.result.items c.read_to_end.new.buf.items c.as_slice.result.now c.as_slice-args.result.now c.args.asked.now
+    answered g.D.Read.remaining g.W.Write.contents g.W.Sink.failed g.E.Write.contents g.E.Sink.failed c.args.source c.take.result.inner c.take.result.limit c.args.out.now c.analyse_alone.new.out c.args.err.now c.refuse.new.err c.new-bytes.result.items c.read_to_end.new.buf.items c.as_slice.result.now c.as_slice-args.result.now c.args.asked.now
     c.take.ensures.limit c.take.ensures.inner c.new-bytes.ensures.items c.as_slice.ensures.value c.as_slice-args.ensures.value c.in_default.ensures.bytes
-    (Err c.in-Err-analyse_alone.fault) c.status.result c.status.ensures c.in-Err-analyse_alone.ensures (tries g.E.Write.contents g.E.Sink.failed c.args.err.now c.write_fault.new.to _ c.write_fault.result c.write_fault.ensures)
+    (Err c.in-Err-analyse_alone.fault) c.refuse.result c.refuse.ensures.status_is c.in-Err-analyse_alone.ensures c.refuse.ensures.line

@@ -1,16 +1,15 @@
-use Rattle.std.proofs.Common.{refl, sym, ◌∙◌}
-use Rattle.cw_gen.proofs.Small.{counts, generated}
+use Rattle.std.proofs.Common.{sym, ◌∙◌}
+use Rattle.cw_gen.proofs.Small.{too_large, generated}
 use Rattle.cw_gen.proofs.generate.generate.Goals as goal
 
 pub returns-then-not-is_small : goal.returns-then-not-is_small
 returns-then-not-is_small c =
     let owned = c.args.owned.now in
     let typed = owned.typed in
-    (sym (counts typed.tree c.in_ok-code.code c.in_ok-code.ensures typed.resolved typed.first typed.typed owned.owned) ∙ sym c.is_small.ensures ∙ c.if-not-is_small.true, refl)
+    too_large typed.tree c.in_ok-code.code c.in_ok-code.ensures typed.resolved typed.first typed.typed owned.owned (sym c.is_small.ensures ∙ c.if-not-is_small.true)
 
 pub returns : goal.returns
 returns c =
     let owned = c.args.owned.now in
     let typed = owned.typed in
-    generated typed.tree c.in_ok-code.code c.in_ok-code.ensures typed.resolved typed.first typed.typed owned.owned
-    (sym (counts typed.tree c.in_ok-code.code c.in_ok-code.ensures typed.resolved typed.first typed.typed owned.owned) ∙ sym c.is_small.ensures ∙ c.if-not-is_small.false)
+    generated typed.tree c.in_ok-code.code c.in_ok-code.ensures typed.resolved typed.first typed.typed owned.owned (sym c.is_small.ensures ∙ c.if-not-is_small.false)

@@ -1,11 +1,11 @@
 use Rattle.std.proofs.Common.{◌≡◌, List, ◌∷◌, map, flat_map, drop, ◌+◌, ap, sym, ◌∙◌, arith}
 use Rattle.std.proofs.lemmas.Grind.{common_steps}
 use Rattle.cw_types.specs.Bounds.{are_fitting, is_fitting, below_block}
-use Rattle.cw_types.specs.Least.{lowest}
+use Rattle.cw_model.specs.Lines.{lowest}
 use Rattle.cw_types.specs.Resolved as spec
 use Rattle.cw_types.specs.View.{function_of, block_of}
 use Rattle.cw_types.proofs.Looked.{both_left, both_right}
-use Rattle.cw_types.proofs.Lowest.{lowest-append}
+use Rattle.cw_model.proofs.Lowest.{lowest-append}
 use Rattle.cw_types.proofs.Bounds.{fitting_below}
 use Rattle.cw_own.specs.Sets.{no_slot}
 use Rattle.cw_own.specs.Slots.{taken_lines_of, taken_lines}

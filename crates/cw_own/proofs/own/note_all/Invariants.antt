@@ -1,6 +1,6 @@
 use Rattle.std.proofs.Common.{◌≡◌, drop, map, flat_map, true}
 use Rattle.cw_types.specs.Bounds.{are_fitting}
-use Rattle.cw_types.specs.Least.{lowest}
+use Rattle.cw_model.specs.Lines.{lowest}
 use Rattle.cw_types.specs.View.{function_of}
 use Rattle.cw_own.specs.Slots.{taken_lines_of}
 use Rattle.cw_own.proofs.own.note_all.Given as goal

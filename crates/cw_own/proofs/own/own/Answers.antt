@@ -1,8 +1,8 @@
 use Rattle.std.proofs.Common.{None, map, flat_map, sym, ap, ◌∙◌}
 use Rattle.cw_model.specs.Ownership.{ownership_faults}
-use Rattle.cw_types.specs.Least.{lowest}
+use Rattle.cw_model.specs.Lines.{lowest}
 use Rattle.cw_types.specs.View.{program_of, resolved_of, function_of}
-use Rattle.cw_types.proofs.Lowest.{no_lines, least_line}
+use Rattle.cw_model.proofs.Lowest.{no_lines, least_line}
 use Rattle.cw_own.specs.Slots.{taken_lines_of}
 use Rattle.cw_own.proofs.Ownership.{ownership_by_slot}
 use Rattle.cw_own.proofs.own.own.Goals as goal

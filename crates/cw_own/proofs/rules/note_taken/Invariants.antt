@@ -1,6 +1,6 @@
 use Rattle.std.proofs.Common.{◌≡◌, drop, true}
 use Rattle.cw_types.specs.Bounds.{below_block}
-use Rattle.cw_types.specs.Least.{lowest}
+use Rattle.cw_model.specs.Lines.{lowest}
 use Rattle.cw_types.specs.View.{block_of}
 use Rattle.cw_own.specs.Sets.{slots_of, no_slot}
 use Rattle.cw_own.specs.Slots.{taken_lines}

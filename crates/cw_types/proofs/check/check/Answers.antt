@@ -5,10 +5,10 @@ use Rattle.cw_model.specs.Typing.{type_faults}
 use Rattle.cw_parse.specs.View.{program_of}
 use Rattle.cw_types.specs.Faults.{typing_lines}
 use Rattle.cw_types.specs.Bounds.{are_fitting}
-use Rattle.cw_types.specs.Least.{lowest}
+use Rattle.cw_model.specs.Lines.{lowest}
 use Rattle.cw_types.specs.Resolved.{plain, is_resolved}
 use Rattle.cw_types.specs.Slots.{slot_lines}
-use Rattle.cw_types.proofs.Lowest.{no_lines, least_line}
+use Rattle.cw_model.proofs.Lowest.{no_lines, least_line}
 use Rattle.cw_types.proofs.Typing.{lines_by_slot}
 use Rattle.cw_types.proofs.Kept.{same_program, right_program}
 use Rattle.cw_types.proofs.Checked.{not_some, well_typed, no_type_fault, no_call_below, slots_fit}

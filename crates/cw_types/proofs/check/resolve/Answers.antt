@@ -5,7 +5,7 @@ use Rattle.cw_parse.specs.View as parsed
 use Rattle.cw_model.specs.Lines.{unless}
 use Rattle.cw_model.specs.Names.{is_among}
 use Rattle.cw_types.specs.Declares.{declares_in}
-use Rattle.cw_types.specs.Least.{lowest}
+use Rattle.cw_model.specs.Lines.{lowest}
 use Rattle.cw_types.specs.Resolved.{slot_of, function_names, resolved_function}
 use Rattle.cw_types.specs.Slots.{slot_faults_of, repeated_after, below}
 use Rattle.cw_types.specs.View.{function_of}

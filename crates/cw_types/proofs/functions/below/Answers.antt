@@ -1,9 +1,9 @@
 use Rattle.std.proofs.Common.{◌≡◌, ◌∷◌, map, drop, ◌+◌, ap, sym, ◌∙◌, arith}
 use Rattle.std.proofs.lemmas.Grind.{common_steps}
-use Rattle.cw_types.specs.Least.{lowest}
+use Rattle.cw_model.specs.Lines.{lowest}
 use Rattle.cw_types.specs.Slots as spec
 use Rattle.cw_types.specs.View.{function_of, block_of}
-use Rattle.cw_types.proofs.Lowest.{lowest-append}
+use Rattle.cw_model.proofs.Lowest.{lowest-append}
 use Rattle.cw_types.proofs.functions.below.Goals as goal
 
 pub loop-i-preserved : goal.loop-i-preserved

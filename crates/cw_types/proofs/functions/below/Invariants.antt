@@ -1,5 +1,5 @@
 use Rattle.std.proofs.Common.{◌≡◌, drop, map}
-use Rattle.cw_types.specs.Least.{lowest}
+use Rattle.cw_model.specs.Lines.{lowest}
 use Rattle.cw_types.specs.Slots as spec
 use Rattle.cw_types.specs.View.{function_of}
 use Rattle.cw_types.proofs.functions.below.Given as goal

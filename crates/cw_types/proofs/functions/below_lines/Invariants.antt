@@ -1,5 +1,5 @@
 use Rattle.std.proofs.Common.{◌≡◌, drop}
-use Rattle.cw_types.specs.Least.{lowest}
+use Rattle.cw_model.specs.Lines.{lowest}
 use Rattle.cw_types.specs.Slots as spec
 use Rattle.cw_types.specs.View.{block_of}
 use Rattle.cw_types.proofs.functions.below_lines.Given as goal

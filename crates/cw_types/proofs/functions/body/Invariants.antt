@@ -1,7 +1,7 @@
 use Rattle.std.proofs.Common.{◌≡◌, ◌+◌, ◌<◌, ◌^◌, drop, map, length}
 use Rattle.cw_parse.specs.View as parsed
 use Rattle.cw_types.specs.Declares.{declares_in}
-use Rattle.cw_types.specs.Least.{lowest}
+use Rattle.cw_model.specs.Lines.{lowest}
 use Rattle.cw_types.specs.Resolved.{resolved_block, names_after_all}
 use Rattle.cw_types.specs.Slots.{slot_faults, joined}
 use Rattle.cw_types.specs.View.{block_of}

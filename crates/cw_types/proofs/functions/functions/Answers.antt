@@ -2,9 +2,9 @@ use Rattle.std.proofs.Common.{◌≡◌, List, ◌∷◌, map, flat_map, drop, �
 use Rattle.std.proofs.lemmas.Grind.{common_steps}
 use Rattle.cw_model.specs.Syntax.{Function}
 use Rattle.cw_parse.specs.View as parsed
-use Rattle.cw_types.specs.Least.{lowest}
+use Rattle.cw_model.specs.Lines.{lowest}
 use Rattle.cw_types.specs.Slots.{slot_faults_of}
-use Rattle.cw_types.proofs.Lowest.{lowest-append}
+use Rattle.cw_model.proofs.Lowest.{lowest-append}
 use Rattle.cw_types.proofs.functions.functions.Goals as goal
 
 pub loop-f-preserved : goal.loop-f-preserved

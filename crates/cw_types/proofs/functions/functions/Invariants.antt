@@ -1,6 +1,6 @@
 use Rattle.std.proofs.Common.{◌≡◌, ◌++◌, drop, map, flat_map}
 use Rattle.cw_parse.specs.View as parsed
-use Rattle.cw_types.specs.Least.{lowest}
+use Rattle.cw_model.specs.Lines.{lowest}
 use Rattle.cw_types.specs.Resolved.{resolved_function}
 use Rattle.cw_types.specs.Slots.{slot_faults_of}
 use Rattle.cw_types.specs.View.{function_of}

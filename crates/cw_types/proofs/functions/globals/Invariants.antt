@@ -1,6 +1,6 @@
 use Rattle.std.proofs.Common.{◌≡◌, ◌++◌, [], drop, map, length}
 use Rattle.cw_parse.specs.View as parsed
-use Rattle.cw_types.specs.Least.{lowest}
+use Rattle.cw_model.specs.Lines.{lowest}
 use Rattle.cw_types.specs.Resolved.{function_names}
 use Rattle.cw_types.specs.Slots.{repeated_after}
 use Rattle.cw_types.proofs.functions.globals.Given as goal

@@ -4,7 +4,7 @@ use Rattle.cw_model.specs.Syntax as syntax
 use Rattle.cw_model.specs.Sizes.{declaring_lines_in}
 use Rattle.cw_parse.specs.declared.tree.Line.{the_lemmas}
 use Rattle.cw_parse.specs.View.{block_of, stmt_of}
-use Rattle.cw_types.specs.Least.{lowest}
+use Rattle.cw_model.specs.Lines.{lowest}
 use Rattle.cw_types.specs.Slots.{is_simple, are_simple}
 use Rattle.cw_types.specs.Declares.{is_declare}
 use Rattle.cw_types.proofs.Looked.{both_left, both_right}

@@ -1,7 +1,7 @@
 use Rattle.std.proofs.Common.{◌≡◌, drop, true}
 use Rattle.cw_model.specs.Sizes.{declaring_lines_in}
 use Rattle.cw_parse.specs.View.{block_of}
-use Rattle.cw_types.specs.Least.{lowest}
+use Rattle.cw_model.specs.Lines.{lowest}
 use Rattle.cw_types.specs.Slots.{are_simple}
 use Rattle.cw_types.proofs.limits.body_beyond.Given as goal
 

@@ -4,8 +4,8 @@ use Rattle.cw_model.specs.Lines.{unless}
 use Rattle.cw_model.specs.Sizes.{declaring_lines_in}
 use Rattle.cw_parse.specs.View.{param_of, block_of}
 use Rattle.cw_parse.specs.declared.tree.Param.{Param}
-use Rattle.cw_types.specs.Least.{lowest}
-use Rattle.cw_types.proofs.Lowest.{lowest-append}
+use Rattle.cw_model.specs.Lines.{lowest}
+use Rattle.cw_model.proofs.Lowest.{lowest-append}
 use Rattle.cw_types.proofs.limits.function_limits.Goals as goal
 
 heads : (line : ℕ) (ps : List Param) → map (λ _. line) ps ≡ map (λ _. line) (map param_of ps)

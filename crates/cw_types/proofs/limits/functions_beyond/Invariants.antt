@@ -1,6 +1,6 @@
 use Rattle.std.proofs.Common.{◌≡◌, drop, map}
 use Rattle.cw_parse.specs.View.{function_of}
-use Rattle.cw_types.specs.Least.{lowest}
+use Rattle.cw_model.specs.Lines.{lowest}
 use Rattle.cw_types.proofs.limits.functions_beyond.Given as goal
 
 abbrev pub invariant-loop-function : goal.invariant-loop-function

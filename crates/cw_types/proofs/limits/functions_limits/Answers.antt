@@ -5,8 +5,8 @@ use Rattle.cw_model.specs.Syntax.{Function}
 use Rattle.cw_model.specs.FirstGrammar.{is_first_function}
 use Rattle.cw_model.specs.Sizes.{function_limits}
 use Rattle.cw_parse.specs.View.{function_of}
-use Rattle.cw_types.specs.Least.{lowest}
-use Rattle.cw_types.proofs.Lowest.{lowest-append}
+use Rattle.cw_model.specs.Lines.{lowest}
+use Rattle.cw_model.proofs.Lowest.{lowest-append}
 use Rattle.cw_types.proofs.Looked.{both_left, both_right}
 use Rattle.cw_types.proofs.Simple.{functions_are_simple}
 use Rattle.cw_types.proofs.limits.functions_limits.Goals as goal

@@ -3,7 +3,7 @@ use Rattle.std.specs.List.{list_all}
 use Rattle.cw_model.specs.FirstGrammar.{is_first_function}
 use Rattle.cw_model.specs.Sizes.{function_limits}
 use Rattle.cw_parse.specs.View.{function_of}
-use Rattle.cw_types.specs.Least.{lowest}
+use Rattle.cw_model.specs.Lines.{lowest}
 use Rattle.cw_types.proofs.limits.functions_limits.Given as goal
 
 abbrev pub invariant-loop-function : goal.invariant-loop-function

@@ -5,8 +5,8 @@ use Rattle.cw_model.specs.FirstGrammar.{is_first_function}
 use Rattle.cw_model.specs.Limits.{most_functions}
 use Rattle.cw_model.specs.Sizes.{function_limits, lines_beyond}
 use Rattle.cw_parse.specs.View.{function_of, program_of}
-use Rattle.cw_types.specs.Least.{lowest}
-use Rattle.cw_types.proofs.Lowest.{lowest-append}
+use Rattle.cw_model.specs.Lines.{lowest}
+use Rattle.cw_model.proofs.Lowest.{lowest-append}
 use Rattle.cw_types.proofs.Simple.{all_first, limits_left}
 use Rattle.cw_types.proofs.limits.limits.Goals as goal
 

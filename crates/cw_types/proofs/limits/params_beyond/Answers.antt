@@ -1,6 +1,6 @@
 use Rattle.std.proofs.Common.{◌≡◌, ℕ, List, [], ◌∷◌, ◌++◌, map, drop, ◌+◌, ap, sym, ◌∙◌, arith}
 use Rattle.std.proofs.lemmas.Grind.{common_steps}
-use Rattle.cw_types.specs.Least.{lowest}
+use Rattle.cw_model.specs.Lines.{lowest}
 use Rattle.cw_types.proofs.limits.params_beyond.Goals as goal
 
 pub loop-param-preserved : goal.loop-param-preserved

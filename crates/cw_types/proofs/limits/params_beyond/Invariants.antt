@@ -1,5 +1,5 @@
 use Rattle.std.proofs.Common.{◌≡◌, ℕ, List, drop, map, ◌++◌}
-use Rattle.cw_types.specs.Least.{lowest}
+use Rattle.cw_model.specs.Lines.{lowest}
 use Rattle.cw_types.proofs.limits.params_beyond.Given as goal
 
 abbrev pub invariant-loop-param : goal.invariant-loop-param

@@ -1,8 +1,8 @@
 -- The least line so far, and the faults of the tokens that are left, come to the least line of all.
 use Rattle.std.proofs.Common.{◌≡◌, ◌≤◌, None, drop}
 use Rattle.cw_model.specs.Sizes.{token_faults}
-use Rattle.cw_types.specs.Least.{lowest}
-use Rattle.cw_cli.proofs.nesting.least_fault.Given as goal
+use Rattle.cw_model.specs.Lines.{lowest}
+use Rattle.cw_parse.proofs.nesting.least_fault.Given as goal
 
 abbrev pub invariant-loop-token : goal.invariant-loop-token
 invariant-loop-token l = record {

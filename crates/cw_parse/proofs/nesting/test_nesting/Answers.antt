@@ -1,6 +1,6 @@
 use Rattle.std.proofs.Common.{sym, ◌∙◌}
-use Rattle.cw_types.proofs.Lowest.{no_lines, least_line}
-use Rattle.cw_cli.proofs.nesting.test_nesting.Goals as goal
+use Rattle.cw_model.proofs.Lowest.{no_lines, least_line}
+use Rattle.cw_parse.proofs.nesting.test_nesting.Goals as goal
 
 pub returns-in-None : goal.returns-in-None
 returns-in-None c = no_lines _ (sym c.least_fault.ensures ∙ c.in-None.is)

@@ -2,8 +2,7 @@
 use Rattle.std.proofs.Common.{◌≡◌, ℕ, zero, suc, ◌-◌, ◌≤◌, ◌<◌, Bool, true, false, nat_le, if◌then◌else◌, List, [], ◌∷◌, ◌++◌, drop, Option, Some, None, All, Contains, ◌⊎◌, refl, sym, ap, ◌∙◌, arith, inl, inr, subst}
 use Rattle.std.proofs.lemmas.List.Elements.{All-cons, Contains-append_left, Contains-append_right, Contains-push}
 use Rattle.std.proofs.lemmas.Bool.Decides.{nat_tests}
-use Rattle.cw_model.specs.Lines.{IsLeastLine}
-use Rattle.cw_types.specs.Least.{lesser, lowest}
+use Rattle.cw_model.specs.Lines.{IsLeastLine, lesser, lowest}
 
 pub lowest-append : (least : Option ℕ) (xs ys : List ℕ) → lowest least (xs ++ ys) ≡ lowest (lowest least xs) ys
 lowest-append least [] ys = refl

@@ -6,7 +6,7 @@ use Rattle.cw_parse.specs.Parts.{whole}
 use Rattle.cw_parse.specs.FirstFault.{DerivesFirst, HasFirstFault}
 use Rattle.cw_parse.proofs.Items.{Answer, program, whole_answers}
 use Rattle.cw_parse.proofs.Cuts.{fewer_tokens}
-use Rattle.cw_parse.proofs.parser.parse.Goals as goal
+use Rattle.cw_parse.proofs.parser.tree_of.Goals as goal
 
 pub whole-requires : goal.whole-requires
 whole-requires c =

@@ -1,13 +1,13 @@
 //! The limits on brackets that are open at once and on tokens in a row.
 
-ghost use Rattle.std.specs.Prelude.{◌≡◌, ◌+◌, ◌<◌, ◌≤◌, ◌^◌, [], None, MatchResult};
+ghost use Rattle.std.specs.Prelude.{◌≡◌, ◌+◌, ◌<◌, ◌≤◌, ◌^◌, None, MatchResult};
+ghost use Rattle.cw_model.specs.Lines.{lowest};
 ghost use Rattle.cw_model.specs.Sizes as spec;
-ghost use Rattle.cw_types.specs.Least.{lowest};
-ghost use Rattle.cw_cli.specs.Nesting.{IsTooNested};
+ghost use Rattle.cw_parse.specs.Nesting.{IsTooNested};
+ghost use Rattle.cw_parse.specs.Parsed.{IsShort};
 
 use cw_model::token::{Kind, Token};
-use cw_text::{Fault, Place};
-use cw_types::least::LeastLine;
+use cw_text::{Fault, LeastLine, Place};
 
 /// The most brackets of any kind that are open at once.
 const MOST_OPEN: usize = 64;
@@ -18,7 +18,7 @@ const MOST_IN_A_ROW: usize = 256;
 /// Answers `Size` at the least line of a token at which too many brackets are open or which
 /// stands too far in a row, if there is one.
 pub fn test_nesting(tokens: &[Token]) -> Result<(), Fault>
-    ensures { MatchResult result (λ _. spec.token_faults 0 0 tokens.now ≡ []) (IsTooNested tokens.now) }
+    ensures { MatchResult result (λ _. IsShort tokens.now) (IsTooNested tokens.now) }
 {
     match least_fault(tokens).line {
         None => Ok(()),

@@ -1,8 +1,7 @@
 //! The least line of those that break a rule.
 
-ghost use Rattle.std.specs.Prelude.{◌≡◌, None, MatchOption, [], List, ℕ};
-ghost use Rattle.cw_model.specs.Lines.{unless, IsLeastLine};
-ghost use Rattle.cw_types.specs.Least.{lowest};
+ghost use Rattle.std.specs.Prelude.{◌≡◌, None};
+ghost use Rattle.cw_model.specs.Lines.{lowest, unless};
 
 /// The least line so far, if there is one.
 #[derive(Clone, Copy, Debug, PartialEq, Eq)]
