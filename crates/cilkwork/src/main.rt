@@ -15,21 +15,19 @@ fn main(rt: HostRuntime) -> ExitCode {
     let alloc = rt.alloc();
     let mut out = Counted::new(io::writer(&rt));
     let mut err = Counted::new(rt.stderr());
-    let words = match words_of(&rt, alloc) {
-        Ok(words) => words,
-        Err(fault) => return ExitCode::from(refuse(&fault, &mut err)),
-    };
-    if words.is_empty() {
-        let asked = Request::of_standard_input(alloc);
-        return ExitCode::from(tool(alloc, &asked, rt.reader(), &mut out, &mut err));
-    }
-    let asked = match request(alloc, words.as_slice()) {
-        Ok(asked) => asked,
-        Err(said) => return ExitCode::from(say(&said, &mut out, &mut err)),
-    };
-    let status = match File::open(&rt, asked.file.as_str()) {
-        Ok(file) => tool(alloc, &asked, file, &mut out, &mut err),
-        Err(error) => unread(&error, &mut err),
+    let status = match words_of(&rt, alloc) {
+        Err(fault) => refuse(&fault, &mut err),
+        Ok(words) if words.is_empty() => {
+            let asked = Request::of_standard_input(alloc);
+            tool(alloc, &asked, rt.reader(), &mut out, &mut err)
+        }
+        Ok(words) => match request(alloc, words.as_slice()) {
+            Err(said) => say(&said, &mut out, &mut err),
+            Ok(asked) => match File::open(&rt, asked.file.as_str()) {
+                Err(error) => unread(&error, &mut err),
+                Ok(file) => tool(alloc, &asked, file, &mut out, &mut err),
+            },
+        },
     };
     ExitCode::from(status)
 }

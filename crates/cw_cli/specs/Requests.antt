@@ -7,6 +7,7 @@ use Rattle.cw_model.specs.Pieces.{value_of}
 use Rattle.cw_text.specs.declared.fault.Fault.{Fault}
 use Rattle.cw_text.specs.declared.fault.Fault.TheVariants as fault
 use Rattle.cw_cli.specs.Numbers.{IsNumberWithin}
+use Rattle.cw_cli.specs.declared.asked.Mode.TheVariants as mode
 use Rattle.cw_cli.specs.declared.asked.Options.{Options}
 use Rattle.cw_cli.specs.declared.asked.Request.{Request}
 use Rattle.cw_cli.specs.declared.asked.Said.{Said}
@@ -17,6 +18,10 @@ pub record AreInRange (options : Options) : Type 0 where
   pub some_limit : 1 ≤ options.limit
   pub limit : options.limit ≤ most_limit
   pub burden : options.burden ≤ most_burden
+
+-- the options of a run that is given none
+abbrev pub usual_options : Options
+usual_options = record { mode = mode.Run; limit = 1000000000; burden = 15000 }
 
 -- what the words have for an argument that is given any number of times
 abbrev pub texts_of : Found → List ℕ → List (List ℕ)

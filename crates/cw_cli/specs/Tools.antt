@@ -1,5 +1,7 @@
 -- What the program answers on a source: an exit status, a line on standard error, and what standard output took.
-use Rattle.std.specs.Prelude.{◌≡◌, ℕ, ℤ, List, [], ◌++◌, ◌⊎◌, codes, string_bytes, Option, Result, Ok, Err, MatchResult}
+use Rattle.std.specs.Prelude.{◌≡◌, ◌≢◌, ℕ, ℤ, List, [], ◌++◌, ◌⊎◌, codes, string_bytes, Option, Result, Ok, Err, MatchResult}
+use Rattle.std.specs.declared.io.ErrorKind.{ErrorKind}
+use Rattle.std.specs.declared.io.ErrorKind.TheVariants as kind
 use Rattle.cw_text.specs.declared.fault.Fault.{Fault}
 use Rattle.cw_text.specs.declared.fault.Fault.TheVariants as fault
 use Rattle.cw_text.specs.Faults.{fault_status, fault_text}
@@ -29,10 +31,15 @@ pub record IsRefusal {E : Type 0} (contents : E → Option (List ℕ)) (failed :
   pub line : TriesText contents failed old new (fault_text f ++ codes "\n")
   pub status_is : status ≡ fault_status f
 
--- the source cannot be read, or memory ran out as it was read
-pub data IsUnreadAnswer {E : Type 0} (contents : E → Option (List ℕ)) (failed : E → ℕ) (old new : E) (status : ℕ) : Type 0 where
-  file : TriesText contents failed old new (codes "file" ++ codes "\n") → status ≡ 5 → IsUnreadAnswer contents failed old new status
-  memory : IsRefusal contents failed old new fault.Memory status → IsUnreadAnswer contents failed old new status
+-- standard error was given the word for a source that cannot be read
+pub record IsFileAnswer {E : Type 0} (contents : E → Option (List ℕ)) (failed : E → ℕ) (old new : E) (status : ℕ) : Type 0 where
+  pub line : TriesText contents failed old new (codes "file" ++ codes "\n")
+  pub status_is : status ≡ 5
+
+-- a source cannot be read for a reason of this kind: want of memory is told as that
+pub record IsUnreadAnswer {E : Type 0} (contents : E → Option (List ℕ)) (failed : E → ℕ) (old new : E) (reason : ErrorKind) (status : ℕ) : Type 0 where
+  pub memory : reason ≡ kind.OutOfMemory → IsRefusal contents failed old new fault.Memory status
+  pub file : reason ≢ kind.OutOfMemory → IsFileAnswer contents failed old new status
 
 module _ {W : Type 0} (contents : W → Option (List ℕ)) (failed : W → ℕ) (old new : W) where
   -- what an analysis comes to
@@ -43,7 +50,7 @@ module _ {W : Type 0} (contents : W → Option (List ℕ)) (failed : W → ℕ) 
   module _ {E : Type 0} (contents' : E → Option (List ℕ)) (failed' : E → ℕ) (old' new' : E) (bytes : List ℕ) (asked : Request) where
     -- the source was not read, and nothing was written; or it was analysed, and standard error got the fault's line
     pub data IsToolAnswer : ℕ → Type 0 where
-      unread : {status : ℕ} → new ≡ old → IsUnreadAnswer contents' failed' old' new' status → IsToolAnswer status
+      unread : {status : ℕ} → (reason : ErrorKind) → new ≡ old → IsUnreadAnswer contents' failed' old' new' reason status → IsToolAnswer status
       analysed : (r : Result (Unit {0}) Fault) → IsAnalysed bytes asked.args.items asked.options r → TriesText contents' failed' old' new' (line_of r) → IsToolAnswer (status_of r)
 
 -- two sinks, standard output and standard error, go from one state to another

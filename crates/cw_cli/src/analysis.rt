@@ -37,8 +37,6 @@ pub fn analyse_alone<W: Sink>(
     match options.mode {
         Mode::Run => answer(alloc, &code, &ended, out)?,
     }
-    match ended {
-        Ok(_) => Ok(()),
-        Err(fault) => Err(fault),
-    }
+    ended?;
+    Ok(())
 }

@@ -1,15 +1,15 @@
 //! What is asked for.
 
-ghost use Rattle.std.specs.Prelude.{◌≡◌};
+ghost use Rattle.std.specs.Prelude.{◌≡◌, []};
 ghost use Rattle.cw_cli.specs.declared.asked.Said.TheVariants.{Fault};
 
 use cw_text::Fault;
 use std::alloc::Global;
 
-/// The limit of a run that is given none.
+/// The limit of a run that is given none, in instructions.
 pub const USUAL_LIMIT: u64 = 1_000_000_000;
 
-/// The burden of a spawn where none is given.
+/// The burden of a spawn where none is given, in instructions.
 pub const USUAL_BURDEN: u64 = 15_000;
 
 /// What the program is asked to write.
@@ -22,10 +22,11 @@ pub enum Mode {
 /// How to analyse a program.
 #[derive(Clone, Copy, Debug, PartialEq, Eq)]
 pub struct Options {
+    /// What to write.
     pub mode: Mode,
-    /// The greatest cost of the run, from 1 to 2^62.
+    /// The greatest cost of the run in instructions, from 1 to 2^62.
     pub limit: u64,
-    /// What each spawn's continuation is charged, up to 1,000,000,000.
+    /// What each spawn's continuation is charged in instructions, up to 1,000,000,000.
     pub burden: u64,
 }
 
@@ -59,11 +60,13 @@ impl From<Fault> for Said {
 }
 
 impl Request {
-    ghost use Rattle.cw_cli.specs.Requests.{AreInRange};
+    ghost use Rattle.cw_cli.specs.Requests.{usual_options};
 
-    /// A run of the source on standard input, without arguments.
+    /// A run of the source on standard input, without arguments: the limit is `USUAL_LIMIT` and the
+    /// burden `USUAL_BURDEN`.
     pub fn of_standard_input(alloc: Global) -> Self
-        ensures { AreInRange result.options }
+        ensures args { result.args.items ≡ [] }
+        ensures options { result.options ≡ usual_options }
     {
         Request {
             file: String::new(alloc),

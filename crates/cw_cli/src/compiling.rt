@@ -18,15 +18,15 @@ use std::alloc::Global;
 /// limits it does what the program's serial elision does.
 ///
 /// The first stage that refuses the bytes decides, with its line: `Size` for too many bytes, else
-/// `Lexical` for one that is not ASCII; `Lexical` and `Size` for tokens; `Size` for too many in
-/// brackets or in a row, and `Syntax`; `Size` for the parts of the program, and `Types`;
+/// `Lexical` for one that is not ASCII; `Lexical` and `Size` for tokens; `Size` for too many
+/// brackets open or too many tokens in a row, else `Syntax`; `Size` for the parts of the program, and `Types`;
 /// `Ownership`; and `Size` for its code, at line 1. `Memory` where memory runs out.
 pub fn compile(alloc: Global, bytes: &[u8]) -> Result<Verified, Fault>
     ensures { MatchResult result (λ made. IsCompiled bytes.now (code_view made.code)) (IsRefused bytes.now) }
 {
     let source = Source::read(alloc, bytes)?;
-    let list = lex(alloc, &source)?;
-    let ast = parse(alloc, &source, list.as_slice())?;
+    let tokens = lex(alloc, &source)?;
+    let ast = parse(alloc, &source, tokens.as_slice())?;
     let typed = check(alloc, ast)?;
     let owned = own(typed)?;
     let code = generate(alloc, &owned)?;

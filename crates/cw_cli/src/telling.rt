@@ -1,6 +1,7 @@
 //! What the program answers on a source, and what it says in place of a run.
 
 ghost use Rattle.std.specs.Prelude.{◌<◌, ◌-◌, ◌^◌, IfSome};
+ghost use Rattle.std.specs.IoError.{error_kind};
 ghost use Rattle.cw_cli.specs.Tools.{IsRefusal, IsSaidAnswer, IsToolAnswer, IsUnreadAnswer};
 
 use crate::analysis::analyse_alone;
@@ -42,10 +43,11 @@ pub fn tool<D: Read + Drop, W: Sink, E: Sink>(
     }
 }
 
-/// Says that a source cannot be read, or that memory ran out meanwhile; gives the exit status.
+/// Says that a source cannot be read; gives the exit status: `file` and 5, or, where that is for
+/// want of memory, `memory` and 6. Whether the write to `err` fails changes nothing.
 pub fn unread<E: Sink>(error: &io::Error, err: &mut E) -> u8
     requires { E.failed err.old < 2 ^ 64 - 1 }
-    ensures { IsUnreadAnswer E.contents E.failed err.old err.new result }
+    ensures { IsUnreadAnswer E.contents E.failed err.old err.new (error_kind error.now) result }
 {
     if error.kind() == io::ErrorKind::OutOfMemory {
         return refuse(&Fault::Memory, err);

@@ -44,17 +44,17 @@ module _ (tree : Tree) (made : declared.Code) (is : code_view made ≡ emitted (
   code_is : code_view made ≡ code_of (program_of tree)
   code_is = is ∙ emits (resolved_of tree) resolved
 
-  counts : (nat_le (length made.instrs.items) 1048576 && nat_le (length made.sites.items) 65535) ≡ is_small (program_of tree)
+  counts : (nat_le (length made.instrs.items) most_instructions && nat_le (length made.sites.items) most_call_statements) ≡ is_small (program_of tree)
   counts =
-      ap (λ k. nat_le k 1048576 && nat_le (length made.sites.items) 65535) (ap (λ (c : Code). length c.instrs) code_is ∙ code_count (program_of tree) (accepted (program_of tree) in_first typed owned))
-      ∙ ap (λ k. nat_le (static_size (program_of tree)) 1048576 && nat_le k 65535) (sym (length-map made.sites.items (λ s. site_view s)) ∙ ap (λ (c : Code). length c.sites) code_is)
+      ap (λ k. nat_le k most_instructions && nat_le (length made.sites.items) most_call_statements) (ap (λ (c : Code). length c.instrs) code_is ∙ code_count (program_of tree) (accepted (program_of tree) in_first typed owned))
+      ∙ ap (λ k. nat_le (static_size (program_of tree)) most_instructions && nat_le k most_call_statements) (sym (length-map made.sites.items (λ s. site_view s)) ∙ ap (λ (c : Code). length c.sites) code_is)
 
-  pub too_large : (nat_le (length made.instrs.items) 1048576 && nat_le (length made.sites.items) 65535) ≡ false → IsLeastLine (program_faults (program_of tree)) 1
+  pub too_large : (nat_le (length made.instrs.items) most_instructions && nat_le (length made.sites.items) most_call_statements) ≡ false → IsLeastLine (program_faults (program_of tree)) 1
   too_large h =
       let program = program_of tree in
       one_passed (nat_le (static_size program) most_instructions) (nat_le (call_count program) most_call_statements) (sym counts ∙ h)
 
-  pub generated : (nat_le (length made.instrs.items) 1048576 && nat_le (length made.sites.items) 65535) ≡ true → Generates (program_of tree) (code_view made)
+  pub generated : (nat_le (length made.instrs.items) most_instructions && nat_le (length made.sites.items) most_call_statements) ≡ true → Generates (program_of tree) (code_view made)
   generated h =
       let fine = accepted (program_of tree) in_first typed owned in
       subst (λ c. Generates (program_of tree) c) (sym code_is) (record {

@@ -2,6 +2,7 @@
 
 ghost use Rattle.std.specs.Prelude.{◌≡◌, ◌&&◌, nat_le, length, MatchResult};
 ghost use Rattle.cw_code.specs.Code.{code_view};
+ghost use Rattle.cw_model.specs.Limits.{most_call_statements, most_instructions};
 ghost use Rattle.cw_gen.specs.Generates.{Generates, Why};
 ghost use Rattle.cw_types.specs.View.{program_of};
 
@@ -10,6 +11,12 @@ use cw_code::code::Code;
 use cw_own::owned::Owned;
 use cw_text::fault::{Fault, Place};
 use std::alloc::Global;
+
+/// The greatest static size of a program, in instructions.
+const MOST_INSTRUCTIONS: usize = 1_048_576;
+
+/// The most call statements of a program.
+const MOST_CALL_STATEMENTS: usize = 65_535;
 
 /// The code of a program: on all arguments and within all limits it gives the serial answer of the program.
 ///
@@ -27,7 +34,7 @@ pub fn generate(alloc: Global, owned: &Owned) -> Result<Code, Fault>
 
 // Whether the code is within the limits of size.
 fn is_small(code: &Code) -> bool
-    ensures { result ≡ (nat_le (length code.now.instrs.items) 1048576 && nat_le (length code.now.sites.items) 65535) }
+    ensures { result ≡ (nat_le (length code.now.instrs.items) most_instructions && nat_le (length code.now.sites.items) most_call_statements) }
 {
-    code.instrs.len() <= 1_048_576 && code.sites.len() <= 65_535
+    code.instrs.len() <= MOST_INSTRUCTIONS && code.sites.len() <= MOST_CALL_STATEMENTS
 }

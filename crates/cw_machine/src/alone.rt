@@ -10,6 +10,12 @@ use cw_text::fault::Fault;
 use std::alloc::Global;
 use std::sync::Arc;
 
+/// The greatest limit of a run, in instructions.
+pub const MOST_LIMIT: u64 = 4_611_686_018_427_387_904;
+
+/// The greatest burden of a spawn, in instructions.
+pub const MOST_BURDEN: u64 = 1_000_000_000;
+
 /// How a run ended.
 #[derive(Clone, Copy, Debug, PartialEq, Eq)]
 pub struct Ended {
@@ -48,6 +54,7 @@ pub fn run_alone(
             output: Vec::new(alloc),
         }),
         Moved::NoMemory => Err(Fault::Memory),
+        // code that fits is never stuck
         Moved::Stuck => Err(Fault::Code),
     }
 }
@@ -56,5 +63,5 @@ pub fn run_alone(
 fn is_asked(params: usize, count: usize, n: u64, burden: u64) -> bool
     ensures { result ≡ runs.is_asked params count n burden }
 {
-    count == params && 1 <= n && n <= 4_611_686_018_427_387_904 && burden <= 1_000_000_000
+    count == params && 1 <= n && n <= MOST_LIMIT && burden <= MOST_BURDEN
 }

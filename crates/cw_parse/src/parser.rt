@@ -49,7 +49,7 @@ fn line_of(text: &[u8], tokens: &[Token], left: usize) -> u32
 /// the line of its first token, and each function that of its name.
 ///
 /// The errors, in this order: `Size` at the least line of a token at which more than 64 brackets of
-/// any kind are open, or which is more than the 256th in a row without a semicolon or a brace;
+/// any kind are open, or which is the 257th or a later one in a row without a semicolon or a brace;
 /// `Syntax` at the line of the first token that can continue no such source, or at the line of the
 /// text's end where the source ends too early. `Memory` where none is left.
 pub fn parse(alloc: Global, source: &Source, tokens: &[Token]) -> Result<Ast, Fault>

@@ -12,80 +12,121 @@ fn repeated(alloc: Global, byte: u8, count: usize) -> Result<Vec<u8>, AllocError
     Ok(bytes)
 }
 
+// Sources that the tokens or the grammar refuse, with their lines on standard error.
+const NO_SOURCES: &[(&str, &str)] = &[
+    // bytes and tokens
+    ("\n\n\u{80}", "refused 1 line 3\n"),
+    ("int main() {\n  return @; }", "refused 1 line 2\n"),
+    (
+        "int main() { return 9223372036854775808; }",
+        "refused 1 line 1\n",
+    ),
+    ("@\n\u{80}", "refused 1 line 2\n"),
+    (
+        "int\nn0123456789012345678901234567890123456789012345678901234567890123\n() {}",
+        "refused 5 line 2\n",
+    ),
+    // a name of 65 bytes in a whole program, and a number with zeros in front, which is three numbers
+    (
+        "int main() { int n0123456789012345678901234567890123456789012345678901234567890123 = 0; return 0; }",
+        "refused 5 line 1\n",
+    ),
+    ("int main() { return 007; }", "refused 2 line 1\n"),
+    // the grammar
+    ("", "refused 2 line 1\n"),
+    ("// no program\n\n", "refused 2 line 3\n"),
+    ("int main() { return 0;\n", "refused 2 line 2\n"),
+    ("int main() {\n  return 0\n}\n", "refused 2 line 3\n"),
+    ("int main() { return 0; }\n;", "refused 2 line 2\n"),
+    ("int main() { }", "refused 2 line 1\n"),
+    // 65 brackets, whatever the grammar says of them
+    (
+        "int\n((((((((((((((((((((((((((((((((((((((((((((((((((((((((((((((((\n(",
+        "refused 5 line 3\n",
+    ),
+];
+
+// Sources that a limit, a rule of names and types or ownership refuses, with their lines.
+const NO_PROGRAMS: &[(&str, &str)] = &[
+    // limits, and then names and types
+    (
+        "int f(int a, int b, int c, int d, int e, int f, int g, int h, int i, int j, int k, int l,\nint m, int n, int o, int p, int q) { return 0; }",
+        "refused 5 line 1\n",
+    ),
+    ("int f() { return 0; }", "refused 3 line 1\n"),
+    (
+        "int main() { int x = 0;\nx = g(1); return x; }",
+        "refused 3 line 2\n",
+    ),
+    (
+        "int f(int v) { return v; } int main() { int x = 0; x = cilk_spawn g(1); cilk_sync; return x; }",
+        "refused 3 line 1\n",
+    ),
+    (
+        "int f() { return 0; }\nint main() {\n  int x = y;\n  int x = 0;\n  return x; }",
+        "refused 3 line 3\n",
+    ),
+    (
+        "int f(int v) { return v; }\nint main() { int x = 0; x = f(); return x; }",
+        "refused 3 line 2\n",
+    ),
+    (
+        "int main() { return 0; }\nint main() { return 0; }",
+        "refused 3 line 2\n",
+    ),
+    // ownership
+    (
+        "int f(int v) { return v; } int main() { int x = 0; x = cilk_spawn f(1); int y = x; cilk_sync; return x; }",
+        "refused 4 line 1\n",
+    ),
+    (
+        "int f(int v) { return v; }\nint main() {\n  int x = 0;\n  x = cilk_spawn f(1);\n  x = f(2);\n  return x;\n}",
+        "refused 4 line 5\n",
+    ),
+    (
+        "int f(int v) { return v; }\nint main() {\n  int x = 0;\n  x = cilk_spawn f(1);\n  return x;\n}",
+        "refused 4 line 5\n",
+    ),
+    // types before ownership, though further down
+    (
+        "int f(int v) { return v; }\nint main() {\n  int x = 0;\n  x = cilk_spawn f(x);\n  x = f(x);\n  return y;\n}",
+        "refused 3 line 6\n",
+    ),
+];
+
 #[test]
 fn refuses_sources(rt: HostRuntime) -> Result<(), Fail> {
-    for (source, line) in [
-        // bytes and tokens
-        ("\n\n\u{80}", "refused 1 line 3\n"),
-        ("int main() {\n  return @; }", "refused 1 line 2\n"),
-        (
-            "int main() { return 9223372036854775808; }",
-            "refused 1 line 1\n",
-        ),
-        ("@\n\u{80}", "refused 1 line 2\n"),
-        (
-            "int\nn0123456789012345678901234567890123456789012345678901234567890123\n() {}",
-            "refused 5 line 2\n",
-        ),
-        // the grammar
-        ("", "refused 2 line 1\n"),
-        ("// no program\n\n", "refused 2 line 3\n"),
-        ("int main() { return 0;\n", "refused 2 line 2\n"),
-        ("int main() {\n  return 0\n}\n", "refused 2 line 3\n"),
-        ("int main() { return 0; }\n;", "refused 2 line 2\n"),
-        ("int main() { }", "refused 2 line 1\n"),
-        // tokens: 65 brackets, and a row of 257 tokens, whatever the grammar says of them
-        (
-            "int\n((((((((((((((((((((((((((((((((((((((((((((((((((((((((((((((((\n(",
-            "refused 5 line 3\n",
-        ),
-        // limits, and then names and types
-        (
-            "int f(int a, int b, int c, int d, int e, int f, int g, int h, int i, int j, int k, int l,\nint m, int n, int o, int p, int q) { return 0; }",
-            "refused 5 line 1\n",
-        ),
-        ("int f() { return 0; }", "refused 3 line 1\n"),
-        (
-            "int main() { int x = 0;\nx = g(1); return x; }",
-            "refused 3 line 2\n",
-        ),
-        (
-            "int f() { return 0; }\nint main() {\n  int x = y;\n  int x = 0;\n  return x; }",
-            "refused 3 line 3\n",
-        ),
-        (
-            "int f(int v) { return v; }\nint main() { int x = 0; x = f(); return x; }",
-            "refused 3 line 2\n",
-        ),
-        (
-            "int main() { return 0; }\nint main() { return 0; }",
-            "refused 3 line 2\n",
-        ),
-        // ownership
-        (
-            "int f(int v) { return v; } int main() { int x = 0; x = cilk_spawn f(1); int y = x; cilk_sync; return x; }",
-            "refused 4 line 1\n",
-        ),
-        (
-            "int f(int v) { return v; }\nint main() {\n  int x = 0;\n  x = cilk_spawn f(1);\n  x = f(2);\n  return x;\n}",
-            "refused 4 line 5\n",
-        ),
-        (
-            "int f(int v) { return v; }\nint main() {\n  int x = 0;\n  x = cilk_spawn f(1);\n  return x;\n}",
-            "refused 4 line 5\n",
-        ),
-        // types before ownership, though further down
-        (
-            "int f(int v) { return v; }\nint main() {\n  int x = 0;\n  x = cilk_spawn f(x);\n  x = f(x);\n  return y;\n}",
-            "refused 3 line 6\n",
-        ),
-    ] {
+    for (source, line) in NO_SOURCES.iter().chain(NO_PROGRAMS) {
         // the arguments and the limit do not suit any of them
         let (status, out, err) = answer(rt.alloc(), "run f 1 2 3 --limit 1", source.as_bytes())?;
         assert_eq!(rt; status, 2, "{line}");
         assert_eq!(rt; out.as_slice(), b"".as_slice(), "{line}");
         assert_eq!(rt; err.as_slice(), line.as_bytes());
     }
+    Ok(())
+}
+
+// A program of so many call statements.
+fn calls(alloc: Global, count: usize) -> Result<String, AllocError> {
+    let mut text = String::from_str(alloc, "int f(){return 0;} int main(){int x=0;")?;
+    for _ in 0..count {
+        text.push_str("x=f();")?;
+    }
+    text.push_str("return x;}")?;
+    Ok(text)
+}
+
+#[test]
+fn refuses_too_many_call_statements(rt: HostRuntime) -> Result<(), Fail> {
+    let alloc = rt.alloc();
+    let most = calls(alloc, 65_535)?;
+    let (status, out, err) = answer(alloc, "run f", most.as_bytes())?;
+    assert_eq!(rt; (status, err.len()), (0, 0));
+    assert_eq!(rt; out.as_slice(), b"return 0\n".as_slice());
+    let more = calls(alloc, 65_536)?;
+    let (status, out, err) = answer(alloc, "run f", more.as_bytes())?;
+    assert_eq!(rt; (status, out.len()), (2, 0));
+    assert_eq!(rt; err.as_slice(), b"refused 5 line 1\n".as_slice());
     Ok(())
 }
 

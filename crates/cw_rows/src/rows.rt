@@ -32,6 +32,11 @@ pub fn answer(alloc: Global, words: &str, source: &[u8]) -> Result<(u8, Vec<u8>,
 const SPAWN: &[u8] =
     b"int f(int v) { return v; } int main() { int x = 0; x = cilk_spawn f(1); cilk_sync; return x; }";
 
+const LONG_NAME: &[u8] = b"int f(int v) { return v; } int main() { \
+int n012345678901234567890123456789012345678901234567890123456789012 = 0; \
+n012345678901234567890123456789012345678901234567890123456789012 = cilk_spawn f(1); cilk_sync; \
+return n012345678901234567890123456789012345678901234567890123456789012; } // end";
+
 const ECHO: &[u8] = b"int main(int n) { return n; }";
 
 const CHAIN: &[u8] = b"int a(int v) { return v; }
@@ -62,9 +67,13 @@ fn runs(rt: HostRuntime) -> Result<(), Fail> {
         when("run f 9223372036854775807", ECHO, 0, greatest, ""),
         when("run f 9223372036854775807 --limit 2", ECHO, 0, greatest, ""),
         when("run f 0 --limit 1", ECHO, 4, "", "over limit\n"),
+        // a name of 64 bytes, and a comment that ends with the source
+        when("run f", LONG_NAME, 0, "return 1\n", ""),
         // the count of arguments is told before the run
+        when("run f", ECHO, 5, "", "arguments\n"),
         when("run f --limit 1", ECHO, 5, "", "arguments\n"),
         when("run f 1 2", ECHO, 5, "", "arguments\n"),
+        when("run f 9223372036854775808", ECHO, 5, "", "arguments\n"),
         when("run f 1", SPAWN, 5, "", "arguments\n"),
         // a pays 2, b 6 and what a pays, c 11 and twice what b pays, main 7 and what c pays
         when("run f 3 --limit 34", CHAIN, 0, "return 5\n", ""),

@@ -1,4 +1,4 @@
-use Rattle.std.proofs.Common.{◌≡◌, rules, sym, subst}
+use Rattle.std.proofs.Common.{◌≡◌, Ok, Err, rules, sym, subst}
 use Rattle.cw_code.specs.Code.{code_view}
 use Rattle.cw_cli.specs.Compiled.{IsCompiled}
 use Rattle.cw_cli.proofs.Refusals.{handed_on}
@@ -17,14 +17,18 @@ returns-in_err-answer g c =
     (unwritten c.args.bytes.now c.args.args.now c.args.options _ compiled g.W.Write.contents g.W.Sink.failed c.args.out.now c.answer.new.to c.run_alone-ended.result c.run_alone-ended.ensures c.in_err-answer.ensures.idle _ c.in_err-answer.ensures.answers)
     (search rules)
 
-pub returns-in-Ok : goal.returns-in-Ok
-returns-in-Ok g c =
+pub returns-in_err-ended : goal.returns-in_err-ended
+returns-in_err-ended g c =
     let same : c.in_ok-share.share.value ≡ c.in_ok-compile.field-0 = search rules in
     let compiled : IsCompiled c.args.bytes.now (code_view c.in_ok-share.share.value.code) = subst (λ v. IsCompiled c.args.bytes.now (code_view v.code)) (sym same) c.in_ok-compile.ensures in
-    finished c.args.bytes.now c.args.args.now c.args.options _ compiled g.W.Write.contents g.W.Sink.failed c.args.out.now c.answer.new.to c.run_alone-ended.result _ c.in-Ok.is c.run_alone-ended.ensures c.in_ok-answer.ensures.answers c.in_ok-answer.ensures.idle
+    let is : c.run_alone-ended.result ≡ Err c.in_err-ended.field-0.0 = search rules in
+    handed_on _ _ _ c.from_residual-in_err-ended.result
+    (finished c.args.bytes.now c.args.args.now c.args.options _ compiled g.W.Write.contents g.W.Sink.failed c.args.out.now c.answer.new.to c.run_alone-ended.result _ is c.run_alone-ended.ensures c.in_ok-answer.ensures.answers c.in_ok-answer.ensures.idle)
+    (search rules)
 
 pub returns : goal.returns
 returns g c =
     let same : c.in_ok-share.share.value ≡ c.in_ok-compile.field-0 = search rules in
     let compiled : IsCompiled c.args.bytes.now (code_view c.in_ok-share.share.value.code) = subst (λ v. IsCompiled c.args.bytes.now (code_view v.code)) (sym same) c.in_ok-compile.ensures in
-    finished c.args.bytes.now c.args.args.now c.args.options _ compiled g.W.Write.contents g.W.Sink.failed c.args.out.now c.answer.new.to c.run_alone-ended.result _ c.in-Err.is c.run_alone-ended.ensures c.in_ok-answer.ensures.answers c.in_ok-answer.ensures.idle
+    let is : c.run_alone-ended.result ≡ Ok c.in_ok-ended.field-0 = search rules in
+    finished c.args.bytes.now c.args.args.now c.args.options _ compiled g.W.Write.contents g.W.Sink.failed c.args.out.now c.answer.new.to c.run_alone-ended.result _ is c.run_alone-ended.ensures c.in_ok-answer.ensures.answers c.in_ok-answer.ensures.idle

@@ -6,29 +6,29 @@ use Rattle.cw_cli.proofs.compiling.compile.Goals as goal
 
 pub returns-in_err-ast : goal.returns-in_err-ast
 returns-in_err-ast c =
-    handed_on _ _ _ c.from_residual-in_err-ast.result (tree_refused c.args.bytes.now c.in_ok-source.source c.in_ok-list.list.items c.as_slice.result.now c.in_ok-source.ensures c.as_slice.ensures.value (search rules) c.in_ok-list.ensures _ c.in_err-ast.ensures) (search rules)
+    handed_on _ _ _ c.from_residual-in_err-ast.result (tree_refused c.args.bytes.now c.in_ok-source.source c.in_ok-tokens.tokens.items c.as_slice.result.now c.in_ok-source.ensures c.as_slice.ensures.value (search rules) c.in_ok-tokens.ensures _ c.in_err-ast.ensures) (search rules)
 
 pub returns-in_err-typed : goal.returns-in_err-typed
 returns-in_err-typed c =
     let source : IsSourceOf c.args.bytes.now (parsed.program_of c.in_ok-ast.ast) =
-    source_of c.args.bytes.now c.in_ok-source.source c.in_ok-list.list.items c.as_slice.result.now c.in_ok-source.ensures c.as_slice.ensures.value (search rules) c.in_ok-list.ensures _ c.in_ok-ast.ensures in
+    source_of c.args.bytes.now c.in_ok-source.source c.in_ok-tokens.tokens.items c.as_slice.result.now c.in_ok-source.ensures c.as_slice.ensures.value (search rules) c.in_ok-tokens.ensures _ c.in_ok-ast.ensures in
     handed_on _ _ _ c.from_residual-in_err-typed.result (types_refused c.args.bytes.now _ source _ c.in_err-typed.ensures) (search rules)
 
 pub returns-in_err-owned : goal.returns-in_err-owned
 returns-in_err-owned c =
     let source : IsSourceOf c.args.bytes.now (parsed.program_of c.in_ok-ast.ast) =
-    source_of c.args.bytes.now c.in_ok-source.source c.in_ok-list.list.items c.as_slice.result.now c.in_ok-source.ensures c.as_slice.ensures.value (search rules) c.in_ok-list.ensures _ c.in_ok-ast.ensures in
+    source_of c.args.bytes.now c.in_ok-source.source c.in_ok-tokens.tokens.items c.as_slice.result.now c.in_ok-source.ensures c.as_slice.ensures.value (search rules) c.in_ok-tokens.ensures _ c.in_ok-ast.ensures in
     handed_on _ _ _ c.from_residual-in_err-owned.result (tree_disowned c.args.bytes.now _ source c.in_ok-typed.typed.tree c.in_ok-typed.ensures _ c.in_err-owned.ensures) (search rules)
 
 pub returns-in_err-code : goal.returns-in_err-code
 returns-in_err-code c =
     let source : IsSourceOf c.args.bytes.now (parsed.program_of c.in_ok-ast.ast) =
-    source_of c.args.bytes.now c.in_ok-source.source c.in_ok-list.list.items c.as_slice.result.now c.in_ok-source.ensures c.as_slice.ensures.value (search rules) c.in_ok-list.ensures _ c.in_ok-ast.ensures in
+    source_of c.args.bytes.now c.in_ok-source.source c.in_ok-tokens.tokens.items c.as_slice.result.now c.in_ok-source.ensures c.as_slice.ensures.value (search rules) c.in_ok-tokens.ensures _ c.in_ok-ast.ensures in
     handed_on _ _ _ c.from_residual-in_err-code.result
     (tree_too_large c.args.bytes.now _ source c.in_ok-typed.typed.tree c.in_ok-typed.ensures c.in_ok-owned.owned.typed.tree c.in_ok-owned.ensures c.in_ok-owned.owned.owned _ c.in_err-code.ensures) (search rules)
 
 pub returns : goal.returns
 returns c =
     let source : IsSourceOf c.args.bytes.now (parsed.program_of c.in_ok-ast.ast) =
-    source_of c.args.bytes.now c.in_ok-source.source c.in_ok-list.list.items c.as_slice.result.now c.in_ok-source.ensures c.as_slice.ensures.value (search rules) c.in_ok-list.ensures _ c.in_ok-ast.ensures in
+    source_of c.args.bytes.now c.in_ok-source.source c.in_ok-tokens.tokens.items c.as_slice.result.now c.in_ok-source.ensures c.as_slice.ensures.value (search rules) c.in_ok-tokens.ensures _ c.in_ok-ast.ensures in
     compiled c.args.bytes.now _ source c.in_ok-typed.typed.tree c.in_ok-typed.ensures c.in_ok-owned.owned.typed.tree c.in_ok-owned.ensures c.in_ok-owned.owned.owned _ c.in_ok-code.ensures

@@ -4,7 +4,7 @@ use Rattle.cw_cli.proofs.Tools.{idle, of_any, answered}
 use Rattle.cw_cli.proofs.telling.tool.Goals as goal
 
 pub returns-in-Err : goal.returns-in-Err
-returns-in-Err g c = of_any (g.D.Read.remaining c.args.source) _ (λ bytes. unread refl c.unread.ensures)
+returns-in-Err g c = of_any (g.D.Read.remaining c.args.source) _ (λ bytes. unread _ refl c.unread.ensures)
 
 pub returns-in-Ok : goal.returns-in-Ok
 returns-in-Ok g c =

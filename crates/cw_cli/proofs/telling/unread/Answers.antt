@@ -1,10 +1,16 @@
-use Rattle.std.proofs.Common.{refl}
-use Rattle.cw_cli.specs.Tools.{file, memory}
+use Rattle.std.proofs.Common.{◌≡◌, rules, refl, false, true}
+use Rattle.std.specs.declared.io.ErrorKind.TheVariants.{OutOfMemory}
+use Rattle.std.specs.IoError.{error_kind}
 use Rattle.cw_cli.proofs.Tools.{tries}
 use Rattle.cw_cli.proofs.telling.unread.Goals as goal
 
 pub returns-then-eq : goal.returns-then-eq
-returns-then-eq g c = memory c.refuse.ensures
+returns-then-eq g c =
+    let same : error_kind c.args.error.now ≡ OutOfMemory = search rules in
+    record { memory = λ e. c.refuse.ensures; file = λ h. absurd (h same) }
 
 pub returns : goal.returns
-returns g c = file (tries g.E.Write.contents g.E.Sink.failed c.args.err.now c.write_text.new.to _ c.write_text.result c.write_text.ensures.writes) refl
+returns g c = record {
+  memory = λ e. absurd (let bad : true ≡ false = search rules in cc);
+  file = λ e. record { line = tries g.E.Write.contents g.E.Sink.failed c.args.err.now c.write_text.new.to _ c.write_text.result c.write_text.ensures.writes; status_is = refl };
+}
