@@ -1,5 +1,6 @@
 mod Digits
 mod Texts
 mod Refusals
+mod Stages
 mod Runs
 mod Tools

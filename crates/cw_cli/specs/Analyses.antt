@@ -15,6 +15,7 @@ use Rattle.cw_cli.specs.declared.asked.Mode.{Mode}
 use Rattle.cw_cli.specs.declared.asked.Mode.TheVariants as mode
 use Rattle.cw_cli.specs.declared.asked.Options.{Options}
 
+-- the report that a mode of the command line asks for
 abbrev pub mode_of : Mode → report.Mode
 mode_of mode.Run = report.Run
 
@@ -36,6 +37,7 @@ answer_to program args options = serial_answer program args options.limit
 abbrev pub text_of : Program → List ℤ → Options → List ℕ
 text_of program args options = report_text (mode_of options.mode) program options.burden (answer_to program args options)
 
+-- the run ended with a value: it neither trapped nor passed its limit
 abbrev pub HasEnded : Answer → Type 0
 HasEnded (Ended v lines sums tree) = Unit {0}
 HasEnded _ = ⊥

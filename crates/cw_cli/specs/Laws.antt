@@ -1,8 +1,18 @@
 -- What holds of all bytes.
-use Rattle.std.specs.Prelude.{◌≡◌, ℕ, List}
+use Rattle.std.specs.Prelude.{◌≡◌, ℕ, List, ◌⊎◌}
 use Rattle.cw_model.specs.Syntax.{Program}
-use Rattle.cw_cli.specs.Sources.{IsSourceOf}
+use Rattle.cw_text.specs.declared.fault.Fault.{Fault}
+use Rattle.cw_text.specs.declared.fault.Fault.TheVariants as fault
+use Rattle.cw_cli.specs.Sources.{IsSourceOf, Compiles, IsRefused}
 
 -- bytes are a source of at most one program
 abbrev pub HaveOneProgram : Type 0
 HaveOneProgram = (bytes : List ℕ) (p q : Program) → IsSourceOf bytes p → IsSourceOf bytes q → p ≡ q
+
+-- bytes that compile are refused for want of memory only
+abbrev pub CompiledAreNotRefused : Type 0
+CompiledAreNotRefused = (bytes : List ℕ) (p : Program) (f : Fault) → Compiles bytes p → IsRefused bytes f → f ≡ fault.Memory
+
+-- bytes are refused for one reason in one line, or for want of memory
+abbrev pub HaveOneRefusal : Type 0
+HaveOneRefusal = (bytes : List ℕ) (f g : Fault) → IsRefused bytes f → IsRefused bytes g → (f ≡ g) ⊎ (f ≡ fault.Memory) ⊎ (g ≡ fault.Memory)

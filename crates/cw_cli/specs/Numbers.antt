@@ -7,5 +7,6 @@ use Rattle.cw_model.specs.Pieces.{is_digit, value_of}
 abbrev pub IsNumber : List ℕ → Type 0
 IsNumber text = (list_all is_digit text ≡ true) × (0 < length text) × (value_of text < 2 ^ 64)
 
+-- such a number between two bounds, each of which is allowed
 abbrev pub IsNumberWithin : ℕ → ℕ → List ℕ → Type 0
 IsNumberWithin least most text = IsNumber text × (least ≤ value_of text) × (value_of text ≤ most)

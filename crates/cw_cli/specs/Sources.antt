@@ -36,6 +36,7 @@ pub data IsLexicallyRefused (bytes : List ℕ) (line : ℕ) : Type 0 where
   byte : IsNotAscii bytes line → IsLexicallyRefused bytes line
   token : IsSourceText bytes → HasLexicalFault bytes line → IsLexicallyRefused bytes line
 
+-- the bytes have tokens that pass no limit and are no source, and this is the line where they cannot go on
 pub record IsSyntacticallyRefused (bytes : List ℕ) (line : ℕ) : Type 0 where
   pub tokens : List Token
   pub has_tokens : HasTokens bytes tokens

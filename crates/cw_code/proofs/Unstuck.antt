@@ -15,7 +15,7 @@ use Rattle.cw_code.specs.declared.code.Instr.{Instr}
 use Rattle.cw_code.specs.declared.code.Instr.TheVariants as instr
 use Rattle.cw_code.specs.Code.{Code}
 use Rattle.cw_code.specs.Run.{Slots, Results, Waiting, State, Went, On, Ends, Stops, Stuck, Ran, here, ticked, is_full, loaded, settled, full, slots_of, may_take, taken_from, has_room, begun, enter, awaited, given, result_of, back, act, step, go_on, steps, first_state, first_went, code_serial}
-use Rattle.cw_code.specs.Fits.{params_of, NeverStuck, Shape, IsNone, HasSlot, HasTarget, with_target, Leads, FitsCallee, Finds, Starts, Fits}
+use Rattle.cw_code.specs.Fits.{params_of, NeverStuck, Shape, IsNotAmong, HasSlot, HasTarget, with_target, Leads, FitsCallee, Finds, Starts, Fits}
 use Rattle.cw_code.proofs.Tests.{taken, both_true, at_most, equal}
 
 abbrev slots_in : Results → List ℕ
@@ -24,7 +24,7 @@ slots_in (r ∷ results) = r.0 ∷ slots_in results
 
 -- each slot is full but for these
 abbrev AllFull : List ℕ → Slots → Type 0
-AllFull empty slots = (a : ℕ) → a < length slots → IsNone a empty → is_full (slice_get slots a) ≡ true
+AllFull empty slots = (a : ℕ) → a < length slots → IsNotAmong a empty → is_full (slice_get slots a) ≡ true
 
 -- a slot that was written is full, and each other one is as it was
 set_full : (xs : Slots) (a b : ℕ) (v : ℤ) → b < length xs → (b ≢ a → is_full (slice_get xs b) ≡ true) → is_full (slice_get (slice_set xs a (Some v)) b) ≡ true

@@ -12,7 +12,7 @@ use Rattle.cw_model.specs.Meaning.{function_of}
 use Rattle.cw_model.specs.Answers.{main_name}
 use Rattle.cw_model.specs.Report.{CallSite, sites_in, sites_in_block}
 use Rattle.cw_model.specs.Typing.{surely_returns, block_returns}
-use Rattle.cw_model.specs.Ownership.{Taken, is_taken, taken_by, taken_after}
+use Rattle.cw_model.specs.Ownership.{Taken, taken_after}
 use Rattle.cw_model.specs.Ownership as ownership
 use Rattle.cw_types.specs.Resolved.{slot_of, names_after}
 use Rattle.cw_code.specs.declared.code.Callee.{Callee}
@@ -20,7 +20,7 @@ use Rattle.cw_code.specs.declared.code.Func.{Func}
 use Rattle.cw_code.specs.declared.code.Instr.{Instr}
 use Rattle.cw_code.specs.declared.code.Instr.TheVariants as instr
 use Rattle.cw_code.specs.Code.{Code}
-use Rattle.cw_code.specs.Fits.{Shape, IsNone, HasSlot, HasTarget, with_target, Leads, HasSite, FitsCallee, Finds, Starts, Fits}
+use Rattle.cw_code.specs.Fits.{Shape, IsNotAmong, HasSlot, HasTarget, with_target, Leads, HasSite, FitsCallee, Finds, Starts, Fits}
 use Rattle.cw_gen.specs.Gen.{expr_code, args_code, call_instr, target_slot, callee_of, stmt_code, block_code, declared_in, declared_in_block, params_of, function_code, codes_of, funcs_from, code_of}
 use Rattle.cw_gen.specs.Fine.{IsUsable, ExprFine, ArgsFine, TargetFine, StmtFine, BlockFine, FunctionFine, FunctionsFine, ProgramFine}
 use Rattle.cw_gen.proofs.Names.{slot_within, slots_apart, slot_more, slot_new, still_free, not_the_first}
@@ -65,8 +65,8 @@ shapes_of (f ∷ fs) = function_shapes f ++ shapes_of fs
 
 -- names that are not taken have slots that are not empty
 record Frees (names : List Name) (taken : Taken) (empty : List ℕ) : Type 0 where
-  pub free : (x : Name) → IsUsable names taken x → IsNone (slot_of x names) empty
-  pub later : (a : ℕ) → length names ≤ a → IsNone a empty
+  pub free : (x : Name) → IsUsable names taken x → IsNotAmong (slot_of x names) empty
+  pub later : (a : ℕ) → length names ≤ a → IsNotAmong a empty
 
 frees_declared : (names : List Name) (taken : Taken) (empty : List ℕ) (x : Name) → Frees names taken empty → Frees (names ++ x ∷ []) taken empty
 frees_declared names taken empty x h = record {
@@ -74,8 +74,8 @@ frees_declared names taken empty x h = record {
   later = λ a le. h.later a (omega (arith, le, length-append names (x ∷ [])));
 }
   where
-    test : (y : Name) → IsUsable (names ++ x ∷ []) taken y → (b : Bool) → is_among y names ≡ b → IsNone (slot_of y (names ++ x ∷ [])) empty
-    test y u true e = subst (λ n. IsNone n empty) (sym (slot_more y x names e)) (h.free y (record { declared = e; free = u.free }))
+    test : (y : Name) → IsUsable (names ++ x ∷ []) taken y → (b : Bool) → is_among y names ≡ b → IsNotAmong (slot_of y (names ++ x ∷ [])) empty
+    test y u true e = subst (λ n. IsNotAmong n empty) (sym (slot_more y x names e)) (h.free y (record { declared = e; free = u.free }))
     test y u false e = h.later (slot_of y (names ++ x ∷ [])) (slot_new y names (x ∷ []) e)
 
 frees_after : (fs : List Function) (names : List Name) (taken : Taken) (empty : List ℕ) (s : Stmt) → StmtFine fs names taken s → Frees names taken empty → Frees (names_after names s) (taken_after fs 1 s taken) (empty_after names s empty)

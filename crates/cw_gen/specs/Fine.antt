@@ -14,6 +14,7 @@ pub record IsUsable (names : List Name) (taken : Taken) (x : Name) : Type 0 wher
   pub declared : is_among x names ≡ true
   pub free : is_taken taken x ≡ false
 
+-- an expression is a number, or a name that is declared and free
 abbrev pub ExprFine : List Name → Taken → Expr → Type 0
 ExprFine names taken (Number n) = Unit {0}
 ExprFine names taken (Variable x) = IsUsable names taken x
@@ -25,14 +26,17 @@ ArgsFine names taken [] [] = Unit {0}
 ArgsFine names taken (p ∷ ps) (e ∷ es) = (p.is_array ≡ false) × ExprFine names taken e × ArgsFine names taken ps es
 ArgsFine names taken _ _ = ⊥
 
+-- the result of a call, if it goes to a name, goes to one that is declared and free
 abbrev pub TargetFine : List Name → Taken → Option Name → Type 0
 TargetFine names taken None = Unit {0}
 TargetFine names taken (Some x) = IsUsable names taken x
 
+-- a function of this name is there
 abbrev pub is_function : Name → List Function → Bool
 is_function f [] = false
 is_function f (g ∷ fs) = if same_name f g.name then true else is_function f fs
 
+-- a statement that there is code for: the names that it uses are declared and free, and its call fits a function
 abbrev pub StmtFine : List Function → List Name → Taken → Stmt → Type 0
 StmtFine fs names taken (Declare x e) = ExprFine names taken e
 StmtFine fs names taken (Assign x e) = IsUsable names taken x × ExprFine names taken e
@@ -42,6 +46,7 @@ StmtFine fs names taken Sync = Unit {0}
 StmtFine fs names taken (Return (Some e)) = ExprFine names taken e
 StmtFine fs names taken _ = ⊥
 
+-- each statement of a block is such after those before it
 abbrev pub BlockFine : List Function → List Name → Taken → Block → Type 0
 BlockFine fs names taken End = Unit {0}
 BlockFine fs names taken (Then line s b) = StmtFine fs names taken s × BlockFine fs (names_after names s) (taken_after fs 1 s taken) b
@@ -52,10 +57,12 @@ pub record FunctionFine (fs : List Function) (f : Function) : Type 0 where
   pub returns : block_returns f.body ≡ true
   pub gives : f.gives_int ≡ true
 
+-- each of these functions is such, where all may be called
 abbrev pub FunctionsFine : List Function → List Function → Type 0
 FunctionsFine all [] = Unit {0}
 FunctionsFine all (f ∷ fs) = FunctionFine all f × FunctionsFine all fs
 
+-- a program that there is code for: each of its functions is such, and main is there
 pub record ProgramFine (program : Program) : Type 0 where
   pub functions : FunctionsFine program.functions program.functions
   pub main : is_function main_name program.functions ≡ true

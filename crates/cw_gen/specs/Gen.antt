@@ -16,6 +16,7 @@ use Rattle.cw_code.specs.Code.{Code}
 abbrev pub index_of : Name → List Function → ℕ
 index_of f fs = slot_of f (function_names fs)
 
+-- the instructions of an expression, where these names are declared
 abbrev pub expr_code : List Name → Expr → List Instr
 expr_code names (Number n) = instr.Push n ∷ []
 expr_code names (Variable x) = instr.Load (slot_of x names) ∷ []
@@ -26,18 +27,22 @@ abbrev pub args_code : List Name → List Expr → List Instr
 args_code names [] = []
 args_code names (e ∷ es) = expr_code names e ++ args_code names es
 
+-- the instruction of a call of either kind
 abbrev pub call_instr : CallKind → Callee → Instr
 call_instr Plain c = instr.Call c
 call_instr Spawned c = instr.Spawn c
 
+-- the slot of the name that takes a result, if one does
 abbrev pub target_slot : List Name → Option Name → Option ℕ
 target_slot names None = None
 target_slot names (Some x) = Some (slot_of x names)
 
+-- what the instruction of a call carries: its function, its site, its line, and the slot of its result
 abbrev pub callee_of : List Function → List Name → (line site : ℕ) → Option Name → Name → Callee
 callee_of fs names line site target f =
     record { function = index_of f fs; site = site; line = line; target = target_slot names target }
 
+-- the instructions of a statement of a line, where these names are declared
 abbrev pub stmt_code : List Function → List Name → ℕ → Stmt → List Instr
 stmt_code fs names line (Declare x e) = expr_code names e ++ instr.Store (length names) ∷ []
 stmt_code fs names line (Assign x e) = expr_code names e ++ instr.Store (slot_of x names) ∷ []
@@ -46,6 +51,7 @@ stmt_code fs names line Sync = instr.Sync ∷ []
 stmt_code fs names line (Return (Some e)) = expr_code names e ++ instr.Return ∷ []
 stmt_code fs names line _ = []
 
+-- the instructions of a block, before which these names are declared
 abbrev pub block_code : List Function → List Name → Block → List Instr
 block_code fs names End = []
 block_code fs names (Then line s b) = stmt_code fs names line s ++ block_code fs (names_after names s) b
@@ -55,10 +61,12 @@ abbrev pub declared_in : Stmt → ℕ
 declared_in (Declare x e) = 1
 declared_in _ = 0
 
+-- how many names the statements of a block declare
 abbrev pub declared_in_block : Block → ℕ
 declared_in_block End = 0
 declared_in_block (Then line s b) = declared_in s + declared_in_block b
 
+-- the names of the parameters of a function
 abbrev pub params_of : Function → List Name
 params_of f = param_names f.params
 
@@ -66,16 +74,19 @@ params_of f = param_names f.params
 abbrev pub function_code : List Function → Function → List Instr
 function_code fs f = block_code fs (params_of f) f.body
 
+-- the instructions of functions in a row, where all may be called
 abbrev pub codes_of : List Function → List Function → List Instr
 codes_of all [] = []
 codes_of all (f ∷ fs) = function_code all f ++ codes_of all fs
 
+-- functions in a row from a place on: where each begins, and how many parameters and slots it has
 abbrev pub funcs_from : List Function → ℕ → List Function → List Func
 funcs_from all start [] = []
 funcs_from all start (f ∷ fs) =
     record { start = start; params = length f.params; slots = length f.params + declared_in_block f.body }
     ∷ funcs_from all (start + length (function_code all f)) fs
 
+-- the whole code of a program
 abbrev pub code_of : Program → Code
 code_of program = record {
   instrs = codes_of program.functions program.functions;

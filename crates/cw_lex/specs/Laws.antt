@@ -19,6 +19,7 @@ FaultsExcludeOneAnother = (text : List ℕ) (l m : ℕ) → HasLexicalFault text
 abbrev pub LexicalFaultHasOneLine : Type 0
 LexicalFaultHasOneLine = (text : List ℕ) (l m : ℕ) → HasLexicalFault text l → HasLexicalFault text m → l ≡ m
 
+-- where the fault of a text is a name that is too long, it is in one line
 abbrev pub NameFaultHasOneLine : Type 0
 NameFaultHasOneLine = (text : List ℕ) (l m : ℕ) → HasNameFault text l → HasNameFault text m → l ≡ m
 

@@ -1,6 +1,5 @@
 //! Code that a run can trust.
 
-ghost use Rattle.std.specs.Prelude.{◌≡◌};
 ghost use Rattle.cw_code.specs.Code.{code_view};
 ghost use Rattle.cw_code.specs.Fits.{NeverStuck};
 

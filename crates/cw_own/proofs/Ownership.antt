@@ -14,7 +14,7 @@ use Rattle.cw_model.specs.Meaning.{function_of}
 use Rattle.cw_model.specs.FirstGrammar.{is_first_expr, is_first_body, is_first_function, is_first}
 use Rattle.cw_model.specs.Ownership.{SpawnIn, Taken, is_taken, freed, names_in, arrays_given, given, taken_by, may_read, may_write, NoLoop, left_taken, Declared, Joins, owner_faults_in, owner_faults_of, ownership_faults}
 use Rattle.cw_types.specs.Resolved as spec
-use Rattle.cw_types.specs.Resolved.{slot_of, names_after, param_names, function_names, resolved_expr, resolved_stmt, resolved_block, resolved_function, resolved}
+use Rattle.cw_types.specs.Resolved.{slot_of, param_names, function_names, resolved_expr, resolved_stmt, resolved_block, resolved_function}
 use Rattle.cw_types.specs.Slots.{fine_call, fine_arguments, fine_stmt, slot_faults, are_new}
 use Rattle.cw_types.proofs.Looked.{both_left, both_right, resolved_is}
 use Rattle.cw_types.proofs.Places.{turned}

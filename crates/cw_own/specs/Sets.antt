@@ -6,6 +6,7 @@ use Rattle.std.specs.Int.{bit_at}
 abbrev pub Slots : Type 0
 Slots = ℕ → Bool
 
+-- the empty set
 abbrev pub no_slot : Slots
 no_slot = λ slot. false
 

@@ -7,18 +7,22 @@ use Rattle.cw_model.specs.declared.syntax.CallKind.TheVariants.{Plain, Spawned}
 use Rattle.cw_types.specs.Resolved.{Use, Expr, Number, Variable, Stmt, Declare, Call, Sync, Return, Block, End, Then, Function, Resolved}
 use Rattle.cw_own.specs.Sets.{Slots, no_slot, with_slot}
 
+-- an expression reads no taken slot
 abbrev pub free_expr : Slots → Expr → Bool
 free_expr taken (Number n) = true
 free_expr taken (Variable u) = not (taken u.slot)
 
+-- the result of a call, if it goes to a name, goes to none that is taken
 abbrev pub free_target : Slots → Option Use → Bool
 free_target taken None = true
 free_target taken (Some u) = not (taken u.slot)
 
+-- what is returned reads no taken slot
 abbrev pub free_return : Slots → Option Expr → Bool
 free_return taken None = true
 free_return taken (Some e) = free_expr taken e
 
+-- a statement reads no taken slot, and its call puts no result into one
 abbrev pub free_stmt : Slots → Stmt → Bool
 free_stmt taken (Declare u e) = free_expr taken e
 free_stmt taken (Call kind site target f index es) = list_all (free_expr taken) es && free_target taken target
@@ -38,12 +42,15 @@ slots_after taken (Call kind site target f index es) = taken_by_call kind target
 slots_after taken Sync = no_slot
 slots_after taken (Return e) = no_slot
 
+-- the lines of a block that touch a taken slot, where these are taken at its start
 abbrev pub taken_lines : Slots → Block → List ℕ
 taken_lines taken End = []
 taken_lines taken (Then line s b) = unless (free_stmt taken s) line ++ taken_lines (slots_after taken s) b
 
+-- the same of a function, in which nothing is taken at first
 abbrev pub taken_lines_of : Function → List ℕ
 taken_lines_of f = taken_lines no_slot f.body
 
+-- the same of a whole program
 abbrev pub all_taken_lines : Resolved → List ℕ
 all_taken_lines tree = flat_map taken_lines_of tree.functions

@@ -1,7 +1,7 @@
 -- A text has no more tokens than bytes.
 use Rattle.std.proofs.Common.{ℕ, ◌+◌, ◌≤◌, List, [], ◌∷◌, length, arith}
 use Rattle.cw_model.specs.declared.token.Token.{Token}
-use Rattle.cw_model.specs.Tokens.{IsGap, AreTokens, IsTokenCut}
+use Rattle.cw_model.specs.Tokens.{IsGap, AreTokens}
 use Rattle.cw_model.specs.Tokens as tokens
 
 gap_rises : {text : List ℕ} {at to : ℕ} → IsGap text at to → at ≤ to

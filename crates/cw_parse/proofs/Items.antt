@@ -5,7 +5,7 @@ use Rattle.std.specs.List.{list_all}
 use Rattle.cw_model.specs.declared.token.Token.{Token}
 use Rattle.cw_model.specs.Syntax.{Reducer, Function, Program}
 use Rattle.cw_model.specs.Grammar as grammar
-use Rattle.cw_model.specs.Grammar.{ReadsFunction, ReadsItems, Derives, first_line}
+use Rattle.cw_model.specs.Grammar.{ReadsItems, first_line}
 use Rattle.cw_model.specs.FirstGrammar.{is_first_function, is_first}
 use Rattle.cw_parse.specs.Reading.{Read}
 use Rattle.cw_parse.specs.Parts.{function, functions, whole}

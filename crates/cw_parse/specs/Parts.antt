@@ -38,12 +38,15 @@ next_argument text limit t kind.RightParen ts = Ok (last [], ts)
 next_argument text limit t kind.Comma ts = expr text limit ts >>= λ x. Ok (turn x.0 tt, x.1)
 next_argument text limit t _ ts = Err (length (t ∷ ts))
 
+-- the arguments after the first one, and the parenthesis that closes them
 abbrev pub more_arguments : List ℕ → ℕ → Reader (List Expr)
 more_arguments text limit ts = row add_front (λ _. by_first (next_argument text limit)) limit tt ts
 
+-- one argument or more, and the parenthesis that closes them
 abbrev pub some_arguments : List ℕ → ℕ → Reader (List Expr)
 some_arguments text limit ts = expr text limit ts >>= λ x. more_arguments text limit x.1 >>= λ y. Ok (x.0 ∷ y.0, y.1)
 
+-- any number of arguments, and the parenthesis that closes them
 unfoldable pub arguments : List ℕ → ℕ → Reader (List Expr)
 arguments text limit ts = unless_token is_right_paren [] (some_arguments text limit) ts
 
@@ -92,6 +95,7 @@ next_line text limit site t kind.Return ts =
     returned text limit ts >>= λ x. Ok (last (tree.Then t.line (tree.Return (Some x.0)) tree.End, site), x.1)
 next_line text limit site t k ts = stmt text limit site t k ts >>= λ x. Ok (turn (t.line, x.0.0) x.0.1, x.1)
 
+-- a statement in front of the rest of its body, beside the number of the next call statement
 abbrev pub put_before : Line → Block × ℕ → Block × ℕ
 put_before line rest = (tree.Then line.0 line.1 rest.0, rest.1)
 
@@ -99,6 +103,7 @@ put_before line rest = (tree.Then line.0 line.1 rest.0, rest.1)
 abbrev pub lines : List ℕ → ℕ → ℕ → Reader (Block × ℕ)
 lines text limit site ts = row put_before (λ s. by_first (next_line text limit s)) limit site ts
 
+-- a body in its braces, and the number of the next call statement
 unfoldable pub body : List ℕ → ℕ → ℕ → Reader (Block × ℕ)
 body text limit site ts = token is_left_brace ts >>= λ x. lines text limit site x.1
 
@@ -112,6 +117,7 @@ next_param text t kind.RightParen ts = Ok (last [], ts)
 next_param text t kind.Comma ts = token is_int ts >>= λ x. param text x.1 >>= λ y. Ok (turn y.0 tt, y.1)
 next_param text t _ ts = Err (length (t ∷ ts))
 
+-- the parameters after the first one, and the parenthesis that closes them
 abbrev pub more_params : List ℕ → ℕ → Reader (List Param)
 more_params text n ts = row add_front (λ _. by_first (next_param text)) n tt ts
 

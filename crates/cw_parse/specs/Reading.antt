@@ -9,19 +9,22 @@ use Rattle.cw_parse.specs.declared.stop.Stop.TheVariants as stop
 abbrev pub Read : Type 0 → Type 0
 Read A = Result (A × List Token) ℕ
 
+-- a way to read a value from the front of tokens
 abbrev pub Reader : Type 0 → Type 0
 Reader A = List Token → Read A
 
 infixl 10 ◌>>=◌
+-- reading goes on with what was read, unless it stopped
 abbrev pub ◌>>=◌ : {A B : Type 0} → Read A → (A × List Token → Read B) → Read B
 (Ok x) >>= f = f x
 (Err e) >>= f = Err e
 
--- what a function returned, seen by view, is what reading gives, unless memory ran out
+-- a function that stops at a token stops where reading does; where memory ran out nothing is said
 abbrev pub Fails : {Y : Type 0} → Stop → Result Y ℕ → Type 0
 Fails stop.Memory read = Unit {0}
 Fails (stop.At n) read = read ≡ Err n
 
+-- what a function returned, seen by view, is what reading gives, unless memory ran out
 abbrev pub Gives : {X Y : Type 0} → (X → Y) → Result X Stop → Result Y ℕ → Type 0
 Gives view (Ok x) read = read ≡ Ok (view x)
 Gives view (Err e) read = Fails e read
@@ -46,6 +49,7 @@ pub data Step (A S B : Type 0) : Type 0 where
   turn : A → S → Step A S B
   last : B → Step A S B
 
+-- reading the rest of a row after one of its steps
 abbrev pub go_on : {A S B : Type 0} → (A → B → B) → (S → Reader B) → Step A S B → Reader B
 go_on join more (turn a s) ts = more s ts >>= λ y. Ok (join a y.0, y.1)
 go_on join more (last b) ts = Ok (b, ts)
@@ -60,5 +64,6 @@ abbrev pub pile : {A B : Type 0} → (A → B → B) → List A → B → B
 pile join [] b = b
 pile join (a ∷ front) b = join a (pile join front b)
 
+-- reading a row of which these parts were read before
 abbrev pub with_front : {A B : Type 0} → (A → B → B) → List A → Read B → Read B
 with_front join front read = read >>= λ y. Ok (pile join front y.0, y.1)

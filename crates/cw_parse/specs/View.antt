@@ -11,6 +11,7 @@ use Rattle.cw_parse.specs.declared.tree.Reducer.{Reducer}
 use Rattle.cw_parse.specs.declared.tree.Ast.{Ast}
 use Rattle.cw_model.specs.Syntax as model
 
+-- an expression of the code as one of the definitions
 abbrev pub expr_of : Expr → model.Expr
 expr_of (Number n) = model.Number n
 expr_of (Variable x) = model.Variable x
@@ -20,6 +21,7 @@ expr_of (Negative' p e) = model.Negative (expr_of e)
 expr_of (Not' p e) = model.Not (expr_of e)
 expr_of (Binary' o p d q e) = model.Binary o (expr_of d) (expr_of e)
 
+-- expressions, each seen so
 abbrev pub exprs_of : List Expr → List model.Expr
 exprs_of es = map expr_of es
 
@@ -48,9 +50,11 @@ stmt_step (Stmt-F.Region tag b) = model.Region tag (block_from b.items)
 stmt_step (Stmt-F.Print e) = model.Print (expr_of e)
 stmt_step (Stmt-F.Return e) = model.Return (option_map expr_of e)
 
+-- a statement that is already seen, beside its line
 abbrev pub line_step : Line-F model.Stmt (ℕ × model.Stmt) → ℕ × model.Stmt
 line_step l = (l.line, l.stmt)
 
+-- a statement of the code as one of the definitions
 abbrev pub stmt_of : Stmt → model.Stmt
 stmt_of = fold-Stmt model.Stmt (ℕ × model.Stmt) stmt_step line_step
 
@@ -58,17 +62,22 @@ stmt_of = fold-Stmt model.Stmt (ℕ × model.Stmt) stmt_step line_step
 abbrev pub line_of : Line → ℕ × model.Stmt
 line_of = fold-Line model.Stmt (ℕ × model.Stmt) stmt_step line_step
 
+-- lines of the code as a block of the definitions
 abbrev pub block_of : List Line → model.Block
 block_of ls = block_from (map line_of ls)
 
+-- a parameter of the code as one of the definitions
 abbrev pub param_of : Param → model.Param
 param_of p = record { name = p.name; is_array = p.is_array }
 
+-- a function of the code as one of the definitions
 abbrev pub function_of : Function → model.Function
 function_of f = record { name = f.name; line = f.line; gives_int = f.gives_int; params = map param_of f.params.items; body = block_of f.body.items }
 
+-- a reducer of the code as one of the definitions
 abbrev pub reducer_of : Reducer → model.Reducer
 reducer_of r = record { name = r.name; line = r.line }
 
+-- the program that a tree of the code stands for
 abbrev pub program_of : Ast → model.Program
 program_of ast = record { reducers = map reducer_of ast.reducers.items; functions = map function_of ast.functions.items }

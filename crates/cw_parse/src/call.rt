@@ -1,10 +1,10 @@
 //! Calls.
 
-ghost use Rattle.std.specs.Prelude.{◌≡◌, [], ◌∷◌};
+ghost use Rattle.std.specs.Prelude.{[], ◌∷◌};
 ghost use Rattle.cw_parse.specs.View.{expr_of, exprs_of};
 ghost use Rattle.cw_parse.specs.Seen.{argument_step};
 ghost use Rattle.cw_parse.specs.Reading.{Gives, by_first, with_front};
-ghost use Rattle.cw_parse.specs.Parts.{expr, add_front, next_argument, more_arguments, arguments, called};
+ghost use Rattle.cw_parse.specs.Parts.{add_front, next_argument, more_arguments, arguments, called};
 
 use crate::expr::expr;
 use crate::input::{Read, Reading};

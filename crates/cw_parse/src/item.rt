@@ -1,6 +1,6 @@
 //! Parameters and functions.
 
-ghost use Rattle.std.specs.Prelude.{◌≡◌, ◌+◌, ◌<◌, ◌^◌, [], ◌∷◌, length, map};
+ghost use Rattle.std.specs.Prelude.{◌+◌, ◌<◌, ◌^◌, [], ◌∷◌, length, map};
 ghost use Rattle.cw_parse.specs.View.{param_of, function_of};
 ghost use Rattle.cw_parse.specs.Seen.{param_step};
 ghost use Rattle.cw_parse.specs.Reading.{Gives, by_first, with_front};

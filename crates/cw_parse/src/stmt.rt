@@ -1,10 +1,10 @@
 //! Statements and bodies.
 
-ghost use Rattle.std.specs.Prelude.{◌≡◌, ◌+◌, ◌<◌, ◌^◌, length};
+ghost use Rattle.std.specs.Prelude.{◌+◌, ◌<◌, ◌^◌, length};
 ghost use Rattle.cw_parse.specs.View.{expr_of, stmt_of, block_of};
 ghost use Rattle.cw_parse.specs.Seen.{next_of};
 ghost use Rattle.cw_parse.specs.Reading.{Gives, by_first};
-ghost use Rattle.cw_parse.specs.Parts.{expr, called, call_into, assigned, named, declared, stmt, returned, next_line, lines, body};
+ghost use Rattle.cw_parse.specs.Parts.{call_into, assigned, named, declared, stmt, returned, next_line, lines, body};
 
 use crate::call::called;
 use crate::expr::{expr, name_of};

@@ -5,6 +5,7 @@ use Rattle.cw_model.specs.Ints.{trap_number}
 use Rattle.cw_text.specs.declared.fault.Fault.{Fault}
 use Rattle.cw_text.specs.declared.fault.Fault.TheVariants as fault
 
+-- the number of a fault, a different one for each kind
 abbrev pub fault_number : Fault → ℕ
 fault_number (fault.Lexical p) = 1
 fault_number (fault.Syntax p) = 2
@@ -18,6 +19,7 @@ fault_number fault.Memory = 9
 fault_number fault.Write = 10
 fault_number fault.Arguments = 11
 
+-- the exit status of a program that ends with this fault
 abbrev pub fault_status : Fault → ℕ
 fault_status (fault.Lexical p) = 2
 fault_status (fault.Syntax p) = 2
@@ -31,6 +33,7 @@ fault_status fault.Arguments = 5
 fault_status fault.Memory = 6
 fault_status fault.Write = 7
 
+-- how a place is written
 abbrev pub place_text : Place → List ℕ
 place_text p = codes "line " ++ decimal p.line
 

@@ -9,7 +9,7 @@ use Rattle.cw_model.specs.Answers.{main_name}
 use Rattle.cw_model.specs.FirstGrammar.{is_first_expr, is_first_body}
 use Rattle.cw_model.specs.Typing.{Known, is_int, is_array, is_new, is_fine, is_argument, are_arguments, called, is_target, is_call, WithInt, faults_in, faults_in_block}
 use Rattle.cw_types.specs.Resolved as spec
-use Rattle.cw_types.specs.Resolved.{slot_of, names_after, param_names, function_names, resolved_expr, resolved_stmt}
+use Rattle.cw_types.specs.Resolved.{slot_of, function_names, resolved_expr, resolved_stmt}
 use Rattle.cw_types.specs.Slots.{fine_expr, fine_target, fine_arguments, fine_call, fine_stmt, slot_faults}
 use Rattle.cw_types.proofs.Looked.{both_left, both_right}
 

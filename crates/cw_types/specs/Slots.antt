@@ -17,6 +17,7 @@ is_simple model.Sync = true
 is_simple (model.Return (Some e)) = is_first_expr e
 is_simple _ = false
 
+-- each statement of a block is such
 abbrev pub are_simple : model.Block → Bool
 are_simple model.End = true
 are_simple (model.Then line s b) = is_simple s && are_simple b
@@ -25,10 +26,12 @@ are_simple (model.Then line s b) = is_simple s && are_simple b
 abbrev pub is_declared : ℕ → Use → Bool
 is_declared n u = nat_lt u.slot n
 
+-- an expression uses only declared names
 abbrev pub fine_expr : ℕ → Expr → Bool
 fine_expr n (Number v) = true
 fine_expr n (Variable u) = is_declared n u
 
+-- the result of a call, if it goes to a name, goes to a declared one and is an integer
 abbrev pub fine_target : ℕ → model.Function → Option Use → Bool
 fine_target n f None = true
 fine_target n f (Some u) = is_declared n u && f.gives_int
@@ -39,10 +42,12 @@ fine_arguments n [] [] = true
 fine_arguments n (p ∷ ps) (e ∷ es) = (not p.is_array && fine_expr n e) && fine_arguments n ps es
 fine_arguments n _ _ = false
 
+-- the callee is there and is not main, and takes the arguments and gives the result
 abbrev pub fine_call : ℕ → Option Use → Option model.Function → List Expr → Bool
 fine_call n target None es = false
 fine_call n target (Some f) es = fine_target n f target && fine_arguments n f.params es && not (same_name f.name main_name)
 
+-- a statement breaks no rule of names and types, where these functions and names are declared
 abbrev pub fine_stmt : List model.Function → (globals names : List Name) → Stmt → Bool
 fine_stmt fs globals names (Declare u e) = fine_expr (length names) e && not (is_among u.name names || is_among u.name globals)
 fine_stmt fs globals names (Call kind site target f index es) = fine_call (length names) target (slice_get fs index) es
@@ -50,6 +55,7 @@ fine_stmt fs globals names Sync = true
 fine_stmt fs globals names (Return None) = false
 fine_stmt fs globals names (Return (Some e)) = fine_expr (length names) e
 
+-- the lines of a block that break a rule, where these names are declared before it
 abbrev pub slot_faults : List model.Function → (globals names : List Name) → model.Block → List ℕ
 slot_faults fs globals names model.End = []
 slot_faults fs globals names (model.Then line s b) =
@@ -60,6 +66,7 @@ abbrev pub are_new : (globals names : List Name) → List Name → Bool
 are_new globals names [] = true
 are_new globals names (x ∷ xs) = not (is_among x names || is_among x globals) && are_new globals (names ++ x ∷ []) xs
 
+-- the lines of a function that break a rule; its parameters count at its head
 abbrev pub slot_faults_of : List model.Function → List Name → model.Function → List ℕ
 slot_faults_of fs globals f =
     unless (are_new globals [] (param_names f.params)) f.line ++ slot_faults fs globals (param_names f.params) f.body
@@ -74,10 +81,12 @@ abbrev pub below_line : ℕ → ℕ → Stmt → List ℕ
 below_line i line (Call kind site target f index es) = unless (nat_lt index i) line
 below_line i line _ = []
 
+-- the same of a block
 abbrev pub below_lines : ℕ → Block → List ℕ
 below_lines i End = []
 below_lines i (Then line s b) = below_line i line s ++ below_lines i b
 
+-- the same of functions in order, the first of which has this index
 abbrev pub below : ℕ → List Function → List ℕ
 below i [] = []
 below i (f ∷ fs) = below_lines i f.body ++ below (i + 1) fs

@@ -1,7 +1,6 @@
 //! The functions of a source, each name looked up and each rule tested.
 
 ghost use Rattle.std.specs.Prelude.{◌≡◌, ◌<◌, ◌+◌, ◌^◌, ◌++◌, [], length, All, map, flat_map, IfOk, OnOk};
-ghost use Rattle.cw_model.specs.FirstGrammar.{is_first};
 ghost use Rattle.cw_parse.specs.View as parsed;
 ghost use Rattle.cw_types.specs.Declares.{is_declare, one_if, declares_in};
 ghost use Rattle.cw_model.specs.Lines.{lowest};

@@ -14,13 +14,13 @@ use cw_parse::tree::{Ast, Function, Line, Param, Stmt};
 use cw_text::LeastLine;
 
 /// The most functions of a program.
-pub const MOST_FUNCTIONS: usize = 1_024;
+const MOST_FUNCTIONS: usize = 1_024;
 
 /// The most parameters of a function.
-pub const MOST_PARAMETERS: usize = 16;
+const MOST_PARAMETERS: usize = 16;
 
 /// The most names that a function declares, its parameters included.
-pub const MOST_DECLARED: usize = 256;
+const MOST_DECLARED: usize = 256;
 
 /// The least line that passes a limit.
 pub fn limits(ast: &Ast) -> LeastLine
@@ -62,6 +62,7 @@ fn function_limits(function: &Function, least: &mut LeastLine)
 
 // What room is left after the parameters.
 fn params_beyond(room: usize, line: u32, params: &[Param], least: &mut LeastLine) -> usize
+    // The lines to come give the least line past the room left that they give past `room` with the parameters' first.
     ensures { (lines : List ℕ) → lowest least.new.line (drop result lines) ≡ lowest least.old.line (drop room (map (λ _. line) params.now ++ lines)) }
 {
     let mut left = room;
@@ -92,6 +93,7 @@ fn declares(stmt: &Stmt) -> bool
 
 // One line more, which breaks the limit where there is no room left for it; what room is left then.
 fn beyond(room: usize, line: u32, least: &mut LeastLine) -> usize
+    // The lines to come give the least line past the room left that they give past `room` with this one first.
     ensures { (lines : List ℕ) → lowest least.new.line (drop result lines) ≡ lowest least.old.line (drop room (line ∷ lines)) }
 {
     if room == 0 {

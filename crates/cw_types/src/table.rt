@@ -8,7 +8,7 @@ use std::alloc::{AllocError, Global};
 use std::collections::HashMap;
 use std::marker::Model;
 
-/// Names in order, each found by its bytes: fewer than 2^32 - 1 of them.
+/// Names in order, each found by its bytes: fewer than 2^32 of them.
 #[derive(Drop)]
 pub struct Table<'a> {
     names: Vec<&'a [u8]>,
