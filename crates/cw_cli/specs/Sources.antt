@@ -5,9 +5,9 @@ use Rattle.cw_model.specs.Lines.{IsLeastLine}
 use Rattle.cw_model.specs.Text.{IsSourceText, IsTooLong, IsNotAscii}
 use Rattle.cw_model.specs.Tokens.{IsTokenCut, HasLexicalFault, HasNameFault}
 use Rattle.cw_model.specs.Syntax.{Program}
-use Rattle.cw_model.specs.Ownership.{ownership_faults}
+use Rattle.cw_model.specs.Ownership.{KeepsOwnership, ownership_faults}
 use Rattle.cw_model.specs.Sizes.{token_faults, limit_faults, program_faults}
-use Rattle.cw_parse.specs.Parsed.{IsParsed, IsNoSource}
+use Rattle.cw_parse.specs.Parsed.{IsParsed, IsUnderivable}
 use Rattle.cw_types.specs.Faults.{typing_lines}
 use Rattle.cw_text.specs.declared.fault.Fault.{Fault}
 use Rattle.cw_text.specs.declared.fault.Fault.TheVariants as fault
@@ -28,7 +28,7 @@ pub record Compiles (bytes : List ℕ) (program : Program) : Type 0 where
   pub source : IsSourceOf bytes program
   pub within : limit_faults program ≡ []
   pub typed : typing_lines program ≡ []
-  pub owned : ownership_faults program ≡ []
+  pub owned : KeepsOwnership program
   pub small : program_faults program ≡ []
 
 -- the bytes are no source text, or their first fault is a byte that starts nothing or a number that is too great
@@ -40,10 +40,10 @@ pub data IsLexicallyRefused (bytes : List ℕ) (line : ℕ) : Type 0 where
 pub record IsSyntacticallyRefused (bytes : List ℕ) (line : ℕ) : Type 0 where
   pub tokens : List Token
   pub has_tokens : HasTokens bytes tokens
-  pub syntax : IsNoSource bytes tokens line
+  pub syntax : IsUnderivable bytes tokens line
 
 -- no limit is passed, and this is the least line that breaks a rule of names and types
-pub record IsIllTyped (bytes : List ℕ) (line : ℕ) : Type 0 where
+pub record IsTypeRefused (bytes : List ℕ) (line : ℕ) : Type 0 where
   pub program : Program
   pub source : IsSourceOf bytes program
   pub within : limit_faults program ≡ []
@@ -63,14 +63,14 @@ pub data PassesLimit (bytes : List ℕ) (line : ℕ) : Type 0 where
   name : IsSourceText bytes → HasNameFault bytes line → PassesLimit bytes line
   tokens : (ts : List Token) → HasTokens bytes ts → IsLeastLine (token_faults 0 0 ts) line → PassesLimit bytes line
   parts : (program : Program) → IsSourceOf bytes program → IsLeastLine (limit_faults program) line → PassesLimit bytes line
-  code : (program : Program) → IsSourceOf bytes program → limit_faults program ≡ [] → typing_lines program ≡ [] → ownership_faults program ≡ [] →
+  code : (program : Program) → IsSourceOf bytes program → limit_faults program ≡ [] → typing_lines program ≡ [] → KeepsOwnership program →
       IsLeastLine (program_faults program) line → PassesLimit bytes line
 
 -- what must hold of the bytes where this fault is answered for them: the first stage that refuses them, and its line
 abbrev pub IsRefused : List ℕ → Fault → Type 0
 IsRefused bytes (fault.Lexical p) = IsLexicallyRefused bytes p.line
 IsRefused bytes (fault.Syntax p) = IsSyntacticallyRefused bytes p.line
-IsRefused bytes (fault.Types p) = IsIllTyped bytes p.line
+IsRefused bytes (fault.Types p) = IsTypeRefused bytes p.line
 IsRefused bytes (fault.Ownership p) = IsDisowned bytes p.line
 IsRefused bytes (fault.Size p) = PassesLimit bytes p.line
 IsRefused bytes fault.Memory = Unit {0}

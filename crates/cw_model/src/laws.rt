@@ -1,7 +1,7 @@
 //! The laws of the definitions: each function has one as its contract, and does nothing.
 
 ghost use Rattle.std.specs.Prelude.{◌+◌, ◌<◌, ◌≡◌, length, List, suc, sum_by, true, ℕ, ℤ};
-ghost use Rattle.cw_model.specs.Dag.{IsBurdenedSpan};
+ghost use Rattle.cw_model.specs.Dag.{IsBurdenedSpan, IsSpan};
 ghost use Rattle.cw_model.specs.declared.trap.Trap.{Trap};
 ghost use Rattle.cw_model.specs.Frames.{Frame};
 ghost use Rattle.cw_model.specs.LoopLaws.{IsBody, RunsAsPlain, TrapsAsPlain, for_body, for_piece, for_turn};
@@ -12,12 +12,13 @@ ghost use Rattle.cw_model.specs.Ownership.{IsLeastClosed, Taken, taken_after};
 ghost use Rattle.cw_model.specs.Rows.{sites_below};
 ghost use Rattle.cw_model.specs.Syntax.{Block, Expr, For, Function, Name, While};
 ghost use Rattle.cw_model.specs.TreeLaws.{ReadSame, Regrouped, SitesAddUp};
-ghost use Rattle.cw_model.specs.Trees.{Tree, burdened_span, normal, tree_of, work};
+ghost use Rattle.cw_model.specs.Trees.{Tree, burdened_span, normal, span, tree_of, work};
 ghost use Rattle.cw_model.specs.WhileLaw.{one_turn};
 
-/// The burdened span of a tree is the weight of a heaviest path, also at burden 0, where it is the span.
+/// The burdened span of a tree is the weight of a heaviest path, at every burden, and so is its span without a burden.
 pub fn span_is_heaviest()
-    ensures { (burden : ℕ) (t : Tree) → IsBurdenedSpan burden t (burdened_span burden t) }
+    ensures burdened { (burden : ℕ) (t : Tree) → IsBurdenedSpan burden t (burdened_span burden t) }
+    ensures plain { (t : Tree) → IsSpan t (span t) }
 {}
 
 /// Work, burdened spans, site rows and region rows of a tree are those of its normal form.

@@ -1,7 +1,6 @@
 //! Trees that keep ownership.
 
-ghost use Rattle.std.specs.Prelude.{◌≡◌, []};
-ghost use Rattle.cw_model.specs.Ownership.{ownership_faults};
+ghost use Rattle.cw_model.specs.Ownership.{KeepsOwnership};
 ghost use Rattle.cw_types.specs.View.{program_of};
 
 use cw_types::typed::Typed;
@@ -10,5 +9,5 @@ use cw_types::typed::Typed;
 #[derive(Drop, Debug)]
 pub struct Owned {
     pub typed: Typed,
-    pub ghost owned: { ownership_faults (program_of typed.tree) ≡ [] },
+    pub ghost owned: { KeepsOwnership (program_of typed.tree) },
 }

@@ -18,7 +18,7 @@ pub record IsParsed (text : List ℕ) (ts : List Token) (program : Program) : Ty
   pub derived : DerivesFirst text ts program
 
 -- no token passes a limit, and the tokens are no source of the first grammar
-pub record IsNoSource (text : List ℕ) (ts : List Token) (line : ℕ) : Type 0 where
+pub record IsUnderivable (text : List ℕ) (ts : List Token) (line : ℕ) : Type 0 where
   pub short : IsShort ts
   pub fault : HasFirstFault text ts line
 
@@ -26,6 +26,6 @@ pub record IsNoSource (text : List ℕ) (ts : List Token) (line : ℕ) : Type 0 
 -- and only where none does, the first token that cannot go on
 abbrev pub IsUnparsed : List ℕ → List Token → Fault → Type 0
 IsUnparsed text ts (fault.Size p) = IsLeastLine (token_faults 0 0 ts) p.line
-IsUnparsed text ts (fault.Syntax p) = IsNoSource text ts p.line
+IsUnparsed text ts (fault.Syntax p) = IsUnderivable text ts p.line
 IsUnparsed text ts fault.Memory = Unit {0}
 IsUnparsed text ts _ = ⊥
