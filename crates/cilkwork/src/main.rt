@@ -2,7 +2,7 @@
 #![tactic(auto)]
 
 use cw_cli::{Request, refuse, request, say, tool, unread};
-use cw_report::sink::Counted;
+use cw_report::Counted;
 use cw_text::Fault;
 use std::alloc::Global;
 use std::fs::File;

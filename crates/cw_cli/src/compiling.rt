@@ -5,13 +5,13 @@ ghost use Rattle.cw_code.specs.Code.{code_view};
 ghost use Rattle.cw_cli.specs.Compiled.{IsCompiled};
 ghost use Rattle.cw_cli.specs.Sources.{IsRefused};
 
-use cw_gen::generate::generate;
+use cw_gen::generate;
 use cw_lex::lex;
 use cw_machine::verified::Verified;
-use cw_own::own::own;
+use cw_own::own;
 use cw_parse::parse;
 use cw_text::{Fault, Source};
-use cw_types::check::check;
+use cw_types::check;
 use std::alloc::Global;
 
 /// The code of the program that these bytes are the source of: on all arguments and within all

@@ -6,8 +6,7 @@ ghost use Rattle.cw_cli.specs.Tools.{IsRefusal, IsSaidAnswer, IsToolAnswer, IsUn
 
 use crate::analysis::analyse_alone;
 use crate::asked::{Request, Said};
-use cw_report::sink::Sink;
-use cw_report::writing::{write_fault, write_text};
+use cw_report::{Sink, write_fault, write_text};
 use cw_text::Fault;
 use std::alloc::Global;
 use std::io;

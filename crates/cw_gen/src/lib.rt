@@ -2,6 +2,8 @@
 #![tactic(auto)]
 
 mod emit;
-pub mod generate;
+mod generating;
 #[cfg(test)]
 mod tests;
+
+pub use generating::generate;

@@ -1,13 +1,13 @@
 //! The code of a whole source, by hand.
 
-use crate::generate::generate;
+use crate::generating::generate;
 use cw_code::code::{Callee, Code, Func, Instr};
 use cw_lex::lex;
 use cw_model::syntax::CallKind;
-use cw_own::own::own;
+use cw_own::own;
 use cw_parse::parse;
 use cw_text::{Fault, Source};
-use cw_types::check::check;
+use cw_types::check;
 use std::alloc::Global;
 use std::test::Fail;
 

@@ -8,7 +8,6 @@ mod lexer;
 mod numbers;
 mod tables;
 
-pub use cw_model::token::{Kind, Token};
 pub use lexer::lex;
 
 #[cfg(test)]

@@ -6,7 +6,7 @@ ghost use Rattle.cw_machine.specs.Runs as runs;
 
 use crate::machine::{Machine, Moved};
 use crate::verified::Verified;
-use cw_text::fault::Fault;
+use cw_text::Fault;
 use std::alloc::Global;
 use std::sync::Arc;
 

@@ -2,7 +2,7 @@
 #![tactic(auto)]
 
 pub mod alone;
-pub mod machine;
+mod machine;
 pub mod program;
 #[cfg(test)]
 mod tests;

@@ -6,9 +6,9 @@ ghost use Rattle.cw_machine.specs.Whole.{Answers, WhyNot};
 
 use crate::alone::{Ended, run_alone};
 use crate::verified::Verified;
-use cw_gen::generate::generate;
-use cw_own::owned::Owned;
-use cw_text::fault::Fault;
+use cw_gen::generate;
+use cw_own::Owned;
+use cw_text::Fault;
 use std::alloc::Global;
 use std::sync::Arc;
 

@@ -1,9 +1,12 @@
 //! Ownership: which sources touch what a spawn has taken.
 #![tactic(auto)]
 
-pub mod own;
-pub mod owned;
+mod owned;
+mod owning;
 mod rules;
 mod taken;
 #[cfg(test)]
 mod tests;
+
+pub use owned::Owned;
+pub use owning::own;

@@ -3,7 +3,7 @@
 ghost use Rattle.cw_model.specs.Ownership.{KeepsOwnership};
 ghost use Rattle.cw_types.specs.View.{program_of};
 
-use cw_types::typed::Typed;
+use cw_types::Typed;
 
 /// A tree that keeps every rule of names, types and ownership.
 #[derive(Drop, Debug)]

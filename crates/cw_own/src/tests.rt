@@ -1,11 +1,11 @@
 //! The rules of names, types and ownership on whole sources, with the lines by hand.
 
-use crate::own::own;
 use crate::owned::Owned;
+use crate::owning::own;
 use cw_lex::lex;
 use cw_parse::parse;
 use cw_text::{Fault, Place, Source};
-use cw_types::check::check;
+use cw_types::check;
 use std::alloc::Global;
 use std::test::Fail;
 

@@ -1,9 +1,13 @@
 //! The texts of reports, and the sinks that they are written to.
 #![tactic(auto)]
 
-pub mod answer;
-pub mod sink;
+mod answering;
+mod sink;
 #[cfg(test)]
 mod tests;
-pub mod text;
-pub mod writing;
+mod text;
+mod writing;
+
+pub use answering::answer;
+pub use sink::{Counted, Sink};
+pub use writing::{write_fault, write_text};

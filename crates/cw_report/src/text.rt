@@ -4,7 +4,7 @@ ghost use Rattle.std.specs.Prelude.{◌≡◌, ◌++◌, IfErr, IfOk, OnOk, flat
 ghost use Rattle.cw_model.specs.Report.{value_line};
 ghost use Rattle.cw_report.specs.Texts.{ended_text};
 
-use cw_text::fault::Fault;
+use cw_text::Fault;
 use itoa::Buffer;
 use std::alloc::Global;
 

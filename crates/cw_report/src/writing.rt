@@ -5,7 +5,7 @@ ghost use Rattle.cw_text.specs.Faults.{fault_text};
 ghost use Rattle.cw_report.specs.Sinks.{Writes};
 
 use crate::sink::Sink;
-use cw_text::fault::Fault;
+use cw_text::Fault;
 use itoa::Buffer;
 
 /// Writes the whole text; a failed write is not tried again.

@@ -2,7 +2,7 @@
 
 use crate::words::words_of;
 use cw_cli::{request, say, tool};
-use cw_report::sink::Counted;
+use cw_report::Counted;
 use std::alloc::Global;
 use std::test::Fail;
 

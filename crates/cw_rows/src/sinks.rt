@@ -4,7 +4,7 @@ ghost use Rattle.std.specs.Prelude.{Some};
 
 use crate::words::words_of;
 use cw_cli::{request, tool};
-use cw_report::sink::{Counted, Sink};
+use cw_report::{Counted, Sink};
 use std::io;
 use std::io::{Read, Write};
 use std::test::Fail;

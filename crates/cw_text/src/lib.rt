@@ -2,10 +2,9 @@
 #![tactic(auto)]
 
 pub mod fault;
-pub mod least;
+mod least;
 pub mod source;
 
-pub use cw_model::trap::Trap;
 pub use fault::{Fault, Place};
 pub use least::LeastLine;
 pub use source::Source;

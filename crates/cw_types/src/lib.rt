@@ -1,7 +1,7 @@
 //! Names and types: which sources break a rule, and the tree with each name looked up.
 #![tactic(auto)]
 
-pub mod check;
+mod checking;
 mod functions;
 mod limits;
 mod resolve;
@@ -10,4 +10,7 @@ mod table;
 #[cfg(test)]
 mod tests;
 pub mod tree;
-pub mod typed;
+mod typed;
+
+pub use checking::check;
+pub use typed::Typed;

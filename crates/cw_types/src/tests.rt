@@ -1,6 +1,6 @@
 //! The rules of names and types on whole sources, with the lines by hand, and the limits at and one past each.
 
-use crate::check::check;
+use crate::checking::check;
 use crate::typed::Typed;
 use cw_lex::lex;
 use cw_parse::parse;

@@ -5,7 +5,7 @@ use Rattle.cw_types.specs.View.{program_of, resolved_of, function_of}
 use Rattle.cw_model.proofs.Lowest.{no_lines, least_line}
 use Rattle.cw_own.specs.Slots.{taken_lines_of}
 use Rattle.cw_own.proofs.Ownership.{ownership_by_slot}
-use Rattle.cw_own.proofs.own.own.Goals as goal
+use Rattle.cw_own.proofs.owning.own.Goals as goal
 
 pub invariant_of-result : goal.invariant_of-result
 invariant_of-result c =

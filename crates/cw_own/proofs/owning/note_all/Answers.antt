@@ -9,7 +9,7 @@ use Rattle.cw_model.proofs.Lowest.{lowest-append}
 use Rattle.cw_types.proofs.Bounds.{fitting_below}
 use Rattle.cw_own.specs.Sets.{no_slot}
 use Rattle.cw_own.specs.Slots.{taken_lines_of, taken_lines}
-use Rattle.cw_own.proofs.own.note_all.Goals as goal
+use Rattle.cw_own.proofs.owning.note_all.Goals as goal
 
 pub note_taken-requires : goal.note_taken-requires
 note_taken-requires c =

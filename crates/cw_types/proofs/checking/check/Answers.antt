@@ -12,7 +12,7 @@ use Rattle.cw_model.proofs.Lowest.{no_lines, least_line}
 use Rattle.cw_types.proofs.Typing.{lines_by_slot}
 use Rattle.cw_types.proofs.Kept.{same_program, right_program}
 use Rattle.cw_types.proofs.Checked.{not_some, well_typed, no_type_fault, no_call_below, slots_fit}
-use Rattle.cw_types.proofs.check.check.Goals as goal
+use Rattle.cw_types.proofs.checking.check.Goals as goal
 
 pub returns-in-Some : goal.returns-in-Some
 returns-in-Some c = least_line (limit_faults (program_of c.args.ast)) c.in-Some.line (sym c.limits.ensures ∙ c.in-Some.is)

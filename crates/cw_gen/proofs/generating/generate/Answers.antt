@@ -1,6 +1,6 @@
 use Rattle.std.proofs.Common.{sym, ◌∙◌}
 use Rattle.cw_gen.proofs.Small.{too_large, generated}
-use Rattle.cw_gen.proofs.generate.generate.Goals as goal
+use Rattle.cw_gen.proofs.generating.generate.Goals as goal
 
 pub returns-then-not-is_small : goal.returns-then-not-is_small
 returns-then-not-is_small c =

@@ -9,10 +9,9 @@ ghost use Rattle.cw_own.specs.Slots.{taken_lines_of};
 
 use crate::owned::Owned;
 use crate::rules::note_taken;
-use cw_text::fault::{Fault, Place};
-use cw_text::LeastLine;
+use cw_text::{Fault, LeastLine, Place};
+use cw_types::Typed;
 use cw_types::tree::Function;
-use cw_types::typed::Typed;
 
 /// The same tree, which keeps ownership.
 ///

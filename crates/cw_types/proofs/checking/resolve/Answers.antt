@@ -11,7 +11,7 @@ use Rattle.cw_types.specs.Slots.{slot_faults_of, repeated_after, below}
 use Rattle.cw_types.specs.View.{function_of}
 use Rattle.cw_types.proofs.Checked.{tree_made, lines_made}
 use Rattle.cw_types.proofs.Small.{few_functions, small_functions}
-use Rattle.cw_types.proofs.check.resolve.Goals as goal
+use Rattle.cw_types.proofs.checking.resolve.Goals as goal
 
 few : (fs : List Function) (n : ℕ) → length (map parsed.function_of fs) ≤ 1024 → length fs < 2 ^ 32
 few fs n h = let same = length-map fs parsed.function_of in omega (arith, same)

@@ -3,7 +3,7 @@ use Rattle.cw_types.specs.Bounds.{are_fitting}
 use Rattle.cw_model.specs.Lines.{lowest}
 use Rattle.cw_types.specs.View.{function_of}
 use Rattle.cw_own.specs.Slots.{taken_lines_of}
-use Rattle.cw_own.proofs.own.note_all.Given as goal
+use Rattle.cw_own.proofs.owning.note_all.Given as goal
 
 abbrev pub invariant-loop-function : goal.invariant-loop-function
 invariant-loop-function l = record {

@@ -8,8 +8,8 @@ ghost use Rattle.cw_types.specs.View.{program_of};
 
 use crate::emit::emit;
 use cw_code::code::Code;
-use cw_own::owned::Owned;
-use cw_text::fault::{Fault, Place};
+use cw_own::Owned;
+use cw_text::{Fault, Place};
 use std::alloc::Global;
 
 /// The greatest static size of a program, in instructions.

@@ -15,8 +15,7 @@ use crate::limits::limits;
 use crate::tree::Tree;
 use crate::typed::Typed;
 use cw_parse::tree::Ast;
-use cw_text::LeastLine;
-use cw_text::fault::{Fault, Place};
+use cw_text::{Fault, LeastLine, Place};
 use std::alloc::{AllocError, Global};
 
 /// The tree with each name looked up.
