@@ -18,6 +18,8 @@ use std::sync::Arc;
 /// elision costs more than the limit, `Trap` where it traps, after what it printed before was
 /// written. `Write` where a write of the report failed, and `Memory` where memory ran out: no byte
 /// was written then. Nothing is written at any other error but `Trap` and `Write`.
+///
+/// Fewer than 2^64 - 1 writes to the sink failed before.
 pub fn analyse_alone<W: Sink>(
     alloc: Global,
     bytes: &[u8],

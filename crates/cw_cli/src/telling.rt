@@ -17,8 +17,10 @@ const MOST_READ: u64 = 1_048_577;
 
 /// Reads the source, analyses it as asked, and writes the report to `out`; gives the exit status.
 ///
-/// A fault's line is written to `err`, and `file` where the source cannot be read; whether that
-/// write fails changes nothing.
+/// The status is 0 where the report was written, else that of the fault, whose line is written to
+/// `err`; of a source that cannot be read `unread` tells. No more than one byte past the greatest
+/// size of a source is read. Whether the write to `err` fails changes nothing. Fewer than 2^64 - 1
+/// writes to each sink failed before.
 pub fn tool<D: Read + Drop, W: Sink, E: Sink>(
     alloc: Global,
     asked: &Request,
@@ -58,8 +60,9 @@ pub fn unread<E: Sink>(error: &io::Error, err: &mut E) -> u8
 /// Writes what stands in place of a run: the help to `out`, and anything else to `err`; gives the
 /// exit status.
 ///
-/// Where the help cannot be written, the fault's line goes to `err`. Whether a write to `err` fails
-/// changes nothing.
+/// The status is 0 for the help, 5 for what is wrong with the words, else that of the fault. Where
+/// the help cannot be written, the fault's line goes to `err`, with status 7. Whether a write to
+/// `err` fails changes nothing.
 pub fn say<W: Sink, E: Sink>(said: &Said, out: &mut W, err: &mut E) -> u8
     requires out { W.failed out.old < 2 ^ 64 - 1 }
     requires err { E.failed err.old < 2 ^ 64 - 1 }

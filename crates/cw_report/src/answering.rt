@@ -16,6 +16,9 @@ use std::alloc::Global;
 ///
 /// The fault of a run is not answered here. `Memory` where there is none for the text: nothing
 /// was written then. `Write` where a write failed: the sink took a beginning of the text.
+///
+/// The code has the call sites, for the reports that will tell of them. Fewer than 2^64 - 1 writes
+/// to the sink failed before.
 pub fn answer<W: Sink>(
     alloc: Global,
     _code: &Verified,

@@ -17,7 +17,8 @@ pub trait Sink: Write {
     fn failures(&self) -> u64
         ensures { result ≡ failed self.now };
 
-    /// One write: the number of bytes that were taken, from the front of `bytes`.
+    /// One write: the number of bytes that were taken, from the front of `bytes`. It asks that fewer
+    /// than 2^64 - 1 writes failed before.
     fn put(&mut self, bytes: &[u8]) -> io::Result<usize>
         requires { failed self.old < 2 ^ 64 - 1 }
         ensures bound { WritesAtMost result bytes.now }

@@ -11,7 +11,8 @@ use itoa::Buffer;
 /// Writes the whole text; a failed write is not tried again.
 ///
 /// Answers `Write` where a write fails or takes no byte: the sink took a beginning of the text
-/// then, and counts one more failed write. With no text the sink is left alone.
+/// then, and counts one more failed write. With no text the sink is left alone. Fewer than 2^64 - 1
+/// writes to the sink failed before.
 pub fn write_text<W: Sink>(to: &mut W, text: &[u8]) -> Result<(), Fault>
     requires { W.failed to.old < 2 ^ 64 - 1 }
     ensures idle { text.now ≡ [] → to.new ≡ to.old }
@@ -29,7 +30,7 @@ pub fn write_text<W: Sink>(to: &mut W, text: &[u8]) -> Result<(), Fault>
     Ok(())
 }
 
-/// Writes the line of a fault, as `write_text` writes. No memory is taken.
+/// Writes the line of a fault, as `write_text` writes, and with its errors. No memory is taken.
 pub fn write_fault<W: Sink>(to: &mut W, fault: &Fault) -> Result<(), Fault>
     requires { W.failed to.old < 2 ^ 64 - 1 }
     ensures { Writes (W.contents to.old) (W.contents to.new) (W.failed to.old) (W.failed to.new)

@@ -1,6 +1,6 @@
 //! Refusals at every stage, each with its line.
 
-use crate::rows::answer;
+use crate::program::answer;
 use std::alloc::{AllocError, Global};
 use std::test::Fail;
 

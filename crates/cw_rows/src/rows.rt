@@ -1,32 +1,17 @@
 //! Runs of small programs, from the words to the exit status.
 
-use crate::words::words_of;
-use cw_cli::{request, say, tool};
-use cw_report::Counted;
-use std::alloc::Global;
+use crate::program::answer;
 use std::test::Fail;
 
-/// The words, the source, and what they lead to: the exit status, standard output and standard
-/// error.
+// The words, the source, and what they lead to: the exit status, standard output and standard
+// error.
 #[derive(Clone, Copy)]
-pub struct Row<'a> {
-    pub words: &'a str,
-    pub source: &'a [u8],
-    pub status: u8,
-    pub out: &'a str,
-    pub err: &'a str,
-}
-
-/// The exit status, standard output and standard error.
-pub fn answer(alloc: Global, words: &str, source: &[u8]) -> Result<(u8, Vec<u8>, Vec<u8>), Fail> {
-    let words = words_of(alloc, words)?;
-    let mut out = Counted::new(Vec::new(alloc));
-    let mut err = Counted::new(Vec::new(alloc));
-    let status = match request(alloc, words.as_slice()) {
-        Ok(asked) => tool(alloc, &asked, source, &mut out, &mut err),
-        Err(said) => say(&said, &mut out, &mut err),
-    };
-    Ok((status, out.into_inner(), err.into_inner()))
+struct Row<'a> {
+    words: &'a str,
+    source: &'a [u8],
+    status: u8,
+    out: &'a str,
+    err: &'a str,
 }
 
 const SPAWN: &[u8] =
@@ -43,6 +28,65 @@ const CHAIN: &[u8] = b"int a(int v) { return v; }
 int b(int v) { int x = 0; x = a(v); return x; }
 int c(int v, int w) { int x = 0; int y = 0; x = cilk_spawn b(w); y = b(v); cilk_sync; return x; }
 int main(int n) { int r = 7; r = c(n, 5); return r; }
+";
+
+// the two programs of examples/, and the first one with a use of a taken name in line 13
+const SPAWNED: &[u8] = b"// A spawned call may run beside what follows it, up to the sync.
+// cilkwork run spawned.cilk
+
+int same(int v) {
+  return v;
+}
+
+int main() {
+  int x = 0;
+  int y = 0;
+  x = cilk_spawn same(41);
+  y = same(1);
+  cilk_sync;
+  return x;
+}
+";
+
+const LATER: &[u8] = b"// main takes two arguments; two calls are spawned before one sync.
+// cilkwork run later.cilk 3 4
+
+int first(int a, int b) {
+  return a;
+}
+
+int second(int a, int b) {
+  return b;
+}
+
+int main(int a, int b) {
+  int x = 0;
+  int y = 0;
+  x = cilk_spawn second(a, b);
+  y = cilk_spawn first(a, b);
+  cilk_sync;
+  int z = 0;
+  z = second(y, x);
+  return z;
+}
+";
+
+const TAKEN: &[u8] = b"// A spawned call may run beside what follows it, up to the sync.
+// cilkwork run spawned.cilk
+
+int same(int v) {
+  return v;
+}
+
+int main() {
+  int x = 0;
+  int y = 0;
+  x = cilk_spawn same(41);
+  y = same(1);
+  int z = x;
+  cilk_sync;
+  return x;
+}
 ";
 
 fn when<'a>(words: &'a str, source: &'a [u8], status: u8, out: &'a str, err: &'a str) -> Row<'a> {
@@ -78,6 +122,29 @@ fn runs(rt: HostRuntime) -> Result<(), Fail> {
         // a pays 2, b 6 and what a pays, c 11 and twice what b pays, main 7 and what c pays
         when("run f 3 --limit 34", CHAIN, 0, "return 5\n", ""),
         when("run f 3 --limit 33", CHAIN, 4, "", "over limit\n"),
+    ] {
+        let (status, out, err) = answer(rt.alloc(), row.words, row.source)?;
+        assert_eq!(rt; status, row.status, "{}", row.words);
+        assert_eq!(rt; out.as_slice(), row.out.as_bytes(), "{}", row.words);
+        assert_eq!(rt; err.as_slice(), row.err.as_bytes(), "{}", row.words);
+    }
+    Ok(())
+}
+
+#[test]
+fn runs_the_examples(rt: HostRuntime) -> Result<(), Fail> {
+    for row in [
+        when("run spawned.cilk", SPAWNED, 0, "return 41\n", ""),
+        when("run spawned.cilk --limit 15", SPAWNED, 0, "return 41\n", ""),
+        when(
+            "run spawned.cilk --limit 14",
+            SPAWNED,
+            4,
+            "",
+            "over limit\n",
+        ),
+        when("run spawned.cilk", TAKEN, 2, "", "refused 4 line 13\n"),
+        when("run later.cilk 3 4", LATER, 0, "return 4\n", ""),
     ] {
         let (status, out, err) = answer(rt.alloc(), row.words, row.source)?;
         assert_eq!(rt; status, row.status, "{}", row.words);

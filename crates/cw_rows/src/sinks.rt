@@ -2,7 +2,7 @@
 
 ghost use Rattle.std.specs.Prelude.{Some};
 
-use crate::words::words_of;
+use crate::program::words_of;
 use cw_cli::{request, tool};
 use cw_report::{Counted, Sink};
 use std::io;

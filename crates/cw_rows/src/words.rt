@@ -1,17 +1,8 @@
 //! The words of the program.
 
-use crate::rows::answer;
+use crate::program::{answer, words_of};
 use cw_cli::{Mode, Options, request};
-use std::alloc::{AllocError, Global};
 use std::test::Fail;
-
-pub fn words_of(alloc: Global, line: &str) -> Result<Vec<String>, AllocError> {
-    let mut words = Vec::new(alloc);
-    for word in line.split_whitespace() {
-        words.push(word.to_string(alloc)?)?;
-    }
-    Ok(words)
-}
 
 #[test]
 fn reads_requests(rt: HostRuntime) -> Result<(), Fail> {

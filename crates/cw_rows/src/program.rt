@@ -1,0 +1,28 @@
+//! The program as a whole, over memory.
+
+use cw_cli::{request, say, tool};
+use cw_report::Counted;
+use std::alloc::{AllocError, Global};
+use std::test::Fail;
+
+/// The words of a line.
+pub fn words_of(alloc: Global, line: &str) -> Result<Vec<String>, AllocError> {
+    let mut words = Vec::new(alloc);
+    for word in line.split_whitespace() {
+        words.push(word.to_string(alloc)?)?;
+    }
+    Ok(words)
+}
+
+/// The exit status, standard output and standard error of the program on these words, where the file
+/// that they name is this source.
+pub fn answer(alloc: Global, words: &str, source: &[u8]) -> Result<(u8, Vec<u8>, Vec<u8>), Fail> {
+    let words = words_of(alloc, words)?;
+    let mut out = Counted::new(Vec::new(alloc));
+    let mut err = Counted::new(Vec::new(alloc));
+    let status = match request(alloc, words.as_slice()) {
+        Ok(asked) => tool(alloc, &asked, source, &mut out, &mut err),
+        Err(said) => say(&said, &mut out, &mut err),
+    };
+    Ok((status, out.into_inner(), err.into_inner()))
+}
