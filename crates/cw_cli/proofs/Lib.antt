@@ -1,5 +1,10 @@
+mod Commands
 mod Digits
 mod Texts
+mod Filled
+mod Reading
+mod Taken
+mod Told
 mod Refusals
 mod Stages
 mod Runs

@@ -1,7 +1,9 @@
 pub mod Numbers
+pub mod Command
 pub mod Requests
 pub mod Sources
 pub mod Compiled
 pub mod Analyses
 pub mod Tools
 pub mod Laws
+pub mod WordLaws

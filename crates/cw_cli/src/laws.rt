@@ -1,6 +1,14 @@
-//! What holds of all bytes.
+//! What holds of all bytes, and of all words.
 
-ghost use Rattle.cw_cli.specs.Laws.{HaveOneProgram, CompiledAreNotRefused, HaveOneRefusal};
+ghost use Rattle.cw_cli.specs.Laws.{CompiledAreNotRefused, HaveOneProgram, HaveOneRefusal};
+ghost use Rattle.cw_cli.specs.WordLaws.{
+  LimitIsRead,
+  PlainWordsAreRead,
+  RefusalExamples,
+  TakenWordsAreRead,
+  WordExamples,
+  WordsAreReadOnce,
+};
 
 /// Bytes are a source of at most one program. So a report is that of the program that the bytes
 /// mean.
@@ -24,3 +32,22 @@ pub fn one_answer()
     cw_parse::laws::one_tree();
     cw_parse::laws::no_tree_beside_a_fault();
 }
+
+/// Words after `run` that start with no hyphen are the source and the arguments, and `--limit` with
+/// a word before them is the limit.
+pub fn plain_words()
+    ensures usual { PlainWordsAreRead }
+    ensures limited { LimitIsRead }
+{}
+
+/// Words that are taken are read as a source, arguments and a limit, and in one way.
+pub fn read_words()
+    ensures taken { TakenWordsAreRead }
+    ensures once { WordsAreReadOnce }
+{}
+
+/// Words written out, and what they are read as or refused for.
+pub fn written_words()
+    ensures read { WordExamples }
+    ensures refused { RefusalExamples }
+{}

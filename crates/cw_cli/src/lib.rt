@@ -3,6 +3,7 @@
 
 mod analysis;
 mod asked;
+mod command;
 mod compiling;
 pub mod laws;
 mod number;

@@ -1,100 +1,66 @@
 //! The program's words, read by the rules of its command line.
 
-ghost use Rattle.std.specs.Prelude.{◌≡◌, ◌∷◌, [], ◌++◌, All, IfErr, IfOk, OnOk, map, pos};
-ghost use Rattle.clap.specs.Matches.{found_of};
+ghost use Rattle.std.specs.Prelude.{◌≡◌, ◌∷◌, [], ◌++◌, All, IfErr, IfOk, OnOk, map, pos, string_bytes};
+ghost use Rattle.clap.specs.Words.{FailsBy, kind_of, rows_of, found_of, subcommand_of, subcommand_rows_of};
 ghost use Rattle.cw_model.specs.Pieces.{value_of};
-ghost use Rattle.cw_cli.specs.Requests.{AreInRange, IsArgument, IsAskedBy, IsSaid, IsWordFault};
+ghost use Rattle.cw_cli.specs.Command.{command_line};
+ghost use Rattle.cw_cli.specs.Requests.{
+  AreInRange,
+  AreProper,
+  Asks,
+  IsArgument,
+  IsAskedBy,
+  IsFaultUnless,
+  IsSaidAt,
+  IsSaidOf,
+  faults,
+};
 
 use crate::asked::{Mode, Options, Request, Said, USUAL_BURDEN};
+use crate::command::{USUAL_LIMIT_WORD, command};
 use crate::number::read_number;
 use clap::error::ErrorKind;
-use clap::{Arg, ArgAction, ArgMatches, Command, Error};
+use clap::{ArgMatches, Error};
+use cw_machine::alone::MOST_LIMIT;
 use cw_text::Fault;
-use std::alloc::{AllocError, Global};
+use std::alloc::Global;
 
 /// The greatest argument of `main`.
 const MOST_ARGUMENT: u64 = 9_223_372_036_854_775_807;
-
-/// The greatest limit of a run.
-const MOST_LIMIT: u64 = 4_611_686_018_427_387_904;
-
-/// The usual limit as a word.
-const USUAL_LIMIT: &str = "1000000000";
-
-/// What stands below the options in each help text.
-const ANSWERS: &str = "\
-Exit status and standard error (L is a line of the source):
-  0                         the report is on standard output
-  2  refused 1 line L       a byte that starts no token, or a number that is too great
-  2  refused 2 line L       no program goes on like this
-  2  refused 3 line L       a rule of names and types is broken
-  2  refused 4 line L       a rule of ownership is broken
-  2  refused 5 line L       a limit on the size of programs is passed
-  2  refused 6              code that the verifier refuses
-  3  trap C line L          1 overflow, 2 division by 0, 3 index, 4 length, 5 turns, 6 depth
-  4  over limit             the run costs more than its limit
-  5  arguments              not main's count of arguments, or a number out of range
-  5  file                   the source cannot be read
-  6  memory                 no memory is left
-  7  write failed           standard output does not take the report";
 
 /// Reads the program's words, without the program's own name.
 ///
 /// The error is what to say in place of a run: the help, what is wrong with the words, `Arguments`
 /// where the limit or an argument of `main` is no number or out of range, or `Memory`.
 pub fn request(alloc: Global, words: &[String]) -> Result<Request, Said>
-    ensures ok { IfOk result (λ r. AreInRange r.options) }
-    ensures why { IfErr result IsSaid }
+    ensures ok { IfOk result (Asks (map string_bytes words.now)) }
+    ensures in_range { IfOk result (λ r. AreInRange r.options) }
+    ensures why { IfErr result (IsSaidOf (map string_bytes words.now)) }
 {
     let matches = match matches_of(alloc, words) {
         Ok(matches) => matches,
         Err(error) => return Err(said_of(alloc, &error)),
     };
-    match matches.subcommand() {
-        Some((_, given)) => Ok(run_request(alloc, given)?),
+    match matches.subcommand_matches("run") {
+        Some(given) => Ok(run_request(alloc, given)?),
         None => Err(Said::Fault(Fault::Arguments)),
     }
 }
 
-fn matches_of<'a>(alloc: Global, words: &'a [String]) -> Result<ArgMatches<'a>, Error> {
-    let command = Command::new(alloc, "cilkwork")
-        .bin_name("cilkwork")?
-        .about("Work and span of fork-join programs")
-        .after_help(ANSWERS)
-        .no_binary_name(true)
-        .subcommand_required(true)
-        .subcommand(run_command(alloc)?)?;
-    command.try_get_matches_from(words)
-}
-
-fn run_command<'a>(alloc: Global) -> Result<Command<'a>, AllocError> {
-    let file = Arg::new(alloc, "FILE")
-        .required(true)
-        .action(ArgAction::Set)
-        .help("The program's source");
-    let args = Arg::new(alloc, "ARGS")
-        .num_args(0..)
-        .action(ArgAction::Append)
-        .help("The arguments of main, from 0 to 9223372036854775807");
-    let limit = Arg::new(alloc, "limit")
-        .long("limit")
-        .value_name("N")
-        .action(ArgAction::Set)
-        .default_value(USUAL_LIMIT)
-        .help("The greatest cost of the run, from 1 to 4611686018427387904");
-    Command::new(alloc, "run")
-        .about("Runs a program and writes the value that its main returns")
-        .after_help(ANSWERS)
-        .arg(file)?
-        .arg(args)?
-        .arg(limit)
+fn matches_of<'a>(alloc: Global, words: &'a [String]) -> Result<ArgMatches<'a>, Error>
+    ensures rows { IfOk result (λ m. subcommand_rows_of m
+        ≡ subcommand_of command_line (map string_bytes words.now)) }
+    ensures kinds { FailsBy (faults (map string_bytes words.now)) result }
+{
+    let matches = command(alloc)?.try_get_matches_from(words)?;
+    Ok(matches)
 }
 
 fn run_request(alloc: Global, given: &ArgMatches<'_>) -> Result<Request, Fault>
-    ensures ok { IfOk result (λ r. IsAskedBy (found_of given.now) r) }
-    ensures why { IfErr result IsWordFault }
+    ensures ok { IfOk result (IsAskedBy (rows_of (found_of given.now))) }
+    ensures why { IfErr result (IsFaultUnless (AreProper (rows_of (found_of given.now)))) }
 {
-    let limit = given.get_str("limit").unwrap_or(USUAL_LIMIT);
+    let limit = given.get_str("limit").unwrap_or(USUAL_LIMIT_WORD);
     let (Some(file), Some(limit)) = (given.get_str("FILE"), read_number(limit, 1, MOST_LIMIT))
     else {
         return Err(Fault::Arguments);
@@ -116,7 +82,7 @@ fn run_request(alloc: Global, given: &ArgMatches<'_>) -> Result<Request, Fault>
 fn args_of(alloc: Global, texts: &[&str]) -> Result<Vec<i64>, Fault>
     ensures ok { IfOk result (λ v. v.items ≡ map (λ text. pos (value_of text.now)) texts.now) }
     ensures digits { OnOk result (All (λ text. IsArgument text.now) texts.now) }
-    ensures why { IfErr result IsWordFault }
+    ensures why { IfErr result (IsFaultUnless (All (λ text. IsArgument text.now) texts.now)) }
 {
     let mut args = Vec::new(alloc);
     for text in texts {
@@ -128,7 +94,7 @@ fn args_of(alloc: Global, texts: &[&str]) -> Result<Vec<i64>, Fault>
 fn push_arg(args: &mut Vec<i64>, text: &str) -> Result<(), Fault>
     ensures ok { OnOk result (args.new.items ≡ args.old.items ++ pos (value_of text.now) ∷ []) }
     ensures digits { OnOk result (IsArgument text.now) }
-    ensures why { IfErr result IsWordFault }
+    ensures why { IfErr result (IsFaultUnless (IsArgument text.now)) }
 {
     match read_number(text, 0, MOST_ARGUMENT) {
         Some(value) => {
@@ -141,7 +107,7 @@ fn push_arg(args: &mut Vec<i64>, text: &str) -> Result<(), Fault>
 
 // The help, or what is wrong with the words.
 fn said_of(alloc: Global, error: &Error) -> Said
-    ensures { IsSaid result }
+    ensures { IsSaidAt (kind_of error.now) result }
 {
     let text = match error.to_string(alloc) {
         Ok(text) => text,
