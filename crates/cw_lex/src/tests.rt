@@ -1,6 +1,7 @@
 //! Texts with their tokens, and texts that have none, by the rules of the language.
 
-use crate::{Kind, Token, lex};
+use crate::lex;
+use cw_model::token::{Kind, Token};
 use cw_text::source::MOST_BYTES;
 use cw_text::{Fault, Place, Source};
 use std::alloc::{AllocError, Global};
