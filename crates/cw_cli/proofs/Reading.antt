@@ -13,7 +13,7 @@ use Rattle.clap.specs.Walk.{first_of, long_or_other, short_or_plain, trailing, H
 use Rattle.clap.specs.Simple.{App, Shape, built, names_of, entered, new_shape, subcommand_of}
 use Rattle.clap.specs.Faults.{flag_word_fault, bundle_fault, other_fault, turn_fault, walk_fault, step_fault, settle_fault, defaults_fault, check_fault, entered_fault}
 use Rattle.clap.proofs.OnLiterals.{clap_on_literals}
-use Rattle.cw_cli.specs.Command.{command_line}
+use Rattle.cw_cli.specs.Command.{command_line, usual_limit_word}
 use Rattle.cw_cli.specs.Requests.{AreRead, HaveRun, faults, limit_text, texts_of}
 use Rattle.cw_cli.specs.WordLaws.{IsPlain}
 
@@ -256,7 +256,7 @@ run_rows rest = ap (λ w. entered line w.stopped) (top_walk rest)
 -- ---- what the words are read as
 
 abbrev limit_of : Option Text → Text
-limit_of None = codes "1000000000"
+limit_of None = usual_limit_word
 limit_of (Some n) = n
 
 end_rows : (words : List Text) (l : Option Text) (file : Text) (args : List Text) → HaveRun words (finished run.rules (end l file args).held) → AreRead words file args (limit_of l)

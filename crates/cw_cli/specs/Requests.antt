@@ -3,12 +3,12 @@ use Rattle.std.specs.Prelude.{◌≡◌, ◌≢◌, ◌≤◌, ℤ, Bool, true, 
 use Rattle.clap.specs.Words.{IsAmong, Kinds, Row, Text, all_of, fault_of, first_of, subcommand_of}
 use Rattle.clap.specs.declared.error.ErrorKind.{ErrorKind}
 use Rattle.clap.specs.declared.error.ErrorKind.TheVariants as kind
-use Rattle.cw_model.specs.Limits.{most_limit, most_burden, most_number}
+use Rattle.cw_model.specs.Limits.{most_limit, most_burden, most_number, usual_limit, usual_burden}
 use Rattle.cw_model.specs.Pieces.{value_of}
 use Rattle.cw_text.specs.declared.fault.Fault.{Fault}
 use Rattle.cw_text.specs.declared.fault.Fault.TheVariants as fault
 use Rattle.cw_cli.specs.Numbers.{IsNumberWithin}
-use Rattle.cw_cli.specs.Command.{command_line}
+use Rattle.cw_cli.specs.Command.{command_line, usual_limit_word}
 use Rattle.cw_cli.specs.declared.asked.Mode.TheVariants as mode
 use Rattle.cw_cli.specs.declared.asked.Options.{Options}
 use Rattle.cw_cli.specs.declared.asked.Request.{Request}
@@ -23,7 +23,7 @@ pub record AreInRange (options : Options) : Type 0 where
 
 -- the options of a run that is given none
 abbrev pub usual_options : Options
-usual_options = record { mode = mode.Run; limit = 1000000000; burden = 15000 }
+usual_options = record { mode = mode.Run; limit = usual_limit; burden = usual_burden }
 
 -- what the rows have for an argument that is given any number of times
 abbrev pub texts_of : List Row → Text → List Text
@@ -39,7 +39,7 @@ values_of texts = map (λ text. pos (value_of text)) texts
 
 -- the word for the limit, or the usual one
 abbrev pub limit_text : List Row → Text
-limit_text rows = unwrap_or (first_of (codes "limit") rows) (codes "1000000000")
+limit_text rows = unwrap_or (first_of (codes "limit") rows) usual_limit_word
 
 -- the arguments and the limit are numbers in range
 abbrev pub AreNumbers : List Text → Text → Type 0
@@ -50,8 +50,9 @@ pub record IsRequestOf (file : Text) (args : List Text) (limit : Text) (r : Requ
   pub numbers : AreNumbers args limit
   pub file_is : string_bytes r.file ≡ file
   pub args_are : r.args.items ≡ values_of args
+  pub mode_is : r.options.mode ≡ mode.Run
   pub limit_is : r.options.limit ≡ value_of limit
-  pub burden_is : r.options.burden ≡ 15000
+  pub burden_is : r.options.burden ≡ usual_burden
 
 -- the request that the rows of `run` make
 pub record IsAskedBy (rows : List Row) (r : Request) : Type 0 where

@@ -2,6 +2,10 @@
 use Rattle.std.specs.Prelude.{◌≡◌, ◌≢◌, ◌^◌, ◌<◌, List, [], ◌∷◌, All, Some, codes, length, slice_get}
 use Rattle.clap.specs.Words.{Text}
 use Rattle.clap.specs.declared.error.ErrorKind.TheVariants as kind
+use Rattle.cw_model.specs.Limits.{most_limit, usual_limit}
+use Rattle.cw_model.specs.Pieces.{value_of}
+use Rattle.cw_cli.specs.Numbers.{IsNumberWithin}
+use Rattle.cw_cli.specs.Command.{usual_limit_word}
 use Rattle.cw_cli.specs.Requests.{AreRead, faults}
 
 -- the word starts with no hyphen
@@ -11,7 +15,7 @@ IsPlain word = slice_get word 0 ≢ Some 45
 -- such words after `run` are the source and the arguments, in their order, and the limit is the usual one
 abbrev pub PlainWordsAreRead : Type 0
 PlainWordsAreRead = (file : Text) (args : List Text) → IsPlain file → All IsPlain args → length args < 2 ^ 64 →
-    AreRead (codes "run" ∷ file ∷ args) file args (codes "1000000000")
+    AreRead (codes "run" ∷ file ∷ args) file args usual_limit_word
 
 -- the same with a limit before them
 abbrev pub LimitIsRead : Type 0
@@ -26,6 +30,10 @@ TakenWordsAreRead = (words : List Text) → faults words ≡ [] → (file : Text
 abbrev pub WordsAreReadOnce : Type 0
 WordsAreReadOnce = (words : List Text) (file file' : Text) (args args' : List Text) (limit limit' : Text) → AreRead words file args limit → AreRead words file' args' limit' →
     (file ≡ file') × (args ≡ args') × (limit ≡ limit')
+
+-- the word for the usual limit is a number in range, and writes the usual limit
+abbrev pub UsualLimitIsWritten : Type 0
+UsualLimitIsWritten = IsNumberWithin 1 most_limit usual_limit_word × (value_of usual_limit_word ≡ usual_limit)
 
 -- a limit after the source, attached to its name, and words after `--`
 abbrev pub WordExamples : Type 0

@@ -6,6 +6,7 @@ ghost use Rattle.cw_cli.specs.WordLaws.{
   PlainWordsAreRead,
   RefusalExamples,
   TakenWordsAreRead,
+  UsualLimitIsWritten,
   WordExamples,
   WordsAreReadOnce,
 };
@@ -46,8 +47,10 @@ pub fn read_words()
     ensures once { WordsAreReadOnce }
 {}
 
-/// Words written out, and what they are read as or refused for.
+/// Words written out, and what they are read as or refused for; the word for the usual limit, and the
+/// number that it writes.
 pub fn written_words()
+    ensures usual { UsualLimitIsWritten }
     ensures read { WordExamples }
     ensures refused { RefusalExamples }
 {}

@@ -1,5 +1,6 @@
 -- Worked examples: what the programs report, trap with, cost and are refused for. Each line was worked out by hand.
 use Rattle.std.specs.Prelude.{◌≡◌, ℕ, zero, suc, ℤ, pos, List, [], ◌∷◌, ◌++◌, flat_map, replicate, codes}
+use Rattle.cw_model.specs.Limits.{usual_limit, usual_burden}
 use Rattle.cw_model.specs.declared.trap.Trap.{Trap}
 use Rattle.cw_model.specs.declared.trap.Trap.TheVariants as trap
 use Rattle.cw_model.specs.declared.token.Token.{Token}
@@ -14,14 +15,6 @@ use Rattle.cw_model.specs.Typing.{type_faults}
 use Rattle.cw_model.specs.Ownership.{ownership_faults}
 use Rattle.cw_model.specs.Sizes.{token_faults, limit_faults, loop_faults, program_faults, static_size, call_count}
 use Rattle.cw_model.specs.ExamplePrograms as example
-
--- where none is given
-abbrev pub usual_limit : ℕ
-usual_limit = 1000000000
-
--- where none is given
-abbrev pub usual_burden : ℕ
-usual_burden = 15000
 
 -- each text with the end of its line
 abbrev pub lines : List (List ℕ) → List ℕ

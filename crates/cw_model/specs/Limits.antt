@@ -80,3 +80,11 @@ most_limit = 4611686018427387904
 -- instructions that a spawn may be burdened with
 abbrev pub most_burden : ℕ
 most_burden = 1000000000
+
+-- instructions that a run is given where no limit is
+abbrev pub usual_limit : ℕ
+usual_limit = 1000000000
+
+-- instructions that a spawn is burdened with where no burden is given
+abbrev pub usual_burden : ℕ
+usual_burden = 15000

@@ -2,7 +2,7 @@ use Rattle.std.proofs.Common.{◌≡◌, ◌∙◌, ap, ap₂, codes, rules, Boo
 use Rattle.clap.specs.Words.{App, Rule, app_of, new_app, rule_of, with_rule, with_subcommand}
 use Rattle.clap.specs.declared.builder.Arg.{Arg}
 use Rattle.clap.specs.declared.builder.ArgAction.TheVariants.{Append, Set}
-use Rattle.cw_cli.specs.Command.{file_rule, args_rule, limit_rule, run_line, with_words_alone}
+use Rattle.cw_cli.specs.Command.{file_rule, args_rule, limit_rule, run_line, usual_limit_word, with_words_alone}
 use Rattle.cw_cli.proofs.Commands.{with_range_of}
 use Rattle.cw_cli.proofs.command.command.Goals as goal
 
@@ -18,7 +18,7 @@ returns c =
     ap rule_of c.help-args.ensures ∙ (ap rule_of c.action-2.ensures ∙ ap (λ (r : Rule). record r { action = Some Append })
     (ap rule_of c.num_args.ensures.0 ∙ with_range_of _ _ _ _ c.num_args.ensures.1 c.new-2.ensures.rule)) in
     let limit_is : rule_of c.help-limit.result ≡ limit_rule =
-    ap rule_of c.help-limit.ensures ∙ (ap rule_of c.default_value.ensures ∙ ap (λ (r : Rule). record r { defaults = codes "1000000000" ∷ [] })
+    ap rule_of c.help-limit.ensures ∙ (ap rule_of c.default_value.ensures ∙ ap (λ (r : Rule). record r { defaults = usual_limit_word ∷ [] })
     (ap rule_of c.action-3.ensures ∙ ap (λ (r : Rule). record r { action = Some Set })
     (ap rule_of c.value_name.ensures ∙ ap (λ (r : Rule). record r { value_names = 1 })
     (ap rule_of c.long.ensures ∙ ap (λ (r : Rule). record r { long = Some (codes "limit") }) c.new-3.ensures.rule)))) in

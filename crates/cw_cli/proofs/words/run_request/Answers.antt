@@ -21,6 +21,7 @@ returns-clause-ok c =
         numbers = (arguments_given _ _ given c.in_ok-args.ensures.digits, subst (λ t. IsNumberWithin 1 most_limit t) limit_is (search rules));
         file_is = refl;
         args_are = values_given _ _ _ given c.in_ok-args.ensures.ok;
+        mode_is = search rules;
         limit_is = search rules;
         burden_is = search rules;
       };
