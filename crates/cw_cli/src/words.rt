@@ -5,7 +5,6 @@ ghost use Rattle.clap.specs.Words.{FailsBy, kind_of, rows_of, found_of, subcomma
 ghost use Rattle.cw_model.specs.Pieces.{value_of};
 ghost use Rattle.cw_cli.specs.Command.{command_line};
 ghost use Rattle.cw_cli.specs.Requests.{
-  AreInRange,
   AreProper,
   Asks,
   IsArgument,
@@ -34,7 +33,6 @@ const MOST_ARGUMENT: u64 = 9_223_372_036_854_775_807;
 /// where the limit or an argument of `main` is no number or out of range, or `Memory`.
 pub fn request(alloc: Global, words: &[String]) -> Result<Request, Said>
     ensures ok { IfOk result (Asks (map string_bytes words.now)) }
-    ensures in_range { IfOk result (λ r. AreInRange r.options) }
     ensures why { IfErr result (IsSaidOf (map string_bytes words.now)) }
 {
     let matches = match matches_of(alloc, words) {
