@@ -42,7 +42,7 @@ module _ (bytes text : List ℕ) (ts slice : List Token) (e : text ≡ bytes) (s
 
 pub types_refused : (bytes : List ℕ) (program : Program) → Sources.IsSourceOf bytes program → (f : Fault) → IsIllTyped program f → Sources.IsRefused bytes f
 types_refused bytes program source (fault.Size p) h = Sources.parts program source h
-types_refused bytes program source (fault.Types p) h = record { program = program; source = source; within = h.within; least = h.least }
+types_refused bytes program source (fault.Types p) h = record { program = program; source = source; types = h }
 types_refused bytes program source fault.Memory h = tt
 types_refused bytes program source _ h = absurd h
 

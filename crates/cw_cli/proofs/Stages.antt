@@ -1,7 +1,6 @@
 -- A source goes through one stage after another, and each either goes on with one value or stops in one line.
-use Rattle.std.proofs.Common.{◌≡◌, ℕ, ◌≤◌, ◌<◌, List, [], length, Contains, Result, Ok, Err, ◌⊎◌, inl, inr, refl, sym, ap, ◌∙◌, subst, arith}
+use Rattle.std.proofs.Common.{◌≡◌, ℕ, ◌≤◌, ◌<◌, List, [], length, Result, Ok, Err, ◌⊎◌, inl, inr, refl, sym, ap, ◌∙◌, subst, arith}
 use Rattle.std.proofs.lemmas.Bool.{cases_lt}
-use Rattle.std.proofs.lemmas.List.Elements.{All-contains}
 use Rattle.cw_model.specs.declared.token.Token.{Token}
 use Rattle.cw_model.specs.Limits.{most_source_bytes}
 use Rattle.cw_model.specs.Lines.{IsLeastLine}
@@ -10,6 +9,7 @@ use Rattle.cw_model.specs.Tokens.{IsTokenCut, HasLexicalFault, HasNameFault}
 use Rattle.cw_model.specs.Syntax.{Program}
 use Rattle.cw_model.specs.Ownership.{ownership_faults}
 use Rattle.cw_model.specs.Sizes.{token_faults, limit_faults, program_faults}
+use Rattle.cw_model.proofs.Lowest.{no_least, one_least}
 use Rattle.cw_lex.specs.Laws.{HasOneCut, FaultsExcludeCuts, FaultsExcludeOneAnother, LexicalFaultHasOneLine, NameFaultHasOneLine}
 use Rattle.cw_parse.specs.FirstFault.{DerivesFirst, HasFirstFault, HasOneTree, FaultsAreOne}
 use Rattle.cw_types.specs.Faults.{typing_lines}
@@ -43,17 +43,6 @@ module _ {A : Type 0} (Right : A → Type 0) (Wrong : ℕ → Type 0) (faulty : 
   stage_one choice rest r s (stops p h) (stops q k) = ap (λ n. Err (faulty (record { line = n }))) (choice.one_line p.line q.line h k)
 
 -- ---- a list of lines that break a rule
-
-no_least : (lines : List ℕ) (line : ℕ) → lines ≡ [] → IsLeastLine lines line → ⊥
-no_least lines line none least =
-    let P : List ℕ → Type 0 = λ ls. Contains ls line in
-    All-contains (λ _. ⊥) [] line (λ k d h. omega (arith, h)) (subst P none least.there)
-
-one_least : (lines : List ℕ) (l m : ℕ) → IsLeastLine lines l → IsLeastLine lines m → l ≡ m
-one_least lines l m a b =
-    let le = All-contains (λ other. l ≤ other) lines m a.least b.there in
-    let ge = All-contains (λ other. m ≤ other) lines l b.least a.there in
-    omega (arith, le, ge)
 
 -- no line breaks the rule, or the least that does is wrong
 abbrev Keeps : List ℕ → (Place → Fault) → (Result Program Fault → Type 0) → Result Program Fault → Type 0
@@ -165,7 +154,7 @@ module _ (one_cut : HasOneCut) (no_cut : FaultsExcludeCuts) (one_kind : FaultsEx
   refused : (f : Fault) → sources.IsRefused bytes f → (f ≡ fault.Memory) ⊎ Answer bytes (Err f)
   refused (fault.Lexical at) h = inr (lexical at h)
   refused (fault.Syntax at) h = inr (cut h.tokens h.has_tokens (goes tt h.syntax.short (stops at h.syntax.fault)))
-  refused (fault.Types at) h = inr (tree h.program h.source (goes tt h.within (stops at h.least)))
+  refused (fault.Types at) h = inr (tree h.program h.source (goes tt h.types.within (stops at h.types.least)))
   refused (fault.Ownership at) h = inr (tree h.program h.source (goes tt h.within (goes tt h.typed (stops at h.least))))
   refused (fault.Size at) h = inr (size at h)
   refused fault.Memory h = inl refl

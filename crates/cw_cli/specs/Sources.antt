@@ -8,7 +8,7 @@ use Rattle.cw_model.specs.Syntax.{Program}
 use Rattle.cw_model.specs.Ownership.{KeepsOwnership, ownership_faults}
 use Rattle.cw_model.specs.Sizes.{token_faults, limit_faults, program_faults}
 use Rattle.cw_parse.specs.Parsed.{IsParsed, IsUnderivable}
-use Rattle.cw_types.specs.Faults.{typing_lines}
+use Rattle.cw_types.specs.Faults.{IsFirstTypeFault, typing_lines}
 use Rattle.cw_text.specs.declared.fault.Fault.{Fault}
 use Rattle.cw_text.specs.declared.fault.Fault.TheVariants as fault
 
@@ -46,8 +46,7 @@ pub record IsSyntacticallyRefused (bytes : List ℕ) (line : ℕ) : Type 0 where
 pub record IsTypeRefused (bytes : List ℕ) (line : ℕ) : Type 0 where
   pub program : Program
   pub source : IsSourceOf bytes program
-  pub within : limit_faults program ≡ []
-  pub least : IsLeastLine (typing_lines program) line
+  pub types : IsFirstTypeFault program line
 
 -- the types are right, and this is the least line that breaks a rule of ownership
 pub record IsDisowned (bytes : List ℕ) (line : ℕ) : Type 0 where

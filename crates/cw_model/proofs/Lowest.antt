@@ -1,6 +1,6 @@
 -- The least line, and what is left of lines.
 use Rattle.std.proofs.Common.{◌≡◌, ℕ, zero, suc, ◌-◌, ◌≤◌, ◌<◌, Bool, true, false, nat_le, if◌then◌else◌, List, [], ◌∷◌, ◌++◌, drop, Option, Some, None, All, Contains, ◌⊎◌, refl, sym, ap, ◌∙◌, arith, inl, inr, subst}
-use Rattle.std.proofs.lemmas.List.Elements.{All-cons, Contains-append_left, Contains-append_right, Contains-push}
+use Rattle.std.proofs.lemmas.List.Elements.{All-cons, All-contains, Contains-append_left, Contains-append_right, Contains-push}
 use Rattle.std.proofs.lemmas.Bool.Decides.{nat_tests}
 use Rattle.cw_model.specs.Lines.{IsLeastLine, lesser, lowest}
 
@@ -86,5 +86,18 @@ least_line (x ∷ xs) n h =
       there = elim l.from [ inl e ↦ here x xs l.least e | inr c ↦ later x xs l.least c ];
       least = All-cons (λ o. l.least ≤ o) x xs l.below l.all;
     })
+
+-- no line is the least of none
+pub no_least : (lines : List ℕ) (line : ℕ) → lines ≡ [] → IsLeastLine lines line → ⊥
+no_least lines line none least =
+    let P : List ℕ → Type 0 = λ ls. Contains ls line in
+    All-contains (λ _. ⊥) [] line (λ k d h. omega (arith, h)) (subst P none least.there)
+
+-- there is one least line
+pub one_least : (lines : List ℕ) (l m : ℕ) → IsLeastLine lines l → IsLeastLine lines m → l ≡ m
+one_least lines l m a b =
+    let le = All-contains (λ other. l ≤ other) lines m a.least b.there in
+    let ge = All-contains (λ other. m ≤ other) lines l b.least a.there in
+    omega (arith, le, ge)
 
 pub ruleset lines = (lowest-append, drop_room)
