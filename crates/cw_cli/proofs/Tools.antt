@@ -1,5 +1,5 @@
 -- A source of which one byte too many is read at most, and lines on standard error.
-use Rattle.std.proofs.Common.{◌≡◌, ℕ, ℤ, option_map, IfSome, ◌<◌, ◌≤◌, ◌⊎◌, inl, inr, List, [], ◌++◌, length, take, Option, Some, None, Result, Ok, Err, refl, sym, ◌∙◌, subst, arith, Bool, true, false}
+use Rattle.std.proofs.Common.{◌≡◌, ℕ, ℤ, option_map, IfSome, ◌<◌, ◌≤◌, ◌⊎◌, inl, inr, List, [], ◌++◌, ◌+◌, length, take, Option, Some, None, Result, Ok, Err, refl, sym, ◌∙◌, subst, arith, Bool, true, false}
 use Rattle.std.proofs.lemmas.List.{append-nil, take_all, length-take-le}
 use Rattle.std.specs.Prelude.{nat_le}
 use Rattle.std.proofs.lemmas.Bool.Decides.{nat_tests}
@@ -28,6 +28,10 @@ idle contents failed w = inl (record { bytes = nothing (contents w); failed = re
     nothing None = tt
     nothing (Some xs) = sym (append-nil xs)
 
+-- one byte more than a source may have
+abbrev most_read : ℕ
+most_read = most_source_bytes + 1
+
 shorter_or_longer : (n m : ℕ) → (n ≤ m) ⊎ (m < n)
 shorter_or_longer n m = tested (nat_le n m) refl
   where
@@ -37,21 +41,21 @@ shorter_or_longer n m = tested (nat_le n m) refl
 
 module _ (bytes : List ℕ) (long : most_source_bytes < length bytes) where
   -- one byte too many is read too
-  too_long : most_source_bytes < length (take 1048577 bytes)
-  too_long = let e = length-take-le 1048577 bytes (omega (arith, long)) in omega (arith, e)
+  too_long : most_source_bytes < length (take most_read bytes)
+  too_long = let e = length-take-le most_read bytes (omega (arith, long)) in omega (arith, e)
 
-  no_source : IsSourceText (take 1048577 bytes) → ⊥
+  no_source : IsSourceText (take most_read bytes) → ⊥
   no_source text = omega (arith, text.short, too_long)
 
-  refused_whole : (f : Fault) → sources.IsRefused (take 1048577 bytes) f → sources.IsRefused bytes f
+  refused_whole : (f : Fault) → sources.IsRefused (take most_read bytes) f → sources.IsRefused bytes f
   refused_whole (fault.Lexical p) h = absurd (lexical h)
     where
-      lexical : sources.IsLexicallyRefused (take 1048577 bytes) p.line → ⊥
+      lexical : sources.IsLexicallyRefused (take most_read bytes) p.line → ⊥
       lexical (sources.byte n) = omega (arith, n.short, too_long)
       lexical (sources.token text fault) = no_source text
   refused_whole (fault.Size p) h = size h
     where
-      size : sources.PassesLimit (take 1048577 bytes) p.line → sources.PassesLimit bytes p.line
+      size : sources.PassesLimit (take most_read bytes) p.line → sources.PassesLimit bytes p.line
       size (sources.length l) = sources.length (record { long = long; first = l.first })
       size (sources.name text fault) = absurd (no_source text)
       size (sources.tokens ts has least) = absurd (no_source has.text)
@@ -64,7 +68,7 @@ module _ (bytes : List ℕ) (long : most_source_bytes < length bytes) where
   refused_whole _ h = absurd h
 
   module _ {W : Type 0} (contents : W → Option (List ℕ)) (failed : W → ℕ) (old new : W) (args : List ℤ) (options : Options) where
-    unreported_whole : (f : Fault) → IsUnreported contents failed old new (take 1048577 bytes) args options f → IsUnreported contents failed old new bytes args options f
+    unreported_whole : (f : Fault) → IsUnreported contents failed old new (take most_read bytes) args options f → IsUnreported contents failed old new bytes args options f
     unreported_whole fault.OverLimit h = absurd (no_source h.run.compiles.source.has_tokens.text)
     unreported_whole (fault.Trap trap line printed) h = absurd (no_source h.run.compiles.source.has_tokens.text)
     unreported_whole fault.Memory h = h
@@ -77,17 +81,17 @@ module _ (bytes : List ℕ) (long : most_source_bytes < length bytes) where
     unreported_whole (fault.Size p) h = record { refused = refused_whole (fault.Size p) h.refused; untouched = h.untouched }
     unreported_whole fault.Code h = absurd h.refused
 
-    long_whole : (r : Result (Unit {0}) Fault) → tools.IsAnalysed contents failed old new (take 1048577 bytes) args options r → tools.IsAnalysed contents failed old new bytes args options r
+    long_whole : (r : Result (Unit {0}) Fault) → tools.IsAnalysed contents failed old new (take most_read bytes) args options r → tools.IsAnalysed contents failed old new bytes args options r
     long_whole (Ok done) h = absurd (no_source h.run.compiles.source.has_tokens.text)
     long_whole (Err f) h = unreported_whole f h
 
 module _ {W : Type 0} (contents : W → Option (List ℕ)) (failed : W → ℕ) (old new : W) (args : List ℤ) (options : Options) where
   -- what an analysis of the bytes that were read answers is answered for the whole source
-  pub whole : (bytes : List ℕ) (r : Result (Unit {0}) Fault) → tools.IsAnalysed contents failed old new (take 1048577 bytes) args options r → tools.IsAnalysed contents failed old new bytes args options r
+  pub whole : (bytes : List ℕ) (r : Result (Unit {0}) Fault) → tools.IsAnalysed contents failed old new (take most_read bytes) args options r → tools.IsAnalysed contents failed old new bytes args options r
   whole bytes r h = by_length (shorter_or_longer (length bytes) most_source_bytes)
     where
       by_length : (length bytes ≤ most_source_bytes) ⊎ (most_source_bytes < length bytes) → tools.IsAnalysed contents failed old new bytes args options r
-      by_length (inl short) = subst (λ bs. tools.IsAnalysed contents failed old new bs args options r) (take_all 1048577 bytes (omega (arith, short))) h
+      by_length (inl short) = subst (λ bs. tools.IsAnalysed contents failed old new bs args options r) (take_all most_read bytes (omega (arith, short))) h
       by_length (inr long) = long_whole bytes long contents failed old new args options r h
 
 -- a fact of each source is one of the source that is known
@@ -95,23 +99,23 @@ pub of_any : (known : Option (List ℕ)) (P : List ℕ → Type 0) → ((bytes :
 of_any None P h = tt
 of_any (Some bytes) P h = h bytes
 
-of_read : (known : Option (List ℕ)) (read : List ℕ) → IfSome (option_map (take 1048577) known) (λ bytes. read ≡ bytes) → (P : List ℕ → Type 0) → ((bytes : List ℕ) → read ≡ take 1048577 bytes → P bytes) → IfSome known P
+of_read : (known : Option (List ℕ)) (read : List ℕ) → IfSome (option_map (take most_read) known) (λ bytes. read ≡ bytes) → (P : List ℕ → Type 0) → ((bytes : List ℕ) → read ≡ take most_read bytes → P bytes) → IfSome known P
 of_read None read h P more = tt
 of_read (Some bytes) read h P more = more bytes h
 
 module _ {D W E : Type 0} (remaining : D → Option (List ℕ)) (contents : W → Option (List ℕ)) (failed : W → ℕ) (contents' : E → Option (List ℕ)) (failed' : E → ℕ) (source inner : D) (limit : ℕ) (old new : W) (old' new' : E) (before read slice : List ℕ) (args : List ℤ) (asked : Request) where
   -- what the bytes that were read come to is the answer on the source
-  pub answered : limit ≡ 1048577 → inner ≡ source → before ≡ [] → slice ≡ read → args ≡ asked.args.items →
+  pub answered : limit ≡ most_read → inner ≡ source → before ≡ [] → slice ≡ read → args ≡ asked.args.items →
       IfSome (option_map (take limit) (remaining inner)) (λ xs. read ≡ before ++ xs) →
       (r : Result (Unit {0}) Fault) (status : ℕ) → status ≡ tools.status_of r → tools.IsAnalysed contents failed old new slice args asked.options r → tools.TriesText contents' failed' old' new' (tools.line_of r) →
       IfSome (remaining source) (λ bytes. tools.IsToolAnswer contents failed old new contents' failed' old' new' bytes asked status)
   answered l i b s a h r status st analysis told =
       let h1 = subst (λ d. IfSome (option_map (take limit) (remaining d)) (λ xs. read ≡ before ++ xs)) i h in
       let h2 = subst (λ n. IfSome (option_map (take n) (remaining source)) (λ xs. read ≡ before ++ xs)) l h1 in
-      let h3 : IfSome (option_map (take 1048577) (remaining source)) (λ xs. read ≡ xs) = subst (λ p. IfSome (option_map (take 1048577) (remaining source)) (λ xs. read ≡ p ++ xs)) b h2 in
+      let h3 : IfSome (option_map (take most_read) (remaining source)) (λ xs. read ≡ xs) = subst (λ p. IfSome (option_map (take most_read) (remaining source)) (λ xs. read ≡ p ++ xs)) b h2 in
       of_read (remaining source) read h3 (λ bytes. tools.IsToolAnswer contents failed old new contents' failed' old' new' bytes asked status)
       (λ bytes e.
-      let of_bytes : tools.IsAnalysed contents failed old new (take 1048577 bytes) args asked.options r = subst (λ bs. tools.IsAnalysed contents failed old new bs args asked.options r) (s ∙ e) analysis in
-      let of_asked : tools.IsAnalysed contents failed old new (take 1048577 bytes) asked.args.items asked.options r = subst (λ vs. tools.IsAnalysed contents failed old new (take 1048577 bytes) vs asked.options r) a of_bytes in
+      let of_bytes : tools.IsAnalysed contents failed old new (take most_read bytes) args asked.options r = subst (λ bs. tools.IsAnalysed contents failed old new bs args asked.options r) (s ∙ e) analysis in
+      let of_asked : tools.IsAnalysed contents failed old new (take most_read bytes) asked.args.items asked.options r = subst (λ vs. tools.IsAnalysed contents failed old new (take most_read bytes) vs asked.options r) a of_bytes in
       subst (λ n. tools.IsToolAnswer contents failed old new contents' failed' old' new' bytes asked n) (sym st)
       (tools.analysed r (whole contents failed old new asked.args.items asked.options bytes r of_asked) told))

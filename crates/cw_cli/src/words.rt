@@ -25,7 +25,7 @@ use cw_text::Fault;
 use std::alloc::Global;
 
 /// The greatest argument of `main`.
-const MOST_ARGUMENT: u64 = 9_223_372_036_854_775_807;
+const MOST_ARGUMENT: u64 = i64::MAX as u64;
 
 /// Reads the program's words, without the program's own name.
 ///
