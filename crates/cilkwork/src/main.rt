@@ -1,6 +1,10 @@
 //! The program `cilkwork`: reads its words, opens the source, and answers.
 #![tactic(auto)]
 
+ghost use Rattle.std.specs.Prelude.{◌≡◌};
+ghost use Rattle.std.specs.IoError.{error_kind};
+ghost use Rattle.cilkwork.specs.Words.{unread_fault};
+
 use cw_cli::{Request, refuse, request, say, tool, unread};
 use cw_report::Counted;
 use cw_text::Fault;
@@ -36,7 +40,16 @@ fn main(rt: HostRuntime) -> ExitCode {
 fn words_of(rt: &(impl Env + AllocGlobal), alloc: Global) -> Result<Vec<String>, Fault> {
     match env::args(rt) {
         Ok(args) => Ok(args.skip(1).collect(alloc)?),
-        Err(error) if error.kind() == ErrorKind::OutOfMemory => Err(Fault::Memory),
-        Err(_) => Err(Fault::Arguments),
+        Err(error) => Err(unread_words(&error)),
+    }
+}
+
+// What words that cannot be read are told as.
+fn unread_words(error: &io::Error) -> Fault
+    ensures { result ≡ unread_fault (error_kind error.now) }
+{
+    match error.kind() {
+        ErrorKind::OutOfMemory => Fault::Memory,
+        _ => Fault::Arguments,
     }
 }

@@ -1,0 +1,10 @@
+-- What words that cannot be read are told as.
+use Rattle.std.specs.declared.io.ErrorKind.{ErrorKind}
+use Rattle.std.specs.declared.io.ErrorKind.TheVariants as kind
+use Rattle.cw_text.specs.declared.fault.Fault.{Fault}
+use Rattle.cw_text.specs.declared.fault.Fault.TheVariants as fault
+
+-- the fault of words that cannot be read for a reason of this kind: want of memory is told as that
+abbrev pub unread_fault : ErrorKind → Fault
+unread_fault kind.OutOfMemory = fault.Memory
+unread_fault _ = fault.Arguments
