@@ -19,9 +19,12 @@ const MOST_READ: u64 = MOST_BYTES as u64 + 1;
 /// Reads the source, analyses it as asked, and writes the report to `out`; gives the exit status.
 ///
 /// The status is 0 where the report was written, else that of the fault, whose line is written to
-/// `err`; of a source that cannot be read `unread` tells. No more than one byte past the greatest
-/// size of a source is read. Whether the write to `err` fails changes nothing. Fewer than 2^64 - 1
-/// writes to each sink failed before.
+/// `err`. No more than one byte past the greatest size of a source is read. Whether the write to
+/// `err` fails changes nothing. Fewer than 2^64 - 1 writes to each sink failed before.
+///
+/// Of a source that cannot be read `unread` tells, and nothing is written to `out`. When that is
+/// so is not promised: no contract of a reader says when a read fails, so the clause allows it for
+/// every source. Nothing at all is promised of a reader that does not tell its bytes.
 pub fn tool<D: Read + Drop, W: Sink, E: Sink>(
     alloc: Global,
     asked: &Request,
