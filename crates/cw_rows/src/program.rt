@@ -1,17 +1,23 @@
 //! The program as a whole, over memory.
 
-use cw_cli::{request, say, tool};
+use cw_cli::{Request, request, say, tool};
 use cw_report::Counted;
 use std::alloc::{AllocError, Global};
 use std::test::Fail;
 
-/// The words of a line.
-pub fn words_of(alloc: Global, line: &str) -> Result<Vec<String>, AllocError> {
+// The words of a line.
+fn words_of(alloc: Global, line: &str) -> Result<Vec<String>, AllocError> {
     let mut words = Vec::new(alloc);
     for word in line.split_whitespace() {
         words.push(word.to_string(alloc)?)?;
     }
     Ok(words)
+}
+
+/// What the words of a line ask for.
+pub fn asked(alloc: Global, line: &str) -> Result<Request, Fail> {
+    let words = words_of(alloc, line)?;
+    request(alloc, words.as_slice()).map_err(|_| Fail::from("the words make no request"))
 }
 
 /// The exit status, standard output and standard error of the program on these words, where the file

@@ -2,9 +2,10 @@
 
 ghost use Rattle.std.specs.Prelude.{Some};
 
-use crate::program::words_of;
-use cw_cli::{request, tool};
+use crate::program::asked;
+use cw_cli::tool;
 use cw_report::{Counted, Sink};
+use std::alloc::Global;
 use std::io;
 use std::io::{Read, Write};
 use std::test::Fail;
@@ -47,31 +48,51 @@ impl Read for Broken {
     }
 }
 
+// What came of a report to a narrow sink.
+#[derive(Drop)]
+struct Told {
+    status: u8,
+    failures: u64,
+    out: Vec<u8>,
+    err: Vec<u8>,
+}
+
+// Reports the value 42 to a sink with this room.
+fn report(alloc: Global, room: usize, fails: bool) -> Result<Told, Fail> {
+    let asked = asked(alloc, "run f 42")?;
+    let source = b"int main(int n) { return n; }".as_slice();
+    let taken = Vec::new(alloc);
+    let mut out = Counted::new(Narrow { taken, room, fails });
+    let mut err = Counted::new(Vec::new(alloc));
+    let status = tool(alloc, &asked, source, &mut out, &mut err);
+    Ok(Told {
+        status,
+        failures: out.failures(),
+        out: out.into_inner().taken,
+        err: err.into_inner(),
+    })
+}
+
+#[test]
+fn reports_where_there_is_room(rt: HostRuntime) -> Result<(), Fail> {
+    for (room, fails) in [(10, true), (10, false), (11, true), (11, false)] {
+        let told = report(rt.alloc(), room, fails)?;
+        assert_eq!(rt; (told.status, told.failures), (0, 0), "{room}");
+        assert_eq!(rt; told.out.as_slice(), b"return 42\n".as_slice());
+        assert!(rt; told.err.is_empty(), "{room}");
+    }
+    Ok(())
+}
+
 #[test]
 fn reports_to_narrow_sinks(rt: HostRuntime) -> Result<(), Fail> {
-    let alloc = rt.alloc();
-    let words = words_of(alloc, "run f 42")?;
-    let asked = request(alloc, words.as_slice()).map_err(|_| Fail::from("the words are faulty"))?;
-    let source = b"int main(int n) { return n; }".as_slice();
     let text = b"return 42\n".as_slice();
-    for fails in [true, false] {
-        for room in 0..12 {
-            let taken = Vec::new(alloc);
-            let mut out = Counted::new(Narrow { taken, room, fails });
-            let mut err = Counted::new(Vec::new(alloc));
-            let status = tool(alloc, &asked, source, &mut out, &mut err);
-            let failures = out.failures();
-            let taken = out.into_inner().taken;
-            let told = err.into_inner();
-            if room < text.len() {
-                assert_eq!(rt; (status, failures), (7, 1), "{room}");
-                assert_eq!(rt; taken.as_slice(), &text[..room], "{room}");
-                assert_eq!(rt; told.as_slice(), b"write failed\n".as_slice());
-            } else {
-                assert_eq!(rt; (status, failures), (0, 0), "{room}");
-                assert_eq!(rt; taken.as_slice(), text, "{room}");
-                assert_eq!(rt; told.as_slice(), b"".as_slice());
-            }
+    for room in 0..text.len() {
+        for fails in [true, false] {
+            let told = report(rt.alloc(), room, fails)?;
+            assert_eq!(rt; (told.status, told.failures), (7, 1), "{room}");
+            assert_eq!(rt; told.out.as_slice(), &text[..room], "{room}");
+            assert_eq!(rt; told.err.as_slice(), b"write failed\n".as_slice());
         }
     }
     Ok(())
@@ -80,8 +101,7 @@ fn reports_to_narrow_sinks(rt: HostRuntime) -> Result<(), Fail> {
 #[test]
 fn tells_of_unread_sources(rt: HostRuntime) -> Result<(), Fail> {
     let alloc = rt.alloc();
-    let words = words_of(alloc, "run f")?;
-    let asked = request(alloc, words.as_slice()).map_err(|_| Fail::from("the words are faulty"))?;
+    let asked = asked(alloc, "run f")?;
     for (kind, status, line) in [
         (io::ErrorKind::PermissionDenied, 5, "file\n"),
         (io::ErrorKind::OutOfMemory, 6, "memory\n"),
@@ -99,8 +119,7 @@ fn tells_of_unread_sources(rt: HostRuntime) -> Result<(), Fail> {
 #[test]
 fn keeps_its_status_where_the_line_is_not_taken(rt: HostRuntime) -> Result<(), Fail> {
     let alloc = rt.alloc();
-    let words = words_of(alloc, "run f")?;
-    let asked = request(alloc, words.as_slice()).map_err(|_| Fail::from("the words are faulty"))?;
+    let asked = asked(alloc, "run f")?;
     let mut out = Counted::new(Vec::new(alloc));
     let taken = Vec::new(alloc);
     let mut err = Counted::new(Narrow {

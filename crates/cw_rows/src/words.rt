@@ -1,7 +1,7 @@
 //! The words of the program.
 
-use crate::program::{answer, words_of};
-use cw_cli::{Mode, Options, request};
+use crate::program::{answer, asked};
+use cw_cli::{Mode, Options};
 use std::test::Fail;
 
 #[test]
@@ -23,8 +23,7 @@ fn reads_requests(rt: HostRuntime) -> Result<(), Fail> {
         ),
         ("run --limit=1 -- f.cilk 0", "f.cilk", [0].as_slice(), 1),
     ] {
-        let words = words_of(alloc, line)?;
-        let asked = request(alloc, words.as_slice()).map_err(|_| Fail::from("said"))?;
+        let asked = asked(alloc, line)?;
         let options = Options {
             mode: Mode::Run,
             limit,
@@ -37,48 +36,59 @@ fn reads_requests(rt: HostRuntime) -> Result<(), Fail> {
     Ok(())
 }
 
+// Words that are no request, and the beginning of what stands on standard error.
+const REFUSED: &[(&str, &str)] = &[
+    // numbers
+    ("run f 9223372036854775808", "arguments\n"),
+    ("run f +1", "arguments\n"),
+    ("run f 1a", "arguments\n"),
+    ("run f 1 --limit 0", "arguments\n"),
+    ("run f --limit 4611686018427387905", "arguments\n"),
+    ("run f --limit 1e3", "arguments\n"),
+    ("run f --limit +1", "arguments\n"),
+    // words
+    ("run f -1", "error: unexpected argument '-1' found\n"),
+    (
+        "run",
+        "error: the following required arguments were not provided:\n",
+    ),
+    (
+        "run f --limit",
+        "error: a value is required for '--limit <N>'",
+    ),
+    (
+        "run f --workers 2",
+        "error: unexpected argument '--workers' found\n",
+    ),
+    ("walk f", "error: unrecognized subcommand 'walk'\n"),
+    ("f", "error: unrecognized subcommand 'f'\n"),
+];
+
+// Words that ask for help, and its beginning.
+const HELPED: &[(&str, &str)] = &[
+    ("--help", "Work and span of fork-join programs\n"),
+    ("run --help", "Runs a program and writes"),
+    ("help run", "Runs a program and writes"),
+];
+
 #[test]
 fn refuses_words(rt: HostRuntime) -> Result<(), Fail> {
-    let alloc = rt.alloc();
-    for (line, status, text) in [
-        ("run f 9223372036854775808", 5, "arguments\n"),
-        ("run f +1", 5, "arguments\n"),
-        ("run f 1a", 5, "arguments\n"),
-        ("run f 1 --limit 0", 5, "arguments\n"),
-        ("run f --limit 4611686018427387905", 5, "arguments\n"),
-        ("run f --limit 1e3", 5, "arguments\n"),
-        ("run f --limit +1", 5, "arguments\n"),
-        ("run f -1", 5, "error: unexpected argument '-1' found\n"),
-        (
-            "run",
-            5,
-            "error: the following required arguments were not provided:\n",
-        ),
-        (
-            "run f --limit",
-            5,
-            "error: a value is required for '--limit <N>'",
-        ),
-        (
-            "run f --workers 2",
-            5,
-            "error: unexpected argument '--workers' found\n",
-        ),
-        ("walk f", 5, "error: unrecognized subcommand 'walk'\n"),
-        ("f", 5, "error: unrecognized subcommand 'f'\n"),
-        ("--help", 0, "Work and span of fork-join programs\n"),
-        ("run --help", 0, "Runs a program and writes"),
-        ("help run", 0, "Runs a program and writes"),
-    ] {
-        let (told_status, out, err) = answer(alloc, line, b"")?;
-        assert_eq!(rt; told_status, status, "{line}");
-        let (told, silent) = if status == 0 { (out, err) } else { (err, out) };
-        assert!(rt; silent.is_empty(), "{line}");
-        assert!(rt; told.starts_with(text.as_bytes()), "{line}");
-        if status == 0 {
-            let help = String::from_utf8(told).map_err(|_| Fail::from("no text"))?;
-            assert!(rt; help.as_str().contains("  4  over limit "), "{line}");
-        }
+    for (line, text) in REFUSED {
+        let (status, out, err) = answer(rt.alloc(), line, b"")?;
+        assert_eq!(rt; (status, out.len()), (5, 0), "{line}");
+        assert!(rt; err.starts_with(text.as_bytes()), "{line}");
+    }
+    Ok(())
+}
+
+#[test]
+fn gives_help(rt: HostRuntime) -> Result<(), Fail> {
+    for (line, text) in HELPED {
+        let (status, out, err) = answer(rt.alloc(), line, b"")?;
+        assert_eq!(rt; (status, err.len()), (0, 0), "{line}");
+        let help = String::from_utf8(out).map_err(|_| Fail::from("no text"))?;
+        assert!(rt; help.as_str().starts_with(text), "{line}");
+        assert!(rt; help.as_str().contains("  4  over limit "), "{line}");
     }
     Ok(())
 }
