@@ -354,13 +354,3 @@ fn at_most_two_hundred_and_fifty_six_tokens_stand_in_a_row(rt: HostRuntime) -> R
     assert_eq!(rt; too_large_at(alloc, longer.as_bytes()), 2);
     Ok(())
 }
-
-#[test]
-fn names_are_compared_by_their_bytes(rt: HostRuntime) -> Result<(), Fail> {
-    let alloc = rt.alloc();
-    let name = Name::new(alloc, b"left")?;
-    assert!(rt; name.same(&Name::new(alloc, b"left")?));
-    assert!(rt; !name.same(&Name::new(alloc, b"Left")?));
-    assert!(rt; !name.same(&Name::new(alloc, b"lef")?));
-    Ok(())
-}

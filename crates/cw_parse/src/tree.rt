@@ -1,7 +1,7 @@
 //! The tree of a source: parentheses leave no node, each statement carries the line of its
 //! first token, and each call statement its number.
 
-ghost use Rattle.std.specs.Prelude.{◌≡◌, ◌↔◌, IfOk, IsTrue};
+ghost use Rattle.std.specs.Prelude.{◌≡◌, IfOk};
 
 use cw_model::syntax::{CallKind, Operator};
 use std::alloc::{AllocError, Global};
@@ -36,13 +36,6 @@ impl Name {
         ensures { result.now ≡ self.now }
     {
         self.text.as_slice()
-    }
-
-    /// Whether both names have the same bytes.
-    pub fn same(&self, other: &Name) -> bool
-        ensures { IsTrue result ↔ (self.now ≡ other.now) }
-    {
-        self.text.as_slice() == other.text.as_slice()
     }
 }
 
