@@ -5,7 +5,7 @@ ghost use Rattle.cw_model.specs.Limits.{most_number};
 ghost use Rattle.cw_model.specs.Pieces.{is_digit, value_of};
 
 /// The greatest number that a source can write.
-const MOST_NUMBER: u64 = 9_223_372_036_854_775_807;
+const MOST_NUMBER: u64 = i64::MAX as u64;
 
 /// The number that digits stand for, if it is not too great.
 pub fn value_of_digits(digits: &[u8]) -> Option<u64>

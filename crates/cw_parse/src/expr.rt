@@ -14,9 +14,6 @@ use crate::tree::{Expr, Name};
 use cw_model::token::{Kind, Token};
 use std::alloc::AllocError;
 
-// The greatest number that a source can write.
-const MOST_NUMBER: u64 = 9_223_372_036_854_775_807;
-
 /// The name that a token spells.
 pub(crate) fn name_of(reading: Reading<'_>, token: Token) -> Result<Name, AllocError>
     ensures { IfOk result (λ name. name ≡ name_of reading.entry.text.now token) }
@@ -57,13 +54,10 @@ fn simple<'a>(reading: Reading<'_>, first: Token, tokens: &'a [Token]) -> Read<'
         (simple reading.entry.text.now first first.kind tokens.now) }
 {
     match first.kind {
-        Kind::Number(value) => {
-            if value <= MOST_NUMBER {
-                Ok((Expr::Number(value as i64), tokens))
-            } else {
-                Err(Stop::At(tokens.len() + 1))
-            }
-        }
+        Kind::Number(value) => match i64::try_from(value) {
+            Ok(value) => Ok((Expr::Number(value), tokens)),
+            Err(_) => Err(Stop::At(tokens.len() + 1)),
+        },
         Kind::Name => Ok((Expr::Variable(name_of(reading, first)?), tokens)),
         _ => Err(Stop::At(tokens.len() + 1)),
     }
