@@ -4,6 +4,7 @@ use Rattle.std.specs.Int.{bit_at}
 use Rattle.std.proofs.lemmas.Nat.Bits.{bit_at-zero, bit_at_set_same, bit_at_set_other}
 use Rattle.std.proofs.lemmas.Bool.{eq-eqb}
 use Rattle.std.proofs.lemmas.Bool.Decides.{eqb_tells}
+use Rattle.cw_model.specs.Limits.{most_declared}
 use Rattle.cw_own.specs.Sets.{Slots, no_slot, with_slot, slots_of}
 
 same_sets : (s t : Slots) → ((slot : ℕ) → s slot ≡ t slot) → s ≡ t
@@ -58,7 +59,7 @@ other_row rows new k apart =
     ap (λ r. bit_at r (k % 64) == 1) (get_or-set_other rows (new / 64) (k / 64) (row_with (slice_index rows (new / 64)) (new % 64)) 0 apart)
     ∙ sym (ap (λ b. b || slots_of rows k) (differ_by k new (λ h. apart (ap (λ x. x / 64) h))))
 
-pub one_taken : (rows : List ℕ) (new : ℕ) → length rows ≡ 4 → new < 256 →
+pub one_taken : (rows : List ℕ) (new : ℕ) → length rows ≡ 4 → new < most_declared →
     slots_of (slice_set rows (new / 64) (row_with (slice_index rows (new / 64)) (new % 64))) ≡ with_slot new (slots_of rows)
 one_taken rows new four bound =
     let inside : new / 64 < length rows = omega (arith, four, bound) in

@@ -2,6 +2,7 @@
 
 ghost use Rattle.std.specs.Prelude.{◌≡◌, map, option_map, true};
 ghost use Rattle.std.specs.List.{list_all};
+ghost use Rattle.cw_model.specs.Limits.{most_declared};
 ghost use Rattle.cw_types.specs.Bounds.{below_expr, below_target, below_return, below_stmt, below_block};
 ghost use Rattle.cw_model.specs.Lines.{lowest};
 ghost use Rattle.cw_types.specs.View.{use_of, expr_of, stmt_of, block_of};
@@ -15,7 +16,7 @@ use cw_types::tree::{Call, Expr, Line, Stmt, Use};
 
 // Whether an expression names nothing taken.
 fn is_free(taken: &Taken, e: &Expr) -> bool
-    requires { below_expr 256 (expr_of e.now) ≡ true }
+    requires { below_expr most_declared (expr_of e.now) ≡ true }
     ensures { result ≡ free_expr (slots_of taken.now.rows) (expr_of e.now) }
 {
     match e {
@@ -25,7 +26,7 @@ fn is_free(taken: &Taken, e: &Expr) -> bool
 }
 
 fn are_free(taken: &Taken, es: &[Expr]) -> bool
-    requires { list_all (below_expr 256) (map expr_of es.now) ≡ true }
+    requires { list_all (below_expr most_declared) (map expr_of es.now) ≡ true }
     ensures { result ≡ list_all (free_expr (slots_of taken.now.rows)) (map expr_of es.now) }
 {
     for e in es {
@@ -37,7 +38,7 @@ fn are_free(taken: &Taken, es: &[Expr]) -> bool
 }
 
 fn is_target_free(taken: &Taken, target: &Option<Use>) -> bool
-    requires { below_target 256 (option_map use_of target.now) ≡ true }
+    requires { below_target most_declared (option_map use_of target.now) ≡ true }
     ensures { result ≡ free_target (slots_of taken.now.rows) (option_map use_of target.now) }
 {
     match target {
@@ -47,7 +48,7 @@ fn is_target_free(taken: &Taken, target: &Option<Use>) -> bool
 }
 
 fn is_return_free(taken: &Taken, e: &Option<Expr>) -> bool
-    requires { below_return 256 (option_map expr_of e.now) ≡ true }
+    requires { below_return most_declared (option_map expr_of e.now) ≡ true }
     ensures { result ≡ free_return (slots_of taken.now.rows) (option_map expr_of e.now) }
 {
     match e {
@@ -58,7 +59,7 @@ fn is_return_free(taken: &Taken, e: &Option<Expr>) -> bool
 
 // Whether a statement touches nothing taken.
 fn keeps_ownership(taken: &Taken, stmt: &Stmt) -> bool
-    requires { below_stmt 256 (stmt_of stmt.now) ≡ true }
+    requires { below_stmt most_declared (stmt_of stmt.now) ≡ true }
     ensures { result ≡ free_stmt (slots_of taken.now.rows) (stmt_of stmt.now) }
 {
     match stmt {
@@ -73,7 +74,7 @@ fn keeps_ownership(taken: &Taken, stmt: &Stmt) -> bool
 
 // What is taken after a statement.
 fn after(taken: Taken, stmt: &Stmt) -> Taken
-    requires { below_stmt 256 (stmt_of stmt.now) ≡ true }
+    requires { below_stmt most_declared (stmt_of stmt.now) ≡ true }
     ensures { slots_of result.rows ≡ slots_after (slots_of taken.rows) (stmt_of stmt.now) }
 {
     match stmt {
@@ -85,7 +86,7 @@ fn after(taken: Taken, stmt: &Stmt) -> Taken
 }
 
 fn after_call(taken: Taken, call: &Call) -> Taken
-    requires { below_target 256 (option_map use_of call.now.target) ≡ true }
+    requires { below_target most_declared (option_map use_of call.now.target) ≡ true }
     ensures { slots_of result.rows ≡ taken_by_call call.now.kind (option_map use_of call.now.target) (slots_of taken.rows) }
 {
     let mut after = taken;
@@ -103,7 +104,7 @@ fn after_call(taken: Taken, call: &Call) -> Taken
 
 /// Notes each line of a body that touches what is taken.
 pub fn note_taken(lines: &[Line], least: &mut LeastLine)
-    requires { below_block 256 (block_of lines.now) ≡ true }
+    requires { below_block most_declared (block_of lines.now) ≡ true }
     ensures { least.new.line ≡ lowest least.old.line (taken_lines no_slot (block_of lines.now)) }
 {
     let mut taken = Taken::none();

@@ -9,7 +9,7 @@ use Rattle.cw_model.specs.Names.{same_name}
 use Rattle.cw_model.specs.Answers.{main_name}
 use Rattle.cw_model.specs.Lines.{unless}
 use Rattle.cw_model.specs.FirstGrammar.{is_first_function}
-use Rattle.cw_model.specs.Limits.{most_parameters}
+use Rattle.cw_model.specs.Limits.{most_parameters, most_declared}
 use Rattle.cw_model.specs.Sizes.{declaring_lines_in, function_limits}
 use Rattle.cw_model.specs.Typing.{faults_of}
 use Rattle.cw_types.specs.Bounds.{below_expr, below_target, below_stmt, below_block, is_fitting, are_fitting}
@@ -100,11 +100,11 @@ block_below fs globals names n (model.Then line s b) h f =
     (stmt_below fs globals names n s after before one)
     (block_below fs globals (names_after names s) n b h (right_none (unless (fine_stmt fs globals names (resolved_stmt globals names s)) line) (slot_faults fs globals (names_after names s) b) f))
 
-at_most_256 : (f : model.Function) → function_limits f ≡ [] → length (names_after_all (param_names f.params) f.body) ≤ 256
-at_most_256 f h =
+names_within : (f : model.Function) → function_limits f ≡ [] → length (names_after_all (param_names f.params) f.body) ≤ most_declared
+names_within f h =
     let lines = map (λ (p : Param). f.line) f.params in
     let declared = declaring_lines_in f.body in
-    let few : length (lines ++ declared) ≤ 256 = none_left 256 (lines ++ declared) (right_none (unless (nat_le (length f.params) most_parameters) f.line) (drop 256 (lines ++ declared)) h) in
+    let few : length (lines ++ declared) ≤ most_declared = none_left most_declared (lines ++ declared) (right_none (unless (nat_le (length f.params) most_parameters) f.line) (drop most_declared (lines ++ declared)) h) in
     let all = length-append lines declared in
     let count : length lines ≡ length f.params = length-map f.params (λ (p : Param). f.line) in
     let named : length (param_names f.params) ≡ length f.params = length-map f.params (λ (p : Param). p.name) in
@@ -121,10 +121,10 @@ functions_fit fs (g ∷ gs) first small none =
     let globals = function_names fs in
     let faults = sym (function_by_slot fs g here) ∙ left_none (faults_of (without fs) g) (flat_map (faults_of (without fs)) gs) none in
     let body = right_none (unless (are_new globals [] names) g.line) (slot_faults fs globals names g.body) faults in
-    let most = at_most_256 g (left_none (function_limits g) (flat_map function_limits gs) small) in
+    let most = names_within g (left_none (function_limits g) (flat_map function_limits gs) small) in
     both (is_fitting (resolved_function globals g)) (are_fitting (map (resolved_function globals) gs))
-    (both (nat_le (length (names_after_all names g.body)) 256) (below_block (length (names_after_all names g.body)) (resolved_block globals names g.body))
-    (le-leb (length (names_after_all names g.body)) 256 most)
+    (both (nat_le (length (names_after_all names g.body)) most_declared) (below_block (length (names_after_all names g.body)) (resolved_block globals names g.body))
+    (le-leb (length (names_after_all names g.body)) most_declared most)
     (block_below fs globals names (length (names_after_all names g.body)) g.body (omega arith) body))
     (functions_fit fs gs (both_right (is_first_function g) (list_all is_first_function gs) first)
     (right_none (function_limits g) (flat_map function_limits gs) small)
@@ -161,8 +161,8 @@ block_fits n m (Then line s rest) h b =
     both (below_stmt m s) (below_block m rest) (stmt_fits n m s h (both_left (below_stmt n s) (below_block n rest) b))
     (block_fits n m rest h (both_right (below_stmt n s) (below_block n rest) b))
 
--- a slot below the count of slots is below 256
-pub fitting_below : (f : Function) → is_fitting f ≡ true → below_block 256 f.body ≡ true
+-- a slot below the count of slots is below the most of them
+pub fitting_below : (f : Function) → is_fitting f ≡ true → below_block most_declared f.body ≡ true
 fitting_below f h =
-    let most : f.slots ≤ 256 = leb-true f.slots 256 (both_left (nat_le f.slots 256) (below_block f.slots f.body) h) in
-    block_fits f.slots 256 f.body most (both_right (nat_le f.slots 256) (below_block f.slots f.body) h)
+    let most : f.slots ≤ most_declared = leb-true f.slots most_declared (both_left (nat_le f.slots most_declared) (below_block f.slots f.body) h) in
+    block_fits f.slots most_declared f.body most (both_right (nat_le f.slots most_declared) (below_block f.slots f.body) h)

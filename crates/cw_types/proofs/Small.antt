@@ -5,7 +5,7 @@ use Rattle.std.proofs.lemmas.List.Elements.{All-cons}
 use Rattle.cw_model.specs.Lines.{unless}
 use Rattle.cw_model.specs.Syntax.{Param, Stmt, Declare, DeclareArray, Assign, AssignElement, AddTo, Call, Start, Begin, Sync, If, IfElse, While, For, Scope, Cut, Region, Print, Return, Block, End, Then, Program}
 use Rattle.cw_model.specs.Syntax as model
-use Rattle.cw_model.specs.Limits.{most_functions, most_parameters}
+use Rattle.cw_model.specs.Limits.{most_functions, most_parameters, most_declared}
 use Rattle.cw_model.specs.Sizes.{declaring_lines, declaring_lines_in, function_limits, limit_faults, lines_beyond}
 use Rattle.cw_parse.specs.declared.tree.Function.{Function}
 use Rattle.cw_parse.specs.View as parsed
@@ -66,7 +66,7 @@ small_function f h =
     let params = map parsed.param_of f.params.items in
     let lines = map (λ (p : Param). f.line) params in
     let declared = declaring_lines_in (parsed.block_of f.body.items) in
-    let few : length (lines ++ declared) ≤ 256 = none_left 256 (lines ++ declared) (right_none (unless (nat_le (length params) most_parameters) f.line) (drop 256 (lines ++ declared)) h) in
+    let few : length (lines ++ declared) ≤ most_declared = none_left most_declared (lines ++ declared) (right_none (unless (nat_le (length params) most_parameters) f.line) (drop most_declared (lines ++ declared)) h) in
     let all = length-append lines declared in
     let count : length lines ≡ length params = length-map params (λ (p : Param). f.line) in
     let same : length params ≡ length f.params.items = length-map f.params.items parsed.param_of in

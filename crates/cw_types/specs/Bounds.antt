@@ -1,6 +1,7 @@
 -- How great slots are: each is below the count of its function's slots, and that is at most the most names of a function.
 use Rattle.std.specs.Prelude.{ℕ, Bool, true, ◌&&◌, nat_lt, nat_le, List, Option, Some, None}
 use Rattle.std.specs.List.{list_all}
+use Rattle.cw_model.specs.Limits.{most_declared}
 use Rattle.cw_types.specs.Resolved.{Use, Expr, Number, Variable, Stmt, Declare, Call, Sync, Return, Block, End, Then, Function}
 
 -- an expression uses only slots below n
@@ -30,9 +31,9 @@ abbrev pub below_block : ℕ → Block → Bool
 below_block n End = true
 below_block n (Then line s b) = below_stmt n s && below_block n b
 
--- at most 256 names
+-- a function has at most the most names, and uses only slots below the count of its own
 abbrev pub is_fitting : Function → Bool
-is_fitting f = nat_le f.slots 256 && below_block f.slots f.body
+is_fitting f = nat_le f.slots most_declared && below_block f.slots f.body
 
 -- each of the functions is such
 abbrev pub are_fitting : List Function → Bool

@@ -8,7 +8,7 @@
 -- `resolved_of tree ≡ resolved (program_of tree)`, by which each slot is `slot_of x names`, each index
 -- `slot_of f (function_names ..)`, and each count of slots the number of names that its function declares.
 -- `Typed` also keeps `are_fitting (resolved_of tree).functions ≡ true`: each slot is below its function's count of
--- slots, and that is at most 256.
+-- slots, and that is at most `most_declared`.
 use Rattle.std.specs.Prelude.{ℕ, suc, ℤ, pos, ◌==◌, Bool, true, false, ◌&&◌, if◌then◌else◌, List, [], ◌∷◌, ◌++◌, length, map, Option, Some, None, option_map}
 use Rattle.std.specs.List.{list_all}
 use Rattle.cw_model.specs.declared.syntax.CallKind.{CallKind}

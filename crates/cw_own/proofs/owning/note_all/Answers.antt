@@ -1,5 +1,6 @@
 use Rattle.std.proofs.Common.{◌≡◌, List, ◌∷◌, map, flat_map, drop, ◌+◌, ap, sym, ◌∙◌, arith}
 use Rattle.std.proofs.lemmas.Grind.{common_steps}
+use Rattle.cw_model.specs.Limits.{most_declared}
 use Rattle.cw_types.specs.Bounds.{are_fitting, is_fitting, below_block}
 use Rattle.cw_model.specs.Lines.{lowest}
 use Rattle.cw_types.specs.Resolved as spec
@@ -16,7 +17,7 @@ note_taken-requires c =
     let f = function_of c.function-item.result in
     let rest = map function_of (drop (c.loop-function.function-index + 1) c.args.functions.now) in
     let split : map function_of (drop c.loop-function.function-index c.args.functions.now) ≡ f ∷ rest = grind (arith, common_steps) in
-    ap (λ ls. below_block 256 (block_of ls)) c.deref.ensures.value
+    ap (λ ls. below_block most_declared (block_of ls)) c.deref.ensures.value
     ∙ fitting_below f (both_left (is_fitting f) (are_fitting rest) (ap are_fitting (sym split) ∙ c.loop-function.invariant.fitting))
 
 pub loop-function-preserved : goal.loop-function-preserved

@@ -1,5 +1,6 @@
 use Rattle.std.proofs.Common.{◌≡◌, ℕ, List, [], ◌∷◌, ◌++◌, map, drop, length, nat_le, ap, sym, refl, ◌∙◌, arith}
 use Rattle.std.proofs.lemmas.List.{length-map}
+use Rattle.cw_model.specs.Limits.{most_declared}
 use Rattle.cw_model.specs.Lines.{unless}
 use Rattle.cw_model.specs.Sizes.{declaring_lines_in}
 use Rattle.cw_parse.specs.View.{param_of, block_of}
@@ -19,12 +20,12 @@ returns c =
     let old = c.args.least.now.line in
     let lines = declaring_lines_in (block_of c.args.function.now.body.items) in
     let count : c.len.result ≡ length (map param_of ps) = grind (arith, length-map) in
-    let room = drop 256 (map (λ _. line) (map param_of ps) ++ lines) in
+    let room = drop most_declared (map (λ _. line) (map param_of ps) ++ lines) in
     c.body_beyond.ensures
     ∙ ap (λ b. lowest c.params_beyond-room.new.least.line (drop c.params_beyond-room.result (declaring_lines_in (block_of b)))) c.deref-2.ensures.value
     ∙ c.params_beyond-room.ensures lines
-    ∙ ap (λ l. lowest c.note.new.self.line (drop 256 (map (λ _. line) l ++ lines))) c.deref.ensures.value
-    ∙ ap (λ l. lowest c.note.new.self.line (drop 256 (l ++ lines))) (heads line ps)
+    ∙ ap (λ l. lowest c.note.new.self.line (drop most_declared (map (λ _. line) l ++ lines))) c.deref.ensures.value
+    ∙ ap (λ l. lowest c.note.new.self.line (drop most_declared (l ++ lines))) (heads line ps)
     ∙ ap (λ o. lowest o room) c.note.ensures
     ∙ ap (λ n. lowest (lowest old (unless (nat_le n 16) line)) room) count
     ∙ sym (lowest-append old (unless (nat_le (length (map param_of ps)) 16) line) room)
