@@ -13,8 +13,11 @@ fn tokens_of(alloc: Global, text: &[u8]) -> Result<Vec<Token>, Fault> {
     Ok(tokens)
 }
 
+// A part of a text: its kind, and its length in bytes.
+type Part = (Kind, usize);
+
 // Tokens that stand side by side from the first byte on, in the first line.
-fn side_by_side(alloc: Global, parts: &[(Kind, usize)]) -> Result<Vec<Token>, AllocError> {
+fn side_by_side(alloc: Global, parts: &[Part]) -> Result<Vec<Token>, AllocError> {
     let mut tokens = Vec::new(alloc);
     let mut start = 0usize;
     for (kind, len) in parts {
@@ -31,7 +34,7 @@ fn side_by_side(alloc: Global, parts: &[(Kind, usize)]) -> Result<Vec<Token>, Al
 }
 
 #[test]
-fn words_are_keywords_or_names(rt: HostRuntime) -> Result<(), Fail> {
+fn keywords_are_no_names(rt: HostRuntime) -> Result<(), Fail> {
     let alloc = rt.alloc();
     for (text, kind) in [
         ("int", Kind::Int),
@@ -54,17 +57,6 @@ fn words_are_keywords_or_names(rt: HostRuntime) -> Result<(), Fail> {
         ("cilk_sync", Kind::Sync),
         ("cilk_scope", Kind::Scope),
         ("cilk_for", Kind::For),
-        ("Int", Kind::Name),
-        ("ints", Kind::Name),
-        ("in", Kind::Name),
-        ("for", Kind::Name),
-        ("_", Kind::Name),
-        ("a_B9", Kind::Name),
-        ("cilk_fo", Kind::Name),
-        (
-            "name_of_exactly_64_bytes_abcdefghijklmnopqrstuvwxyz_ABCDEFGHIJKL",
-            Kind::Name,
-        ),
     ] {
         let tokens = tokens_of(alloc, text.as_bytes())?;
         let wanted = side_by_side(alloc, &[(kind, text.len())])?;
@@ -74,38 +66,71 @@ fn words_are_keywords_or_names(rt: HostRuntime) -> Result<(), Fail> {
 }
 
 #[test]
-fn symbols_and_numbers_stand_side_by_side(rt: HostRuntime) -> Result<(), Fail> {
+fn other_words_are_names(rt: HostRuntime) -> Result<(), Fail> {
     let alloc = rt.alloc();
-    let all_symbols: [(Kind, usize); 23] = [
-        (Kind::LeftParen, 1),
-        (Kind::RightParen, 1),
-        (Kind::LeftBrace, 1),
-        (Kind::RightBrace, 1),
-        (Kind::LeftBracket, 1),
-        (Kind::RightBracket, 1),
-        (Kind::Comma, 1),
-        (Kind::Semicolon, 1),
-        (Kind::AddAssign, 2),
-        (Kind::Increment, 2),
-        (Kind::Plus, 1),
-        (Kind::Minus, 1),
-        (Kind::Star, 1),
-        (Kind::Slash, 1),
-        (Kind::Percent, 1),
-        (Kind::LessEqual, 2),
-        (Kind::Less, 1),
-        (Kind::GreaterEqual, 2),
-        (Kind::Greater, 1),
-        (Kind::Not, 1),
-        (Kind::NotEqual, 2),
-        (Kind::Equal, 2),
-        (Kind::Assign, 1),
-    ];
-    let cases: [(&[u8], &[(Kind, usize)]); 10] = [
-        (b"(){}[],;+=+++-*/%<=<>=>!!====", &all_symbols),
+    for text in [
+        "Int",
+        "ints",
+        "in",
+        "for",
+        "_",
+        "a_B9",
+        "cilk_fo",
+        "name_of_exactly_64_bytes_abcdefghijklmnopqrstuvwxyz_ABCDEFGHIJKL",
+    ] {
+        let tokens = tokens_of(alloc, text.as_bytes())?;
+        let wanted = side_by_side(alloc, &[(Kind::Name, text.len())])?;
+        assert_eq!(rt; tokens, wanted, "{text}");
+    }
+    Ok(())
+}
+
+// The symbols in the order of the text "(){}[],;+=+++-*/%<=<>=>!!====".
+const ALL_SYMBOLS: [Part; 23] = [
+    (Kind::LeftParen, 1),
+    (Kind::RightParen, 1),
+    (Kind::LeftBrace, 1),
+    (Kind::RightBrace, 1),
+    (Kind::LeftBracket, 1),
+    (Kind::RightBracket, 1),
+    (Kind::Comma, 1),
+    (Kind::Semicolon, 1),
+    (Kind::AddAssign, 2),
+    (Kind::Increment, 2),
+    (Kind::Plus, 1),
+    (Kind::Minus, 1),
+    (Kind::Star, 1),
+    (Kind::Slash, 1),
+    (Kind::Percent, 1),
+    (Kind::LessEqual, 2),
+    (Kind::Less, 1),
+    (Kind::GreaterEqual, 2),
+    (Kind::Greater, 1),
+    (Kind::Not, 1),
+    (Kind::NotEqual, 2),
+    (Kind::Equal, 2),
+    (Kind::Assign, 1),
+];
+
+#[test]
+fn symbols_are_as_long_as_they_can_be(rt: HostRuntime) -> Result<(), Fail> {
+    let alloc = rt.alloc();
+    let cases: [(&[u8], &[Part]); 4] = [
+        (b"(){}[],;+=+++-*/%<=<>=>!!====", &ALL_SYMBOLS),
         (b"+++", &[(Kind::Increment, 2), (Kind::Plus, 1)]),
         (b"===", &[(Kind::Equal, 2), (Kind::Assign, 1)]),
         (b"++=", &[(Kind::Increment, 2), (Kind::Assign, 1)]),
+    ];
+    for (text, parts) in cases {
+        assert_eq!(rt; tokens_of(alloc, text)?, side_by_side(alloc, parts)?);
+    }
+    Ok(())
+}
+
+#[test]
+fn numbers_end_before_what_is_no_part_of_them(rt: HostRuntime) -> Result<(), Fail> {
+    let alloc = rt.alloc();
+    let cases: [(&[u8], &[Part]); 4] = [
         (
             b"007",
             &[
@@ -120,13 +145,22 @@ fn symbols_and_numbers_stand_side_by_side(rt: HostRuntime) -> Result<(), Fail> {
             b"9223372036854775807",
             &[(Kind::Number(9_223_372_036_854_775_807), 19)],
         ),
-        (b"a1//x", &[(Kind::Name, 2)]),
-        (b"", &[]),
     ];
     for (text, parts) in cases {
-        let tokens = tokens_of(alloc, text)?;
-        let wanted = side_by_side(alloc, parts)?;
-        assert_eq!(rt; tokens, wanted);
+        assert_eq!(rt; tokens_of(alloc, text)?, side_by_side(alloc, parts)?);
+    }
+    Ok(())
+}
+
+#[test]
+fn comments_leave_no_token(rt: HostRuntime) -> Result<(), Fail> {
+    let alloc = rt.alloc();
+    assert_eq!(rt;
+        tokens_of(alloc, b"a1//x")?,
+        side_by_side(alloc, &[(Kind::Name, 2)])?
+    );
+    for text in ["", " \t\r\n", "// only", "//", "//\n//"] {
+        assert_eq!(rt; tokens_of(alloc, text.as_bytes())?.len(), 0, "{text}");
     }
     Ok(())
 }
@@ -156,10 +190,6 @@ fn tokens_have_places_and_lines(rt: HostRuntime) -> Result<(), Fail> {
         ]?;
         assert_eq!(rt; tokens, wanted);
     }
-    for text in [" \t\r\n", "// only", "//", "//\n//"] {
-        let tokens = tokens_of(alloc, text.as_bytes())?;
-        assert!(rt; tokens.is_empty(), "{text}");
-    }
     Ok(())
 }
 
@@ -186,10 +216,11 @@ fn the_first_fault_decides(rt: HostRuntime) -> Result<(), Fail> {
             Fault::Lexical(Place { line: 1 }),
         ),
     ] {
-        match tokens_of(alloc, text.as_bytes()) {
-            Ok(_) => assert!(rt; false, "taken: {text}"),
-            Err(found) => assert_eq!(rt; found, fault, "{text}"),
-        }
+        assert_eq!(rt;
+            tokens_of(alloc, text.as_bytes()).err(),
+            Some(fault),
+            "{text}"
+        );
     }
     Ok(())
 }
@@ -201,9 +232,7 @@ fn the_longest_text_is_cut(rt: HostRuntime) -> Result<(), Fail> {
     let tokens = tokens_of(alloc, bytes.as_slice())?;
     assert_eq!(rt; tokens.len(), 1_048_576);
     bytes.push(b'$')?;
-    match tokens_of(alloc, bytes.as_slice()) {
-        Ok(_) => assert!(rt; false, "taken"),
-        Err(fault) => assert_eq!(rt; fault, Fault::Size(Place { line: 1 })),
-    }
+    let fault = tokens_of(alloc, bytes.as_slice()).err();
+    assert_eq!(rt; fault, Some(Fault::Size(Place { line: 1 })));
     Ok(())
 }

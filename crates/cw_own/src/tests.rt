@@ -17,6 +17,16 @@ fn owned(alloc: Global, text: &str) -> Result<Owned, Fault> {
     own(typed)
 }
 
+// The first fault of a source, if it has one.
+fn fault_of(alloc: Global, text: &str) -> Option<Fault> {
+    owned(alloc, text).err()
+}
+
+// A name that is taken is touched in this line.
+fn touched(line: u32) -> Option<Fault> {
+    Some(Fault::Ownership(Place { line }))
+}
+
 #[test]
 fn sources_that_keep_the_rules(rt: HostRuntime) -> Result<(), Fail> {
     let alloc = rt.alloc();
@@ -28,34 +38,45 @@ fn sources_that_keep_the_rules(rt: HostRuntime) -> Result<(), Fail> {
         "int f(int a) {\nreturn a; }\nint main() {\nint x = 0;\nx = cilk_spawn f(1);\ncilk_sync;\nx = cilk_spawn f(x);\nreturn 0; }",
         "int f() {\nreturn 1; }\nint main() {\nint x = 0;\nint y = 0;\nx = cilk_spawn f();\ny = cilk_spawn f();\nint z = 2;\ncilk_sync;\nreturn y; }",
     ] {
-        if let Err(fault) = owned(alloc, text) {
-            assert!(rt; false, "{fault} in\n{text}");
-        }
+        assert_eq!(rt; fault_of(alloc, text), None, "{text}");
     }
     Ok(())
 }
 
 #[test]
-fn sources_that_touch_taken_names(rt: HostRuntime) -> Result<(), Fail> {
+fn a_taken_name_is_not_touched(rt: HostRuntime) -> Result<(), Fail> {
     let alloc = rt.alloc();
     for (line, text) in [
-        // read before the join, as a value, an argument and what is returned
+        // not read as a value
         (
             6,
             "int f() {\nreturn 1; }\nint main() {\nint x = 0;\nx = cilk_spawn f();\nint y = x;\nreturn 0; }",
         ),
+        // not given another value
         (
             6,
             "int f(int a) {\nreturn a; }\nint main() {\nint x = 0;\nx = cilk_spawn f(1);\nx = f(2);\nreturn 0; }",
         ),
+        // not read as an argument
         (
             7,
             "int f(int a) {\nreturn a; }\nint main() {\nint x = 0;\nint y = 0;\nx = cilk_spawn f(1);\ny = f(x);\nreturn 0; }",
         ),
+        // not returned
         (
             6,
             "int f() {\nreturn 1; }\nint main() {\nint x = 0;\nx = cilk_spawn f();\nreturn x; }",
         ),
+    ] {
+        assert_eq!(rt; fault_of(alloc, text), touched(line), "{text}");
+    }
+    Ok(())
+}
+
+#[test]
+fn each_spawn_takes_its_name(rt: HostRuntime) -> Result<(), Fail> {
+    let alloc = rt.alloc();
+    for (line, text) in [
         // two spawns into one name
         (
             6,
@@ -66,16 +87,16 @@ fn sources_that_touch_taken_names(rt: HostRuntime) -> Result<(), Fail> {
             8,
             "int f() {\nreturn 1; }\nint main() {\nint x = 0;\nx = cilk_spawn f();\ncilk_sync;\nx = cilk_spawn f();\nint y = x;\nreturn 0; }",
         ),
-        // two faults: the first
-        (
-            6,
-            "int f() {\nreturn 1; }\nint main() {\nint x = 0;\nx = cilk_spawn f();\nint y = x;\nint z = x;\nreturn x; }",
-        ),
     ] {
-        match owned(alloc, text) {
-            Ok(_) => assert!(rt; false, "taken:\n{text}"),
-            Err(fault) => assert_eq!(rt; fault, Fault::Ownership(Place { line }), "{text}"),
-        }
+        assert_eq!(rt; fault_of(alloc, text), touched(line), "{text}");
     }
+    Ok(())
+}
+
+#[test]
+fn the_first_of_three_lines_is_told(rt: HostRuntime) -> Result<(), Fail> {
+    let text =
+        "int f() {\nreturn 1; }\nint main() {\nint x = 0;\nx = cilk_spawn f();\nint y = x;\nint z = x;\nreturn x; }";
+    assert_eq!(rt; fault_of(rt.alloc(), text), touched(6));
     Ok(())
 }

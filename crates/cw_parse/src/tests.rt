@@ -4,7 +4,7 @@ use crate::parse;
 use crate::tree::{Ast, Expr, Function, Name, Stmt};
 use cw_lex::lex;
 use cw_model::syntax::CallKind;
-use cw_text::{Fault, Source};
+use cw_text::{Fault, Place, Source};
 use std::alloc::{AllocError, Global};
 use std::test::Fail;
 
@@ -15,13 +15,19 @@ fn tree_of(alloc: Global, text: &[u8]) -> Result<Ast, Fault> {
     Ok(ast)
 }
 
-// The line in which a text is refused for its syntax, and 0 where it has a tree.
-fn refused_at(alloc: Global, text: &[u8]) -> Result<u32, Fault> {
-    match tree_of(alloc, text) {
-        Ok(_) => Ok(0),
-        Err(Fault::Syntax(place)) => Ok(place.line),
-        Err(fault) => Err(fault),
-    }
+// The first fault of a text, if it has one.
+fn fault_of(alloc: Global, text: &[u8]) -> Option<Fault> {
+    tree_of(alloc, text).err()
+}
+
+// A token in this line can continue no source, or the source ends in it too early.
+fn misplaced(line: u32) -> Option<Fault> {
+    Some(Fault::Syntax(Place { line }))
+}
+
+// A token in this line passes a limit.
+fn too_large(line: u32) -> Option<Fault> {
+    Some(Fault::Size(Place { line }))
 }
 
 fn show_name(out: &mut String, name: &Name) -> Result<(), AllocError> {
@@ -136,32 +142,67 @@ fn sources_have_their_trees(rt: HostRuntime) -> Result<(), Fail> {
 }
 
 #[test]
-fn other_sources_are_refused_at_their_line(rt: HostRuntime) -> Result<(), Fail> {
+fn a_source_that_ends_too_early_is_refused_in_its_last_line(rt: HostRuntime) -> Result<(), Fail> {
     let alloc = rt.alloc();
     for (text, line) in [
-        // too early an end: 1 and the line feeds
         ("", 1),
         ("\n\n", 3),
         ("// int main() { return 0; }\n", 2),
         ("int main() {\n  return 0;\n", 3),
         ("int main() {\n  return 0;", 2),
         ("int f() { return 0; }\nint", 2),
-        // a token that stands between two functions, or behind the last one
+    ] {
+        assert_eq!(rt; fault_of(alloc, text.as_bytes()), misplaced(line), "{text}");
+    }
+    Ok(())
+}
+
+#[test]
+fn nothing_stands_between_functions_or_behind_them(rt: HostRuntime) -> Result<(), Fail> {
+    let alloc = rt.alloc();
+    for (text, line) in [
         ("int f() { return 0; }\n;\nint main() { return 0; }", 2),
         ("int main() { return 0; }\n}\n", 2),
-        // no function of integers that gives one
+    ] {
+        assert_eq!(rt; fault_of(alloc, text.as_bytes()), misplaced(line), "{text}");
+    }
+    Ok(())
+}
+
+#[test]
+fn a_head_has_integer_parameters_and_gives_an_integer(rt: HostRuntime) -> Result<(), Fail> {
+    let alloc = rt.alloc();
+    for (text, line) in [
         ("void f() { return; }", 1),
         ("\nreducer sum s;\nint main() { return 0; }", 2),
         ("int f(int a\n[\n]) { return 0; }", 2),
         ("int f(int a,\n) { return 0; }", 2),
         ("int f(int a\nint b) { return 0; }", 2),
         ("int f(\n,\nint a) { return 0; }", 2),
-        // bodies: a return at the end, and only there
+    ] {
+        assert_eq!(rt; fault_of(alloc, text.as_bytes()), misplaced(line), "{text}");
+    }
+    Ok(())
+}
+
+#[test]
+fn a_body_has_one_return_at_its_end(rt: HostRuntime) -> Result<(), Fail> {
+    let alloc = rt.alloc();
+    for (text, line) in [
         ("int main() {\n  cilk_sync;\n}", 3),
         ("int main() {\n}", 2),
         ("int main() {\n  return 0;\n  cilk_sync;\n}", 3),
         ("int main() {\n  return\n  ;\n}", 3),
-        // statements of the whole grammar that the first one does not have
+    ] {
+        assert_eq!(rt; fault_of(alloc, text.as_bytes()), misplaced(line), "{text}");
+    }
+    Ok(())
+}
+
+#[test]
+fn other_statements_of_the_grammar_are_not_taken_yet(rt: HostRuntime) -> Result<(), Fail> {
+    let alloc = rt.alloc();
+    for (text, line) in [
         (
             "int main() {\n  int x = 0;\n  x\n  =\n  1\n  ;\n  return x; }",
             5,
@@ -170,7 +211,16 @@ fn other_sources_are_refused_at_their_line(rt: HostRuntime) -> Result<(), Fail> 
         ("int main() {\n  cilk_spawn\n f();\n  return 0; }", 2),
         ("int main() {\n  int a\n[3];\n  return 0; }", 3),
         ("int main() {\n  if (1) { }\n  return 0; }", 2),
-        // expressions
+    ] {
+        assert_eq!(rt; fault_of(alloc, text.as_bytes()), misplaced(line), "{text}");
+    }
+    Ok(())
+}
+
+#[test]
+fn an_expression_is_a_number_or_a_name_in_parentheses(rt: HostRuntime) -> Result<(), Fail> {
+    let alloc = rt.alloc();
+    for (text, line) in [
         ("int main() { return 1\n+\n1; }", 2),
         ("int main() { return a\n[\n0]; }", 2),
         ("int main() { return\n-\n1; }", 2),
@@ -178,7 +228,16 @@ fn other_sources_are_refused_at_their_line(rt: HostRuntime) -> Result<(), Fail> 
         ("int main() { return (1\n;\n}", 2),
         ("int main() { return (1))\n; }", 1),
         ("int main() { return 0\n0; }", 2),
-        // calls
+    ] {
+        assert_eq!(rt; fault_of(alloc, text.as_bytes()), misplaced(line), "{text}");
+    }
+    Ok(())
+}
+
+#[test]
+fn a_call_has_its_parentheses_commas_and_semicolon(rt: HostRuntime) -> Result<(), Fail> {
+    let alloc = rt.alloc();
+    for (text, line) in [
         ("int main() { int x = 0; x = f(1\n;\n return x; }", 2),
         ("int main() { int x = 0; x = f(1,\n)\n; return x; }", 2),
         ("int main() { int x = 0; x = f(\n,\n1); return x; }", 2),
@@ -186,77 +245,80 @@ fn other_sources_are_refused_at_their_line(rt: HostRuntime) -> Result<(), Fail> 
         ("int main() { int x = 0; x = f\n; return x; }", 2),
         ("int main() { int x = 0; x = cilk_spawn\n1; return x; }", 2),
     ] {
-        assert_eq!(rt; refused_at(alloc, text.as_bytes())?, line, "{text}");
+        assert_eq!(rt; fault_of(alloc, text.as_bytes()), misplaced(line), "{text}");
     }
     Ok(())
 }
 
-// The tokens of a program, and for each the line of the fault where it is left out: 0 where the
+// The tokens of a program, and for each the line of the fault where it is left out: none where the
 // rest is still a source.
-const FIRST_PROGRAM: [(&str, u32); 35] = [
-    ("int", 2),
-    ("f", 3),
-    ("(", 4),
-    ("int", 5),
-    ("v", 6),
-    (")", 7),
-    ("{", 8),
+const FIRST_PROGRAM: [(&str, Option<u32>); 35] = [
+    ("int", Some(2)),
+    ("f", Some(3)),
+    ("(", Some(4)),
+    ("int", Some(5)),
+    ("v", Some(6)),
+    (")", Some(7)),
+    ("{", Some(8)),
     // "{ v" can go on to "{ v = .."
-    ("return", 10),
-    ("v", 10),
-    (";", 11),
-    ("}", 12),
-    ("int", 13),
-    ("main", 14),
-    ("(", 15),
-    (")", 16),
-    ("{", 17),
+    ("return", Some(10)),
+    ("v", Some(10)),
+    (";", Some(11)),
+    ("}", Some(12)),
+    ("int", Some(13)),
+    ("main", Some(14)),
+    ("(", Some(15)),
+    (")", Some(16)),
+    ("{", Some(17)),
     // "{ x =" goes on to a call
-    ("int", 20),
-    ("x", 19),
-    ("=", 20),
-    ("0", 21),
-    (";", 22),
-    ("x", 23),
-    ("=", 24),
+    ("int", Some(20)),
+    ("x", Some(19)),
+    ("=", Some(20)),
+    ("0", Some(21)),
+    (";", Some(22)),
+    ("x", Some(23)),
+    ("=", Some(24)),
     // a plain call
-    ("cilk_spawn", 0),
-    ("f", 26),
-    ("(", 27),
+    ("cilk_spawn", None),
+    ("f", Some(26)),
+    ("(", Some(27)),
     // a call without arguments
-    ("1", 0),
-    (")", 29),
-    (";", 30),
-    ("cilk_sync", 31),
-    (";", 32),
+    ("1", None),
+    (")", Some(29)),
+    (";", Some(30)),
+    ("cilk_sync", Some(31)),
+    (";", Some(32)),
     // "x" can go on to "x = .."
-    ("return", 34),
-    ("x", 34),
-    (";", 35),
-    ("}", 36),
+    ("return", Some(34)),
+    ("x", Some(34)),
+    (";", Some(35)),
+    ("}", Some(36)),
 ];
+
+// The program without one of its tokens: each token has a line of its own, and the line of the one
+// that is left out is empty.
+fn without(alloc: Global, place: usize) -> Result<String, AllocError> {
+    let mut text = String::new(alloc);
+    for (at, (token, _)) in FIRST_PROGRAM.iter().enumerate() {
+        if at != place {
+            text.push_str(token)?;
+        }
+        text.push_str("\n")?;
+    }
+    Ok(text)
+}
 
 #[test]
 fn a_token_left_out_is_missed_where_it_stood(rt: HostRuntime) -> Result<(), Fail> {
     let alloc = rt.alloc();
-    let mut place = 0usize;
-    for (_, line) in FIRST_PROGRAM {
-        // each token in a line of its own, and the line of the one that is left out is empty
-        let mut text = String::new(alloc);
-        let mut at = 0usize;
-        for (token, _) in FIRST_PROGRAM {
-            if at != place {
-                text.push_str(token)?;
-            }
-            text.push_str("\n")?;
-            at = at.saturating_add(1);
-        }
+    for (place, (_, line)) in FIRST_PROGRAM.iter().enumerate() {
+        let text = without(alloc, place)?;
+        let fault = line.map(|line| Fault::Syntax(Place { line }));
         assert_eq!(rt;
-            refused_at(alloc, text.as_bytes())?,
-            line,
+            fault_of(alloc, text.as_bytes()),
+            fault,
             "without token {place}"
         );
-        place = place.saturating_add(1);
     }
     Ok(())
 }
@@ -285,31 +347,14 @@ fn a_thousand_functions_are_read(rt: HostRuntime) -> Result<(), Fail> {
 // "int main() { return ", so many opening parentheses, a number and so many closing ones if any
 // close, and the rest.
 fn nested(alloc: Global, open: usize, closed: usize, end: &str) -> Result<String, AllocError> {
-    let mut text = String::new(alloc);
-    text.push_str("int main() { return ")?;
-    for _ in 0..open {
-        text.push_str("(")?;
-    }
-    if closed > 0 {
-        text.push_str("7")?;
-    }
-    for _ in 0..closed {
-        text.push_str(")")?;
-    }
-    text.push_str(end)?;
-    Ok(text)
-}
-
-// The line in which a text is refused for its size, and 0 where it is not.
-fn too_large_at(alloc: Global, text: &[u8]) -> u32 {
-    match tree_of(alloc, text) {
-        Err(Fault::Size(place)) => place.line,
-        _ => 0,
-    }
+    let opening = "(".repeat(alloc, open)?;
+    let closing = ")".repeat(alloc, closed)?;
+    let number = if closed > 0 { "7" } else { "" };
+    format!(in alloc; "int main() {{ return {opening}{number}{closing}{end}")
 }
 
 #[test]
-fn at_most_sixty_four_brackets_are_open(rt: HostRuntime) -> Result<(), Fail> {
+fn at_most_64_brackets_are_open(rt: HostRuntime) -> Result<(), Fail> {
     let alloc = rt.alloc();
     // the brace of the body is one of them
     let deepest = nested(alloc, 63, 63, "; }")?;
@@ -317,33 +362,28 @@ fn at_most_sixty_four_brackets_are_open(rt: HostRuntime) -> Result<(), Fail> {
     let shown = shown(alloc, &ast)?;
     assert_eq!(rt; shown.as_str(), "1 main: 1 return 7;\n");
     let deeper = nested(alloc, 64, 64, "; }")?;
-    assert_eq!(rt; too_large_at(alloc, deeper.as_bytes()), 1);
+    assert_eq!(rt; fault_of(alloc, deeper.as_bytes()), too_large(1));
     // one parenthesis too many, or too few, is missed where it stands
     let many = nested(alloc, 63, 63, "\n); }")?;
-    assert_eq!(rt; refused_at(alloc, many.as_bytes())?, 2);
+    assert_eq!(rt; fault_of(alloc, many.as_bytes()), misplaced(2));
     let few = nested(alloc, 63, 62, "\n; }")?;
-    assert_eq!(rt; refused_at(alloc, few.as_bytes())?, 2);
+    assert_eq!(rt; fault_of(alloc, few.as_bytes()), misplaced(2));
     // a limit comes before the grammar, at whatever line
     let endless = nested(alloc, 100_000, 0, "")?;
-    assert_eq!(rt; too_large_at(alloc, endless.as_bytes()), 1);
+    assert_eq!(rt; fault_of(alloc, endless.as_bytes()), too_large(1));
     let faulty = nested(alloc, 64, 0, "\n; }")?;
-    assert_eq!(rt; too_large_at(alloc, faulty.as_bytes()), 1);
+    assert_eq!(rt; fault_of(alloc, faulty.as_bytes()), too_large(1));
     Ok(())
 }
 
 // "int main() { x = f(", so many ones, and the rest; the last one stands in a line of its own
 fn long_call(alloc: Global, ones: usize) -> Result<String, AllocError> {
-    let mut text = String::new(alloc);
-    text.push_str("int main() { x = f(")?;
-    for _ in 1..ones {
-        text.push_str("1, ")?;
-    }
-    text.push_str("\n1); return 0; }")?;
-    Ok(text)
+    let before = "1, ".repeat(alloc, ones.saturating_sub(1))?;
+    format!(in alloc; "int main() {{ x = f({before}\n1); return 0; }}")
 }
 
 #[test]
-fn at_most_two_hundred_and_fifty_six_tokens_stand_in_a_row(rt: HostRuntime) -> Result<(), Fail> {
+fn at_most_256_tokens_stand_in_a_row(rt: HostRuntime) -> Result<(), Fail> {
     let alloc = rt.alloc();
     // "x = f(" are 4 tokens, 126 arguments 251 with their commas, and ")" is the last one
     let longest = long_call(alloc, 126)?;
@@ -351,6 +391,6 @@ fn at_most_two_hundred_and_fifty_six_tokens_stand_in_a_row(rt: HostRuntime) -> R
     assert_eq!(rt; ast.functions.len(), 1);
     // the 127th argument is the 257th token
     let longer = long_call(alloc, 127)?;
-    assert_eq!(rt; too_large_at(alloc, longer.as_bytes()), 2);
+    assert_eq!(rt; fault_of(alloc, longer.as_bytes()), too_large(2));
     Ok(())
 }

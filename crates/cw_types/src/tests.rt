@@ -15,6 +15,21 @@ fn typed(alloc: Global, text: &str) -> Result<Typed, Fault> {
     check(alloc, ast)
 }
 
+// The first fault of a source, if it has one.
+fn fault_of(alloc: Global, text: &str) -> Option<Fault> {
+    typed(alloc, text).err()
+}
+
+// A rule of names and types is broken in this line.
+fn ill_typed(line: u32) -> Option<Fault> {
+    Some(Fault::Types(Place { line }))
+}
+
+// A limit is passed in this line.
+fn too_large(line: u32) -> Option<Fault> {
+    Some(Fault::Size(Place { line }))
+}
+
 #[test]
 fn sources_that_keep_the_rules(rt: HostRuntime) -> Result<(), Fail> {
     let alloc = rt.alloc();
@@ -24,73 +39,132 @@ fn sources_that_keep_the_rules(rt: HostRuntime) -> Result<(), Fail> {
         "int f(int a, int b) {\nint c = a;\nreturn b; }\nint main() {\nint x = 1;\nint y = x;\nx = f(x, y);\nreturn x; }",
         "int f(int a) {\nreturn a; }\nint g(int a) {\nint b = a;\nb = cilk_spawn f(a);\ncilk_sync;\nreturn b; }\nint main() {\nint a = 0;\na = g(1);\nreturn a; }",
     ] {
-        if let Err(fault) = typed(alloc, text) {
-            assert!(rt; false, "{fault} in\n{text}");
-        }
+        assert_eq!(rt; fault_of(alloc, text), None, "{text}");
     }
     Ok(())
 }
 
 #[test]
-fn sources_that_break_a_rule(rt: HostRuntime) -> Result<(), Fail> {
+fn each_function_has_a_name_of_its_own_and_one_is_main(rt: HostRuntime) -> Result<(), Fail> {
     let alloc = rt.alloc();
     for (line, text) in [
-        // no main; two of a name; a callee that is not there, is main, or is not above
+        // no main, which counts in line 1
         (1, "int f() {\nreturn 0; }"),
+        // two of a name
         (
             3,
             "int f() {\nreturn 0; }\nint f() {\nreturn 1; }\nint main() {\nreturn 0; }",
         ),
+    ] {
+        assert_eq!(rt; fault_of(alloc, text), ill_typed(line), "{text}");
+    }
+    Ok(())
+}
+
+#[test]
+fn a_callee_stands_above_its_call(rt: HostRuntime) -> Result<(), Fail> {
+    let alloc = rt.alloc();
+    for (line, text) in [
+        // not there
         (3, "int main() {\nint x = 0;\nx = f();\nreturn x; }"),
+        // main
         (
             5,
             "int f() {\nreturn 0; }\nint main() {\nint x = 0;\nx = main();\nreturn x; }",
         ),
+        // below
         (
             3,
             "int f() {\nint x = 0;\nx = g();\nreturn x; }\nint g() {\nreturn 1; }\nint main() {\nreturn 0; }",
         ),
+        // the function itself
         (
             3,
             "int f(int a) {\nint x = 0;\nx = f(x);\nreturn x; }\nint main() {\nreturn 0; }",
         ),
-        // too few arguments, and too many
+    ] {
+        assert_eq!(rt; fault_of(alloc, text), ill_typed(line), "{text}");
+    }
+    Ok(())
+}
+
+#[test]
+fn a_call_has_one_argument_for_each_parameter(rt: HostRuntime) -> Result<(), Fail> {
+    let alloc = rt.alloc();
+    for (line, text) in [
+        // too few
         (
             5,
             "int f(int a, int b) {\nreturn a; }\nint main() {\nint x = 0;\nx = f(x);\nreturn x; }",
         ),
+        // too many
         (
             5,
             "int f(int a) {\nreturn a; }\nint main() {\nint x = 0;\nx = f(x, x);\nreturn x; }",
         ),
-        // names that are not declared, as a value, a target, an argument and what is returned
+    ] {
+        assert_eq!(rt; fault_of(alloc, text), ill_typed(line), "{text}");
+    }
+    Ok(())
+}
+
+#[test]
+fn a_name_is_declared_before_its_use(rt: HostRuntime) -> Result<(), Fail> {
+    let alloc = rt.alloc();
+    for (line, text) in [
+        // as a value
         (2, "int main() {\nint x = x;\nreturn 0; }"),
+        // as a target
         (
             4,
             "int f() {\nreturn 0; }\nint main() {\nx = f();\nreturn 0; }",
         ),
+        // as an argument
         (
             5,
             "int f(int a) {\nreturn 0; }\nint main() {\nint x = 0;\nx = f(y);\nreturn 0; }",
         ),
+        // as what is returned
         (2, "int main() {\nreturn x; }"),
-        // names that are declared twice, or are those of functions
+    ] {
+        assert_eq!(rt; fault_of(alloc, text), ill_typed(line), "{text}");
+    }
+    Ok(())
+}
+
+#[test]
+fn a_name_is_declared_once(rt: HostRuntime) -> Result<(), Fail> {
+    let alloc = rt.alloc();
+    for (line, text) in [
+        // twice in a body
         (3, "int main() {\nint x = 0;\nint x = 1;\nreturn 0; }"),
+        // as a parameter and in the body
         (2, "int main(int a) {\nint a = 0;\nreturn 0; }"),
+        // the name of a function
         (2, "int main() {\nint main = 0;\nreturn 0; }"),
+        // twice as a parameter
         (1, "int main(int a, int a) {\nreturn 0; }"),
+        // a parameter with the name of a function
         (3, "int f() {\nreturn 0; }\nint main(int f) {\nreturn 0; }"),
-        // two faults: the lesser line, whichever is found first
+    ] {
+        assert_eq!(rt; fault_of(alloc, text), ill_typed(line), "{text}");
+    }
+    Ok(())
+}
+
+#[test]
+fn the_least_line_is_told(rt: HostRuntime) -> Result<(), Fail> {
+    let alloc = rt.alloc();
+    for (line, text) in [
+        // both found in one pass
         (2, "int main() {\nint x = y;\nint x = z;\nreturn 0; }"),
+        // the greater line found first
         (
             3,
             "int f() {\nint x = 0;\nx = g();\nreturn 0; }\nint g() {\nint y = z;\nreturn 0; }\nint main() {\nreturn 0; }",
         ),
     ] {
-        match typed(alloc, text) {
-            Ok(_) => assert!(rt; false, "taken:\n{text}"),
-            Err(fault) => assert_eq!(rt; fault, Fault::Types(Place { line }), "{text}"),
-        }
+        assert_eq!(rt; fault_of(alloc, text), ill_typed(line), "{text}");
     }
     Ok(())
 }
@@ -134,54 +208,82 @@ fn repeated(
 }
 
 #[test]
-fn limits_at_and_one_past_each(rt: HostRuntime) -> Result<(), Fail> {
+fn a_function_has_at_most_16_parameters(rt: HostRuntime) -> Result<(), Fail> {
     let alloc = rt.alloc();
-    for (line, front, part, back) in [
-        (0, "int main(int p", (", int p", 15, ""), ") { return 0; }"),
-        (1, "int main(int p", (", int p", 16, ""), ") { return 0; }"),
+    for (more, fault) in [(15, None), (16, too_large(1))] {
+        let text = repeated(
+            alloc,
+            "int main(int p",
+            (", int p", more, ""),
+            ") { return 0; }",
+        )?;
+        assert_eq!(rt; fault_of(alloc, text.as_str()), fault, "{more} more");
+    }
+    Ok(())
+}
+
+#[test]
+fn a_function_declares_at_most_256_names(rt: HostRuntime) -> Result<(), Fail> {
+    let alloc = rt.alloc();
+    for (fault, front, part, back) in [
         (
-            0,
+            None,
             "int main() {",
             ("\nint x", 256, " = 0;"),
             "\nreturn x255; }",
         ),
         (
-            258,
+            too_large(258),
             "int main() {",
             ("\nint x", 257, " = 0;"),
             "\nreturn 0; }",
         ),
+        // a parameter is one of them
         (
-            0,
+            None,
             "int main(int a) {",
             ("\nint x", 255, " = a;"),
             "\nreturn 0; }",
         ),
         (
-            257,
+            too_large(257),
             "int main(int a) {",
             ("\nint x", 256, " = a;"),
             "\nreturn 0; }",
         ),
-        (
-            0,
+    ] {
+        let text = repeated(alloc, front, part, back)?;
+        assert_eq!(rt; fault_of(alloc, text.as_str()), fault, "{front} {back}");
+    }
+    Ok(())
+}
+
+#[test]
+fn a_program_has_at_most_1024_functions(rt: HostRuntime) -> Result<(), Fail> {
+    let alloc = rt.alloc();
+    for (others, fault) in [(1_023, None), (1_024, too_large(1_025))] {
+        let text = repeated(
+            alloc,
             "",
-            ("int f", 1_023, "() { return 0; }\n"),
+            ("int f", others, "() { return 0; }\n"),
             "int main() { return 0; }",
-        ),
-        (
-            1_025,
-            "",
-            ("int f", 1_024, "() { return 0; }\n"),
-            "int main() { return 0; }",
-        ),
-        // a limit comes before a rule, at whatever line
+        )?;
+        assert_eq!(rt; fault_of(alloc, text.as_str()), fault, "{others} others");
+    }
+    Ok(())
+}
+
+#[test]
+fn a_limit_comes_before_a_rule(rt: HostRuntime) -> Result<(), Fail> {
+    let alloc = rt.alloc();
+    for (line, front, part, back) in [
         (
             1,
             "int main(int p",
             (", int p", 16, ""),
             ") {\nint p0 = y;\nreturn x; }",
         ),
+        // at whatever line
         (
             258,
             "int main() {",
@@ -190,10 +292,11 @@ fn limits_at_and_one_past_each(rt: HostRuntime) -> Result<(), Fail> {
         ),
     ] {
         let text = repeated(alloc, front, part, back)?;
-        match typed(alloc, text.as_str()) {
-            Ok(_) => assert_eq!(rt; 0, line, "taken: {front} {back}"),
-            Err(fault) => assert_eq!(rt; fault, Fault::Size(Place { line }), "{front} {back}"),
-        }
+        assert_eq!(rt;
+            fault_of(alloc, text.as_str()),
+            too_large(line),
+            "{front} {back}"
+        );
     }
     Ok(())
 }
