@@ -24,7 +24,7 @@ use Rattle.cw_types.proofs.Simple.{all_first}
 use Rattle.cw_types.proofs.Known.{slot_below, without}
 use Rattle.cw_types.proofs.Small.{left_none, right_none}
 use Rattle.cw_own.specs.Sets.{Slots, no_slot, with_slot}
-use Rattle.cw_own.specs.Slots.{free_expr, taken_lines, taken_lines_of, all_taken_lines}
+use Rattle.cw_own.specs.Slots.{free_expr, taken_lines, taken_lines_of}
 
 -- where these names are declared, the taken names are those whose slots are taken, and one join frees all
 record Agrees (names : List Name) (taken : Taken) (slots : Slots) : Type 0 where
@@ -250,10 +250,10 @@ functions_by_slot fs (g ∷ gs) all first none =
 
 -- the lines by slots are those of the language
 pub ownership_by_slot : (tree : spec.Resolved) → spec.is_resolved tree ≡ true → is_first (spec.plain tree) ≡ true → type_faults (spec.plain tree) ≡ [] →
-    ownership_faults (spec.plain tree) ≡ all_taken_lines tree
+    ownership_faults (spec.plain tree) ≡ flat_map taken_lines_of tree.functions
 ownership_by_slot tree right first none =
     let fs = map spec.plain_function tree.functions in
     let all = all_first (spec.plain tree) first in
     let lines = right_none (repeated_names (without fs)) (flat_map (faults_of (without fs)) fs)
     (right_none (unless (is_among main_name (function_names fs)) 1) _ none) in
-    functions_by_slot fs fs all all lines ∙ ap all_taken_lines (sym (resolved_is tree right))
+    functions_by_slot fs fs all all lines ∙ ap (λ (t : spec.Resolved). flat_map taken_lines_of t.functions) (sym (resolved_is tree right))

@@ -1,10 +1,10 @@
 -- The rule of ownership by slots, over a tree with each name looked up: which lines touch a taken slot.
-use Rattle.std.specs.Prelude.{ℕ, Bool, true, not, ◌&&◌, List, [], ◌++◌, flat_map, Option, Some, None}
+use Rattle.std.specs.Prelude.{ℕ, Bool, true, not, ◌&&◌, List, [], ◌++◌, Option, Some, None}
 use Rattle.std.specs.List.{list_all}
 use Rattle.cw_model.specs.Lines.{unless}
 use Rattle.cw_model.specs.declared.syntax.CallKind.{CallKind}
 use Rattle.cw_model.specs.declared.syntax.CallKind.TheVariants.{Plain, Spawned}
-use Rattle.cw_types.specs.Resolved.{Use, Expr, Number, Variable, Stmt, Declare, Call, Sync, Return, Block, End, Then, Function, Resolved}
+use Rattle.cw_types.specs.Resolved.{Use, Expr, Number, Variable, Stmt, Declare, Call, Sync, Return, Block, End, Then, Function}
 use Rattle.cw_own.specs.Sets.{Slots, no_slot, with_slot}
 
 -- an expression reads no taken slot
@@ -50,7 +50,3 @@ taken_lines taken (Then line s b) = unless (free_stmt taken s) line ++ taken_lin
 -- the same of a function, in which nothing is taken at first
 abbrev pub taken_lines_of : Function → List ℕ
 taken_lines_of f = taken_lines no_slot f.body
-
--- the same of a whole program
-abbrev pub all_taken_lines : Resolved → List ℕ
-all_taken_lines tree = flat_map taken_lines_of tree.functions

@@ -5,8 +5,12 @@ use Rattle.cw_model.specs.Syntax as model
 use Rattle.cw_types.specs.declared.tree.Line.{Line}
 use Rattle.cw_types.specs.Declares.{is_declare, one_if}
 use Rattle.cw_types.specs.Resolved.{Block, End, Then, names_after}
-use Rattle.cw_types.specs.Slots.{joined}
 use Rattle.cw_types.specs.View.{block_of, stmt_of}
+
+-- statements after statements
+abbrev pub joined : Block → Block → Block
+joined End c = c
+joined (Then line s b) c = Then line s (joined b c)
 
 pub joined_end : (b : Block) → joined b End ≡ b
 joined_end End = refl

@@ -15,7 +15,7 @@ use Rattle.cw_model.specs.Typing.{faults_of}
 use Rattle.cw_types.specs.Bounds.{below_expr, below_target, below_stmt, below_block, is_fitting, are_fitting}
 use Rattle.cw_types.specs.Declares.{declares_in}
 use Rattle.cw_types.specs.Resolved.{Use, Expr, Number, Variable, Stmt, Declare, Call, Sync, Return, Block, End, Then, Function, use_of, slot_of, resolved_expr, names_after, names_after_all, param_names, function_names, resolved_stmt, resolved_block, resolved_function}
-use Rattle.cw_types.specs.Slots.{fine_expr, fine_target, fine_arguments, fine_call, fine_stmt, slot_faults, are_new}
+use Rattle.cw_types.specs.Slots.{fine_target, fine_arguments, fine_call, fine_stmt, slot_faults, are_new}
 use Rattle.cw_types.proofs.Bodies.{counted}
 use Rattle.cw_types.proofs.Known.{without}
 use Rattle.cw_types.proofs.Looked.{both_left, both_right}
@@ -30,17 +30,17 @@ kept false line h = cc
 further : (k m n : ℕ) → m ≤ n → nat_lt k m ≡ true → nat_lt k n ≡ true
 further k m n h e = let lt = ltb-true k m e in lt-ltb k n (omega (arith, lt, h))
 
-expr_below : (m n : ℕ) (e : Expr) → m ≤ n → fine_expr m e ≡ true → below_expr n e ≡ true
-expr_below m n (Number v) h f = refl
-expr_below m n (Variable u) h f = further u.slot m n h f
+expr_fits : (n m : ℕ) (e : Expr) → n ≤ m → below_expr n e ≡ true → below_expr m e ≡ true
+expr_fits n m (Number v) h b = refl
+expr_fits n m (Variable u) h b = further u.slot n m h b
 
 exprs_below : (m n : ℕ) (ps : List Param) (es : List Expr) → m ≤ n → fine_arguments m ps es ≡ true → list_all (below_expr n) es ≡ true
 exprs_below m n [] [] h f = refl
 exprs_below m n [] (e ∷ es) h f = cc
 exprs_below m n (p ∷ ps) [] h f = cc
 exprs_below m n (p ∷ ps) (e ∷ es) h f =
-    let one = both_right (not p.is_array) (fine_expr m e) (both_left (not p.is_array && fine_expr m e) (fine_arguments m ps es) f) in
-    both (below_expr n e) (list_all (below_expr n) es) (expr_below m n e h one) (exprs_below m n ps es h (both_right (not p.is_array && fine_expr m e) (fine_arguments m ps es) f))
+    let one = both_right (not p.is_array) (below_expr m e) (both_left (not p.is_array && below_expr m e) (fine_arguments m ps es) f) in
+    both (below_expr n e) (list_all (below_expr n) es) (expr_fits m n e h one) (exprs_below m n ps es h (both_right (not p.is_array && below_expr m e) (fine_arguments m ps es) f))
 
 target_below : (m n : ℕ) (g : model.Function) (target : Option Use) → m ≤ n → fine_target m g target ≡ true → below_target n target ≡ true
 target_below m n g None h f = refl
@@ -60,10 +60,10 @@ stmt_below : (fs : List model.Function) (globals names : List Name) (n : ℕ) (s
 stmt_below fs globals names n (model.Declare x e) after before f =
     let count = length-append names (x ∷ []) in
     let lt : length names < n = omega (arith, after, count) in
-    both (nat_lt (length names) n) (below_expr n _) (lt-ltb (length names) n lt) (expr_below (length names) n _ before (both_left (fine_expr (length names) _) _ f))
+    both (nat_lt (length names) n) (below_expr n _) (lt-ltb (length names) n lt) (expr_fits (length names) n _ before (both_left (below_expr (length names) _) _ f))
 stmt_below fs globals names n (model.Call kind site target g es) after before f = call_below (length names) n (option_map (use_of names) target) (slice_get fs (slot_of g globals)) (map (resolved_expr names) es) before f
 stmt_below fs globals names n (model.Return None) after before f = refl
-stmt_below fs globals names n (model.Return (Some e)) after before f = expr_below (length names) n _ before f
+stmt_below fs globals names n (model.Return (Some e)) after before f = expr_fits (length names) n _ before f
 stmt_below fs globals names n (model.DeclareArray x e) after before f = refl
 stmt_below fs globals names n (model.Assign x e) after before f = refl
 stmt_below fs globals names n (model.AssignElement x i e) after before f = refl
@@ -129,10 +129,6 @@ functions_fit fs (g ∷ gs) first small none =
     (functions_fit fs gs (both_right (is_first_function g) (list_all is_first_function gs) first)
     (right_none (function_limits g) (flat_map function_limits gs) small)
     (right_none (faults_of (without fs) g) (flat_map (faults_of (without fs)) gs) none))
-
-expr_fits : (n m : ℕ) (e : Expr) → n ≤ m → below_expr n e ≡ true → below_expr m e ≡ true
-expr_fits n m (Number v) h b = refl
-expr_fits n m (Variable u) h b = further u.slot n m h b
 
 exprs_fit : (n m : ℕ) (es : List Expr) → n ≤ m → list_all (below_expr n) es ≡ true → list_all (below_expr m) es ≡ true
 exprs_fit n m [] h b = refl

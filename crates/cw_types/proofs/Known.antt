@@ -10,7 +10,8 @@ use Rattle.cw_model.specs.FirstGrammar.{is_first_expr, is_first_body}
 use Rattle.cw_model.specs.Typing.{Known, is_int, is_array, is_new, is_fine, is_argument, are_arguments, called, is_target, is_call, WithInt, faults_in, faults_in_block}
 use Rattle.cw_types.specs.Resolved as spec
 use Rattle.cw_types.specs.Resolved.{slot_of, function_names, resolved_expr, resolved_stmt}
-use Rattle.cw_types.specs.Slots.{fine_expr, fine_target, fine_arguments, fine_call, fine_stmt, slot_faults}
+use Rattle.cw_types.specs.Bounds.{below_expr}
+use Rattle.cw_types.specs.Slots.{fine_target, fine_arguments, fine_call, fine_stmt, slot_faults}
 use Rattle.cw_types.proofs.Looked.{both_left, both_right}
 
 -- names as integers that are known
@@ -78,7 +79,7 @@ slot_below x ys = ap (λ zs. nat_lt (slot_of x zs) (length ys)) (sym (append-nil
 int_by_slot : (names : List Name) (x : Name) → is_int (ints names) x ≡ nat_lt (slot_of x names) (length names)
 int_by_slot names x = int_pairs x (back names) ∙ among_back x names ∙ sym (slot_below x names)
 
-expr_by_slot : (names : List Name) (e : Expr) → is_first_expr e ≡ true → is_fine (ints names) e ≡ fine_expr (length names) (resolved_expr names e)
+expr_by_slot : (names : List Name) (e : Expr) → is_first_expr e ≡ true → is_fine (ints names) e ≡ below_expr (length names) (resolved_expr names e)
 expr_by_slot names (Number n) h = refl
 expr_by_slot names (Variable x) h = int_by_slot names x
 expr_by_slot names (Element a e) h = cc
@@ -87,7 +88,7 @@ expr_by_slot names (Negative e) h = cc
 expr_by_slot names (Not e) h = cc
 expr_by_slot names (Binary o d e) h = cc
 
-argument_by_slot : (names : List Name) (array : Bool) (e : Expr) → is_first_expr e ≡ true → is_argument (ints names) array e ≡ (not array && fine_expr (length names) (resolved_expr names e))
+argument_by_slot : (names : List Name) (array : Bool) (e : Expr) → is_first_expr e ≡ true → is_argument (ints names) array e ≡ (not array && below_expr (length names) (resolved_expr names e))
 argument_by_slot names false e h = expr_by_slot names e h
 argument_by_slot names true (Number n) h = refl
 argument_by_slot names true (Variable x) h = no_array x (back names)
@@ -103,7 +104,7 @@ arguments_by_slot names [] (e ∷ es) h = refl
 arguments_by_slot names (p ∷ ps) [] h = refl
 arguments_by_slot names (p ∷ ps) (e ∷ es) h =
     ap (λ b. b && are_arguments (ints names) ps es) (argument_by_slot names p.is_array e (both_left (is_first_expr e) (list_all is_first_expr es) h))
-    ∙ ap (λ b. (not p.is_array && fine_expr (length names) (resolved_expr names e)) && b) (arguments_by_slot names ps es (both_right (is_first_expr e) (list_all is_first_expr es) h))
+    ∙ ap (λ b. (not p.is_array && below_expr (length names) (resolved_expr names e)) && b) (arguments_by_slot names ps es (both_right (is_first_expr e) (list_all is_first_expr es) h))
 
 -- the function that is called is the one of its index
 called_by_index : (f : Name) (fs : List Function) → called f fs ≡ slice_get fs (slot_of f (function_names fs))
@@ -143,7 +144,7 @@ declare_by_slot : (fs : List Function) (names : List Name) (line : ℕ) (x : Nam
     faults_in (without fs) WithInt (ints names) line (Declare x e) ≡ unless (fine_stmt fs (function_names fs) names (resolved_stmt (function_names fs) names (Declare x e))) line
 declare_by_slot fs names line x e h =
     ap (λ b. unless (b && is_new (without fs) (ints names) x) line) (expr_by_slot names e h)
-    ∙ ap (λ b. unless (fine_expr (length names) (resolved_expr names e) && b) line) (new_by_slot fs names x)
+    ∙ ap (λ b. unless (below_expr (length names) (resolved_expr names e) && b) line) (new_by_slot fs names x)
 
 call_line_by_slot : (fs : List Function) (names : List Name) (line : ℕ) (kind : _) (site : ℕ) (target : Option Name) (f : Name) (es : List Expr) → list_all is_first_expr es ≡ true →
     faults_in (without fs) WithInt (ints names) line (Call kind site target f es) ≡ unless (fine_stmt fs (function_names fs) names (resolved_stmt (function_names fs) names (Call kind site target f es))) line

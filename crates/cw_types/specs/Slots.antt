@@ -1,45 +1,34 @@
--- The rules of names and types by slots, over a tree with each name looked up.
+-- The rules of names and types by slots, over a tree with each name looked up. Where n names are declared, a name is
+-- one of them where its slot is below n.
 use Rattle.std.specs.Prelude.{ℕ, ◌+◌, Bool, true, false, not, ◌&&◌, ◌||◌, nat_lt, List, [], ◌∷◌, ◌++◌, length, flat_map, Option, Some, None, slice_get}
-use Rattle.std.specs.List.{list_all}
 use Rattle.cw_model.specs.Syntax.{Name, Param}
 use Rattle.cw_model.specs.Syntax as model
 use Rattle.cw_model.specs.Names.{same_name, is_among}
 use Rattle.cw_model.specs.Lines.{unless}
 use Rattle.cw_model.specs.Answers.{main_name}
-use Rattle.cw_model.specs.FirstGrammar.{is_first_expr}
-use Rattle.cw_types.specs.Resolved.{Use, Expr, Number, Variable, Stmt, Declare, Call, Sync, Return, Block, End, Then, Function, resolved_stmt, names_after, param_names, function_names, resolved}
+use Rattle.cw_model.specs.FirstGrammar.{is_first_expr, is_first_stmt}
+use Rattle.cw_types.specs.Bounds.{below_expr}
+use Rattle.cw_types.specs.Resolved.{Use, Expr, Stmt, Declare, Call, Sync, Return, Block, End, Then, Function, resolved_stmt, names_after, param_names, function_names, resolved}
 
--- a statement of the first grammar, the last one of a function too
+-- a statement of the first grammar, the return of a value at its end too
 abbrev pub is_simple : model.Stmt → Bool
-is_simple (model.Declare x e) = is_first_expr e
-is_simple (model.Call kind site (Some x) f es) = list_all is_first_expr es
-is_simple model.Sync = true
 is_simple (model.Return (Some e)) = is_first_expr e
-is_simple _ = false
+is_simple s = is_first_stmt s
 
 -- each statement of a block is such
 abbrev pub are_simple : model.Block → Bool
 are_simple model.End = true
 are_simple (model.Then line s b) = is_simple s && are_simple b
 
--- where n names are declared: a name is one of them where its slot is below n
-abbrev pub is_declared : ℕ → Use → Bool
-is_declared n u = nat_lt u.slot n
-
--- an expression uses only declared names
-abbrev pub fine_expr : ℕ → Expr → Bool
-fine_expr n (Number v) = true
-fine_expr n (Variable u) = is_declared n u
-
 -- the result of a call, if it goes to a name, goes to a declared one and is an integer
 abbrev pub fine_target : ℕ → model.Function → Option Use → Bool
 fine_target n f None = true
-fine_target n f (Some u) = is_declared n u && f.gives_int
+fine_target n f (Some u) = nat_lt u.slot n && f.gives_int
 
 -- one integer for each parameter
 abbrev pub fine_arguments : ℕ → List Param → List Expr → Bool
 fine_arguments n [] [] = true
-fine_arguments n (p ∷ ps) (e ∷ es) = (not p.is_array && fine_expr n e) && fine_arguments n ps es
+fine_arguments n (p ∷ ps) (e ∷ es) = (not p.is_array && below_expr n e) && fine_arguments n ps es
 fine_arguments n _ _ = false
 
 -- the callee is there and is not main, and takes the arguments and gives the result
@@ -49,11 +38,11 @@ fine_call n target (Some f) es = fine_target n f target && fine_arguments n f.pa
 
 -- a statement breaks no rule of names and types, where these functions and names are declared
 abbrev pub fine_stmt : List model.Function → (globals names : List Name) → Stmt → Bool
-fine_stmt fs globals names (Declare u e) = fine_expr (length names) e && not (is_among u.name names || is_among u.name globals)
+fine_stmt fs globals names (Declare u e) = below_expr (length names) e && not (is_among u.name names || is_among u.name globals)
 fine_stmt fs globals names (Call kind site target f index es) = fine_call (length names) target (slice_get fs index) es
 fine_stmt fs globals names Sync = true
 fine_stmt fs globals names (Return None) = false
-fine_stmt fs globals names (Return (Some e)) = fine_expr (length names) e
+fine_stmt fs globals names (Return (Some e)) = below_expr (length names) e
 
 -- the lines of a block that break a rule, where these names are declared before it
 abbrev pub slot_faults : List model.Function → (globals names : List Name) → model.Block → List ℕ
@@ -98,8 +87,3 @@ slot_lines program =
     let globals = function_names fs in
     repeated_after [] fs
     ++ (flat_map (slot_faults_of fs globals) fs ++ (unless (is_among main_name globals) 1 ++ below 0 (resolved program).functions))
-
--- statements after statements
-abbrev pub joined : Block → Block → Block
-joined End c = c
-joined (Then line s b) c = Then line s (joined b c)

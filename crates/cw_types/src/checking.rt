@@ -12,6 +12,7 @@ ghost use Rattle.cw_types.specs.View.{resolved_of};
 
 use crate::functions::{below, functions, globals};
 use crate::limits::limits;
+use crate::rules::MAIN;
 use crate::tree::Tree;
 use crate::typed::Typed;
 use cw_parse::tree::Ast;
@@ -20,9 +21,11 @@ use std::alloc::{AllocError, Global};
 
 /// The tree with each name looked up.
 ///
-/// Answers `Size` at the least line that passes a limit, else `Types` at the least line that
-/// breaks a rule of names and types or calls a function that does not stand above, and `Memory`
-/// where there is none for the resolved tree.
+/// Answers `Size` at the least line that passes a limit (1,024 functions, 16 parameters of a
+/// function, 256 names that a function declares), else `Types` at the least line that breaks a rule
+/// of names and types or calls a function that does not stand above, and `Memory` where there is
+/// none for the resolved tree. A program without `main` breaks a rule in line 1. The tree that was
+/// given is let go in each case.
 pub fn check(alloc: Global, ast: Ast) -> Result<Typed, Fault>
     requires { is_first (program_of ast) ≡ true }
     ensures { MatchResult result (λ typed. IsTyped (program_of ast) typed.tree) (IsIllTyped (program_of ast)) }
@@ -46,8 +49,8 @@ fn resolve(alloc: Global, ast: &Ast, least: &mut LeastLine) -> Result<Tree, Allo
 {
     let globals = globals(alloc, &ast.functions, least)?;
     let functions = functions(alloc, &ast.functions, &globals, least)?;
-    let main = globals.find(b"main".as_slice());
-    least.note(globals.has(b"main".as_slice()), 1);
+    let main = globals.find(MAIN);
+    least.note(globals.has(MAIN), 1);
     below(&functions, least);
     Ok(Tree { functions, main })
 }

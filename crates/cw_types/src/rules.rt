@@ -4,7 +4,8 @@ ghost use Rattle.std.specs.Prelude.{◌≡◌, map, option_map, slice_get};
 ghost use Rattle.cw_model.specs.Names.{same_name};
 ghost use Rattle.cw_model.specs.Answers.{main_name};
 ghost use Rattle.cw_parse.specs.View.{function_of, param_of};
-ghost use Rattle.cw_types.specs.Slots.{fine_expr, fine_target, fine_arguments, fine_call, fine_stmt};
+ghost use Rattle.cw_types.specs.Bounds.{below_expr};
+ghost use Rattle.cw_types.specs.Slots.{fine_target, fine_arguments, fine_call, fine_stmt};
 ghost use Rattle.cw_types.specs.View.{use_of, expr_of, stmt_of};
 ghost use Rattle.cw_types.specs.declared.tree.Stmt.TheVariants as variant;
 
@@ -12,9 +13,12 @@ use crate::table::Table;
 use crate::tree::{Call, Expr, Stmt, Use};
 use cw_parse::tree::{Function, Param};
 
+/// The name of the function that a run begins with.
+pub const MAIN: &[u8] = b"main";
+
 // Whether an expression names only what is declared, where so many names are.
 fn keeps_expression(declared: u32, e: &Expr) -> bool
-    ensures { result ≡ fine_expr declared (expr_of e.now) }
+    ensures { result ≡ below_expr declared (expr_of e.now) }
 {
     match e {
         Expr::Number(_) => true,
@@ -47,12 +51,14 @@ fn keeps_arguments(declared: u32, params: &[Param], arguments: &[Expr]) -> bool
     true
 }
 
+// Whether a run begins with the function.
 fn is_main(function: &Function) -> bool
     ensures { result ≡ same_name (function_of function.now).name main_name }
 {
-    function.name.as_bytes() == b"main".as_slice()
+    function.name.as_bytes() == MAIN
 }
 
+// Whether the callee is there and is not main, and takes these arguments and gives the target.
 fn keeps_call(functions: &[Function], declared: u32, call: &Call) -> bool
     ensures { result ≡ fine_call declared (option_map use_of call.now.target) (slice_get (map function_of functions.now) call.now.index) (map expr_of call.now.arguments.items) }
 {
@@ -66,7 +72,8 @@ fn keeps_call(functions: &[Function], declared: u32, call: &Call) -> bool
     }
 }
 
-/// Whether a statement keeps the rules, where these functions and names are declared.
+/// Whether a statement keeps the rules of names and types, where these functions and names are
+/// declared. Where a callee stands is no part of them: `below` tests it.
 pub fn keeps_types(functions: &[Function], globals: &Table, names: &Table, stmt: &Stmt) -> bool
     ensures { result ≡ fine_stmt (map function_of functions.now) globals.now names.now (stmt_of stmt.now) }
 {

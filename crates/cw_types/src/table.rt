@@ -1,6 +1,6 @@
 //! Names by their places.
 
-ghost use Rattle.std.specs.Prelude.{◌≡◌, ◌<◌, ◌+◌, ◌^◌, [], ◌∷◌, ◌++◌, length, OnOk};
+ghost use Rattle.std.specs.Prelude.{◌≡◌, ◌<◌, ◌+◌, ◌^◌, [], ◌∷◌, ◌++◌, length, MatchResult};
 ghost use Rattle.cw_model.specs.Names.{is_among};
 ghost use Rattle.cw_types.specs.Resolved.{slot_of};
 
@@ -37,8 +37,8 @@ impl<'a> Table<'a> {
         }
     }
 
+    /// The first place of a name, from 0, or how many names there are.
     #[tactic(auto, using(crate::proofs::Places::found, std::proofs::lemmas::Grind::common_steps))]
-    /// The first place of a name, or how many names there are.
     pub fn find(&self, name: &[u8]) -> u32
         ensures { result ≡ slot_of name.now self.now }
     {
@@ -62,10 +62,10 @@ impl<'a> Table<'a> {
         self.places.contains_key(name)
     }
 
-    /// One name more, at the end.
+    /// One name more, at the end. Where memory runs out the table is as it was.
     pub fn add(&mut self, name: &'a [u8]) -> Result<(), AllocError>
         requires { length self.old + 1 < 2 ^ 32 }
-        ensures { OnOk result (self.new ≡ self.old ++ name.now ∷ []) }
+        ensures { MatchResult result (λ _. self.new ≡ self.old ++ name.now ∷ []) (λ _. self.new ≡ self.old) }
     {
         let place = self.names.len() as u32;
         self.names.push(name)?;

@@ -3,10 +3,9 @@ use Rattle.std.proofs.lemmas.List.{length-map}
 use Rattle.cw_parse.specs.declared.tree.Function.{Function}
 use Rattle.cw_parse.specs.View as parsed
 use Rattle.cw_model.specs.Lines.{unless}
-use Rattle.cw_model.specs.Names.{is_among}
 use Rattle.cw_types.specs.Declares.{declares_in}
 use Rattle.cw_model.specs.Lines.{lowest}
-use Rattle.cw_types.specs.Resolved.{slot_of, function_names, resolved_function}
+use Rattle.cw_types.specs.Resolved.{function_names, resolved_function}
 use Rattle.cw_types.specs.Slots.{slot_faults_of, repeated_after, below}
 use Rattle.cw_types.specs.View.{function_of}
 use Rattle.cw_types.proofs.Checked.{tree_made, lines_made}
@@ -34,7 +33,7 @@ returns-clause-tree c =
     tree_made program names (map function_of c.in_ok-functions.functions.items) c.find-main.result
     (c.in_ok-globals.ensures.names ∙ ap (λ gs. function_names (map parsed.function_of gs)) c.deref.ensures.value)
     (c.in_ok-functions.ensures.tree ∙ ap (λ gs. map (resolved_function names) (map parsed.function_of gs)) c.deref-2.ensures.value)
-    (c.find-main.ensures ∙ ap (λ x. slot_of x names) c.as_slice.ensures)
+    c.find-main.ensures
 
 pub returns-clause-lines : goal.returns-clause-lines
 returns-clause-lines c =
@@ -46,5 +45,5 @@ returns-clause-lines c =
     (c.in_ok-functions.ensures.tree ∙ ap (λ gs. map (resolved_function names) (map parsed.function_of gs)) c.deref-2.ensures.value)
     (c.in_ok-globals.ensures.lines ∙ ap (λ gs. lowest c.args.least.now.line (repeated_after [] (map parsed.function_of gs))) c.deref.ensures.value)
     (c.in_ok-functions.ensures.lines ∙ ap (λ gs. lowest c.globals.new.least.line (flat_map (slot_faults_of (map parsed.function_of gs) names) (map parsed.function_of gs))) c.deref-2.ensures.value)
-    (c.note.ensures ∙ ap (λ b. lowest c.functions.new.least.line (unless b 1)) (c.has.ensures ∙ ap (λ x. is_among x names) c.as_slice-2.ensures))
+    (c.note.ensures ∙ ap (λ b. lowest c.functions.new.least.line (unless b 1)) c.has.ensures)
     (c.below.ensures ∙ ap (λ gs. lowest c.note.new.self.line (below 0 (map function_of gs))) c.deref-3.ensures.value)

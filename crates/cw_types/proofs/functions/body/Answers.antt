@@ -8,10 +8,10 @@ use Rattle.cw_types.specs.declared.tree.Line.{Line}
 use Rattle.cw_types.specs.Declares.{declares_in}
 use Rattle.cw_model.specs.Lines.{lowest}
 use Rattle.cw_types.specs.Resolved as spec
-use Rattle.cw_types.specs.Slots.{slot_faults, fine_stmt, joined}
+use Rattle.cw_types.specs.Slots.{slot_faults, fine_stmt}
 use Rattle.cw_types.specs.View.{block_of}
 use Rattle.cw_model.proofs.Lowest.{lowest-append}
-use Rattle.cw_types.proofs.Bodies.{joined_end, joined_push, counted}
+use Rattle.cw_types.proofs.Bodies.{joined, joined_end, joined_push, counted}
 use Rattle.cw_types.proofs.functions.body.Goals as goal
 
 pub loop-line-preserved : goal.loop-line-preserved

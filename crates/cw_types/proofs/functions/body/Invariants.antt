@@ -3,8 +3,9 @@ use Rattle.cw_parse.specs.View as parsed
 use Rattle.cw_types.specs.Declares.{declares_in}
 use Rattle.cw_model.specs.Lines.{lowest}
 use Rattle.cw_types.specs.Resolved.{resolved_block, names_after_all}
-use Rattle.cw_types.specs.Slots.{slot_faults, joined}
+use Rattle.cw_types.specs.Slots.{slot_faults}
 use Rattle.cw_types.specs.View.{block_of}
+use Rattle.cw_types.proofs.Bodies.{joined}
 use Rattle.cw_types.proofs.functions.body.Given as goal
 
 abbrev pub invariant-loop-line : goal.invariant-loop-line
