@@ -5,14 +5,18 @@ ghost use Rattle.std.specs.List.{prefix_len};
 ghost use Rattle.cw_model.specs.Pieces as spec;
 ghost use Rattle.cw_lex.specs.Front.{passes};
 
-/// What the bytes of a number, a word and a comment are.
+/// A class of bytes.
 #[derive(Clone, Copy, Debug)]
 pub enum Class {
+    /// The bytes of a number.
     Digit,
+    /// The bytes of a keyword or a name: letters, `_` and digits.
     Word,
+    /// The bytes of a comment: all but an LF.
     Inner,
 }
 
+// Whether a byte is of the class.
 fn passes(class: Class, byte: u8) -> bool
     ensures { result ≡ passes class byte }
 {
@@ -23,6 +27,7 @@ fn passes(class: Class, byte: u8) -> bool
     }
 }
 
+/// Whether the byte is one of `0` to `9`.
 pub fn is_digit(byte: u8) -> bool
     ensures { result ≡ spec.is_digit byte }
 {

@@ -13,11 +13,14 @@ use cw_model::token::Kind;
 /// The most bytes of a name.
 const MOST_NAME_BYTES: usize = 64;
 
-/// What stands at the front of a text. A comment and a token have their length in bytes.
+/// What stands at the front of a text.
 #[derive(Clone, Copy, Debug)]
 pub enum Front {
+    /// A space, a tab, a CR or an LF.
     Separator,
+    /// A comment, with its length in bytes up to the LF or the end of the text.
     Comment(usize),
+    /// A token's kind, and its length in bytes.
     Token(Kind, usize),
     /// A byte that starts nothing, or a number that is too great.
     Faulty,

@@ -19,11 +19,11 @@ fn front_at(text: &[u8], at: usize) -> Front
 }
 
 /// The tokens of a source: at each place the longest that stands there, with its kind, the bytes
-/// that spell it and the line that it begins in.
+/// that spell it and the line, from 1, that it begins in. Separators and comments give none.
 ///
-/// The first fault of the text decides: `Lexical` at the line of a byte that starts no token or of
+/// The first fault of the text decides: `Lexical` at the line of a byte that starts nothing or of
 /// a number above 9,223,372,036,854,775,807, `Size` at the line of a name of more than 64 bytes.
-/// `Memory` where there is none for the list.
+/// `Memory` where there is none for the list. No other fault is answered.
 pub fn lex(alloc: Global, source: &Source) -> Result<Vec<Token>, Fault>
     ensures { MatchResult result (λ tokens. IsTokenCut source.now tokens.items) (HasNoCut source.now) }
 {

@@ -7,7 +7,7 @@ ghost use Rattle.cw_model.specs.Pieces.{is_digit, value_of};
 /// The greatest number that a source can write.
 const MOST_NUMBER: u64 = i64::MAX as u64;
 
-/// The number that digits stand for, if it is not too great.
+/// The number that decimal digits stand for, if it is at most `MOST_NUMBER`. No digits stand for 0.
 pub fn value_of_digits(digits: &[u8]) -> Option<u64>
     requires { (k : ℕ) → k < length digits.now → is_digit (slice_index digits.now k) ≡ true }
     ensures some { IfSome result (λ n. (n ≡ value_of digits.now) × (n ≤ most_number)) }

@@ -10,15 +10,20 @@ ghost use Rattle.cw_types.specs.View.{program_of, resolved_of};
 
 use crate::tree::Tree;
 
-/// A tree that passes no limit and keeps every rule of names and types, and in which each slot and each index is
-/// right, each slot is below the count of its function's slots, and that is at most 256.
+/// A tree that passes no limit and keeps every rule of names and types, with what later stages rely on.
 #[derive(Drop, Debug)]
 pub struct Typed {
     pub tree: Tree,
+    // Each slot, each index of a callee and each count of slots is right.
     pub ghost resolved: { is_resolved (resolved_of tree) ≡ true },
+    // The program is one of the first grammar.
     pub ghost first: { is_first (program_of tree) ≡ true },
+    // It passes no limit.
     pub ghost within: { limit_faults (program_of tree) ≡ [] },
+    // It keeps every rule of names and types.
     pub ghost typed: { IsWellTyped (program_of tree) },
+    // Each callee stands above the function that calls it.
     pub ghost above: { calls_below [] (program_of tree).functions ≡ [] },
+    // Each slot is below its function's count of slots, and that is at most 256.
     pub ghost fitting: { are_fitting (resolved_of tree).functions ≡ true },
 }
