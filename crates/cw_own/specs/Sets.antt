@@ -1,8 +1,8 @@
--- Sets of slots below 256, as four rows of 64 bits.
+-- Sets of slots, and rows of 64 bits as such sets.
 use Rattle.std.specs.Prelude.{ℕ, ◌/◌, ◌%◌, ◌==◌, Bool, false, ◌||◌, List, slice_index}
 use Rattle.std.specs.Int.{bit_at}
 
--- whether a slot is in the set
+-- a set of slots: which ones are in it
 abbrev pub Slots : Type 0
 Slots = ℕ → Bool
 

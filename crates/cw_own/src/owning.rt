@@ -15,7 +15,9 @@ use cw_types::tree::Function;
 
 /// The same tree, which keeps ownership.
 ///
-/// Answers `Ownership` at the least line that breaks its rule.
+/// Answers `Ownership` at the least line of a statement that reads, passes, returns or writes a name
+/// which a spawn has taken and no join has freed; the tree is let go then. No other fault is
+/// answered, and no memory is taken.
 pub fn own(typed: Typed) -> Result<Owned, Fault>
     ensures { MatchResult result (λ owned. owned.typed.tree ≡ typed.tree) (BreaksOwnership (program_of typed.tree)) }
 {
@@ -27,6 +29,7 @@ pub fn own(typed: Typed) -> Result<Owned, Fault>
     }
 }
 
+// Notes each line of these functions that touches what is taken.
 fn note_all(functions: &[Function], least: &mut LeastLine)
     requires { are_fitting (map function_of functions.now) ≡ true }
     ensures { least.new.line ≡ lowest least.old.line (flat_map taken_lines_of (map function_of functions.now)) }

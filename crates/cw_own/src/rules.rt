@@ -25,6 +25,7 @@ fn is_free(taken: &Taken, e: &Expr) -> bool
     }
 }
 
+// Whether no one of the expressions names anything taken.
 fn are_free(taken: &Taken, es: &[Expr]) -> bool
     requires { list_all (below_expr most_declared) (map expr_of es.now) ≡ true }
     ensures { result ≡ list_all (free_expr (slots_of taken.now.rows)) (map expr_of es.now) }
@@ -37,6 +38,7 @@ fn are_free(taken: &Taken, es: &[Expr]) -> bool
     true
 }
 
+// Whether the name that a call gives its result to, if there is one, is not taken.
 fn is_target_free(taken: &Taken, target: &Option<Use>) -> bool
     requires { below_target most_declared (option_map use_of target.now) ≡ true }
     ensures { result ≡ free_target (slots_of taken.now.rows) (option_map use_of target.now) }
@@ -47,6 +49,7 @@ fn is_target_free(taken: &Taken, target: &Option<Use>) -> bool
     }
 }
 
+// Whether what is returned, if anything is, names nothing taken.
 fn is_return_free(taken: &Taken, e: &Option<Expr>) -> bool
     requires { below_return most_declared (option_map expr_of e.now) ≡ true }
     ensures { result ≡ free_return (slots_of taken.now.rows) (option_map expr_of e.now) }
@@ -85,6 +88,7 @@ fn after(taken: Taken, stmt: &Stmt) -> Taken
     }
 }
 
+// What is taken after a call: a spawn takes the name of its result.
 fn after_call(taken: Taken, call: &Call) -> Taken
     requires { below_target most_declared (option_map use_of call.now.target) ≡ true }
     ensures { slots_of result.rows ≡ taken_by_call call.now.kind (option_map use_of call.now.target) (slots_of taken.rows) }

@@ -1,4 +1,4 @@
-//! The rules of names, types and ownership on whole sources, with the lines by hand.
+//! The rule of ownership on whole sources, with the lines by hand.
 
 use crate::owned::Owned;
 use crate::owning::own;

@@ -33,6 +33,7 @@ fn argument_after<'a>(
     }
 }
 
+// A further argument, or none at the end of the arguments.
 fn next_argument<'a>(reading: Reading<'_>, tokens: &'a [Token]) -> Read<'a, Option<Expr>>
     ensures { Gives (λ x. (argument_step x.0, x.1.now)) result
         (by_first (next_argument reading.entry.text.now reading.entry.limit) tokens.now) }
@@ -61,6 +62,7 @@ fn more_arguments<'a>(reading: Reading<'_>, first: Expr, tokens: &'a [Token]) ->
     Err(Stop::At(rest.len()))
 }
 
+// The arguments after the opening parenthesis, and the closing one.
 #[tactic(auto, unfolding(crate::specs::Parts::arguments))]
 fn arguments<'a>(reading: Reading<'_>, tokens: &'a [Token]) -> Read<'a, Vec<Expr>>
     ensures { Gives (λ x. (exprs_of x.0.items, x.1.now)) result

@@ -63,6 +63,7 @@ fn simple<'a>(reading: Reading<'_>, first: Token, tokens: &'a [Token]) -> Read<'
     }
 }
 
+// A number or a name.
 fn simple_by<'a>(reading: Reading<'_>, tokens: &'a [Token]) -> Read<'a, Expr>
     ensures { Gives (λ x. (expr_of x.0, x.1.now)) result
         (by_first (simple reading.entry.text.now) tokens.now) }

@@ -52,6 +52,7 @@ fn param_after<'a>(
     }
 }
 
+// A further parameter, or none at the end of the parameters.
 fn next_param<'a>(reading: Reading<'_>, tokens: &'a [Token]) -> Read<'a, Option<Param>>
     ensures { Gives (λ x. (param_step x.0, x.1.now)) result
         (by_first (next_param reading.entry.text.now) tokens.now) }
@@ -96,6 +97,7 @@ fn params_after<'a>(reading: Reading<'_>, first: Token, tokens: &'a [Token]) -> 
     }
 }
 
+// The parameters behind the opening parenthesis, and the closing one.
 fn params<'a>(reading: Reading<'_>, tokens: &'a [Token]) -> Read<'a, Vec<Param>>
     ensures { Gives (λ x. (map param_of x.0.items, x.1.now)) result
         (by_first (params reading.entry.text.now reading.entry.limit) tokens.now) }
@@ -106,7 +108,7 @@ fn params<'a>(reading: Reading<'_>, tokens: &'a [Token]) -> Read<'a, Vec<Param>>
     }
 }
 
-/// A function that gives an integer, and the number of the next call statement.
+// A function that gives an integer, and the number of the next call statement.
 #[tactic(auto, unfolding(crate::specs::Parts::function))]
 fn function<'a>(reading: Reading<'_>, site: u32, tokens: &'a [Token]) -> Read<'a, (Function, u32)>
     requires { site + length tokens.now < 2 ^ 32 }

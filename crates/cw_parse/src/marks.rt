@@ -1,4 +1,5 @@
-//! Single tokens of one kind.
+//! Single tokens of one kind: each function gives the first token, if it is of its kind, and the
+//! tokens after it, and else stops there.
 
 ghost use Rattle.cw_parse.specs.Reading.{Gives, token};
 ghost use Rattle.cw_parse.specs.Marks.{is_name, is_int, is_left_paren, is_right_paren, is_left_brace, is_right_brace, is_assign, is_semicolon};

@@ -26,6 +26,7 @@ pub fn test_nesting(tokens: &[Token]) -> Result<(), Fault>
     }
 }
 
+// The least line of a token that passes a limit.
 fn least_fault(tokens: &[Token]) -> LeastLine
     ensures { result.line ≡ lowest None (spec.token_faults 0 0 tokens.now) }
 {

@@ -63,6 +63,7 @@ fn assigned_after<'a>(
     }
 }
 
+// What follows a name and "=".
 fn assigned<'a>(
     reading: Reading<'_>,
     site: u32,
@@ -156,6 +157,7 @@ enum Next {
     End(Line, u32),
 }
 
+// What stands next in a body, after its first token.
 #[tactic(auto, unfolding(crate::specs::Parts::next_line))]
 fn line_after<'a>(
     reading: Reading<'_>,
@@ -181,6 +183,7 @@ fn line_after<'a>(
     }
 }
 
+// What stands next in a body.
 fn next_line<'a>(reading: Reading<'_>, site: u32, tokens: &'a [Token]) -> Read<'a, Next>
     requires { site + length tokens.now < 2 ^ 32 }
     ensures { Gives (λ x. (next_of x.0, x.1.now)) result

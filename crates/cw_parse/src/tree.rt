@@ -1,5 +1,7 @@
 //! The tree of a source: parentheses leave no node, each statement carries the line of its
-//! first token, and each call statement its number.
+//! first token, and each call statement its number. Lines are counted from 1.
+//!
+//! It has a place for each form of the language; `parse` fills those of the first grammar.
 
 ghost use Rattle.std.specs.Prelude.{◌≡◌, IfOk};
 
@@ -22,7 +24,7 @@ impl Model for Name {
 }
 
 impl Name {
-    /// The name with these bytes; an error where memory runs out.
+    /// The name with these bytes, which are copied; an error where memory runs out.
     pub fn new(alloc: Global, text: &[u8]) -> Result<Name, AllocError>
         ensures { IfOk result (λ name. name ≡ text.now) }
     {
@@ -42,39 +44,49 @@ impl Name {
 /// An expression.
 #[derive(Drop, Debug)]
 pub enum Expr {
-    /// A number, which the source writes without a sign.
+    /// A number, which the source writes without a sign: from 0 to `i64::MAX`.
     Number(i64),
+    /// A variable or a parameter.
     Variable(Name),
     /// An element of an array, by the array's name and the index.
     Element(Name, Box<Expr>),
     /// The length of an array.
     Length(Name),
+    /// An operand with its sign turned.
     Negative(Box<Expr>),
+    /// 1 for an operand of 0, and 0 for any other.
     Not(Box<Expr>),
+    /// An operator, with its left and its right operand.
     Binary(Operator, Box<Expr>, Box<Expr>),
 }
 
 /// A call statement.
 #[derive(Drop, Debug)]
 pub struct Call {
+    /// Whether the call is spawned.
     pub kind: CallKind,
     /// The number of the call statement among all of the source, from 1.
     pub site: u32,
     /// The name that takes what the call gives.
     pub target: Option<Name>,
+    /// The name of the function that is called.
     pub callee: Name,
+    /// The arguments in their order.
     pub arguments: Vec<Expr>,
 }
 
 /// The head of a parallel loop.
 #[derive(Drop, Debug)]
 pub struct Head {
+    /// The variable of the loop.
     pub variable: Name,
     /// The name that the head compares with the upper bound.
     pub tested: Name,
     /// The name that the head raises.
     pub stepped: Name,
+    /// The first value of the variable.
     pub from: Expr,
+    /// The upper bound, which the variable does not reach.
     pub to: Expr,
     /// The most turns in a leaf.
     pub grain: u64,
@@ -85,9 +97,13 @@ pub struct Head {
 /// Where an array is cut, and the names of its two parts.
 #[derive(Drop, Debug)]
 pub struct Cut {
+    /// The array that is cut.
     pub array: Name,
+    /// How many elements the left part has.
     pub at: Expr,
+    /// The name of the part before the cut.
     pub left: Name,
+    /// The name of the part behind it.
     pub right: Name,
 }
 
@@ -103,25 +119,37 @@ pub struct Line {
 #[cycle(stmt)]
 #[derive(Drop, Debug)]
 pub enum Stmt {
+    /// A variable by its name, and its first value.
     Declare(Name, Expr),
     /// An array by its name and its length.
     DeclareArray(Name, Expr),
+    /// A variable by its name, and its new value.
     Assign(Name, Expr),
     /// An element of an array by the array's name and the index, and its new value.
     AssignElement(Name, Expr, Expr),
-    /// What is added to a reducer.
+    /// A reducer by its name, and what is added to it.
     AddTo(Name, Expr),
+    /// A call, plain or spawned.
     Call(Call),
+    /// A join of all that the innermost sync block has spawned.
     Sync,
+    /// A condition, and what is done where it is not 0.
     If(Expr, Vec<Line>),
+    /// A condition, what is done where it is not 0, and what is done where it is.
     IfElse(Expr, Vec<Line>, Vec<Line>),
+    /// A condition, and what is done again and again while it is not 0.
     While(Expr, Vec<Line>),
+    /// A parallel loop.
     For(Head, Vec<Line>),
+    /// A block that joins what it has spawned.
     Scope(Vec<Line>),
+    /// A cut, and the block in which the two parts have their names.
     Cut(Cut, Vec<Line>),
-    /// What is counted under a tag.
+    /// A tag, and what is counted under it.
     Region(Name, Vec<Line>),
+    /// What is printed.
     Print(Expr),
+    /// The end of a call, with the value that it gives if it gives one.
     Return(Option<Expr>),
 }
 
@@ -129,6 +157,7 @@ pub enum Stmt {
 #[derive(Drop, Debug)]
 pub struct Param {
     pub name: Name,
+    /// Whether the parameter is an array, and not an integer.
     pub is_array: bool,
 }
 

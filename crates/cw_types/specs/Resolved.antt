@@ -2,8 +2,8 @@
 --
 -- How a later stage uses this. A `Typed` keeps its tree; `View.resolved_of` shows that tree as the `Resolved` below,
 -- and `View.program_of` is that without its slots and indices, which is the program of the source. A stage states what
--- it makes as a function of the resolved tree alone, such as 'Load u.slot' for a use u and 'Call c' for a call of
--- index c.function, and so looks no name up. That the slots and indices are right is a fact of the type: `Typed` keeps
+-- it makes as a function of the resolved tree alone, by the slot of each use and the index of each callee, and so looks
+-- no name up. That the slots and indices are right is a fact of the type: `Typed` keeps
 -- `is_resolved (resolved_of tree) ≡ true`, and `Rattle.cw_types.proofs.Looked.{resolved_is}` turns it into
 -- `resolved_of tree ≡ resolved (program_of tree)`, by which each slot is `slot_of x names`, each index
 -- `slot_of f (function_names ..)`, and each count of slots the number of names that its function declares.
@@ -68,7 +68,7 @@ resolved_expr names (model.Variable x) = Variable (use_of names x)
 -- the first grammar has no other
 resolved_expr names _ = Number (pos 0)
 
--- where so many names are declared; a declaration takes the next slot
+-- a statement with each name looked up, where these functions and names are declared; a declaration takes the next slot
 abbrev pub resolved_stmt : (functions names : List Name) → model.Stmt → Stmt
 resolved_stmt functions names (model.Declare x e) = Declare (record { name = x; slot = length names }) (resolved_expr names e)
 resolved_stmt functions names (model.Call kind site target f es) =
@@ -118,7 +118,7 @@ resolved program = record {
   main = slot_of main_name (function_names program.functions);
 }
 
--- without slots and indices
+-- an expression without slots and indices
 abbrev pub plain_expr : Expr → model.Expr
 plain_expr (Number n) = model.Number n
 plain_expr (Variable u) = model.Variable u.name

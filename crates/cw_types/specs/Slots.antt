@@ -60,7 +60,7 @@ abbrev pub slot_faults_of : List model.Function → List Name → model.Function
 slot_faults_of fs globals f =
     unless (are_new globals [] (param_names f.params)) f.line ++ slot_faults fs globals (param_names f.params) f.body
 
--- the lines of functions whose name an earlier one has
+-- the lines of functions whose name an earlier one has, or is among these names
 abbrev pub repeated_after : List Name → List model.Function → List ℕ
 repeated_after names [] = []
 repeated_after names (f ∷ fs) = unless (not (is_among f.name names)) f.line ++ repeated_after (names ++ f.name ∷ []) fs

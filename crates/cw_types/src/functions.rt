@@ -16,7 +16,7 @@ use cw_parse::tree::{Function, Line, Name, Param, Stmt};
 use cw_text::LeastLine;
 use std::alloc::{AllocError, Global};
 
-/// The names of the functions; notes each function whose name an earlier one has.
+/// The names of the functions in their order; notes the line of each whose name an earlier one has.
 pub fn globals<'a>(
     alloc: Global,
     functions: &'a [Function],
@@ -35,7 +35,8 @@ pub fn globals<'a>(
     Ok(names)
 }
 
-/// Every function; notes each statement and each head that breaks a rule.
+/// Every function in its order, with each name looked up; notes the line of each statement and each
+/// head that breaks a rule.
 pub fn functions(
     alloc: Global,
     functions: &[Function],
@@ -54,6 +55,7 @@ pub fn functions(
     Ok(found)
 }
 
+// One function; notes the line of each of its statements and of its head that breaks a rule.
 fn function(
     alloc: Global,
     functions: &[Function],
@@ -100,6 +102,7 @@ fn declare_params<'a>(
     Ok(new)
 }
 
+// The names of the parameters, which are copied.
 fn param_names(alloc: Global, params: &[Param]) -> Result<Vec<Name>, AllocError>
     ensures { IfOk result (λ names. names.items ≡ spec.param_names (map parsed.param_of params.now)) }
 {
@@ -111,6 +114,8 @@ fn param_names(alloc: Global, params: &[Param]) -> Result<Vec<Name>, AllocError>
     Ok(names)
 }
 
+// The statements of a body, where these names are declared before it; declares those of the body,
+// and notes the line of each statement that breaks a rule.
 fn body<'a>(
     alloc: Global,
     functions: &[Function],
@@ -137,6 +142,7 @@ fn body<'a>(
     Ok(found)
 }
 
+// Declares the name that the statement declares, if it declares one.
 fn declare<'a>(names: &mut Table<'a>, stmt: &'a Stmt) -> Result<(), AllocError>
     requires { length names.old + one_if (is_declare (parsed.stmt_of stmt.now)) < 2 ^ 32 }
     ensures { OnOk result (names.new ≡ spec.names_after names.old (parsed.stmt_of stmt.now)) }
@@ -147,7 +153,7 @@ fn declare<'a>(names: &mut Table<'a>, stmt: &'a Stmt) -> Result<(), AllocError>
     Ok(())
 }
 
-/// Notes each call whose callee does not come before the function that it stands in.
+/// Notes the line of each call whose callee does not come before the function that it stands in.
 pub fn below(functions: &[tree::Function], least: &mut LeastLine)
     ensures { least.new.line ≡ lowest least.old.line (below_of 0 (map function_of functions.now)) }
 {
@@ -156,6 +162,7 @@ pub fn below(functions: &[tree::Function], least: &mut LeastLine)
     }
 }
 
+// The same of the body of the function with this index.
 fn below_lines(index: usize, lines: &[tree::Line], least: &mut LeastLine)
     ensures { least.new.line ≡ lowest least.old.line (below_lines_of index (block_of lines.now)) }
 {

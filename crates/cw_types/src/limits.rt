@@ -22,7 +22,8 @@ const MOST_PARAMETERS: usize = 16;
 /// The most names that a function declares, its parameters included.
 const MOST_DECLARED: usize = 256;
 
-/// The least line that passes a limit.
+/// The least line that passes a limit: that of the 1,025th function or a later one, of a function
+/// with more than 16 parameters, or of what declares the 257th name of a function or a later one.
 pub fn limits(ast: &Ast) -> LeastLine
     requires { is_first (program_of ast.now) ≡ true }
     ensures { result.line ≡ lowest None (limit_faults (program_of ast.now)) }
@@ -33,6 +34,7 @@ pub fn limits(ast: &Ast) -> LeastLine
     least
 }
 
+// Notes the lines of the functions behind the most of them.
 fn functions_beyond(functions: &[Function], least: &mut LeastLine)
     ensures { least.new.line ≡ lowest least.old.line (lines_beyond most_functions (map (λ f. f.line) (map function_of functions.now))) }
 {
@@ -42,6 +44,7 @@ fn functions_beyond(functions: &[Function], least: &mut LeastLine)
     }
 }
 
+// Notes the lines that pass a limit of one function.
 fn functions_limits(functions: &[Function], least: &mut LeastLine)
     requires { list_all is_first_function (map function_of functions.now) ≡ true }
     ensures { least.new.line ≡ lowest least.old.line (flat_map limits_of (map function_of functions.now)) }
@@ -51,6 +54,7 @@ fn functions_limits(functions: &[Function], least: &mut LeastLine)
     }
 }
 
+// The same of one of the functions.
 fn function_limits(function: &Function, least: &mut LeastLine)
     requires { are_simple (block_of function.now.body.items) ≡ true }
     ensures { least.new.line ≡ lowest least.old.line (limits_of (function_of function.now)) }
@@ -72,6 +76,7 @@ fn params_beyond(room: usize, line: u32, params: &[Param], least: &mut LeastLine
     left
 }
 
+// Notes the lines of the body that declare a name where no room is left.
 fn body_beyond(room: usize, lines: &[Line], least: &mut LeastLine)
     requires { are_simple (block_of lines.now) ≡ true }
     ensures { least.new.line ≡ lowest least.old.line (drop room (declaring_lines_in (block_of lines.now))) }

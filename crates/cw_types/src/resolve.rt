@@ -12,7 +12,7 @@ use crate::tree;
 use cw_parse::tree::{Call, Expr, Name, Stmt};
 use std::alloc::{AllocError, Global};
 
-/// A name once more.
+/// A copy of a name.
 pub fn copy(alloc: Global, name: &Name) -> Result<Name, AllocError>
     ensures { IfOk result (λ copied. copied ≡ name.now) }
 {
@@ -47,6 +47,7 @@ fn expression(alloc: Global, names: &Table, e: &Expr) -> Result<tree::Expr, Allo
     }
 }
 
+// The arguments in their order, each with its names looked up.
 fn arguments(alloc: Global, names: &Table, es: &[Expr]) -> Result<Vec<tree::Expr>, AllocError>
     ensures { IfOk result (λ found. map expr_of found.items ≡ map (spec.resolved_expr names.now) (map parsed.expr_of es.now)) }
 {
@@ -58,6 +59,7 @@ fn arguments(alloc: Global, names: &Table, es: &[Expr]) -> Result<Vec<tree::Expr
     Ok(found)
 }
 
+// The name that takes the result of a call, if there is one.
 fn target(
     alloc: Global,
     names: &Table,
@@ -74,6 +76,7 @@ fn target(
     }
 }
 
+// What is returned, if anything is.
 fn returned(
     alloc: Global,
     names: &Table,
@@ -90,6 +93,7 @@ fn returned(
     }
 }
 
+// A call with its names and its callee looked up.
 fn call(alloc: Global, globals: &Table, names: &Table, c: &Call) -> Result<tree::Call, AllocError>
     ensures { IfOk result (λ found. stmt_of (variant.Call found) ≡ spec.resolved_stmt globals.now names.now (parsed.stmt_step (Stmt-F.Call c.now))) }
 {
