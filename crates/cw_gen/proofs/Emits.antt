@@ -9,14 +9,15 @@ use Rattle.cw_model.specs.Syntax.{Name}
 use Rattle.cw_model.specs.Answers.{main_name}
 use Rattle.cw_model.specs.Report.{CallSite, kind_text, sites_in_block}
 use Rattle.cw_types.specs.Resolved.{Use, Expr, Number, Variable, Stmt, Declare, Call, Sync, Return, Block, End, Then, Function, Resolved, slot_of, names_after, names_after_all, function_names, param_names, int_param, plain_expr, plain_stmt, plain_block, plain_function, plain, is_resolved_expr, is_target_use, is_resolved_stmt, is_resolved_block, is_resolved_function, is_resolved}
+use Rattle.cw_types.specs.Declares.{declares_in}
+use Rattle.cw_types.proofs.Bounds.{grown}
 use Rattle.cw_code.specs.declared.code.Instr.{Instr}
 use Rattle.cw_code.specs.declared.code.Instr.TheVariants as instr
 use Rattle.cw_code.specs.declared.code.Func.{Func}
 use Rattle.cw_code.specs.declared.code.Callee.{Callee}
 use Rattle.cw_code.specs.Code.{Code}
-use Rattle.cw_gen.specs.Gen.{expr_code, args_code, call_instr, target_slot, stmt_code, block_code, declared_in_block, function_code, codes_of, funcs_from, code_of}
+use Rattle.cw_gen.specs.Gen.{expr_code, args_code, call_instr, target_slot, stmt_code, block_code, function_code, codes_of, funcs_from, code_of}
 use Rattle.cw_gen.specs.Emit.{emitted_expr, emitted_args, slot_in, emitted_stmt, emitted_block, emitted_instrs, emitted_funcs, emitted_sites_in, emitted_sites, emitted}
-use Rattle.cw_gen.proofs.Laws.{names_grow}
 
 first : (a b : Bool) → (a && b) ≡ true → a ≡ true
 first true b h = refl
@@ -75,10 +76,6 @@ module _ (fs : List model.Function) where
       ap (λ l. l ++ emitted_block b) (stmt_is names line s (first here there h))
       ∙ ap (λ l. stmt_code fs names line (plain_stmt s) ++ l) (block_is (names_after names (plain_stmt s)) b (second here there h))
 
-  names_count : (names : List Name) (b : model.Block) → length (names_after_all names b) ≡ length names + declared_in_block b
-  names_count names model.End = omega arith
-  names_count names (model.Then line s b) = names_count (names_after names s) b ∙ omega (arith, names_grow s names)
-
   sites_are : (b : Block) → emitted_sites_in b ≡ sites_in_block (plain_block b)
   sites_are End = refl
   sites_are (Then line (Declare u e) b) = sites_are b
@@ -93,7 +90,7 @@ module _ (fs : List model.Function) where
   record FunctionIs (f : Function) : Type 0 where
     pub code : emitted_block f.body ≡ function_code fs (plain_function f)
     pub params : length f.params ≡ length (plain_function f).params
-    pub slots : f.slots ≡ length (plain_function f).params + declared_in_block (plain_function f).body
+    pub slots : f.slots ≡ length (plain_function f).params + declares_in (plain_function f).body
 
   function_is : (f : Function) → is_resolved_function functions f ≡ true → FunctionIs f
   function_is f h =
@@ -103,7 +100,7 @@ module _ (fs : List model.Function) where
       record {
         code = block_is f.params f.body b ∙ ap (λ ns. block_code fs ns (plain_block f.body)) (sym (names_of_params f.params));
         params = n;
-        slots = eqb-true f.slots (length (names_after_all f.params (plain_block f.body))) a ∙ names_count f.params (plain_block f.body) ∙ ap (λ k. k + declared_in_block (plain_block f.body)) n;
+        slots = eqb-true f.slots (length (names_after_all f.params (plain_block f.body))) a ∙ grown f.params (plain_block f.body) ∙ ap (λ k. k + declares_in (plain_block f.body)) n;
       }
 
   abbrev all_resolved : List Function → Bool
@@ -122,8 +119,8 @@ module _ (fs : List model.Function) where
       let func = λ (k n : ℕ). let made : Func = record { start = start; params = k; slots = n } in made in
       ap (λ k. func k g.slots ∷ emitted_funcs (start + length (emitted_block g.body)) gs) is.params
       ∙ ap (λ n. func (length (plain_function g).params) n ∷ emitted_funcs (start + length (emitted_block g.body)) gs) is.slots
-      ∙ ap (λ l. func (length (plain_function g).params) (length (plain_function g).params + declared_in_block (plain_function g).body) ∷ emitted_funcs (start + length l) gs) is.code
-      ∙ ap (λ l. func (length (plain_function g).params) (length (plain_function g).params + declared_in_block (plain_function g).body) ∷ l) (funcs_are (start + length (function_code fs (plain_function g))) gs (second (is_resolved_function functions g) (all_resolved gs) h))
+      ∙ ap (λ l. func (length (plain_function g).params) (length (plain_function g).params + declares_in (plain_function g).body) ∷ emitted_funcs (start + length l) gs) is.code
+      ∙ ap (λ l. func (length (plain_function g).params) (length (plain_function g).params + declares_in (plain_function g).body) ∷ l) (funcs_are (start + length (function_code fs (plain_function g))) gs (second (is_resolved_function functions g) (all_resolved gs) h))
 
 all_sites_are : (gs : List Function) → emitted_sites gs ≡ flat_map (λ f. sites_in_block f.body) (map (λ g. plain_function g) gs)
 all_sites_are [] = refl

@@ -21,10 +21,12 @@ use Rattle.cw_code.specs.declared.code.Instr.{Instr}
 use Rattle.cw_code.specs.declared.code.Instr.TheVariants as instr
 use Rattle.cw_code.specs.Code.{Code}
 use Rattle.cw_code.specs.Fits.{Shape, IsNotAmong, HasSlot, HasTarget, with_target, Leads, HasSite, FitsCallee, Finds, Starts, Fits}
-use Rattle.cw_gen.specs.Gen.{expr_code, args_code, call_instr, target_slot, callee_of, stmt_code, block_code, declared_in, declared_in_block, params_of, function_code, codes_of, funcs_from, code_of}
+use Rattle.cw_gen.specs.Gen.{expr_code, args_code, call_instr, target_slot, callee_of, stmt_code, block_code, params_of, function_code, codes_of, funcs_from, code_of}
 use Rattle.cw_gen.specs.Fine.{IsUsable, ExprFine, ArgsFine, TargetFine, StmtFine, BlockFine, FunctionFine, FunctionsFine, ProgramFine}
 use Rattle.cw_gen.proofs.Names.{slot_within, slots_apart, slot_more, slot_new, still_free, not_the_first}
-use Rattle.cw_gen.proofs.Laws.{Table, names_grow}
+use Rattle.cw_types.specs.Declares.{is_declare, one_if, declares_in}
+use Rattle.cw_types.proofs.Bodies.{counted}
+use Rattle.cw_gen.proofs.Laws.{Table}
 use Rattle.cw_gen.proofs.Program.{table_of}
 
 abbrev shape_of : (size operands : ℕ) → List ℕ → Shape
@@ -54,7 +56,7 @@ block_shapes size names empty End = []
 block_shapes size names empty (Then line s b) = stmt_shapes size empty s ++ block_shapes size (names_after names s) (empty_after names s empty) b
 
 abbrev size_of : Function → ℕ
-size_of f = length f.params + declared_in_block f.body
+size_of f = length f.params + declares_in f.body
 
 abbrev function_shapes : Function → List Shape
 function_shapes f = block_shapes (size_of f) (params_of f) [] f.body
@@ -193,7 +195,7 @@ module _ (code : Code) (table : List Shape) where
     has_target names taken empty n None small frees fine = tt
     has_target names taken empty n (Some x) small frees fine = has_name size names taken empty small frees x n fine
 
-    stmt_finds : (names : List Name) (taken : Taken) (empty : List ℕ) (line place : ℕ) (s : Stmt) → length names + declared_in s ≤ size → Frees names taken empty → StmtFine fs names taken s →
+    stmt_finds : (names : List Name) (taken : Taken) (empty : List ℕ) (line place : ℕ) (s : Stmt) → length names + one_if (is_declare s) ≤ size → Frees names taken empty → StmtFine fs names taken s →
         ((n : ℕ) → HasSite n (sites_in line s) → HasSite n code.sites) → StandsAt table place (stmt_shapes size empty s) →
         (surely_returns s ≡ false → Leads table (place + length (stmt_code fs names line s)) size 0 (empty_after names s empty)) → AllFind place (stmt_shapes size empty s) (stmt_code fs names line s)
     stmt_finds names taken empty line place (Declare x e) small frees fine sites stands leads =
@@ -302,7 +304,7 @@ module _ (code : Code) (table : List Shape) where
     leads_on names taken empty line place s (Then line' s' b) returns fine stands goes =
         begins_with names taken empty place s' fine.0 (stands_front table place (stmt_shapes size empty s') (block_shapes size (names_after names s') (empty_after names s' empty) b) stands)
 
-    block_finds : (names : List Name) (taken : Taken) (empty : List ℕ) (place : ℕ) (b : Block) → length names + declared_in_block b ≤ size → Frees names taken empty → BlockFine fs names taken b → EndsWell b →
+    block_finds : (names : List Name) (taken : Taken) (empty : List ℕ) (place : ℕ) (b : Block) → length names + declares_in b ≤ size → Frees names taken empty → BlockFine fs names taken b → EndsWell b →
         ((n : ℕ) → HasSite n (sites_in_block b) → HasSite n code.sites) → StandsAt table place (block_shapes size names empty b) → AllFind place (block_shapes size names empty b) (block_code fs names b)
     block_finds names taken empty place End small frees fine returns sites stands = tt
     block_finds names taken empty place (Then line s b) small frees fine returns sites stands =
@@ -316,7 +318,7 @@ module _ (code : Code) (table : List Shape) where
         stmt_finds names taken empty line place s (omega (arith, small)) frees fine.0 (λ n h. sites n (has_site_left n (sites_in line s) (sites_in_block b) h)) (stands_front table place here rest stands)
         (λ goes. subst (λ k. Leads table (place + k) size 0 empty') (count_stmt names taken empty line s fine.0) (leads_on names' taken' empty' line (place + length here) s b returns fine.1 behind goes)) in
         both_find place here rest (stmt_code fs names line s) (block_code fs names' b) one
-        (block_finds names' taken' empty' (place + length here) b (omega (arith, small, names_grow s names)) (frees_after fs names taken empty s fine.0 frees) fine.1 (ends_well line s b returns) (λ n h. sites n (has_site_right n (sites_in line s) (sites_in_block b) h)) behind)
+        (block_finds names' taken' empty' (place + length here) b (omega (arith, small, counted names s)) (frees_after fs names taken empty s fine.0 frees) fine.1 (ends_well line s b returns) (λ n h. sites n (has_site_right n (sites_in line s) (sites_in_block b) h)) behind)
 
   module _ (fs : List Function) (functions : Table code fs) where
     functions_find : (place : ℕ) (gs : List Function) → FunctionsFine fs gs → ((n : ℕ) → HasSite n (flat_map (λ f. sites_in_block f.body) gs) → HasSite n code.sites) → StandsAt table place (shapes_of gs) → AllFind place (shapes_of gs) (codes_of fs gs)

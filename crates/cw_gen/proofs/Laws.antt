@@ -25,7 +25,9 @@ use Rattle.cw_code.specs.declared.code.Instr.TheVariants as instr
 use Rattle.cw_code.specs.Code.{Code}
 use Rattle.cw_code.specs.Run.{Slots, Results, Waiting, State, Went, On, Stops, Stuck, Ran, here, ticked, synced, inside, is_full, loaded, settled, full, slots_of, may_take, taken_from, has_room, enter, rejoined, result_of, back, act, go_on, steps}
 use Rattle.cw_types.specs.Resolved.{slot_of, names_after}
-use Rattle.cw_gen.specs.Gen.{index_of, expr_code, args_code, call_instr, target_slot, callee_of, stmt_code, block_code, declared_in, declared_in_block, params_of, function_code}
+use Rattle.cw_types.specs.Declares.{is_declare, one_if, declares_in}
+use Rattle.cw_types.proofs.Bodies.{counted}
+use Rattle.cw_gen.specs.Gen.{index_of, expr_code, args_code, call_instr, target_slot, callee_of, stmt_code, block_code, params_of, function_code}
 use Rattle.cw_gen.specs.Fine.{ExprFine, ArgsFine, TargetFine, is_function, StmtFine, BlockFine}
 use Rattle.cw_gen.proofs.Traces.{resume, joined_quiet, resume_then, resume_one, paid_one}
 use Rattle.cw_gen.proofs.Places.{HasAt, has_front, has_back}
@@ -57,10 +59,6 @@ take_all xs n e = ap (λ m. take m xs) e ∙ whole xs
 -- what follows a call in its caller
 abbrev leaves : Option Name → List Param → List Expr → Frame → Returned → ℕ → Outcome Way
 leaves target ps es frame r = going (set_result target r.0 (returned_arrays ps es r.1 frame))
-
-pub names_grow : (s : Stmt) (names : List Name) → length (names_after names s) ≡ length names + declared_in s
-names_grow (Declare x e) names = length-append names (x ∷ [])
-names_grow _ names = omega arith
 
 pub frame_names : (ps : List Param) (vs : List ℤ) (g : Frame) → length vs ≡ length ps → names_in (main_frame ps vs g).ints ≡ names_in g.ints ++ map (λ p. p.name) ps
 frame_names [] vs g n = sym (append-nil (names_in g.ints))
@@ -123,7 +121,7 @@ module _ (code : Code) (fs : List Function) where
   -- a function whose code stands where its entry says
   pub record Compiled (f : Function) (fn : Func) : Type 0 where
     pub params : fn.params ≡ length f.params
-    pub room : fn.slots ≡ length f.params + declared_in_block f.body
+    pub room : fn.slots ≡ length f.params + declares_in f.body
     pub stands : HasAt code.instrs fn.start (function_code fs f)
     pub fine : BlockFine fs (params_of f) [] f.body
     pub returns : block_returns f.body ≡ true
@@ -317,7 +315,7 @@ module _ (code : Code) (fs : List Function) where
 
       module _ (table : Table) where
         stmt_runs : (names : List Name) (taken' : Taken) (s : Stmt) (line pc size : ℕ) (slots : Slots) (results : Results) (frame : Frame) (t : Trace) (left : ℕ) (next : Way → ℕ → Trace → Ran) →
-            left ≤ bound → HasAt code.instrs pc (stmt_code fs names line s) → StmtFine fs names taken' s → Agrees names taken' frame slots results → length slots ≡ size → length names + declared_in s ≤ size →
+            left ≤ bound → HasAt code.instrs pc (stmt_code fs names line s) → StmtFine fs names taken' s → Agrees names taken' frame slots results → length slots ≡ size → length names + one_if (is_declare s) ≤ size →
             (surely_returns s ≡ false → Onwards (names_after names s) (taken_after fs 1 s taken') (pc + length (stmt_code fs names line s)) size left next) → Backs left next →
             steps code left (at pc [] slots results t) ≡ resume t (run s line fs calls frame left) next
         stmt_runs names taken' (Declare x e) line pc size slots results frame t left next within has fine a n room on returns =
@@ -355,7 +353,7 @@ module _ (code : Code) (fs : List Function) where
         stmt_runs names taken' _ line pc size slots results frame t left next within has fine a n room on returns = absurd fine
 
         block_runs : (names : List Name) (taken' : Taken) (b : Block) (pc size : ℕ) (slots : Slots) (results : Results) (frame : Frame) (t : Trace) (left : ℕ) (next : Way → ℕ → Trace → Ran) →
-            left ≤ bound → HasAt code.instrs pc (block_code fs names b) → BlockFine fs names taken' b → Agrees names taken' frame slots results → length slots ≡ size → length names + declared_in_block b ≤ size →
+            left ≤ bound → HasAt code.instrs pc (block_code fs names b) → BlockFine fs names taken' b → Agrees names taken' frame slots results → length slots ≡ size → length names + declares_in b ≤ size →
             (block_returns b ≡ false → (names' : List Name) (after_it : Taken) → Onwards names' after_it (pc + length (block_code fs names b)) size left next) → Backs left next →
             steps code left (at pc [] slots results t) ≡ resume t (run_all b fs calls frame left) next
         block_runs names taken' End pc size slots results frame t left next within has fine a n room on returns =
@@ -367,7 +365,7 @@ module _ (code : Code) (fs : List Function) where
             stmt_runs names taken' s line pc size slots results frame t left (λ way l u. resume u (onward way (λ frame'. run_all b fs calls frame') l) next)
             within (has_front code.instrs pc cs cb has) fine.0 a n (omega arith)
             (λ goes frame' slots' results' l u a' n' le. block_runs (names_after names s) (taken_after fs 1 s taken') b (pc + length cs) size slots' results' frame' u l next (omega arith) (has_back code.instrs pc cs cb has) fine.1 a' n'
-            (omega (arith, names_grow s names))
+            (omega (arith, counted names s))
             (λ more names' after_it g sl rs l' u' ag ln le'.
             let place : pc + length cs + length cb ≡ pc + length (cs ++ cb) = omega (arith, length-append cs cb) in
             ap (λ q. steps code l' (at q [] sl rs u')) place ∙ on (both_go_on line s b goes more) names' after_it g sl rs l' u' ag ln (omega arith))

@@ -7,11 +7,12 @@ use Rattle.cw_model.specs.Frames.{no_frame}
 use Rattle.cw_model.specs.Outcome.{Outcome, Done, Trapped, Over, quiet}
 use Rattle.cw_model.specs.Meaning.{Returned, Deeper, function_of, call}
 use Rattle.cw_model.specs.Answers.{answer_of, main_frame, main_name, serial_answer}
+use Rattle.cw_types.specs.Declares.{declares_in}
 use Rattle.cw_code.specs.declared.code.Func.{Func}
 use Rattle.cw_code.specs.declared.code.Instr.{Instr}
 use Rattle.cw_code.specs.Code.{Code}
 use Rattle.cw_code.specs.Run.{Ran, On, Stuck, slots_of, here, go_on, steps, first_went, code_serial}
-use Rattle.cw_gen.specs.Gen.{index_of, function_code, codes_of, funcs_from, code_of, declared_in_block}
+use Rattle.cw_gen.specs.Gen.{index_of, function_code, codes_of, funcs_from, code_of}
 use Rattle.cw_gen.specs.Fine.{is_function, FunctionsFine, ProgramFine}
 use Rattle.cw_code.specs.Fits.{params_of, main_params}
 use Rattle.cw_gen.specs.Generates.{main_count}
@@ -30,7 +31,7 @@ entries code all pre (f ∷ fs) e fine name h =
   where
     test : (is_function name fs ≡ true → Entry code all (length pre + length (function_code all f)) fs name) → (b : Bool) → (if b then true else is_function name fs) ≡ true →
         (fn : Func) × (slice_get (funcs_from all (length pre) (f ∷ fs)) (if b then 0 else suc (index_of name fs)) ≡ Some fn) × Compiled code all (if b then f else function_of name fs) fn
-    test more true h' = (record { start = length pre; params = length f.params; slots = length f.params + declared_in_block f.body }, refl, record { params = refl; room = refl; stands = subst (λ l. HasAt l (length pre) (function_code all f)) (sym e) (has_all pre (function_code all f) (codes_of all fs)); fine = fine.0.body; returns = fine.0.returns })
+    test more true h' = (record { start = length pre; params = length f.params; slots = length f.params + declares_in f.body }, refl, record { params = refl; room = refl; stands = subst (λ l. HasAt l (length pre) (function_code all f)) (sym e) (has_all pre (function_code all f) (codes_of all fs)); fine = fine.0.body; returns = fine.0.returns })
     test more false h' = more h'
 
 pub table_of : (program : Program) → ProgramFine program → Table (code_of program) program.functions

@@ -6,6 +6,7 @@ use Rattle.cw_model.specs.Syntax.{Name, Expr, Number, Variable, Stmt, Declare, A
 use Rattle.cw_model.specs.Answers.{main_name}
 use Rattle.cw_model.specs.Report.{call_sites}
 use Rattle.cw_types.specs.Resolved.{slot_of, names_after, function_names, param_names}
+use Rattle.cw_types.specs.Declares.{declares_in}
 use Rattle.cw_code.specs.declared.code.Callee.{Callee}
 use Rattle.cw_code.specs.declared.code.Func.{Func}
 use Rattle.cw_code.specs.declared.code.Instr.{Instr}
@@ -56,16 +57,6 @@ abbrev pub block_code : List Function → List Name → Block → List Instr
 block_code fs names End = []
 block_code fs names (Then line s b) = stmt_code fs names line s ++ block_code fs (names_after names s) b
 
--- how many names a statement declares
-abbrev pub declared_in : Stmt → ℕ
-declared_in (Declare x e) = 1
-declared_in _ = 0
-
--- how many names the statements of a block declare
-abbrev pub declared_in_block : Block → ℕ
-declared_in_block End = 0
-declared_in_block (Then line s b) = declared_in s + declared_in_block b
-
 -- the names of the parameters of a function
 abbrev pub params_of : Function → List Name
 params_of f = param_names f.params
@@ -83,7 +74,7 @@ codes_of all (f ∷ fs) = function_code all f ++ codes_of all fs
 abbrev pub funcs_from : List Function → ℕ → List Function → List Func
 funcs_from all start [] = []
 funcs_from all start (f ∷ fs) =
-    record { start = start; params = length f.params; slots = length f.params + declared_in_block f.body }
+    record { start = start; params = length f.params; slots = length f.params + declares_in f.body }
     ∷ funcs_from all (start + length (function_code all f)) fs
 
 -- the whole code of a program
