@@ -12,8 +12,8 @@ use Rattle.cw_model.specs.FirstGrammar.{is_first_expr, is_first_stmt, is_first_b
 use Rattle.cw_model.specs.Typing.{Known, is_known, is_int, is_fine, is_argument, are_arguments, called, is_target, is_call, surely_returns, block_returns, WithInt, Alone, declares, ends_block, faults_in, faults_in_block, known_of, is_head, faults_of, repeated_names, type_faults}
 use Rattle.cw_model.specs.Ownership.{Taken, is_taken, taken_after, target_names, given, NoLoop, are_free, may_read, may_write, known_after, declared_by, Declared, Joins, owner_faults, owner_faults_in, owner_faults_of, ownership_faults}
 use Rattle.cw_types.specs.Resolved.{names_after}
-use Rattle.cw_gen.specs.Gen.{params_of}
-use Rattle.cw_gen.specs.Fine.{ExprFine, ArgsFine, is_function, StmtFine, BlockFine, FunctionFine, FunctionsFine, ProgramFine}
+use Rattle.cw_gen.proofs.Gen.{params_of}
+use Rattle.cw_gen.proofs.Fine.{ExprFine, ArgsFine, is_function, StmtFine, BlockFine, FunctionFine, FunctionsFine, ProgramFine}
 
 first : (a b : Bool) → (a && b) ≡ true → a ≡ true
 first true b h = refl

@@ -8,8 +8,9 @@ use Rattle.cw_model.specs.Ownership.{Taken, taken_after}
 use Rattle.cw_model.specs.Sizes.{size_of, arguments_size, stmt_size, block_size, function_size, static_size}
 use Rattle.cw_types.specs.Resolved.{slot_of, names_after}
 use Rattle.cw_code.specs.declared.code.Instr.TheVariants as instr
-use Rattle.cw_gen.specs.Gen.{expr_code, args_code, call_instr, callee_of, stmt_code, block_code, params_of, function_code, codes_of}
-use Rattle.cw_gen.specs.Fine.{ExprFine, ArgsFine, StmtFine, BlockFine, FunctionFine, FunctionsFine, ProgramFine}
+use Rattle.cw_gen.specs.Emit.{call_instr}
+use Rattle.cw_gen.proofs.Gen.{expr_code, args_code, callee_of, stmt_code, block_code, params_of, function_code, codes_of}
+use Rattle.cw_gen.proofs.Fine.{ExprFine, ArgsFine, StmtFine, BlockFine, FunctionFine, FunctionsFine, ProgramFine}
 
 expr_count : (names : List Name) (taken : Taken) (e : Expr) → ExprFine names taken e → length (expr_code names e) ≡ size_of [] e
 expr_count names taken (Number n) fine = refl

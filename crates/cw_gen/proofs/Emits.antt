@@ -1,5 +1,5 @@
 -- A program whose names are looked up rightly has the code of the program.
-use Rattle.std.proofs.Common.{◌≡◌, ℕ, ◌+◌, ◌==◌, List, [], ◌∷◌, ◌++◌, length, Bool, true, false, ◌&&◌, Option, Some, None, refl, sym, ap, ◌∙◌, subst, arith}
+use Rattle.std.proofs.Common.{◌≡◌, ℕ, ◌+◌, ◌==◌, List, [], ◌∷◌, ◌++◌, length, Bool, true, false, ◌&&◌, Option, Some, None, refl, sym, ap, ◌∙◌, subst}
 use Rattle.std.specs.Prelude.{map, option_map, flat_map}
 use Rattle.std.specs.List.{list_all}
 use Rattle.std.proofs.lemmas.Bool.{eqb-true}
@@ -16,8 +16,8 @@ use Rattle.cw_code.specs.declared.code.Instr.TheVariants as instr
 use Rattle.cw_code.specs.declared.code.Func.{Func}
 use Rattle.cw_code.specs.declared.code.Callee.{Callee}
 use Rattle.cw_code.specs.Code.{Code}
-use Rattle.cw_gen.specs.Gen.{expr_code, args_code, call_instr, target_slot, stmt_code, block_code, function_code, codes_of, funcs_from, code_of}
-use Rattle.cw_gen.specs.Emit.{emitted_expr, emitted_args, slot_in, emitted_stmt, emitted_block, emitted_instrs, emitted_funcs, emitted_sites_in, emitted_sites, emitted}
+use Rattle.cw_gen.proofs.Gen.{expr_code, args_code, target_slot, stmt_code, block_code, function_code, codes_of, funcs_from, code_of}
+use Rattle.cw_gen.specs.Emit.{call_instr, emitted_expr, emitted_args, slot_in, emitted_stmt, emitted_block, emitted_instrs, emitted_funcs, emitted_sites_in, emitted_sites, emitted}
 
 first : (a b : Bool) → (a && b) ≡ true → a ≡ true
 first true b h = refl

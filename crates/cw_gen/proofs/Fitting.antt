@@ -21,8 +21,9 @@ use Rattle.cw_code.specs.declared.code.Instr.{Instr}
 use Rattle.cw_code.specs.declared.code.Instr.TheVariants as instr
 use Rattle.cw_code.specs.Code.{Code}
 use Rattle.cw_code.specs.Fits.{Shape, IsNotAmong, HasSlot, HasTarget, with_target, Leads, HasSite, FitsCallee, Finds, Starts, Fits}
-use Rattle.cw_gen.specs.Gen.{expr_code, args_code, call_instr, target_slot, callee_of, stmt_code, block_code, params_of, function_code, codes_of, funcs_from, code_of}
-use Rattle.cw_gen.specs.Fine.{IsUsable, ExprFine, ArgsFine, TargetFine, StmtFine, BlockFine, FunctionFine, FunctionsFine, ProgramFine}
+use Rattle.cw_gen.specs.Emit.{call_instr}
+use Rattle.cw_gen.proofs.Gen.{expr_code, args_code, target_slot, callee_of, stmt_code, block_code, params_of, function_code, codes_of, funcs_from, code_of}
+use Rattle.cw_gen.proofs.Fine.{IsUsable, ExprFine, ArgsFine, TargetFine, StmtFine, BlockFine, FunctionFine, FunctionsFine, ProgramFine}
 use Rattle.cw_gen.proofs.Names.{slot_within, slots_apart, slot_more, slot_new, still_free, not_the_first}
 use Rattle.cw_types.specs.Declares.{is_declare, one_if, declares_in}
 use Rattle.cw_types.proofs.Bodies.{counted}

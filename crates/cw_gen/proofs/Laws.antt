@@ -27,8 +27,9 @@ use Rattle.cw_code.specs.Run.{Slots, Results, Waiting, State, Went, On, Stops, S
 use Rattle.cw_types.specs.Resolved.{slot_of, names_after}
 use Rattle.cw_types.specs.Declares.{is_declare, one_if, declares_in}
 use Rattle.cw_types.proofs.Bodies.{counted}
-use Rattle.cw_gen.specs.Gen.{index_of, expr_code, args_code, call_instr, target_slot, callee_of, stmt_code, block_code, params_of, function_code}
-use Rattle.cw_gen.specs.Fine.{ExprFine, ArgsFine, TargetFine, is_function, StmtFine, BlockFine}
+use Rattle.cw_gen.specs.Emit.{call_instr}
+use Rattle.cw_gen.proofs.Gen.{index_of, expr_code, args_code, target_slot, callee_of, stmt_code, block_code, params_of, function_code}
+use Rattle.cw_gen.proofs.Fine.{ExprFine, ArgsFine, TargetFine, is_function, StmtFine, BlockFine}
 use Rattle.cw_gen.proofs.Traces.{resume, joined_quiet, resume_then, resume_one, paid_one}
 use Rattle.cw_gen.proofs.Places.{HasAt, has_front, has_back}
 use Rattle.cw_gen.proofs.Names.{names_in, values_in, names_more, values_more, Agrees, length-settled, count_slots, slot_within, is_there, loads, assigns, declares, awaits, takes, joins}

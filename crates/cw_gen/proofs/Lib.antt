@@ -1,3 +1,5 @@
+pub mod Gen
+pub mod Fine
 pub mod Places
 pub mod Traces
 pub mod Names

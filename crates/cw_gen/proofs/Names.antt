@@ -11,7 +11,7 @@ use Rattle.cw_model.specs.Frames.{Frame, int_of, new_int, set_int}
 use Rattle.cw_model.specs.Ownership.{Taken, is_taken, taken_by}
 use Rattle.cw_code.specs.Run.{Slots, Results, is_full, full, settled}
 use Rattle.cw_types.specs.Resolved.{slot_of}
-use Rattle.cw_gen.specs.Fine.{IsUsable}
+use Rattle.cw_gen.proofs.Fine.{IsUsable}
 
 abbrev pub Ints : Type 0
 Ints = List (Name × ℤ)

@@ -12,8 +12,8 @@ use Rattle.cw_code.specs.declared.code.Func.{Func}
 use Rattle.cw_code.specs.declared.code.Instr.{Instr}
 use Rattle.cw_code.specs.Code.{Code}
 use Rattle.cw_code.specs.Run.{Ran, On, Stuck, slots_of, here, go_on, steps, first_went, code_serial}
-use Rattle.cw_gen.specs.Gen.{index_of, function_code, codes_of, funcs_from, code_of}
-use Rattle.cw_gen.specs.Fine.{is_function, FunctionsFine, ProgramFine}
+use Rattle.cw_gen.proofs.Gen.{index_of, function_code, codes_of, funcs_from, code_of}
+use Rattle.cw_gen.proofs.Fine.{is_function, FunctionsFine, ProgramFine}
 use Rattle.cw_code.specs.Fits.{params_of, main_params}
 use Rattle.cw_gen.specs.Generates.{main_count}
 use Rattle.cw_gen.proofs.Traces.{resume}

@@ -15,7 +15,7 @@ use Rattle.cw_types.specs.Resolved.{is_resolved}
 use Rattle.cw_types.specs.View.{resolved_of, program_of}
 use Rattle.cw_code.specs.declared.code.Code as declared
 use Rattle.cw_code.specs.Code.{Code, code_view, site_view}
-use Rattle.cw_gen.specs.Gen.{code_of}
+use Rattle.cw_gen.proofs.Gen.{code_of}
 use Rattle.cw_gen.specs.Emit.{emitted}
 use Rattle.cw_gen.specs.Generates.{Generates}
 use Rattle.cw_gen.proofs.Emits.{emits}

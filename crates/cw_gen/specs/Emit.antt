@@ -1,18 +1,24 @@
 -- The instructions of a program whose names are looked up.
 use Rattle.std.specs.Prelude.{ℕ, ◌+◌, List, [], ◌∷◌, ◌++◌, length, Option, Some, None}
 use Rattle.cw_model.specs.declared.syntax.CallKind.{CallKind}
+use Rattle.cw_model.specs.declared.syntax.CallKind.TheVariants.{Plain, Spawned}
 use Rattle.cw_model.specs.Report.{CallSite, kind_text}
 use Rattle.cw_types.specs.Resolved.{Use, Expr, Number, Variable, Stmt, Declare, Call, Sync, Return, Block, End, Then, Function, Resolved}
+use Rattle.cw_code.specs.declared.code.Callee.{Callee}
 use Rattle.cw_code.specs.declared.code.Func.{Func}
 use Rattle.cw_code.specs.declared.code.Instr.{Instr}
 use Rattle.cw_code.specs.declared.code.Instr.TheVariants as instr
 use Rattle.cw_code.specs.Code.{Code}
-use Rattle.cw_gen.specs.Gen.{call_instr}
 
 -- the one instruction that gives the value of an expression
 abbrev pub emitted_expr : Expr → Instr
 emitted_expr (Number n) = instr.Push n
 emitted_expr (Variable u) = instr.Load u.slot
+
+-- the instruction of a call of either kind
+abbrev pub call_instr : CallKind → Callee → Instr
+call_instr Plain c = instr.Call c
+call_instr Spawned c = instr.Spawn c
 
 -- arguments from left to right
 abbrev pub emitted_args : List Expr → List Instr

@@ -1,7 +1,6 @@
--- The instructions of a program: a name's slot is its place among the names that its function declares.
+-- The instructions of a program, told on its syntax: a name's slot is its place among the names that its function
+-- declares. What the generator emits from the resolved tree equals it.
 use Rattle.std.specs.Prelude.{ℕ, ◌+◌, List, [], ◌∷◌, ◌++◌, length, Option, Some, None}
-use Rattle.cw_model.specs.declared.syntax.CallKind.{CallKind}
-use Rattle.cw_model.specs.declared.syntax.CallKind.TheVariants.{Plain, Spawned}
 use Rattle.cw_model.specs.Syntax.{Name, Expr, Number, Variable, Stmt, Declare, Assign, Call, Sync, Return, Block, End, Then, Function, Program}
 use Rattle.cw_model.specs.Answers.{main_name}
 use Rattle.cw_model.specs.Report.{call_sites}
@@ -12,6 +11,7 @@ use Rattle.cw_code.specs.declared.code.Func.{Func}
 use Rattle.cw_code.specs.declared.code.Instr.{Instr}
 use Rattle.cw_code.specs.declared.code.Instr.TheVariants as instr
 use Rattle.cw_code.specs.Code.{Code}
+use Rattle.cw_gen.specs.Emit.{call_instr}
 
 -- the place of a function among all
 abbrev pub index_of : Name → List Function → ℕ
@@ -27,11 +27,6 @@ expr_code names _ = []
 abbrev pub args_code : List Name → List Expr → List Instr
 args_code names [] = []
 args_code names (e ∷ es) = expr_code names e ++ args_code names es
-
--- the instruction of a call of either kind
-abbrev pub call_instr : CallKind → Callee → Instr
-call_instr Plain c = instr.Call c
-call_instr Spawned c = instr.Spawn c
 
 -- the slot of the name that takes a result, if one does
 abbrev pub target_slot : List Name → Option Name → Option ℕ

@@ -7,7 +7,7 @@ use Rattle.cw_model.specs.Answers.{main_name}
 use Rattle.cw_model.specs.Typing.{block_returns}
 use Rattle.cw_model.specs.Ownership.{Taken, is_taken, taken_after}
 use Rattle.cw_types.specs.Resolved.{names_after}
-use Rattle.cw_gen.specs.Gen.{params_of}
+use Rattle.cw_gen.proofs.Gen.{params_of}
 
 -- a name that is declared, and that no spawn has taken
 pub record IsUsable (names : List Name) (taken : Taken) (x : Name) : Type 0 where
