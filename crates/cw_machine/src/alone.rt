@@ -54,7 +54,7 @@ pub fn run_alone(
             output: Vec::new(alloc),
         }),
         Moved::NoMemory => Err(Fault::Memory),
-        // code that fits is never stuck
+        // verified code is never stuck
         Moved::Stuck => Err(Fault::Code),
     }
 }

@@ -1,3 +1,5 @@
+//! How small codes end, by hand: each at its cost, and over its limit at one less.
+
 use crate::machine::{Machine, Moved};
 use cw_code::code::{Callee, Code, Func, Instr};
 use cw_model::trap::Trap;
@@ -13,9 +15,7 @@ fn code_of(alloc: Global, functions: &[(usize, usize, &[Instr])]) -> Result<Code
             params: *params,
             slots: *slots,
         })?;
-        for instr in *body {
-            instrs.push(*instr)?;
-        }
+        instrs.extend_from_slice(body)?;
     }
     Ok(Code {
         instrs,
@@ -23,6 +23,40 @@ fn code_of(alloc: Global, functions: &[(usize, usize, &[Instr])]) -> Result<Code
         main: 0,
         sites: Vec::new(alloc),
     })
+}
+
+// Code of a main with two slots, and of a function that gives the first of its parameters.
+fn code_with_giver(alloc: Global, main: &[Instr], params: usize) -> Result<Code, AllocError> {
+    let giver = [Instr::Load(0), Instr::Return];
+    code_of(alloc, &[(0, 2, main), (params, 2, &giver)])
+}
+
+// Code of 999 functions that call the next one, six instructions each, and of a last one of two.
+fn code_of_a_chain(alloc: Global) -> Result<Code, AllocError> {
+    let mut code = code_of(alloc, &[])?;
+    for k in 0..999u32 {
+        code.funcs.push(Func {
+            start: code.instrs.len(),
+            params: 1,
+            slots: 2,
+        })?;
+        code.instrs.extend_from_slice(&[
+            Instr::Push(0),
+            Instr::Store(1),
+            Instr::Load(0),
+            Instr::Call(callee(k + 1, k + 1, 1)),
+            Instr::Load(1),
+            Instr::Return,
+        ])?;
+    }
+    code.funcs.push(Func {
+        start: code.instrs.len(),
+        params: 1,
+        slots: 1,
+    })?;
+    code.instrs
+        .extend_from_slice(&[Instr::Load(0), Instr::Return])?;
+    Ok(code)
 }
 
 fn callee(function: u32, site: u32, target: u32) -> Callee {
@@ -62,11 +96,9 @@ fn end_of(alloc: Global, code: &Code, args: &[i64], limit: u64) -> Result<End, A
     })
 }
 
-// Each ends at its cost, and is over one below it.
 #[test]
-fn values_at_their_costs(rt: HostRuntime) -> Result<(), AllocError> {
+fn calls_in_place(rt: HostRuntime) -> Result<(), AllocError> {
     let alloc = rt.alloc();
-    let giver = [Instr::Load(0), Instr::Return];
     let call = [
         Instr::Push(0),
         Instr::Store(0),
@@ -75,6 +107,31 @@ fn values_at_their_costs(rt: HostRuntime) -> Result<(), AllocError> {
         Instr::Load(0),
         Instr::Return,
     ];
+    let first_of_two = [
+        Instr::Push(0),
+        Instr::Store(0),
+        Instr::Push(1),
+        Instr::Push(2),
+        Instr::Call(callee(1, 1, 0)),
+        Instr::Load(0),
+        Instr::Return,
+    ];
+    let table: [(&[Instr], usize, i64, u64); 3] = [
+        (&[Instr::Push(7), Instr::Return], 1, 7, 2),
+        (&call, 1, 1, 8),
+        (&first_of_two, 2, 1, 9),
+    ];
+    for (main, params, value, cost) in table {
+        let code = code_with_giver(alloc, main, params)?;
+        assert_eq!(rt; end_of(alloc, &code, &[], cost)?, End::Value(value));
+        assert_eq!(rt; end_of(alloc, &code, &[], cost - 1)?, End::Over);
+    }
+    Ok(())
+}
+
+#[test]
+fn spawned_calls_and_their_join(rt: HostRuntime) -> Result<(), AllocError> {
+    let alloc = rt.alloc();
     let spawn = [
         Instr::Push(0),
         Instr::Store(0),
@@ -97,6 +154,18 @@ fn values_at_their_costs(rt: HostRuntime) -> Result<(), AllocError> {
         Instr::Load(1),
         Instr::Return,
     ];
+    let table: [(&[Instr], i64, u64); 2] = [(&spawn, 1, 9), (&two_spawns, 6, 15)];
+    for (main, value, cost) in table {
+        let code = code_with_giver(alloc, main, 1)?;
+        assert_eq!(rt; end_of(alloc, &code, &[], cost)?, End::Value(value));
+        assert_eq!(rt; end_of(alloc, &code, &[], cost - 1)?, End::Over);
+    }
+    Ok(())
+}
+
+#[test]
+fn a_return_joins_what_was_spawned(rt: HostRuntime) -> Result<(), AllocError> {
+    let alloc = rt.alloc();
     let unjoined = [
         Instr::Push(4),
         Instr::Store(0),
@@ -105,28 +174,9 @@ fn values_at_their_costs(rt: HostRuntime) -> Result<(), AllocError> {
         Instr::Push(8),
         Instr::Return,
     ];
-    let first_of_two = [
-        Instr::Push(0),
-        Instr::Store(0),
-        Instr::Push(1),
-        Instr::Push(2),
-        Instr::Call(callee(1, 1, 0)),
-        Instr::Load(0),
-        Instr::Return,
-    ];
-    let table: [(&[Instr], &[Instr], usize, i64, u64); 6] = [
-        (&[Instr::Push(7), Instr::Return], &giver, 1, 7, 2),
-        (&call, &giver, 1, 1, 8),
-        (&spawn, &giver, 1, 1, 9),
-        (&two_spawns, &giver, 1, 6, 15),
-        (&unjoined, &giver, 1, 8, 8),
-        (&first_of_two, &giver, 2, 1, 9),
-    ];
-    for (main, other, params, value, cost) in table {
-        let code = code_of(alloc, &[(0, 2, main), (params, 2, other)])?;
-        assert_eq!(rt; end_of(alloc, &code, &[], cost)?, End::Value(value));
-        assert_eq!(rt; end_of(alloc, &code, &[], cost - 1)?, End::Over);
-    }
+    let code = code_with_giver(alloc, &unjoined, 1)?;
+    assert_eq!(rt; end_of(alloc, &code, &[], 8)?, End::Value(8));
+    assert_eq!(rt; end_of(alloc, &code, &[], 7)?, End::Over);
     Ok(())
 }
 
@@ -141,42 +191,10 @@ fn arguments_at_both_ends(rt: HostRuntime) -> Result<(), AllocError> {
     Ok(())
 }
 
-// 999 functions that call the next one, six instructions each, and a last one of two.
 #[test]
 fn a_chain_of_calls(rt: HostRuntime) -> Result<(), AllocError> {
     let alloc = rt.alloc();
-    let mut instrs = Vec::new(alloc);
-    let mut funcs = Vec::new(alloc);
-    for k in 0..999u32 {
-        funcs.push(Func {
-            start: instrs.len(),
-            params: 1,
-            slots: 2,
-        })?;
-        for instr in [
-            Instr::Push(0),
-            Instr::Store(1),
-            Instr::Load(0),
-            Instr::Call(callee(k + 1, k + 1, 1)),
-            Instr::Load(1),
-            Instr::Return,
-        ] {
-            instrs.push(instr)?;
-        }
-    }
-    funcs.push(Func {
-        start: instrs.len(),
-        params: 1,
-        slots: 1,
-    })?;
-    instrs.push(Instr::Load(0))?;
-    instrs.push(Instr::Return)?;
-    let code = Code {
-        instrs,
-        funcs,
-        main: 0,
-        sites: Vec::new(alloc),
-    };
+    let code = code_of_a_chain(alloc)?;
     assert_eq!(rt; end_of(alloc, &code, &[-5], 5996)?, End::Value(-5));
     assert_eq!(rt; end_of(alloc, &code, &[-5], 5995)?, End::Over);
     Ok(())
@@ -198,12 +216,12 @@ fn too_deep(rt: HostRuntime) -> Result<(), AllocError> {
     Ok(())
 }
 
-// A name that a spawn has taken, a missing operand, slot, function and instruction.
+// A name that a spawn has taken is read, written, and taken again.
 #[test]
-fn stuck(rt: HostRuntime) -> Result<(), AllocError> {
+fn stuck_at_a_taken_name(rt: HostRuntime) -> Result<(), AllocError> {
     let alloc = rt.alloc();
     let giver = [Instr::Load(0), Instr::Return];
-    let taken = [
+    let read = [
         Instr::Push(1),
         Instr::Spawn(callee(1, 1, 0)),
         Instr::Load(0),
@@ -220,19 +238,30 @@ fn stuck(rt: HostRuntime) -> Result<(), AllocError> {
         Instr::Push(2),
         Instr::Spawn(callee(1, 2, 0)),
     ];
-    let table: [(&[Instr], u64); 7] = [
-        (&taken, 5),
-        (&written, 6),
-        (&spawned_again, 6),
-        (&[Instr::Return], 1),
-        (&[Instr::Load(1)], 1),
-        (&[Instr::Call(callee(2, 1, 0))], 1),
-        (&[Instr::Call(callee(1, 1, 0))], 1),
-    ];
+    let table: [(&[Instr], u64); 3] = [(&read, 5), (&written, 6), (&spawned_again, 6)];
     for (main, cost) in table {
         let code = code_of(alloc, &[(0, 1, main), (1, 1, &giver)])?;
         assert_eq!(rt; end_of(alloc, &code, &[], cost)?, End::Stuck);
         assert_eq!(rt; end_of(alloc, &code, &[], cost - 1)?, End::Over);
+    }
+    Ok(())
+}
+
+// An operand, a slot, a function, an argument and an instruction.
+#[test]
+fn stuck_where_one_is_missing(rt: HostRuntime) -> Result<(), AllocError> {
+    let alloc = rt.alloc();
+    let giver = [Instr::Load(0), Instr::Return];
+    let table: [&[Instr]; 4] = [
+        &[Instr::Return],
+        &[Instr::Load(1)],
+        &[Instr::Call(callee(2, 1, 0))],
+        &[Instr::Call(callee(1, 1, 0))],
+    ];
+    for main in table {
+        let code = code_of(alloc, &[(0, 1, main), (1, 1, &giver)])?;
+        assert_eq!(rt; end_of(alloc, &code, &[], 1)?, End::Stuck);
+        assert_eq!(rt; end_of(alloc, &code, &[], 0)?, End::Over);
     }
     let endless = code_of(alloc, &[(0, 0, &[Instr::Push(1)])])?;
     assert_eq!(rt; end_of(alloc, &endless, &[], 2)?, End::Stuck);
