@@ -30,7 +30,7 @@ fn code_of(alloc: Global, text: &str) -> Result<Code, Fault> {
 }
 
 #[test]
-fn a_program_has_its_code(rt: HostRuntime) -> Result<(), Fail> {
+fn a_program_has_its_instructions(rt: HostRuntime) -> Result<(), Fail> {
     let code = code_of(rt.alloc(), PROGRAM)?;
     let callee = Callee {
         function: 0,
@@ -60,6 +60,12 @@ fn a_program_has_its_code(rt: HostRuntime) -> Result<(), Fail> {
         Instr::Return,
     ];
     assert_eq!(rt; code.instrs.as_slice(), &instrs[..]);
+    Ok(())
+}
+
+#[test]
+fn a_program_has_its_functions(rt: HostRuntime) -> Result<(), Fail> {
+    let code = code_of(rt.alloc(), PROGRAM)?;
     let funcs = [
         Func {
             start: 0,
@@ -74,6 +80,12 @@ fn a_program_has_its_code(rt: HostRuntime) -> Result<(), Fail> {
     ];
     assert_eq!(rt; code.funcs.as_slice(), &funcs[..]);
     assert_eq!(rt; code.main, 1);
+    Ok(())
+}
+
+#[test]
+fn a_program_has_its_call_sites(rt: HostRuntime) -> Result<(), Fail> {
+    let code = code_of(rt.alloc(), PROGRAM)?;
     let sites = [(1, CallKind::Plain, 4), (2, CallKind::Spawned, 5)];
     assert_eq!(rt; code.sites.len(), sites.len());
     for (site, (number, kind, line)) in code.sites.iter().zip(sites) {
