@@ -12,13 +12,16 @@ use cw_machine::verified::Verified;
 use cw_text::Fault;
 use std::alloc::Global;
 
-/// Writes what a run printed and, where it ended, its value.
+/// Writes the report of a run: the line of its value, or, where it trapped, the values that it
+/// printed before, each on a line. Of any other fault nothing is written, and the sink is left
+/// alone; the line of the fault itself is for `write_fault`.
 ///
-/// The fault of a run is not answered here. `Memory` where there is none for the text: nothing
-/// was written then. `Write` where a write failed: the sink took a beginning of the text.
+/// The error is `Memory` where there is none for the text: nothing was written then. It is `Write`
+/// where a write failed or took no byte: the sink took a beginning of the text, and counts one more
+/// failed write.
 ///
-/// The code has the call sites, for the reports that will tell of them. Fewer than 2^64 - 1 writes
-/// to the sink failed before.
+/// It asks that fewer than 2^64 - 1 writes to the sink failed before. The code has the call sites,
+/// for the reports that will tell of them.
 pub fn answer<W: Sink>(
     alloc: Global,
     _code: &Verified,

@@ -9,16 +9,19 @@ ghost use Rattle.cw_report.specs.Sinks.{CountsWrite};
 use std::io;
 use std::io::Write;
 
-/// A writer that tells how many of its writes failed.
+/// A writer that tells how many of its writes failed. A write that takes 0 bytes counts as failed,
+/// also one of no bytes.
 pub trait Sink: Write {
     ghost failed: { Self → ℕ };
 
-    /// The number of writes that failed. One that takes 0 bytes counts as failed.
+    /// The number of writes that failed so far.
     fn failures(&self) -> u64
         ensures { result ≡ failed self.now };
 
-    /// One write: the number of bytes that were taken, from the front of `bytes`. It asks that fewer
-    /// than 2^64 - 1 writes failed before.
+    /// One write: the number of bytes that were taken, from the front of `bytes`. Where it fails,
+    /// none was taken, and where it fails or takes 0 bytes, `failures` is one more.
+    ///
+    /// It asks that fewer than 2^64 - 1 writes failed before.
     fn put(&mut self, bytes: &[u8]) -> io::Result<usize>
         requires { failed self.old < 2 ^ 64 - 1 }
         ensures bound { WritesAtMost result bytes.now }
@@ -26,7 +29,7 @@ pub trait Sink: Write {
         ensures count { CountsWrite (failed self.old) (failed self.new) result };
 }
 
-/// A sink of any writer.
+/// A sink of any writer, one write of it for each of the sink's. A flush that fails is not counted.
 #[derive(Drop)]
 pub struct Counted<W> {
     inner: W,

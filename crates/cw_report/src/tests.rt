@@ -1,4 +1,4 @@
-ghost use Rattle.std.specs.Prelude.{Some};
+//! Texts on sinks with little room, and the lines of values and faults.
 
 use crate::sink::{Counted, Sink};
 use crate::text::{ended_line, printed_text};
@@ -7,28 +7,39 @@ use cw_model::trap::Trap;
 use cw_text::{Fault, Place};
 use std::alloc::Global;
 use std::io;
-use std::io::Write;
+use std::io::{Cursor, Write};
 use std::test::Fail;
 
-// Takes `room` bytes, and then fails or takes none.
-#[derive(Drop)]
-struct Narrow {
-    taken: Vec<u8>,
-    room: usize,
-    fails: bool,
+#[test]
+fn a_full_sink_has_a_beginning(rt: HostRuntime) -> Result<(), Fail> {
+    let text = b"return 1\n";
+    for room in 0..12 {
+        let mut bytes = [0; 12];
+        let mut sink = Counted::new(Cursor::new(&mut bytes[..room]));
+        let answer = write_text(&mut sink, text);
+        let failures = sink.failures();
+        let taken = sink.into_inner().position();
+        let wanted = text.len().min(room);
+        assert_eq!(rt; taken, wanted as u64);
+        assert_eq!(rt; &bytes[..wanted], &text[..wanted]);
+        if room < text.len() {
+            assert!(rt; matches!(answer, Err(Fault::Write)));
+            assert_eq!(rt; failures, 1);
+        } else {
+            assert!(rt; answer.is_ok());
+            assert_eq!(rt; failures, 0);
+        }
+    }
+    Ok(())
 }
 
-impl Write for Narrow {
-    ghost contents = { λ w. Some w.taken.items };
+// Fails at each write.
+#[derive(Drop)]
+struct Broken;
 
-    fn write(&mut self, bytes: &[u8]) -> io::Result<usize> {
-        let n = bytes.len().min(self.room);
-        if n == 0 && self.fails {
-            return Err(io::Error::from(io::ErrorKind::BrokenPipe));
-        }
-        self.taken.extend_from_slice(&bytes[..n])?;
-        self.room -= n;
-        Ok(n)
+impl Write for Broken {
+    fn write(&mut self, _bytes: &[u8]) -> io::Result<usize> {
+        Err(io::Error::from(io::ErrorKind::BrokenPipe))
     }
 
     fn flush(&mut self) -> io::Result<()> {
@@ -37,26 +48,13 @@ impl Write for Narrow {
 }
 
 #[test]
-fn writes_a_beginning(rt: HostRuntime) -> Result<(), Fail> {
-    let text = b"return 1\n";
-    for fails in [true, false] {
-        for room in 0..12 {
-            let taken = Vec::new(rt.alloc());
-            let mut sink = Counted::new(Narrow { taken, room, fails });
-            let answer = write_text(&mut sink, text);
-            let failures = sink.failures();
-            let narrow = sink.into_inner();
-            let wanted = text.len().min(room);
-            assert_eq!(rt; narrow.taken.as_slice(), &text[..wanted]);
-            if room < text.len() {
-                assert!(rt; matches!(answer, Err(Fault::Write)));
-                assert_eq!(rt; failures, 1);
-            } else {
-                assert!(rt; answer.is_ok());
-                assert_eq!(rt; failures, 0);
-            }
-        }
-    }
+fn a_failed_write_is_told_once(rt: HostRuntime) -> Result<(), Fail> {
+    let mut sink = Counted::new(Broken);
+    assert!(rt; write_text(&mut sink, b"").is_ok());
+    assert_eq!(rt; sink.failures(), 0);
+    let answer = write_text(&mut sink, b"return 1\n");
+    assert!(rt; matches!(answer, Err(Fault::Write)));
+    assert_eq!(rt; sink.failures(), 1);
     Ok(())
 }
 

@@ -8,7 +8,7 @@ use cw_text::Fault;
 use itoa::Buffer;
 use std::alloc::Global;
 
-/// The lines of printed values; `Memory` where there is none for the text.
+/// The lines of printed values, in decimal; the error is `Memory` where there is none for the text.
 pub fn printed_text(alloc: Global, values: &[i64]) -> Result<Vec<u8>, Fault>
     ensures ok { IfOk result (λ text. text.items ≡ flat_map value_line values.now) }
     ensures why { IfErr result (λ e. e ≡ Fault.Memory) }
@@ -20,8 +20,8 @@ pub fn printed_text(alloc: Global, values: &[i64]) -> Result<Vec<u8>, Fault>
     Ok(text)
 }
 
-/// What is reported of a run that ended with this value; `Memory` where there is none for the
-/// text.
+/// What is reported of a run that ended with this value; the error is `Memory` where there is none
+/// for the text.
 pub fn ended_line(alloc: Global, value: i64) -> Result<Vec<u8>, Fault>
     ensures ok { IfOk result (λ text. text.items ≡ ended_text value) }
     ensures why { IfErr result (λ e. e ≡ Fault.Memory) }

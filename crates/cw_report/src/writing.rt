@@ -8,11 +8,12 @@ use crate::sink::Sink;
 use cw_text::Fault;
 use itoa::Buffer;
 
-/// Writes the whole text; a failed write is not tried again.
+/// Writes the whole text; a failed write is not tried again. With no text the sink is left alone.
 ///
-/// Answers `Write` where a write fails or takes no byte: the sink took a beginning of the text
-/// then, and counts one more failed write. With no text the sink is left alone. Fewer than 2^64 - 1
-/// writes to the sink failed before.
+/// The error is `Write` where a write failed or took no byte: the sink took a beginning of the text,
+/// and counts one more failed write.
+///
+/// It asks that fewer than 2^64 - 1 writes to the sink failed before.
 pub fn write_text<W: Sink>(to: &mut W, text: &[u8]) -> Result<(), Fault>
     requires { W.failed to.old < 2 ^ 64 - 1 }
     ensures idle { text.now ≡ [] → to.new ≡ to.old }
@@ -30,7 +31,10 @@ pub fn write_text<W: Sink>(to: &mut W, text: &[u8]) -> Result<(), Fault>
     Ok(())
 }
 
-/// Writes the line of a fault, as `write_text` writes, and with its errors. No memory is taken.
+/// Writes the line of a fault, with its line feed, as `write_text` writes and with its error. No
+/// memory is taken.
+///
+/// It asks that fewer than 2^64 - 1 writes to the sink failed before.
 pub fn write_fault<W: Sink>(to: &mut W, fault: &Fault) -> Result<(), Fault>
     requires { W.failed to.old < 2 ^ 64 - 1 }
     ensures { Writes (W.contents to.old) (W.contents to.new) (W.failed to.old) (W.failed to.new)
@@ -61,7 +65,7 @@ fn write_trap<W: Sink>(to: &mut W, number: u32, line: u32) -> Result<(), Fault>
     write_line(to, b" line ", line)
 }
 
-// A number after some text, and the end of the line.
+// A number after some text, and a line feed.
 fn write_line<W: Sink>(to: &mut W, front: &[u8], number: u32) -> Result<(), Fault>
     requires { W.failed to.old < 2 ^ 64 - 1 }
     ensures { Writes (W.contents to.old) (W.contents to.new) (W.failed to.old) (W.failed to.new)
