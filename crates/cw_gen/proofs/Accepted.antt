@@ -12,16 +12,9 @@ use Rattle.cw_model.specs.FirstGrammar.{is_first_expr, is_first_stmt, is_first_b
 use Rattle.cw_model.specs.Typing.{Known, is_known, is_int, is_fine, is_argument, are_arguments, called, is_target, is_call, surely_returns, block_returns, WithInt, Alone, declares, ends_block, faults_in, faults_in_block, known_of, is_head, faults_of, repeated_names, type_faults}
 use Rattle.cw_model.specs.Ownership.{Taken, is_taken, taken_after, target_names, given, NoLoop, are_free, may_read, may_write, known_after, declared_by, Declared, Joins, owner_faults, owner_faults_in, owner_faults_of, ownership_faults}
 use Rattle.cw_types.specs.Resolved.{names_after}
+use Rattle.cw_code.proofs.Tests.{first_true, second_true}
 use Rattle.cw_gen.proofs.Gen.{params_of}
 use Rattle.cw_gen.proofs.Fine.{ExprFine, ArgsFine, is_function, StmtFine, BlockFine, FunctionFine, FunctionsFine, ProgramFine}
-
-first : (a b : Bool) → (a && b) ≡ true → a ≡ true
-first true b h = refl
-first false b h = cc
-
-second : (a b : Bool) → (a && b) ≡ true → b ≡ true
-second true b h = h
-second false b h = cc
 
 kept : (b : Bool) (line : ℕ) → unless b line ≡ [] → b ≡ true
 kept true line h = refl
@@ -110,7 +103,7 @@ is_free taken x xs h = test (is_taken taken x) h
 module _ (program : Program) (names : List Name) (known : Known) (taken : Taken) (knows : Knows names known) where
   expr_fine : (e : Expr) → is_first_expr e ≡ true → is_fine known e ≡ true → may_read NoLoop taken e ≡ true → ExprFine names taken e
   expr_fine (Number n) first_e fine read = tt
-  expr_fine (Variable x) first_e fine read = record { declared = knows x fine; free = is_free taken x [] (first (are_free taken (x ∷ [])) true read) }
+  expr_fine (Variable x) first_e fine read = record { declared = knows x fine; free = is_free taken x [] (first_true (are_free taken (x ∷ [])) true read) }
   expr_fine _ first_e fine read = cc
 
   args_fine : (ps : List Param) (es : List Expr) → list_all (λ p. not p.is_array) ps ≡ true → list_all is_first_expr es ≡ true → are_arguments known ps es ≡ true → list_all (λ e. may_read NoLoop taken e) es ≡ true → ArgsFine names taken ps es
@@ -118,11 +111,11 @@ module _ (program : Program) (names : List Name) (known : Known) (taken : Taken)
   args_fine [] (e ∷ es) ints firsts fine reads = cc
   args_fine (p ∷ ps) [] ints firsts fine reads = cc
   args_fine (p ∷ ps) (e ∷ es) ints firsts fine reads =
-      let int = no_array p.is_array (first (not p.is_array) (list_all (λ q. not q.is_array) ps) ints) in
-      let one = first (is_argument known p.is_array e) (are_arguments known ps es) fine in (
+      let int = no_array p.is_array (first_true (not p.is_array) (list_all (λ q. not q.is_array) ps) ints) in
+      let one = first_true (is_argument known p.is_array e) (are_arguments known ps es) fine in (
         int,
-        expr_fine e (first (is_first_expr e) (list_all is_first_expr es) firsts) (ap (λ b. is_argument known b e) (sym int) ∙ one) (first (may_read NoLoop taken e) (list_all (λ e'. may_read NoLoop taken e') es) reads),
-        args_fine ps es (second (not p.is_array) (list_all (λ q. not q.is_array) ps) ints) (second (is_first_expr e) (list_all is_first_expr es) firsts) (second (is_argument known p.is_array e) (are_arguments known ps es) fine) (second (may_read NoLoop taken e) (list_all (λ e'. may_read NoLoop taken e') es) reads),
+        expr_fine e (first_true (is_first_expr e) (list_all is_first_expr es) firsts) (ap (λ b. is_argument known b e) (sym int) ∙ one) (first_true (may_read NoLoop taken e) (list_all (λ e'. may_read NoLoop taken e') es) reads),
+        args_fine ps es (second_true (not p.is_array) (list_all (λ q. not q.is_array) ps) ints) (second_true (is_first_expr e) (list_all is_first_expr es) firsts) (second_true (is_argument known p.is_array e) (are_arguments known ps es) fine) (second_true (may_read NoLoop taken e) (list_all (λ e'. may_read NoLoop taken e') es) reads),
       )
     where
       no_array : (b : Bool) → not b ≡ true → b ≡ false
@@ -144,7 +137,7 @@ record Found (f : Name) (fs : List Function) (g : Function) : Type 0 where
 
 found : (f : Name) (fs : List Function) (g : Function) → called f fs ≡ Some g → list_all is_first_function fs ≡ true → Found f fs g
 found f [] g e h = cc
-found f (k ∷ fs) g e h = test (λ e'. found f fs g e' (second (is_first_function k) (list_all is_first_function fs) h)) (same_name f k.name) refl e
+found f (k ∷ fs) g e h = test (λ e'. found f fs g e' (second_true (is_first_function k) (list_all is_first_function fs) h)) (same_name f k.name) refl e
   where
     test : (called f fs ≡ Some g → Found f fs g) → (b : Bool) → same_name f k.name ≡ b → (if b then Some k else called f fs) ≡ Some g → Found f (k ∷ fs) g
     test more true eb e' =
@@ -152,7 +145,7 @@ found f (k ∷ fs) g e h = test (λ e'. found f fs g e' (second (is_first_functi
         record {
           there = ap (λ b. if b then true else is_function f fs) eb;
           is = ap (λ b. if b then k else function_of f fs) eb ∙ same;
-          ints = subst (λ (q : Function). is_first_function q ≡ true) same (first (is_first_function k) (list_all is_first_function fs) h);
+          ints = subst (λ (q : Function). is_first_function q ≡ true) same (first_true (is_first_function k) (list_all is_first_function fs) h);
         }
     test more false eb e' =
         let rest = more e' in
@@ -166,7 +159,7 @@ module _ (program : Program) (all_first : list_all is_first_function program.fun
   stmt_fine : (names known_names : List Name) (known : Known) (taken : Taken) → Knows names known → (line : ℕ) (s : Stmt) → is_first_stmt s ≡ true → faults_in program WithInt known line s ≡ [] → owner_faults program.functions NoLoop known_names 1 taken line s ≡ [] →
       StmtFine program.functions names taken s
   stmt_fine names known_names known taken knows line (Declare x e) h typed owned =
-      expr_fine program names known taken knows e h (first (is_fine known e) _ (kept _ line typed)) (kept (may_read NoLoop taken e) line owned)
+      expr_fine program names known taken knows e h (first_true (is_fine known e) _ (kept _ line typed)) (kept (may_read NoLoop taken e) line owned)
   stmt_fine names known_names known taken knows line (Call kind site None f es) h typed owned = cc
   stmt_fine names known_names known taken knows line (Call kind site (Some x) f es) h typed owned = cases (called f program.functions) refl (kept (is_call known (Some x) (called f program.functions) es) line typed)
     where
@@ -185,11 +178,11 @@ module _ (program : Program) (all_first : list_all is_first_function program.fun
           let is = found f program.functions g e all_first in
           let target = is_target known g (Some x) in
           let args = are_arguments known g.params es in
-          let both = first (target && args) _ fine in
-          let ints = second g.gives_int (list_all (λ p. not p.is_array) g.params) (first (g.gives_int && list_all (λ p. not p.is_array) g.params) (is_first_body g.body) is.ints) in (
+          let both = first_true (target && args) _ fine in
+          let ints = second_true g.gives_int (list_all (λ p. not p.is_array) g.params) (first_true (g.gives_int && list_all (λ p. not p.is_array) g.params) (is_first_body g.body) is.ints) in (
             is.there,
-            record { declared = knows x (first (is_int known x) g.gives_int (first target args both)); free = is_free taken x (given program.functions f es) (first (are_free taken (x ∷ given program.functions f es)) _ (second reads writes (first (reads && writes) _ owns))) },
-            subst (λ (q : Function). ArgsFine names taken q.params es) (sym is.is) (args_fine program names known taken knows g.params es ints h (second target args both) (first reads writes (first (reads && writes) _ owns))),
+            record { declared = knows x (first_true (is_int known x) g.gives_int (first_true target args both)); free = is_free taken x (given program.functions f es) (first_true (are_free taken (x ∷ given program.functions f es)) _ (second_true reads writes (first_true (reads && writes) _ owns))) },
+            subst (λ (q : Function). ArgsFine names taken q.params es) (sym is.is) (args_fine program names known taken knows g.params es ints h (second_true target args both) (first_true reads writes (first_true (reads && writes) _ owns))),
           )
   stmt_fine names known_names known taken knows line Sync h typed owned = tt
   stmt_fine names known_names known taken knows line _ h typed owned = cc
@@ -201,30 +194,30 @@ module _ (program : Program) (all_first : list_all is_first_function program.fun
       (expr_fine program names known taken knows e h (kept (is_fine known e) line (front _ _ typed)) (kept (may_read NoLoop taken e) line (front _ _ owned)), tt)
   block_fine names known_names known taken declared knows (Then line (Return (Some e)) (Then line' s b)) h typed owned = cc
   block_fine names known_names known taken declared knows (Then line s b) h typed owned =
-      let one = first (is_first_stmt s) (is_first_body b) h in (
+      let one = first_true (is_first_stmt s) (is_first_body b) h in (
         stmt_fine names known_names known taken knows line s one (front _ _ typed) (front _ _ owned),
-        block_fine (names_after names s) (known_after known_names s) (declares s known) (taken_after program.functions 1 s taken) (declared_by line s declared) (knows_next names known s one knows) b (second (is_first_stmt s) (is_first_body b) h)
+        block_fine (names_after names s) (known_after known_names s) (declares s known) (taken_after program.functions 1 s taken) (declared_by line s declared) (knows_next names known s one knows) b (second_true (is_first_stmt s) (is_first_body b) h)
             (rear (unless (not (surely_returns s) || ends_block b) line) _ (rear (faults_in program WithInt known line s) _ typed)) (rear (owner_faults program.functions NoLoop known_names 1 taken line s) _ owned),
       )
 
   function_fine : (f : Function) → is_first_function f ≡ true → faults_of program f ≡ [] → owner_faults_of program.functions f ≡ [] → FunctionFine program.functions f
   function_fine f h typed owned =
       let ints = list_all (λ p. not p.is_array) f.params in
-      let body = second (f.gives_int && ints) (is_first_body f.body) h in
-      let gives = first f.gives_int ints (first (f.gives_int && ints) (is_first_body f.body) h) in
+      let body = second_true (f.gives_int && ints) (is_first_body f.body) h in
+      let gives = first_true f.gives_int ints (first_true (f.gives_int && ints) (is_first_body f.body) h) in
       let head = kept (is_head program f) f.line (front _ _ typed) in
       let faults = rear (unless (is_head program f) f.line) _ typed in
       record {
         body = block_fine (params_of f) (map (λ p. p.name) f.params) (known_of f.params) [] [] (knows_params f.params) f.body body (sym (ap (λ b. faults_in_block program (if b then WithInt else Alone) (known_of f.params) f.body) gives) ∙ faults) owned;
-        returns = ap (λ b. not b || block_returns f.body) (sym gives) ∙ second _ (not f.gives_int || block_returns f.body) (first _ _ head);
+        returns = ap (λ b. not b || block_returns f.body) (sym gives) ∙ second_true _ (not f.gives_int || block_returns f.body) (first_true _ _ head);
         gives = gives;
       }
 
   functions_fine : (fs : List Function) → list_all is_first_function fs ≡ true → flat_map (faults_of program) fs ≡ [] → flat_map (owner_faults_of program.functions) fs ≡ [] → FunctionsFine program.functions fs
   functions_fine [] h typed owned = tt
   functions_fine (f ∷ fs) h typed owned = (
-    function_fine f (first (is_first_function f) (list_all is_first_function fs) h) (front _ _ typed) (front _ _ owned),
-    functions_fine fs (second (is_first_function f) (list_all is_first_function fs) h) (rear (faults_of program f) _ typed) (rear (owner_faults_of program.functions f) _ owned),
+    function_fine f (first_true (is_first_function f) (list_all is_first_function fs) h) (front _ _ typed) (front _ _ owned),
+    functions_fine fs (second_true (is_first_function f) (list_all is_first_function fs) h) (rear (faults_of program f) _ typed) (rear (owner_faults_of program.functions f) _ owned),
   )
 
 -- a function of this name is there
@@ -236,10 +229,10 @@ named name (f ∷ fs) h = test (named name fs) (same_name name f.name) h
     test more true h' = refl
     test more false h' = more h'
 
--- a program of the first grammar that keeps the rules of types and ownership
+-- a program of the first_true grammar that keeps the rules of types and ownership
 pub accepted : (program : Program) → is_first program ≡ true → type_faults program ≡ [] → ownership_faults program ≡ [] → ProgramFine program
 accepted program h typed owned =
-    let all = second _ (list_all is_first_function program.functions) h in
+    let all = second_true _ (list_all is_first_function program.functions) h in
     let main = is_among main_name (map (λ f. f.name) program.functions) in
     record {
       functions = functions_fine program all program.functions all (rear (repeated_names program) _ (rear (unless main 1) _ typed)) owned;
