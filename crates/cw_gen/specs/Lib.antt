@@ -1,3 +1,2 @@
 pub mod Emit
-pub mod View
 pub mod Generates

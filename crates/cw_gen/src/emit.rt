@@ -4,7 +4,6 @@ ghost use Rattle.std.specs.Prelude.{◌≡◌, [], ◌++◌, ◌∷◌, map, IfO
 ghost use Rattle.cw_code.specs.Code as code;
 ghost use Rattle.cw_gen.specs.Emit as spec;
 ghost use Rattle.cw_types.specs.View as view;
-ghost use Rattle.cw_gen.specs.View.{call_of};
 
 use cw_code::code::{Callee, Code, Func, Instr, Site};
 use cw_model::syntax::CallKind;
@@ -61,6 +60,7 @@ fn block(instrs: &mut Vec<Instr>, lines: &[Line]) -> Result<(), AllocError>
     Ok(())
 }
 
+// The code of a statement of this line. The first grammar has no `return` without a value.
 fn statement(instrs: &mut Vec<Instr>, line: u32, stmt: &Stmt) -> Result<(), AllocError>
     ensures { OnOk result (instrs.new.items ≡ instrs.old.items ++ spec.emitted_stmt line (view.stmt_of stmt.now)) }
 {
@@ -81,7 +81,7 @@ fn statement(instrs: &mut Vec<Instr>, line: u32, stmt: &Stmt) -> Result<(), Allo
 
 // A call: its arguments from left to right, and then its instruction.
 fn call(instrs: &mut Vec<Instr>, line: u32, c: &Call) -> Result<(), AllocError>
-    ensures { OnOk result (instrs.new.items ≡ instrs.old.items ++ spec.emitted_stmt line (call_of c.now)) }
+    ensures { OnOk result (instrs.new.items ≡ instrs.old.items ++ spec.emitted_stmt line (view.stmt_of (Stmt.Call c.now))) }
 {
     for e in &c.arguments {
         put(instrs, expression(e))?;
@@ -90,10 +90,7 @@ fn call(instrs: &mut Vec<Instr>, line: u32, c: &Call) -> Result<(), AllocError>
         function: c.index,
         site: c.site,
         line,
-        target: match &c.target {
-            Some(u) => Some(u.slot),
-            None => None,
-        },
+        target: c.target.as_ref().map(|u| u.slot),
     };
     match c.kind {
         CallKind::Plain => put(instrs, Instr::Call(callee)),
@@ -101,6 +98,7 @@ fn call(instrs: &mut Vec<Instr>, line: u32, c: &Call) -> Result<(), AllocError>
     }
 }
 
+// The one instruction that gives the value of an expression.
 fn expression(e: &Expr) -> Instr
     ensures { result ≡ spec.emitted_expr (view.expr_of e.now) }
 {
@@ -129,6 +127,7 @@ fn sites_of(alloc: Global, sites: &mut Vec<Site>, functions: &[Function]) -> Res
     Ok(())
 }
 
+// The call statements of a block, in source order.
 fn sites_in(alloc: Global, sites: &mut Vec<Site>, lines: &[Line]) -> Result<(), AllocError>
     ensures { OnOk result (map code.site_view sites.new.items ≡ map code.site_view sites.old.items ++ spec.emitted_sites_in (view.block_of lines.now)) }
 {
@@ -138,6 +137,7 @@ fn sites_in(alloc: Global, sites: &mut Vec<Site>, lines: &[Line]) -> Result<(), 
     Ok(())
 }
 
+// The call site of a statement, if it is a call.
 fn site(alloc: Global, sites: &mut Vec<Site>, line: u32, stmt: &Stmt) -> Result<(), AllocError>
     ensures { OnOk result (map code.site_view sites.new.items ≡ map code.site_view sites.old.items ++ spec.emitted_site line (view.stmt_of stmt.now)) }
 {
@@ -147,8 +147,9 @@ fn site(alloc: Global, sites: &mut Vec<Site>, line: u32, stmt: &Stmt) -> Result<
     Ok(())
 }
 
+// The call site of a call of this line, with a copy of the name that it calls.
 fn site_of(alloc: Global, line: u32, c: &Call) -> Result<Site, AllocError>
-    ensures { IfOk result (λ made. code.site_view made ∷ [] ≡ spec.emitted_site line (call_of c.now)) }
+    ensures { IfOk result (λ made. code.site_view made ∷ [] ≡ spec.emitted_site line (view.stmt_of (Stmt.Call c.now))) }
 {
     let callee = Vec::from_slice(alloc, c.callee.as_bytes())?;
     Ok(Site {

@@ -12,13 +12,14 @@ use cw_own::Owned;
 use cw_text::{Fault, Place};
 use std::alloc::Global;
 
-/// The greatest static size of a program, in instructions.
+/// The greatest static size of a program, in instructions: 2^20.
 const MOST_INSTRUCTIONS: usize = 1_048_576;
 
 /// The most call statements of a program.
 const MOST_CALL_STATEMENTS: usize = 65_535;
 
-/// The code of a program: on all arguments and within all limits it gives the serial answer of the program.
+/// The code of a program: on all arguments and within all limits it gives the serial answer of the program, it never
+/// gets stuck, and it has the program's call sites.
 ///
 /// The error is `Size`, at line 1, exactly where the static size passes 1,048,576 or the count of call statements
 /// passes 65,535, and `Memory` where memory runs out.

@@ -22,7 +22,8 @@ pub record Answers (program : Program) (args : List ℤ) (n burden : ℕ) (value
   pub tree : Tree
   pub answer : serial_answer program args n ≡ Ended value [] [] tree
 
--- why there is no value: the program is too large, what was asked for is out of range, or the elision costs more than its limit, or traps
+-- why there is no value: the program is too large, what was asked for is out of range, the elision costs more than its
+-- limit or traps, or memory ran out
 abbrev pub WhyNot : Program → List ℤ → (n burden : ℕ) → Fault → Type 0
 WhyNot program args n burden (fault.Size place) = IsLeastLine (program_faults program) place.line
 WhyNot program args n burden fault.Arguments = (program_faults program ≡ []) × (is_asked_of program args n burden ≡ false)

@@ -10,13 +10,13 @@ use cw_text::Fault;
 use std::alloc::Global;
 use std::sync::Arc;
 
-/// The greatest limit of a run, in instructions.
+/// The greatest limit of a run, in instructions: 2^62.
 pub const MOST_LIMIT: u64 = 4_611_686_018_427_387_904;
 
 /// The greatest burden of a spawn, in instructions.
 pub const MOST_BURDEN: u64 = 1_000_000_000;
 
-/// How a run ended.
+/// How a run ended that neither trapped nor passed its limit.
 #[derive(Clone, Copy, Debug, PartialEq, Eq)]
 pub struct Ended {
     /// The value of `main`.

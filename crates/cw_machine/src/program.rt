@@ -14,6 +14,9 @@ use std::sync::Arc;
 
 /// Runs a program on these arguments within `n` instructions: its value is that of the serial elision of the program.
 ///
+/// This is `generate` and `run_alone` in one call, with a contract that speaks of the program and of no code: what a
+/// run means. A caller that keeps the code, to check a program without a run of it, makes the two calls itself.
+///
 /// The error is `Size`, at line 1, exactly where the program's static size passes 1,048,576 or its call statements pass
 /// 65,535; otherwise `Arguments` exactly where the count of the arguments is not that of `main`'s parameters, or `n` is
 /// not in 1..=2^62, or `burden` is above 1,000,000,000; otherwise `OverLimit` exactly where the elision costs more than
