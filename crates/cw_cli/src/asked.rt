@@ -1,6 +1,6 @@
 //! What is asked for.
 
-ghost use Rattle.std.specs.Prelude.{◌≡◌, []};
+ghost use Rattle.std.specs.Prelude.{◌≡◌, [], string_bytes};
 ghost use Rattle.cw_cli.specs.declared.asked.Said.TheVariants.{Fault};
 
 use cw_text::Fault;
@@ -62,9 +62,10 @@ impl From<Fault> for Said {
 impl Request {
     ghost use Rattle.cw_cli.specs.Requests.{usual_options};
 
-    /// A run of the source on standard input, without arguments: the limit is `USUAL_LIMIT` and the
-    /// burden `USUAL_BURDEN`.
+    /// A run of the source on standard input, which has no path, without arguments: the limit is
+    /// `USUAL_LIMIT` and the burden `USUAL_BURDEN`.
     pub fn of_standard_input(alloc: Global) -> Self
+        ensures file { string_bytes result.file ≡ [] }
         ensures args { result.args.items ≡ [] }
         ensures options { result.options ≡ usual_options }
     {

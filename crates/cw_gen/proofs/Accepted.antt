@@ -229,7 +229,7 @@ named name (f ∷ fs) h = test (named name fs) (same_name name f.name) h
     test more true h' = refl
     test more false h' = more h'
 
--- a program of the first_true grammar that keeps the rules of types and ownership
+-- a program of the first grammar that keeps the rules of types and ownership
 pub accepted : (program : Program) → is_first program ≡ true → type_faults program ≡ [] → ownership_faults program ≡ [] → ProgramFine program
 accepted program h typed owned =
     let all = second_true _ (list_all is_first_function program.functions) h in

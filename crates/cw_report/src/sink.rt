@@ -2,7 +2,7 @@
 
 ghost use Rattle.std.specs.Prelude.{◌≡◌, ◌<◌, ◌-◌, ◌^◌, ℕ};
 ghost use Rattle.std.specs.Io.{WritesAtMost};
-ghost use Rattle.std.specs.Io.KnownBytes.{WriteAppends};
+ghost use Rattle.std.specs.Io.KnownBytes.{Keeps, WriteAppends};
 ghost use Rattle.cw_report.specs.Counters.{failures_of, writer_of};
 ghost use Rattle.cw_report.specs.Sinks.{CountsWrite};
 
@@ -71,7 +71,10 @@ impl<W: Write> Write for Counted<W> {
         result
     }
 
-    fn flush(&mut self) -> io::Result<()> {
+    fn flush(&mut self) -> io::Result<()>
+        ensures bytes { Keeps (W.contents (writer_of self.old)) (W.contents (writer_of self.new)) }
+        ensures count { failures_of self.new ≡ failures_of self.old }
+    {
         self.inner.flush()
     }
 }

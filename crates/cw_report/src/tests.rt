@@ -33,7 +33,7 @@ fn a_full_sink_has_a_beginning(rt: HostRuntime) -> Result<(), Fail> {
     Ok(())
 }
 
-// Fails at each write.
+// Fails at each write and at each flush.
 #[derive(Drop)]
 struct Broken;
 
@@ -43,7 +43,7 @@ impl Write for Broken {
     }
 
     fn flush(&mut self) -> io::Result<()> {
-        Ok(())
+        Err(io::Error::from(io::ErrorKind::BrokenPipe))
     }
 }
 
@@ -55,6 +55,14 @@ fn a_failed_write_is_told_once(rt: HostRuntime) -> Result<(), Fail> {
     let answer = write_text(&mut sink, b"return 1\n");
     assert!(rt; matches!(answer, Err(Fault::Write)));
     assert_eq!(rt; sink.failures(), 1);
+    Ok(())
+}
+
+#[test]
+fn a_flush_that_fails_is_told_and_not_counted(rt: HostRuntime) -> Result<(), Fail> {
+    let mut sink = Counted::new(Broken);
+    assert!(rt; sink.flush().is_err());
+    assert_eq!(rt; sink.failures(), 0);
     Ok(())
 }
 
