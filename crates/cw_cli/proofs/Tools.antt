@@ -94,28 +94,40 @@ module _ {W : Type 0} (contents : W → Option (List ℕ)) (failed : W → ℕ) 
       by_length (inl short) = subst (λ bs. tools.IsAnalysed contents failed old new bs args options r) (take_all most_read bytes (omega (arith, short))) h
       by_length (inr long) = long_whole bytes long contents failed old new args options r h
 
+-- the count of failed reads grew
+pub grew : (before after old new : ℕ) → before ≡ old → after ≡ new → before < after → old < new
+grew before after old new b a h = omega (arith, b, a, h)
+
 -- a fact of each source is one of the source that is known
 pub of_any : (known : Option (List ℕ)) (P : List ℕ → Type 0) → ((bytes : List ℕ) → P bytes) → IfSome known P
 of_any None P h = tt
 of_any (Some bytes) P h = h bytes
 
+-- memory ran out as the source was read
+pub unread_for_memory : {W E : Type 0} (contents : W → Option (List ℕ)) (failed : W → ℕ) (old : W) (contents' : E → Option (List ℕ)) (failed' : E → ℕ) (old' new' : E) (known : Option (List ℕ)) (asked : Request) (reads_before reads_after status : ℕ) →
+    tools.IsRefusal contents' failed' old' new' fault.Memory status →
+    IfSome known (λ bytes. tools.IsToolAnswer contents failed old old contents' failed' old' new' bytes asked reads_before reads_after status)
+unread_for_memory contents failed old contents' failed' old' new' known asked reads_before reads_after status told =
+    of_any known (λ bytes. tools.IsToolAnswer contents failed old old contents' failed' old' new' bytes asked reads_before reads_after status)
+    (λ bytes. subst (λ n. tools.IsToolAnswer contents failed old old contents' failed' old' new' bytes asked reads_before reads_after n) (sym told.status_is) (tools.analysed (Err fault.Memory) refl told.line))
+
 of_read : (known : Option (List ℕ)) (read : List ℕ) → IfSome (option_map (take most_read) known) (λ bytes. read ≡ bytes) → (P : List ℕ → Type 0) → ((bytes : List ℕ) → read ≡ take most_read bytes → P bytes) → IfSome known P
 of_read None read h P more = tt
 of_read (Some bytes) read h P more = more bytes h
 
-module _ {D W E : Type 0} (remaining : D → Option (List ℕ)) (contents : W → Option (List ℕ)) (failed : W → ℕ) (contents' : E → Option (List ℕ)) (failed' : E → ℕ) (source inner : D) (limit : ℕ) (old new : W) (old' new' : E) (before read slice : List ℕ) (args : List ℤ) (asked : Request) where
+module _ {D W E : Type 0} (remaining : D → Option (List ℕ)) (contents : W → Option (List ℕ)) (failed : W → ℕ) (contents' : E → Option (List ℕ)) (failed' : E → ℕ) (source inner : D) (limit : ℕ) (old new : W) (old' new' : E) (before read slice : List ℕ) (args : List ℤ) (asked : Request) (reads_before reads_after : ℕ) where
   -- what the bytes that were read come to is the answer on the source
   pub answered : limit ≡ most_read → inner ≡ source → before ≡ [] → slice ≡ read → args ≡ asked.args.items →
       IfSome (option_map (take limit) (remaining inner)) (λ xs. read ≡ before ++ xs) →
       (r : Result (Unit {0}) Fault) (status : ℕ) → status ≡ tools.status_of r → tools.IsAnalysed contents failed old new slice args asked.options r → tools.TriesText contents' failed' old' new' (tools.line_of r) →
-      IfSome (remaining source) (λ bytes. tools.IsToolAnswer contents failed old new contents' failed' old' new' bytes asked status)
+      IfSome (remaining source) (λ bytes. tools.IsToolAnswer contents failed old new contents' failed' old' new' bytes asked reads_before reads_after status)
   answered l i b s a h r status st analysis told =
       let h1 = subst (λ d. IfSome (option_map (take limit) (remaining d)) (λ xs. read ≡ before ++ xs)) i h in
       let h2 = subst (λ n. IfSome (option_map (take n) (remaining source)) (λ xs. read ≡ before ++ xs)) l h1 in
       let h3 : IfSome (option_map (take most_read) (remaining source)) (λ xs. read ≡ xs) = subst (λ p. IfSome (option_map (take most_read) (remaining source)) (λ xs. read ≡ p ++ xs)) b h2 in
-      of_read (remaining source) read h3 (λ bytes. tools.IsToolAnswer contents failed old new contents' failed' old' new' bytes asked status)
+      of_read (remaining source) read h3 (λ bytes. tools.IsToolAnswer contents failed old new contents' failed' old' new' bytes asked reads_before reads_after status)
       (λ bytes e.
       let of_bytes : tools.IsAnalysed contents failed old new (take most_read bytes) args asked.options r = subst (λ bs. tools.IsAnalysed contents failed old new bs args asked.options r) (s ∙ e) analysis in
       let of_asked : tools.IsAnalysed contents failed old new (take most_read bytes) asked.args.items asked.options r = subst (λ vs. tools.IsAnalysed contents failed old new (take most_read bytes) vs asked.options r) a of_bytes in
-      subst (λ n. tools.IsToolAnswer contents failed old new contents' failed' old' new' bytes asked n) (sym st)
+      subst (λ n. tools.IsToolAnswer contents failed old new contents' failed' old' new' bytes asked reads_before reads_after n) (sym st)
       (tools.analysed r (whole contents failed old new asked.args.items asked.options bytes r of_asked) told))

@@ -4,6 +4,7 @@ pub mod Requests
 pub mod Sources
 pub mod Compiled
 pub mod Analyses
+pub mod Inputs
 pub mod Tools
 pub mod Laws
 pub mod WordLaws

@@ -1,5 +1,5 @@
 -- What the program answers on a source: an exit status, a line on standard error, and what standard output took.
-use Rattle.std.specs.Prelude.{◌≡◌, ◌≢◌, ℕ, ℤ, List, [], ◌++◌, ◌⊎◌, codes, string_bytes, Option, Result, Ok, Err, MatchResult}
+use Rattle.std.specs.Prelude.{◌≡◌, ◌≢◌, ◌<◌, ℕ, ℤ, List, [], ◌++◌, ◌⊎◌, codes, string_bytes, Option, Result, Ok, Err, MatchResult}
 use Rattle.std.specs.declared.io.ErrorKind.{ErrorKind}
 use Rattle.std.specs.declared.io.ErrorKind.TheVariants as kind
 use Rattle.cw_text.specs.declared.fault.Fault.{Fault}
@@ -47,10 +47,10 @@ module _ {W : Type 0} (contents : W → Option (List ℕ)) (failed : W → ℕ) 
   IsAnalysed bytes args options r =
       MatchResult r (λ done. IsReported contents failed old new bytes args options) (IsUnreported contents failed old new bytes args options)
 
-  module _ {E : Type 0} (contents' : E → Option (List ℕ)) (failed' : E → ℕ) (old' new' : E) (bytes : List ℕ) (asked : Request) where
-    -- the source was not read, and nothing was written; or it was analysed, and standard error got the fault's line
+  module _ {E : Type 0} (contents' : E → Option (List ℕ)) (failed' : E → ℕ) (old' new' : E) (bytes : List ℕ) (asked : Request) (reads_failed_before reads_failed_after : ℕ) where
+    -- a read of the source failed, and nothing was written; or it was analysed, and standard error got the fault's line
     pub data IsToolAnswer : ℕ → Type 0 where
-      unread : {status : ℕ} → (reason : ErrorKind) → new ≡ old → IsUnreadAnswer contents' failed' old' new' reason status → IsToolAnswer status
+      unread : {status : ℕ} → (reason : ErrorKind) → reads_failed_before < reads_failed_after → new ≡ old → IsUnreadAnswer contents' failed' old' new' reason status → IsToolAnswer status
       analysed : (r : Result (Unit {0}) Fault) → IsAnalysed bytes asked.args.items asked.options r → TriesText contents' failed' old' new' (line_of r) → IsToolAnswer (status_of r)
 
 -- two sinks, standard output and standard error, go from one state to another

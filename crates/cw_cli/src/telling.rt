@@ -6,6 +6,7 @@ ghost use Rattle.cw_cli.specs.Tools.{IsRefusal, IsSaidAnswer, IsToolAnswer, IsUn
 
 use crate::analysis::analyse_alone;
 use crate::asked::{Request, Said};
+use crate::input::Input;
 use cw_report::{Sink, write_fault, write_text};
 use cw_text::Fault;
 use cw_text::source::MOST_BYTES;
@@ -22,24 +23,27 @@ const MOST_READ: u64 = MOST_BYTES as u64 + 1;
 /// `err`. No more than one byte past the greatest size of a source is read. Whether the write to
 /// `err` fails changes nothing. Fewer than 2^64 - 1 writes to each sink failed before.
 ///
-/// Of a source that cannot be read `unread` tells, and nothing is written to `out`. When that is
-/// so is not promised: no contract of a reader says when a read fails, so the clause allows it for
-/// every source. Nothing at all is promised of a reader that does not tell its bytes.
-pub fn tool<D: Read + Drop, W: Sink, E: Sink>(
+/// Where a read of the source failed, and so it cannot be read, `unread` tells of that, and nothing
+/// is written to `out`. Nothing is promised of a reader that does not tell its bytes.
+pub fn tool<D: Input, W: Sink, E: Sink>(
     alloc: Global,
     asked: &Request,
-    source: D,
+    source: &mut D,
     out: &mut W,
     err: &mut E,
 ) -> u8
     requires out { W.failed out.old < 2 ^ 64 - 1 }
     requires err { E.failed err.old < 2 ^ 64 - 1 }
-    ensures { IfSome (D.remaining source) (λ bytes. IsToolAnswer W.contents W.failed out.old out.new
-        E.contents E.failed err.old err.new bytes asked.now result) }
+    ensures { IfSome (D.remaining source.old) (λ bytes. IsToolAnswer W.contents W.failed out.old out.new
+        E.contents E.failed err.old err.new bytes asked.now (D.failed source.old) (D.failed source.new) result) }
 {
+    let failures = source.failures();
     let mut bytes = Vec::new(alloc);
-    if let Err(error) = source.take(MOST_READ).read_to_end(&mut bytes) {
-        return unread(&error, err);
+    if let Err(error) = (&mut *source).take(MOST_READ).read_to_end(&mut bytes) {
+        if source.failures() > failures {
+            return unread(&error, err);
+        }
+        return refuse(&Fault::Memory, err);
     }
     let args = asked.args.as_slice();
     match analyse_alone(alloc, bytes.as_slice(), args, asked.options, out) {

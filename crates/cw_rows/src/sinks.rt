@@ -3,7 +3,7 @@
 ghost use Rattle.std.specs.Prelude.{Some};
 
 use crate::program::asked;
-use cw_cli::tool;
+use cw_cli::{CountedReads, Input, tool};
 use cw_report::{Counted, Sink};
 use std::alloc::Global;
 use std::io;
@@ -60,11 +60,11 @@ struct Told {
 // Reports the value 42 to a sink with this room.
 fn report(alloc: Global, room: usize, fails: bool) -> Result<Told, Fail> {
     let asked = asked(alloc, "run f 42")?;
-    let source = b"int main(int n) { return n; }".as_slice();
+    let mut source = CountedReads::new(b"int main(int n) { return n; }".as_slice());
     let taken = Vec::new(alloc);
     let mut out = Counted::new(Narrow { taken, room, fails });
     let mut err = Counted::new(Vec::new(alloc));
-    let status = tool(alloc, &asked, source, &mut out, &mut err);
+    let status = tool(alloc, &asked, &mut source, &mut out, &mut err);
     Ok(Told {
         status,
         failures: out.failures(),
@@ -108,8 +108,9 @@ fn tells_of_unread_sources(rt: HostRuntime) -> Result<(), Fail> {
     ] {
         let mut out = Counted::new(Vec::new(alloc));
         let mut err = Counted::new(Vec::new(alloc));
-        let got = tool(alloc, &asked, Broken { kind }, &mut out, &mut err);
-        assert_eq!(rt; got, status, "{line}");
+        let mut source = CountedReads::new(Broken { kind });
+        let got = tool(alloc, &asked, &mut source, &mut out, &mut err);
+        assert_eq!(rt; (got, source.failures()), (status, 1), "{line}");
         assert_eq!(rt; out.into_inner().as_slice(), b"".as_slice());
         assert_eq!(rt; err.into_inner().as_slice(), line.as_bytes());
     }
@@ -127,7 +128,8 @@ fn keeps_its_status_where_the_line_is_not_taken(rt: HostRuntime) -> Result<(), F
         room: 9,
         fails: true,
     });
-    let status = tool(alloc, &asked, b"".as_slice(), &mut out, &mut err);
+    let mut source = CountedReads::new(b"".as_slice());
+    let status = tool(alloc, &asked, &mut source, &mut out, &mut err);
     assert_eq!(rt; (status, err.failures()), (2, 1));
     assert_eq!(rt; err.into_inner().taken.as_slice(), b"refused 2".as_slice());
     Ok(())
