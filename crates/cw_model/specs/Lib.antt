@@ -20,6 +20,7 @@ pub mod LoopLaws
 pub mod Answers
 pub mod Rows
 pub mod TreeLaws
+pub mod Sites
 pub mod Report
 pub mod Typing
 pub mod Ownership

@@ -1,14 +1,13 @@
 -- The texts that are reported, byte by byte.
 use Rattle.std.specs.Prelude.{ℕ, ◌+◌, ◌*◌, ◌/◌, ◌%◌, zero, suc, ℤ, List, [], ◌∷◌, ◌++◌, flat_map, codes, decimal}
 use Rattle.std.specs.Fmt.{signed_decimal}
-use Rattle.cw_model.specs.declared.syntax.CallKind.{CallKind}
 use Rattle.cw_model.specs.declared.syntax.CallKind.TheVariants.{Plain, Spawned}
-use Rattle.cw_model.specs.Syntax.{Name, Stmt, Call, If, IfElse, While, For, Scope, Cut, Region, Block, End, Then, Reducer, Program}
+use Rattle.cw_model.specs.Syntax.{Name, Stmt, If, IfElse, While, For, Scope, Cut, Region, Block, End, Then, Reducer, Program}
 use Rattle.cw_model.specs.Names.{new_names}
 use Rattle.cw_model.specs.Trees.{Tree, work, span, burdened_span}
 use Rattle.cw_model.specs.Rows.{site_row, region_row}
-use Rattle.cw_model.specs.Meaning.{function_of}
-use Rattle.cw_model.specs.Answers.{Answer, Ended, TrappedAt, OverLimit, main_name}
+use Rattle.cw_model.specs.Sites.{SiteKind, Root, Of, CallSite, call_sites, root_site}
+use Rattle.cw_model.specs.Answers.{Answer, Ended, TrappedAt, OverLimit}
 
 -- what is asked for
 pub data Mode : Type 0 where
@@ -102,43 +101,11 @@ scale_text program burden (Ended v lines sums t) =
 scale_text program burden (TrappedAt trap line lines) = []
 scale_text program burden OverLimit = []
 
--- a site: the root, or a call statement of the source
-pub record CallSite : Type 0 where
-  pub number : ℕ
-  pub kind : List ℕ
-  pub line : ℕ
-  pub callee : Name
-
--- how a kind of call is written
-abbrev pub kind_text : CallKind → List ℕ
-kind_text Plain = codes "call"
-kind_text Spawned = codes "spawn"
-
-abbrev mutual
-  -- the call statements in a statement of a line, by place
-  pub sites_in : ℕ → Stmt → List CallSite
-  sites_in line (Call kind site target callee es) = record { number = site; kind = kind_text kind; line = line; callee = callee } ∷ []
-  sites_in line (If e b) = sites_in_block b
-  sites_in line (IfElse e b c) = sites_in_block b ++ sites_in_block c
-  sites_in line (While e b) = sites_in_block b
-  sites_in line (For x y z from to grain over b) = sites_in_block b
-  sites_in line (Scope b) = sites_in_block b
-  sites_in line (Cut a e l r b) = sites_in_block b
-  sites_in line (Region tag b) = sites_in_block b
-  sites_in line _ = []
-
-  -- the same of a block
-  pub sites_in_block : Block → List CallSite
-  sites_in_block End = []
-  sites_in_block (Then line s b) = sites_in line s ++ sites_in_block b
-
--- the call statements of a program
-abbrev pub call_sites : Program → List CallSite
-call_sites program = flat_map (λ f. sites_in_block f.body) program.functions
-
--- the invocation of main by the run itself
-abbrev pub root_site : Program → CallSite
-root_site program = record { number = 0; kind = codes "root"; line = (function_of main_name program.functions).line; callee = main_name }
+-- how the kind of a site is written
+abbrev pub site_kind_text : SiteKind → List ℕ
+site_kind_text Root = codes "root"
+site_kind_text (Of Plain) = codes "call"
+site_kind_text (Of Spawned) = codes "spawn"
 
 -- the names of the columns
 abbrev pub sites_header : List ℕ
@@ -148,7 +115,8 @@ sites_header = codes "site,kind,line,callee,calls,own_work,own_span,work,span" +
 abbrev pub site_line : Tree → CallSite → List ℕ
 site_line t s =
     let row = site_row s.number t in
-    csv_line (decimal s.number ∷ s.kind ∷ decimal s.line ∷ s.callee ∷ decimal row.calls ∷ decimal row.own_work ∷ decimal row.own_span ∷ decimal row.work ∷ decimal row.span ∷ [])
+    csv_line (decimal s.number ∷ site_kind_text s.kind ∷ decimal s.line ∷ s.callee
+    ∷ decimal row.calls ∷ decimal row.own_work ∷ decimal row.own_span ∷ decimal row.work ∷ decimal row.span ∷ [])
 
 -- the root, and then each call statement
 abbrev pub sites_text : Program → Answer → List ℕ

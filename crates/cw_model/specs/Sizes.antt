@@ -9,7 +9,7 @@ use Rattle.cw_model.specs.Names.{is_among}
 use Rattle.cw_model.specs.Captured.{captured}
 use Rattle.cw_model.specs.Meaning.{function_of}
 use Rattle.cw_model.specs.Lines.{unless}
-use Rattle.cw_model.specs.Report.{call_sites}
+use Rattle.cw_model.specs.Sites.{call_sites}
 
 -- brackets open after a token; a closing one of any kind takes one off
 abbrev pub open_after : ℕ → Kind → ℕ

@@ -1,0 +1,44 @@
+-- Call sites: where the invocations of a run are made, each with its number.
+use Rattle.std.specs.Prelude.{ℕ, List, [], ◌∷◌, ◌++◌, flat_map}
+use Rattle.cw_model.specs.declared.syntax.CallKind.{CallKind}
+use Rattle.cw_model.specs.Syntax.{Name, Stmt, Call, If, IfElse, While, For, Scope, Cut, Region, Block, End, Then, Program}
+use Rattle.cw_model.specs.Meaning.{function_of}
+use Rattle.cw_model.specs.Answers.{main_name}
+
+-- what a site is: the run's own call of main, or a call statement of this kind
+pub data SiteKind : Type 0 where
+  Root : SiteKind
+  Of : CallKind → SiteKind
+
+-- a site, with the line of its statement and the name that it calls; the root has number 0 and the line of main's head
+pub record CallSite : Type 0 where
+  pub number : ℕ
+  pub kind : SiteKind
+  pub line : ℕ
+  pub callee : Name
+
+abbrev mutual
+  -- the call statements in a statement of a line, by place
+  pub sites_in : ℕ → Stmt → List CallSite
+  sites_in line (Call kind site target callee es) = record { number = site; kind = Of kind; line = line; callee = callee } ∷ []
+  sites_in line (If e b) = sites_in_block b
+  sites_in line (IfElse e b c) = sites_in_block b ++ sites_in_block c
+  sites_in line (While e b) = sites_in_block b
+  sites_in line (For x y z from to grain over b) = sites_in_block b
+  sites_in line (Scope b) = sites_in_block b
+  sites_in line (Cut a e l r b) = sites_in_block b
+  sites_in line (Region tag b) = sites_in_block b
+  sites_in line _ = []
+
+  -- the same of a block
+  pub sites_in_block : Block → List CallSite
+  sites_in_block End = []
+  sites_in_block (Then line s b) = sites_in line s ++ sites_in_block b
+
+-- the call statements of a program
+abbrev pub call_sites : Program → List CallSite
+call_sites program = flat_map (λ f. sites_in_block f.body) program.functions
+
+-- the invocation of main by the run itself
+abbrev pub root_site : Program → CallSite
+root_site program = record { number = 0; kind = Root; line = (function_of main_name program.functions).line; callee = main_name }
