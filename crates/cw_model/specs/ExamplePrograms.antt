@@ -3,7 +3,7 @@ use Rattle.std.specs.Prelude.{ℕ, pos, zero, suc, true, false, List, [], ◌∷
 use Rattle.cw_model.specs.declared.syntax.Operator.{Operator}
 use Rattle.cw_model.specs.declared.syntax.Operator.TheVariants.{Less, Plus, Minus, Times, Divide}
 use Rattle.cw_model.specs.declared.syntax.CallKind.TheVariants.{Plain, Spawned}
-use Rattle.cw_model.specs.Syntax.{Name, Expr, Number, Variable, Element, Length, Negative, Binary, Stmt, Declare, DeclareArray, Assign, AssignElement, AddTo, Call, Sync, If, While, For, Cut, Region, Print, Return, Block, End, Then, Param, Function, Program}
+use Rattle.cw_model.specs.Syntax.{Name, Expr, Number, Variable, Element, Length, Negative, Binary, Stmt, Declare, DeclareArray, Assign, AssignElement, AddTo, Call, Sync, If, IfElse, While, For, Scope, Cut, Region, Print, Return, Block, End, Then, Param, Function, Program}
 
 -- names, by how they are spelled
 
@@ -19,8 +19,14 @@ f = codes "f"
 abbrev pub g : Name
 g = codes "g"
 
+abbrev pub h : Name
+h = codes "h"
+
 abbrev pub i : Name
 i = codes "i"
+
+abbrev pub j : Name
+j = codes "j"
 
 abbrev pub l : Name
 l = codes "l"
@@ -349,3 +355,27 @@ each_on_its_line (suc count) line s = Then line s (each_on_its_line count (suc l
 -- a main of so many statements from line 1 on
 abbrev pub many : ℕ → Stmt → Program
 many count s = of_functions (int_function main 1 [] (each_on_its_line count 1 s) ∷ [])
+
+-- void p() { } int main() { .. }
+abbrev pub idle_and : List Stmt → Program
+idle_and ss = of_functions (void_function p [] End ∷ main_of ss ∷ [])
+
+-- one block after another
+abbrev pub followed_by : Block → Block → Block
+followed_by End rest = rest
+followed_by (Then line st more) rest = Then line st (followed_by more rest)
+
+-- a block in each form of statement that has blocks, told the line that it begins in, and then the rest; there is an array a
+abbrev pub in_every_block : (ℕ → Block) → Block → Block
+in_every_block inner rest =
+    Then 2 (If (number 1) (inner 3))
+    (Then 4 (IfElse (number 1) (inner 5) (inner 6))
+    (Then 7 (While (number 0) (inner 8))
+    (Then 9 (For i i i (number 0) (number 1) 64 [] (inner 10))
+    (Then 11 (Scope (inner 12))
+    (Then 13 (Cut a (number 0) l r (inner 14))
+    (Then 15 (Region t (inner 16)) rest))))))
+
+-- one statement in each
+abbrev pub once_in_every_block : (ℕ → Stmt) → Block → Block
+once_in_every_block st rest = in_every_block (λ line. Then line (st line) End) rest

@@ -28,5 +28,6 @@ pub mod WhileLaw
 pub mod Sizes
 pub mod ExamplePrograms
 pub mod Examples
+pub mod ExampleTypes
 pub mod ExampleSources
 pub mod ExampleTexts

@@ -1,6 +1,7 @@
 //! Worked examples, each proved by computing.
 
 ghost use Rattle.cw_model.specs.Examples.{CallExamples, ArrayExamples, DeepExamples, ChainExamples, FaultExamples, LimitExamples, TreeExamples, SizeExamples};
+ghost use Rattle.cw_model.specs.ExampleTypes.{ExpressionTypeExamples, WriteTypeExamples, CallTypeExamples, HeadTypeExamples, BlockTypeExamples, GlobalTypeExamples};
 
 /// Calls, spawns, prints, sums, operators and regions: texts, costs, traps and limits.
 pub fn calls_and_sums()
@@ -40,4 +41,14 @@ pub fn strand_trees()
 /// Static sizes and counts of call statements.
 pub fn static_sizes()
     ensures { SizeExamples }
+{}
+
+/// Rules of names and types, each broken alone.
+pub fn names_and_types()
+    ensures expressions { ExpressionTypeExamples }
+    ensures writes { WriteTypeExamples }
+    ensures calls { CallTypeExamples }
+    ensures heads { HeadTypeExamples }
+    ensures blocks { BlockTypeExamples }
+    ensures globals { GlobalTypeExamples }
 {}
