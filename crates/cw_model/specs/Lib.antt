@@ -29,5 +29,6 @@ pub mod Sizes
 pub mod ExamplePrograms
 pub mod Examples
 pub mod ExampleTypes
+pub mod ExampleOwners
 pub mod ExampleSources
 pub mod ExampleTexts

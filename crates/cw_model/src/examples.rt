@@ -2,6 +2,7 @@
 
 ghost use Rattle.cw_model.specs.Examples.{CallExamples, ArrayExamples, DeepExamples, ChainExamples, FaultExamples, LimitExamples, TreeExamples, SizeExamples};
 ghost use Rattle.cw_model.specs.ExampleTypes.{ExpressionTypeExamples, WriteTypeExamples, CallTypeExamples, HeadTypeExamples, BlockTypeExamples, GlobalTypeExamples};
+ghost use Rattle.cw_model.specs.ExampleOwners.{TakenExamples, FreedExamples, LoopOwnerExamples};
 
 /// Calls, spawns, prints, sums, operators and regions: texts, costs, traps and limits.
 pub fn calls_and_sums()
@@ -51,4 +52,11 @@ pub fn names_and_types()
     ensures heads { HeadTypeExamples }
     ensures blocks { BlockTypeExamples }
     ensures globals { GlobalTypeExamples }
+{}
+
+/// Rules of ownership, each broken alone.
+pub fn ownership()
+    ensures taken { TakenExamples }
+    ensures freed { FreedExamples }
+    ensures loops { LoopOwnerExamples }
 {}

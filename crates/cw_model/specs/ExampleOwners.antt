@@ -1,0 +1,197 @@
+-- Worked examples of ownership: programs that break one rule each, and some that keep it narrowly.
+use Rattle.std.specs.Prelude.{◌≡◌, ℕ, List, [], ◌∷◌}
+use Rattle.cw_model.specs.declared.syntax.CallKind.TheVariants.{Plain}
+use Rattle.cw_model.specs.Syntax.{Expr, Variable, Element, Length, Negative, Not, Stmt, Declare, DeclareArray, Assign, AssignElement, AddTo, Start, Begin, Sync, If, IfElse, While, For, Scope, Cut, Region, Print, Return, Block, End, Then, Function, Program}
+use Rattle.cw_model.specs.Ownership.{ownership_faults}
+use Rattle.cw_model.specs.Examples.{IsAccepted, BreaksOwnership}
+use Rattle.cw_model.specs.ExamplePrograms.{a, b, f, g, h, i, j, l, n, p, q, r, s, t, v, x, y, z, main, number, plus, int_param, array_param, int_function, void_function, of_functions, on_line, block, give, call, call_into, spawn, spawn_into, main_of, alone, same_function, with_sum, followed_by, in_every_block, once_in_every_block}
+
+-- int f(int v) { return v; } int g(int a[]) { return 0; } int q(int v, int b[]) { return v; } void h(int a[], int b[]) { } before main
+abbrev pub with_callees : Block → Program
+with_callees body = with_sum (
+    same_function
+    ∷ int_function g 1 (array_param a ∷ []) (block (give (number 0) ∷ []))
+    ∷ int_function q 1 (int_param v ∷ array_param b ∷ []) (block (give (Variable v) ∷ []))
+    ∷ void_function h (array_param a ∷ array_param b ∷ []) End
+    ∷ int_function main 1 [] body ∷ [])
+
+-- a main of two integers and two arrays, and then these statements
+abbrev pub with_names : Block → Program
+with_names body = with_callees (followed_by (on_line 1 (Declare x (number 0) ∷ Declare y (number 0) ∷ DeclareArray a (number 2) ∷ DeclareArray b (number 2) ∷ [])) body)
+
+-- a sync, and the end
+abbrev pub joined_at : ℕ → Block
+joined_at line = on_line line (Sync ∷ give (number 0) ∷ [])
+
+-- a spawn takes x, another one a, and then comes a statement on line 2
+abbrev pub beside_spawns : Stmt → Program
+beside_spawns st = with_names (Then 1 (spawn_into x 1 f (number 1 ∷ [])) (Then 1 (spawn 2 g (Variable a ∷ [])) (Then 2 st (joined_at 3))))
+
+-- its ownership is refused
+abbrev pub IsRefused : Stmt → Type 0
+IsRefused st = BreaksOwnership (beside_spawns st) (2 ∷ [])
+
+-- it is accepted
+abbrev pub IsFine : Stmt → Type 0
+IsFine st = IsAccepted (beside_spawns st)
+
+-- what is taken is not touched
+pub record TakenExamples : Type 0 where
+  pub another_read : IsFine (Print (plus (Variable y) (Element b (Variable y))))
+  pub another_written : IsFine (AssignElement b (Variable y) (Length b))
+  pub declared : IsRefused (Declare z (Variable x))
+  pub length_of_a_new_array : IsRefused (DeclareArray z (Variable x))
+  pub value : IsRefused (Assign y (Variable x))
+  pub target : IsRefused (Assign x (number 1))
+  pub index_written : IsRefused (AssignElement b (Variable x) (number 1))
+  pub value_of_an_element : IsRefused (AssignElement b (number 0) (Variable x))
+  pub element_written : IsRefused (AssignElement a (number 0) (number 1))
+  pub addition : IsRefused (AddTo s (Variable x))
+  pub argument : IsRefused (call 3 f (Variable x ∷ []))
+  pub second_argument : IsRefused (call 3 h (Variable b ∷ Variable a ∷ []))
+  pub array_passed : IsRefused (call 3 g (Variable a ∷ []))
+  pub target_of_a_call : IsRefused (call_into x 3 f (number 1 ∷ []))
+  pub target_of_a_spawn : IsRefused (spawn_into x 3 f (number 1 ∷ []))
+  pub test_of_if : IsRefused (If (Variable x) End)
+  pub test_of_if_else : IsRefused (IfElse (Variable x) End End)
+  pub test_of_while : IsRefused (While (Variable x) End)
+  pub lower_end : IsRefused (For i i i (Variable x) (number 1) 64 [] End)
+  pub upper_end : IsRefused (For i i i (number 0) (Variable x) 64 [] End)
+  pub loop_over : IsRefused (For i i i (number 0) (number 1) 64 (b ∷ a ∷ []) End)
+  pub place_of_a_cut : IsRefused (Cut b (Variable x) l r End)
+  pub cut_again : IsRefused (Cut a (number 0) l r End)
+  pub printed : IsRefused (Print (Variable x))
+  pub result : BreaksOwnership (beside_spawns (If (number 1) (on_line 2 (give (Variable x) ∷ [])))) (2 ∷ [])
+  pub negative : IsRefused (Print (Negative (Variable x)))
+  pub not : IsRefused (Print (Not (Variable x)))
+  pub left_operand : IsRefused (Print (plus (Variable x) (number 1)))
+  pub right_operand : IsRefused (Print (plus (number 1) (Variable x)))
+  pub index : IsRefused (Print (Element b (Variable x)))
+  pub element : IsRefused (Print (Element a (number 0)))
+  pub length : IsRefused (Print (Length a))
+  pub in_each_block : BreaksOwnership (with_names (Then 1 (spawn_into x 1 f (number 1 ∷ [])) (once_in_every_block (λ line. Print (Variable x)) (joined_at 17)))) (3 ∷ 5 ∷ 6 ∷ 8 ∷ 10 ∷ 12 ∷ 14 ∷ 16 ∷ [])
+  -- nothing but a join frees it
+  pub after_each_block : BreaksOwnership (with_names (Then 1 (spawn_into x 1 f (number 1 ∷ [])) (once_in_every_block (λ line. Print (number 1)) (Then 17 (Print (Variable x)) (joined_at 18))))) (17 ∷ [])
+  pub two_lines_later : BreaksOwnership (with_names (Then 1 (spawn_into x 1 f (number 1 ∷ [])) (Then 2 (Declare z (number 1)) (Then 3 (call_into z 2 f (Variable z ∷ [])) (Then 4 (Print (Variable x)) (joined_at 5)))))) (4 ∷ [])
+  -- what only loops are lowered to
+  pub lowered_call : ownership_faults (alone (Start Plain h [] ∷ [])) ≡ 1 ∷ []
+  pub lowered_loop : ownership_faults (alone (Begin h (number 0) (number 1) [] [] ∷ [])) ≡ 1 ∷ []
+
+-- a statement on line 2, beside nothing, and a print of x on line 3
+abbrev pub before_print : Stmt → Program
+before_print st = with_names (Then 2 st (Then 3 (Print (Variable x)) (joined_at 4)))
+
+-- a spawn takes x, then comes a statement on line 2, and a print of x on line 3
+abbrev pub between : Stmt → Program
+between st = with_names (Then 1 (spawn_into x 1 f (number 1 ∷ [])) (Then 2 st (Then 3 (Print (Variable x)) (joined_at 4))))
+
+-- a spawn into x
+abbrev pub takes_x : Block
+takes_x = on_line 2 (spawn_into x 1 f (number 1 ∷ []) ∷ [])
+
+-- a sync alone
+abbrev pub syncs : Block
+syncs = on_line 2 (Sync ∷ [])
+
+-- a name declared in a line, which a spawn takes on the same line
+abbrev pub takes_its_own : ℕ → Block
+takes_its_own line = on_line line (Declare z (number 0) ∷ spawn_into z 1 f (number 1 ∷ []) ∷ [])
+
+-- the same of an array
+abbrev pub takes_its_own_array : ℕ → Block
+takes_its_own_array line = on_line line (DeclareArray z (number 1) ∷ spawn 1 g (Variable z ∷ []) ∷ [])
+
+-- what takes a name, and what frees it
+pub record FreedExamples : Type 0 where
+  pub spawn_takes_its_target : BreaksOwnership (before_print (spawn_into x 1 f (Variable x ∷ []))) (3 ∷ [])
+  pub spawn_takes_no_integer : IsAccepted (before_print (spawn_into y 1 f (Variable x ∷ [])))
+  pub call_gives_back : IsAccepted (with_names (on_line 2 (call 1 h (Variable a ∷ Variable b ∷ []) ∷ call_into x 2 g (Variable a ∷ []) ∷ Print (plus (Variable x) (Element b (number 0))) ∷ give (number 0) ∷ [])))
+  pub second_argument_taken : BreaksOwnership (with_names (Then 2 (spawn 1 q (number 1 ∷ Variable a ∷ [])) (Then 3 (Print (Length a)) (joined_at 4)))) (3 ∷ [])
+  pub one_array_twice : BreaksOwnership (with_names (Then 2 (call 1 h (Variable a ∷ Variable a ∷ [])) (joined_at 3))) (2 ∷ [])
+  pub over_twice : BreaksOwnership (with_names (Then 2 (For i i i (number 0) (number 2) 64 (a ∷ a ∷ []) End) (joined_at 3))) (2 ∷ [])
+  pub sync : IsAccepted (between Sync)
+  pub sync_of_an_array : IsAccepted (with_names (on_line 2 (spawn 1 g (Variable a ∷ []) ∷ Sync ∷ AssignElement a (number 0) (number 1) ∷ give (number 0) ∷ [])))
+  -- a sync block joins its own spawns alone
+  pub sync_in_scope : BreaksOwnership (between (Scope syncs)) (3 ∷ [])
+  pub sync_in_cut : BreaksOwnership (between (Cut a (number 0) l r syncs)) (3 ∷ [])
+  pub sync_in_region : BreaksOwnership (between (Region t syncs)) (3 ∷ [])
+  pub sync_in_loop : BreaksOwnership (between (For i i i (number 0) (number 1) 64 [] syncs)) (3 ∷ [])
+  pub spawn_in_scope : IsAccepted (before_print (Scope takes_x))
+  pub spawn_in_cut : IsAccepted (before_print (Cut a (number 0) l r takes_x))
+  pub spawn_in_region : IsAccepted (before_print (Region t takes_x))
+  pub spawn_and_sync_in_scope : IsAccepted (with_names (on_line 2 (Scope (on_line 2 (spawn_into x 1 f (number 1 ∷ []) ∷ Sync ∷ Print (Variable x) ∷ [])) ∷ give (number 0) ∷ [])))
+  pub spawn_in_the_scope_around : BreaksOwnership (with_names (Then 2 (Scope (on_line 3 (spawn_into x 1 f (number 1 ∷ []) ∷ Scope (on_line 4 (Sync ∷ Print (Variable x) ∷ [])) ∷ []))) (joined_at 5))) (4 ∷ [])
+  -- a missing else is an empty branch
+  pub sync_in_if : BreaksOwnership (between (If (number 1) syncs)) (3 ∷ [])
+  pub sync_in_one_branch : BreaksOwnership (between (IfElse (number 1) syncs End)) (3 ∷ [])
+  pub sync_in_the_other_branch : BreaksOwnership (between (IfElse (number 1) End syncs)) (3 ∷ [])
+  pub sync_in_both_branches : IsAccepted (between (IfElse (number 1) syncs syncs))
+  pub sync_in_while : BreaksOwnership (between (While (number 0) syncs)) (3 ∷ [])
+  pub spawn_in_if : BreaksOwnership (before_print (If (number 1) takes_x)) (3 ∷ [])
+  pub spawn_in_one_branch : BreaksOwnership (before_print (IfElse (number 1) takes_x End)) (3 ∷ [])
+  pub spawn_in_the_other_branch : BreaksOwnership (before_print (IfElse (number 1) End takes_x)) (3 ∷ [])
+  -- the second turn writes what the first one took
+  pub spawn_in_while : BreaksOwnership (before_print (While (number 0) takes_x)) (2 ∷ 3 ∷ [])
+  -- a branch that surely returns leaves nothing taken
+  pub spawn_before_return : IsAccepted (before_print (If (number 1) (on_line 2 (spawn_into x 1 f (number 1 ∷ []) ∷ give (number 0) ∷ []))))
+  pub return_in_if : BreaksOwnership (between (If (number 1) (on_line 2 (give (number 0) ∷ [])))) (3 ∷ [])
+  pub return_in_one_branch : BreaksOwnership (between (IfElse (number 1) (on_line 2 (give (number 0) ∷ [])) End)) (3 ∷ [])
+  -- a name that is still taken as its block ends counts at its declaration; a sync block joins first
+  pub own_names : BreaksOwnership (with_names (in_every_block takes_its_own (joined_at 17))) (3 ∷ 5 ∷ 6 ∷ 8 ∷ [])
+  pub own_arrays : BreaksOwnership (with_names (in_every_block takes_its_own_array (joined_at 17))) (3 ∷ 5 ∷ 6 ∷ 8 ∷ [])
+  pub own_name_before_return : IsAccepted (with_names (Then 2 (If (number 1) (followed_by (takes_its_own 2) (on_line 2 (give (number 0) ∷ [])))) (joined_at 3)))
+  pub body_joins : IsAccepted (with_sum (same_function ∷ void_function p [] (takes_its_own 2) ∷ main_of (give (number 0) ∷ []) ∷ []))
+  -- at a cut's end its array is free again, and no other
+  pub after_cut : IsAccepted (with_names (on_line 2 (Cut a (number 0) l r End ∷ AssignElement a (number 0) (number 1) ∷ give (number 0) ∷ [])))
+  pub in_cut : BreaksOwnership (with_names (Then 2 (Cut a (number 0) l r (on_line 3 (Print (Length a) ∷ []))) (joined_at 4))) (3 ∷ [])
+  pub sync_in_its_cut : BreaksOwnership (with_names (Then 2 (Cut a (number 0) l r (on_line 3 (Sync ∷ Print (Length a) ∷ []))) (joined_at 4))) (3 ∷ [])
+  pub after_an_inner_cut : BreaksOwnership (with_names (Then 2 (Cut a (number 0) l r (Then 3 (Cut b (number 0) n z End) (Then 4 (Print (Length a)) End))) (joined_at 5))) (4 ∷ [])
+
+-- a loop over a on line 2, in whose body stands this statement on line 3; b is not among its arrays
+abbrev pub in_loop : Stmt → Program
+in_loop st = with_names (Then 2 (For i i i (number 0) (number 2) 64 (a ∷ []) (Then 3 st End)) (joined_at 4))
+
+-- it breaks the rule of the loop
+abbrev pub IsRefusedInLoop : Stmt → Type 0
+IsRefusedInLoop st = BreaksOwnership (in_loop st) (3 ∷ [])
+
+-- a loop's body names its arrays only by its variable, reads outer integers, and names no other outer array
+pub record LoopOwnerExamples : Type 0 where
+  pub outer_integer_read : IsAccepted (in_loop (Print (plus (Variable x) (Variable i))))
+  pub element_read : IsAccepted (in_loop (Print (Element a (Variable i))))
+  pub element_written : IsAccepted (in_loop (AssignElement a (Variable i) (Variable i)))
+  pub own_array : IsAccepted (in_loop (Scope (on_line 3 (DeclareArray z (number 1) ∷ AssignElement z (number 0) (Variable i) ∷ Print (plus (Element z (Variable x)) (Element z (plus (number 0) (number 0)))) ∷ AssignElement z (Variable x) (Length z) ∷ []))))
+  pub own_array_passed : IsAccepted (in_loop (Scope (on_line 3 (DeclareArray z (number 1) ∷ call 1 g (Variable z ∷ []) ∷ Cut z (number 0) l r End ∷ []))))
+  pub own_integer_written : IsAccepted (in_loop (Scope (on_line 3 (Declare z (number 1) ∷ Assign z (number 2) ∷ call_into z 1 f (number 1 ∷ []) ∷ []))))
+  pub array_not_listed : IsRefusedInLoop (Print (Element b (Variable i)))
+  pub array_not_listed_written : IsRefusedInLoop (AssignElement b (Variable i) (number 1))
+  pub length : IsRefusedInLoop (Print (Length a))
+  pub length_of_another : IsRefusedInLoop (Print (Length b))
+  pub other_index : IsRefusedInLoop (Print (Element a (number 0)))
+  pub other_index_written : IsRefusedInLoop (AssignElement a (number 0) (number 1))
+  pub other_variable : IsRefusedInLoop (Print (Element a (Variable x)))
+  pub next_element : IsRefusedInLoop (Print (Element a (plus (Variable i) (number 1))))
+  pub in_an_index : IsRefusedInLoop (Print (Element a (Element a (Variable i))))
+  pub in_the_index_of_an_own_array : BreaksOwnership (in_loop (Scope (Then 3 (DeclareArray z (number 1)) (Then 5 (Print (Element z (Length a))) End)))) (5 ∷ [])
+  pub in_negative : IsRefusedInLoop (Print (Negative (Length a)))
+  pub in_not : IsRefusedInLoop (Print (Not (Length a)))
+  pub in_left_operand : IsRefusedInLoop (Print (plus (Length a) (number 1)))
+  pub in_right_operand : IsRefusedInLoop (Print (plus (number 1) (Length a)))
+  pub outer_integer_written : IsRefusedInLoop (Assign x (number 1))
+  pub variable_written : IsRefusedInLoop (Assign i (number 1))
+  pub outer_target : IsRefusedInLoop (call_into x 1 f (number 1 ∷ []))
+  pub outer_target_of_a_spawn : IsRefusedInLoop (spawn_into x 1 f (number 1 ∷ []))
+  pub array_passed : IsRefusedInLoop (call 1 g (Variable a ∷ []))
+  pub array_cut : IsRefusedInLoop (Cut a (number 0) l r End)
+  pub inner_loop_over_it : IsRefusedInLoop (For j j j (number 0) (number 1) 64 (a ∷ []) End)
+  pub lower_end_of_an_inner_loop : IsRefusedInLoop (For j j j (Element a (Variable i)) (number 2) 64 [] End)
+  pub upper_end_of_an_inner_loop : IsRefusedInLoop (For j j j (number 0) (Element a (Variable i)) 64 [] End)
+  pub element_in_an_inner_loop : BreaksOwnership (in_loop (For j j j (number 0) (number 1) 64 [] (on_line 5 (Print (Element a (Variable i)) ∷ [])))) (5 ∷ [])
+  pub variable_written_in_an_inner_loop : BreaksOwnership (in_loop (For j j j (number 0) (number 1) 64 [] (on_line 5 (Assign i (number 1) ∷ [])))) (5 ∷ [])
+  pub name_of_a_turn_written_in_an_inner_loop : BreaksOwnership (in_loop (Scope (on_line 3 (Declare z (number 0) ∷ For j j j (number 0) (number 1) 64 [] (on_line 5 (Assign z (number 1) ∷ [])) ∷ [])))) (5 ∷ [])
+  pub array_of_a_turn_in_an_inner_loop : BreaksOwnership (in_loop (Scope (on_line 3 (DeclareArray z (number 1) ∷ For j j j (number 0) (number 1) 64 [] (on_line 5 (Print (Length z) ∷ [])) ∷ [])))) (5 ∷ [])
+  pub in_each_block : BreaksOwnership (with_names (Then 1 (For j j j (number 0) (number 1) 64 [] (once_in_every_block (λ line. Assign x (number 1)) End)) (joined_at 17))) (3 ∷ 5 ∷ 6 ∷ 8 ∷ 10 ∷ 12 ∷ 13 ∷ 14 ∷ 16 ∷ [])
+  pub parameter_written : BreaksOwnership (of_functions (int_function f 1 (int_param v ∷ []) (on_line 2 (For i i i (number 0) (number 2) 64 [] (on_line 3 (Assign v (number 1) ∷ [])) ∷ give (number 0) ∷ [])) ∷ main_of (give (number 0) ∷ []) ∷ [])) (3 ∷ [])
+  pub parts_of_a_cut : IsAccepted (with_names (on_line 2 (Cut a (number 1) l r (on_line 2 (For i i i (number 0) (number 1) 64 (l ∷ r ∷ []) (on_line 2 (AssignElement l (Variable i) (Element r (Variable i)) ∷ [])) ∷ [])) ∷ give (number 0) ∷ [])))
+  pub left_part_in_a_loop : BreaksOwnership (with_names (on_line 2 (Cut a (number 1) l r (on_line 2 (For i i i (number 0) (number 1) 64 [] (on_line 3 (Print (Length l) ∷ [])) ∷ [])) ∷ give (number 0) ∷ []))) (3 ∷ [])
+  pub right_part_in_a_loop : BreaksOwnership (with_names (on_line 2 (Cut a (number 1) l r (on_line 2 (For i i i (number 0) (number 1) 64 [] (on_line 3 (Print (Length r) ∷ [])) ∷ [])) ∷ give (number 0) ∷ []))) (3 ∷ [])
