@@ -30,5 +30,9 @@ pub mod ExamplePrograms
 pub mod Examples
 pub mod ExampleTypes
 pub mod ExampleOwners
+pub mod ExampleSizes
+pub mod ExampleValues
+pub mod ExampleStatements
+pub mod ExampleRows
 pub mod ExampleSources
 pub mod ExampleTexts

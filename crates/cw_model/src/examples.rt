@@ -3,6 +3,10 @@
 ghost use Rattle.cw_model.specs.Examples.{CallExamples, ArrayExamples, DeepExamples, ChainExamples, FaultExamples, LimitExamples, TreeExamples, SizeExamples};
 ghost use Rattle.cw_model.specs.ExampleTypes.{ExpressionTypeExamples, WriteTypeExamples, CallTypeExamples, HeadTypeExamples, BlockTypeExamples, GlobalTypeExamples};
 ghost use Rattle.cw_model.specs.ExampleOwners.{TakenExamples, FreedExamples, LoopOwnerExamples};
+ghost use Rattle.cw_model.specs.ExampleSizes.{TokenSizeExamples, DeclarationSizeExamples, InstructionSizeExamples};
+ghost use Rattle.cw_model.specs.ExampleValues.{OperatorExamples, TrapExamples};
+ghost use Rattle.cw_model.specs.ExampleStatements.{EffectExamples, CostExamples, LoopExamples, CaptureExamples};
+ghost use Rattle.cw_model.specs.ExampleRows.{RowExamples, TextExamples};
 
 /// Calls, spawns, prints, sums, operators and regions: texts, costs, traps and limits.
 pub fn calls_and_sums()
@@ -59,4 +63,31 @@ pub fn ownership()
     ensures taken { TakenExamples }
     ensures freed { FreedExamples }
     ensures loops { LoopOwnerExamples }
+{}
+
+/// Limits and sizes, the last place within and the first past each.
+pub fn sizes()
+    ensures tokens { TokenSizeExamples }
+    ensures declarations { DeclarationSizeExamples }
+    ensures instructions { InstructionSizeExamples }
+{}
+
+/// What expressions come to, at which cost, and where they trap.
+pub fn values()
+    ensures operators { OperatorExamples }
+    ensures traps { TrapExamples }
+{}
+
+/// What statements do and cost, and what loops capture.
+pub fn statements()
+    ensures effects { EffectExamples }
+    ensures costs { CostExamples }
+    ensures loops { LoopExamples }
+    ensures captures { CaptureExamples }
+{}
+
+/// Rows of tags and sites, and whole texts of reports.
+pub fn rows_and_texts()
+    ensures rows { RowExamples }
+    ensures texts { TextExamples }
 {}

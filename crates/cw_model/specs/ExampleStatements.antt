@@ -1,0 +1,154 @@
+-- Worked examples of statements: what they do, what they cost, and what loops do by halves.
+use Rattle.std.specs.Prelude.{◌≡◌, ℕ, List, [], ◌∷◌, Some, None, codes}
+use Rattle.cw_model.specs.declared.syntax.CallKind.TheVariants.{Plain}
+use Rattle.cw_model.specs.declared.syntax.Operator.TheVariants.{Equal, Less, Times}
+use Rattle.cw_model.specs.Syntax.{Expr, Variable, Element, Length, Negative, Not, Binary, Stmt, Declare, DeclareArray, Assign, AssignElement, AddTo, Start, Begin, Sync, If, IfElse, While, For, Scope, Cut, Region, Print, Return, Block, End, Then, Function, Program}
+use Rattle.cw_model.specs.Captured.{captured}
+use Rattle.cw_model.specs.Examples.{Writes, Costs}
+use Rattle.cw_model.specs.ExamplePrograms.{a, b, f, g, h, i, j, l, n, p, r, s, t, v, x, y, z, main, number, plus, minus, int_param, array_param, int_function, void_function, of_functions, on_line, block, give, call, call_into, spawn, spawn_into, main_of, alone, with_sum, followed_by, in_every_block}
+
+-- a declaration in a line, and its value printed
+abbrev pub declared_and_printed : ℕ → Block
+declared_and_printed line = on_line line (Declare y (number line) ∷ Print (Variable y) ∷ [])
+
+-- int f(int v, int n) { return v - n; } void g(int a[], int b[]) { a[0] = 1; b[0] = 2; } int h(int v, int b[]) { b[0] = v; return len(b); } before main
+abbrev pub with_callees : List Stmt → Program
+with_callees ss = of_functions (
+    int_function f 1 (int_param v ∷ int_param n ∷ []) (block (give (minus (Variable v) (Variable n)) ∷ []))
+    ∷ void_function g (array_param a ∷ array_param b ∷ []) (block (AssignElement a (number 0) (number 1) ∷ AssignElement b (number 0) (number 2) ∷ []))
+    ∷ int_function h 1 (int_param v ∷ array_param b ∷ []) (block (AssignElement b (number 0) (Variable v) ∷ give (Length b) ∷ []))
+    ∷ main_of ss ∷ [])
+
+-- the first elements of a and of b are printed
+abbrev pub print_both : List Stmt
+print_both = Print (Element a (number 0)) ∷ Print (Element b (number 0)) ∷ give (number 0) ∷ []
+
+-- an array of one element, and then these statements
+abbrev pub array_and : Block → Program
+array_and body = of_functions (int_function main 1 [] (Then 1 (DeclareArray a (number 1)) body) ∷ [])
+
+-- what statements do
+pub record EffectExamples : Type 0 where
+  -- a name ends with its block, so that each print shows its own; a while whose test fails and the other branch print nothing
+  pub names_end_with_blocks : Costs (array_and (in_every_block declared_and_printed (on_line 17 (Declare y (number 17) ∷ give (Variable y) ∷ [])))) [] 72
+      (codes "3" ∷ codes "5" ∷ codes "10" ∷ codes "12" ∷ codes "14" ∷ codes "16" ∷ codes "return 17" ∷ [])
+  pub names_end_with_a_turn : Writes (alone (Declare i (number 0) ∷ While (Binary Less (Variable i) (number 2)) (block (Declare y (Variable i) ∷ Print (Variable y) ∷ Assign i (plus (Variable i) (number 1)) ∷ [])) ∷ give (number 0) ∷ [])) [] 1000
+      (codes "0" ∷ codes "1" ∷ codes "return 0" ∷ [])
+  pub names_end_with_the_other_branch : Writes (alone (IfElse (number 0) End (block (Declare y (number 1) ∷ [])) ∷ Declare y (number 2) ∷ give (Variable y) ∷ [])) [] 1000 (codes "return 2" ∷ [])
+  pub outer_names_stay : Writes (alone (Declare x (number 0) ∷ If (number 1) (block (Assign x (number 5) ∷ Declare y (number 1) ∷ [])) ∷ give (Variable x) ∷ [])) [] 1000 (codes "return 5" ∷ [])
+  pub early_return : Costs (alone (If (number 1) (block (give (number 5) ∷ [])) ∷ give (number 6) ∷ [])) [] 4 (codes "return 5" ∷ [])
+  pub return_of_one_branch : Costs (alone (IfElse (number 1) (block (give (number 5) ∷ [])) End ∷ give (number 6) ∷ [])) [] 4 (codes "return 5" ∷ [])
+  pub return_of_the_other_branch : Costs (alone (IfElse (number 0) End (block (give (number 5) ∷ [])) ∷ give (number 6) ∷ [])) [] 4 (codes "return 5" ∷ [])
+  pub return_of_a_turn : Costs (alone (While (number 1) (block (give (number 5) ∷ [])) ∷ give (number 6) ∷ [])) [] 4 (codes "return 5" ∷ [])
+  pub arguments_by_place : Costs (with_callees (Declare x (number 0) ∷ call_into x 1 f (number 5 ∷ number 3 ∷ []) ∷ give (Variable x) ∷ [])) [] 11 (codes "return 2" ∷ [])
+  pub spawned_arguments : Costs (with_callees (Declare x (number 0) ∷ spawn_into x 1 f (number 5 ∷ number 3 ∷ []) ∷ Sync ∷ give (Variable x) ∷ [])) [] 12 (codes "return 2" ∷ [])
+  pub dropped_result : Costs (with_callees (Declare x (number 7) ∷ call 1 f (number 5 ∷ number 3 ∷ []) ∷ give (Variable x) ∷ [])) [] 11 (codes "return 7" ∷ [])
+  pub arrays_by_place : Costs (with_callees (DeclareArray a (number 1) ∷ DeclareArray b (number 1) ∷ call 1 g (Variable b ∷ Variable a ∷ []) ∷ print_both)) [] 20 (codes "2" ∷ codes "1" ∷ codes "return 0" ∷ [])
+  pub integer_and_array : Costs (with_callees (DeclareArray a (number 3) ∷ Declare x (number 0) ∷ spawn_into x 1 h (number 9 ∷ Variable a ∷ []) ∷ Sync ∷ Print (Element a (number 0)) ∷ give (Variable x) ∷ [])) [] 17 (codes "9" ∷ codes "return 3" ∷ [])
+  pub sums_of_two_reducers : Writes (record { reducers = (record { name = s; line = 1 }) ∷ (record { name = t; line = 1 }) ∷ []; functions = main_of (AddTo t (number 1) ∷ AddTo s (number 2) ∷ AddTo t (number 3) ∷ give (number 0) ∷ []) ∷ [] }) [] 1000
+      (codes "sum s = 2" ∷ codes "sum t = 4" ∷ codes "return 0" ∷ [])
+  pub arguments_of_main : Writes (of_functions (int_function main 1 (int_param n ∷ int_param v ∷ []) (block (give (minus (Variable n) (Variable v)) ∷ [])) ∷ [])) (5 ∷ 3 ∷ []) 1000 (codes "return 2" ∷ [])
+  pub parts_of_a_cut : Writes (alone (
+      DeclareArray a (number 3) ∷ AssignElement a (number 0) (number 1) ∷ AssignElement a (number 1) (number 2) ∷ AssignElement a (number 2) (number 3)
+      ∷ Cut a (number 1) l r (block (Print (Length l) ∷ Print (Length r) ∷ Print (Element l (number 0)) ∷ Print (Element r (number 0)) ∷ AssignElement r (number 1) (number 9) ∷ []))
+      ∷ Print (Element a (number 0)) ∷ Print (Element a (number 1)) ∷ give (Element a (number 2)) ∷ [])) [] 1000
+      (codes "1" ∷ codes "2" ∷ codes "1" ∷ codes "2" ∷ codes "1" ∷ codes "2" ∷ codes "return 9" ∷ [])
+  pub new_array_is_zero : Writes (alone (DeclareArray a (number 2) ∷ give (Element a (number 1)) ∷ [])) [] 1000 (codes "return 0" ∷ [])
+
+-- int main() { int i = 0; while (i < 2) { if (i == 0) { print(7); } else { print(8); } i = i + 1; } return i; }
+abbrev pub turns_program : Program
+turns_program = alone (
+    Declare i (number 0)
+    ∷ While (Binary Less (Variable i) (number 2)) (block (
+    IfElse (Binary Equal (Variable i) (number 0)) (block (Print (number 7) ∷ [])) (block (Print (number 8) ∷ []))
+    ∷ Assign i (plus (Variable i) (number 1)) ∷ []))
+    ∷ give (Variable i) ∷ [])
+
+-- what statements cost
+pub record CostExamples : Type 0 where
+  pub turns : Costs turns_program [] 39 (codes "7" ∷ codes "8" ∷ codes "return 2" ∷ [])
+  pub assignment : Costs (alone (Declare x (number 0) ∷ Assign x (number 5) ∷ give (Variable x) ∷ [])) [] 6 (codes "return 5" ∷ [])
+  pub new_array : Costs (alone (DeclareArray a (number 1) ∷ give (number 0) ∷ [])) [] 4 (codes "return 0" ∷ [])
+  pub addition : Costs (with_sum (main_of (AddTo s (number 5) ∷ give (number 0) ∷ []) ∷ [])) [] 4 (codes "sum s = 5" ∷ codes "return 0" ∷ [])
+  pub test_that_fails : Costs (alone (If (number 0) (block (Print (number 1) ∷ [])) ∷ give (number 0) ∷ [])) [] 4 (codes "return 0" ∷ [])
+  pub test_that_holds : Costs (alone (If (number 1) End ∷ give (number 0) ∷ [])) [] 4 (codes "return 0" ∷ [])
+  pub sync : Costs (alone (Sync ∷ give (number 0) ∷ [])) [] 3 (codes "return 0" ∷ [])
+  pub scope : Costs (alone (Scope End ∷ give (number 0) ∷ [])) [] 4 (codes "return 0" ∷ [])
+  pub region : Costs (alone (Region t End ∷ give (number 0) ∷ [])) [] 4 (codes "return 0" ∷ [])
+  pub void_call : Costs (of_functions (void_function g [] End ∷ main_of (call 1 g [] ∷ give (number 0) ∷ []) ∷ [])) [] 4 (codes "return 0" ∷ [])
+  pub plain_return : Costs (of_functions (void_function g [] (block (Return None ∷ [])) ∷ main_of (call 1 g [] ∷ give (number 0) ∷ []) ∷ [])) [] 4 (codes "return 0" ∷ [])
+
+-- a loop that names two outer integers
+abbrev pub capture_program : (grain : ℕ) → Program
+capture_program grain = with_sum (main_of (
+    Declare a (number 2) ∷ Declare b (number 3)
+    ∷ For i i i (number 0) (number 2) grain [] (block (AddTo s (plus (Binary Times (Variable a) (Variable i)) (Variable b)) ∷ []))
+    ∷ give (number 0) ∷ []) ∷ [])
+
+-- a loop of one turn whose body is a loop with an outer integer as its bound
+abbrev pub inner_bound_program : Program
+inner_bound_program = alone (
+    Declare n (number 1)
+    ∷ For i i i (number 0) (number 1) 64 [] (block (For j j j (number 0) (Variable n) 64 [] End ∷ []))
+    ∷ give (number 0) ∷ [])
+
+-- a loop over i with this statement in its body captures x alone
+abbrev pub CapturesX : Stmt → Type 0
+CapturesX st = captured i (block (st ∷ [])) ≡ x ∷ []
+
+-- a loop over two arrays
+abbrev pub two_arrays_program : Program
+two_arrays_program = alone (
+    DeclareArray a (number 2) ∷ DeclareArray b (number 2)
+    ∷ For i i i (number 0) (number 2) 1 (a ∷ b ∷ []) (block (AssignElement b (Variable i) (Variable i) ∷ AssignElement a (Variable i) (Element b (Variable i)) ∷ []))
+    ∷ give (Element a (number 1)) ∷ [])
+
+-- loops: their costs, what they capture, and the order of their turns
+pub record LoopExamples : Type 0 where
+  pub captured_integers : Costs (capture_program 64) [] 59 (codes "sum s = 8" ∷ codes "return 0" ∷ [])
+  pub captured_by_halves : Costs (capture_program 1) [] 98 (codes "sum s = 8" ∷ codes "return 0" ∷ [])
+  pub inner_bound : Costs inner_bound_program [] 61 (codes "return 0" ∷ [])
+  pub own_names : Costs (alone (For i i i (number 0) (number 1) 64 [] (block (Declare x (number 1) ∷ Declare n (Variable x) ∷ [])) ∷ give (number 0) ∷ [])) [] 34 (codes "return 0" ∷ [])
+  pub two_arrays : Costs two_arrays_program [] 117 (codes "return 1" ∷ [])
+  pub two_leaves : Costs (alone (For i i i (number 0) (number 2) 1 [] End ∷ give (number 0) ∷ [])) [] 76 (codes "return 0" ∷ [])
+  pub turns_in_order : Writes (alone (For i i i (number 3) (number 8) 2 [] (block (Print (Variable i) ∷ [])) ∷ give (number 0) ∷ [])) [] 1000
+      (codes "3" ∷ codes "4" ∷ codes "5" ∷ codes "6" ∷ codes "7" ∷ codes "return 0" ∷ [])
+  pub names_end_with_a_turn : Writes (alone (For i i i (number 0) (number 2) 64 [] (block (Declare y (Variable i) ∷ Print (Variable y) ∷ [])) ∷ Declare y (number 5) ∷ give (Variable y) ∷ [])) [] 1000
+      (codes "0" ∷ codes "1" ∷ codes "return 5" ∷ [])
+
+-- where a body names an outer integer
+pub record CaptureExamples : Type 0 where
+  pub no_name : captured i (block (Print (number 1) ∷ Sync ∷ Return None ∷ [])) ≡ []
+  pub no_array : captured i (block (Print (Length a) ∷ AssignElement a (number 0) (Element b (number 0)) ∷ [])) ≡ []
+  pub no_variable : captured i (block (Print (Variable i) ∷ [])) ≡ []
+  pub no_target : captured i (block (Assign y (number 0) ∷ call_into y 1 f [] ∷ AddTo s (number 0) ∷ [])) ≡ []
+  pub own_integer : captured i (block (Declare x (number 0) ∷ Print (Variable x) ∷ [])) ≡ []
+  pub own_array : captured i (block (DeclareArray z (number 1) ∷ call 1 g (Variable z ∷ []) ∷ [])) ≡ []
+  pub own_variable : captured i (block (For j j j (number 0) (number 1) 64 [] (block (Print (Variable j) ∷ [])) ∷ [])) ≡ []
+  pub own_parts : captured i (block (Cut z (number 0) l r (block (call 1 g (Variable l ∷ []) ∷ call 2 g (Variable r ∷ []) ∷ [])) ∷ [])) ≡ []
+  pub own_in_each_block : captured j (in_every_block (λ line. on_line line (Declare (line ∷ []) (number 0) ∷ Print (Variable (line ∷ [])) ∷ [])) End) ≡ []
+  pub in_order_and_once : captured i (block (Print (plus (Variable x) (Variable y)) ∷ Print (plus (Variable z) (Variable x)) ∷ [])) ≡ x ∷ y ∷ z ∷ []
+  pub printed : CapturesX (Print (Variable x))
+  pub declared : CapturesX (Declare y (Variable x))
+  pub length_of_a_new_array : CapturesX (DeclareArray b (Variable x))
+  pub assigned : CapturesX (Assign y (Variable x))
+  pub index_written : CapturesX (AssignElement b (Variable x) (number 0))
+  pub value_of_an_element : CapturesX (AssignElement b (number 0) (Variable x))
+  pub added : CapturesX (AddTo s (Variable x))
+  pub second_argument : CapturesX (call 1 f (number 0 ∷ Variable x ∷ []))
+  pub test_of_if : CapturesX (If (Variable x) End)
+  pub test_of_if_else : CapturesX (IfElse (Variable x) End End)
+  pub test_of_while : CapturesX (While (Variable x) End)
+  pub lower_end : CapturesX (For j j j (Variable x) (number 0) 64 [] End)
+  pub upper_end : CapturesX (For j j j (number 0) (Variable x) 64 [] End)
+  pub place_of_a_cut : CapturesX (Cut a (Variable x) l r End)
+  pub result : CapturesX (give (Variable x))
+  pub index : CapturesX (Print (Element a (Variable x)))
+  pub negative : CapturesX (Print (Negative (Variable x)))
+  pub not : CapturesX (Print (Not (Variable x)))
+  pub left_operand : CapturesX (Print (plus (Variable x) (number 1)))
+  pub right_operand : CapturesX (Print (plus (number 1) (Variable x)))
+  pub lowered_call : CapturesX (Start Plain f (number 0 ∷ Variable x ∷ []))
+  pub lowered_from : CapturesX (Begin f (Variable x) (number 0) [] [])
+  pub lowered_to : CapturesX (Begin f (number 0) (Variable x) [] [])
+  pub lowered_captured : CapturesX (Begin f (number 0) (number 0) (x ∷ []) (a ∷ []))
