@@ -1,7 +1,7 @@
 -- Worked examples of ownership: programs that break one rule each, and some that keep it narrowly.
-use Rattle.std.specs.Prelude.{◌≡◌, ℕ, List, [], ◌∷◌}
+use Rattle.std.specs.Prelude.{◌≡◌, ℕ, [], ◌∷◌}
 use Rattle.cw_model.specs.declared.syntax.CallKind.TheVariants.{Plain}
-use Rattle.cw_model.specs.Syntax.{Expr, Variable, Element, Length, Negative, Not, Stmt, Declare, DeclareArray, Assign, AssignElement, AddTo, Start, Begin, Sync, If, IfElse, While, For, Scope, Cut, Region, Print, Return, Block, End, Then, Function, Program}
+use Rattle.cw_model.specs.Syntax.{Variable, Element, Length, Negative, Not, Stmt, Declare, DeclareArray, Assign, AssignElement, AddTo, Start, Begin, Sync, If, IfElse, While, For, Scope, Cut, Region, Print, Block, End, Then, Program}
 use Rattle.cw_model.specs.Ownership.{ownership_faults}
 use Rattle.cw_model.specs.Examples.{IsAccepted, BreaksOwnership}
 use Rattle.cw_model.specs.ExamplePrograms.{a, b, f, g, h, i, j, l, n, p, q, r, s, t, v, x, y, z, main, number, plus, int_param, array_param, int_function, void_function, of_functions, on_line, block, give, call, call_into, spawn, spawn_into, main_of, alone, same_function, with_sum, followed_by, in_every_block, once_in_every_block}

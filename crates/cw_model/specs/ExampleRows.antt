@@ -1,12 +1,12 @@
 -- Worked examples of reports: rows of tags and sites, and whole texts byte by byte.
-use Rattle.std.specs.Prelude.{◌≡◌, ℕ, pos, List, [], ◌∷◌, ◌++◌, codes}
+use Rattle.std.specs.Prelude.{◌≡◌, [], ◌∷◌, ◌++◌, codes}
 use Rattle.cw_model.specs.Limits.{usual_limit, usual_burden}
 use Rattle.cw_model.specs.declared.syntax.Operator.TheVariants.{Less}
-use Rattle.cw_model.specs.Syntax.{Variable, Binary, Stmt, Declare, If, Region, Print, For, Sync, Block, End, Then, Program}
+use Rattle.cw_model.specs.Syntax.{Variable, Binary, Declare, If, Region, Print, For, Sync, End, Program}
 use Rattle.cw_model.specs.Answers.{OverLimit}
 use Rattle.cw_model.specs.Report.{Check, Run, Scale, Sites, report_text, tags_of, parallelism}
-use Rattle.cw_model.specs.Examples.{serial, Writes, Scales, Attributes}
-use Rattle.cw_model.specs.ExamplePrograms.{f, i, n, p, q, r, s, t, main, number, minus, int_param, int_function, void_function, of_functions, block, give, call, call_into, spawn, main_of, alone, first_program, idle_and, once_in_every_block}
+use Rattle.cw_model.specs.Examples.{serial, Scales, Attributes}
+use Rattle.cw_model.specs.ExamplePrograms.{f, i, n, p, r, t, main, number, minus, int_param, int_function, of_functions, block, give, call, call_into, spawn, main_of, alone, first_program, idle_and, once_in_every_block}
 
 -- a region in a recursion
 abbrev pub nested_region_program : Program

@@ -1,14 +1,14 @@
 -- Worked examples of limits and sizes: tokens, declared names, and instructions counted once.
-use Rattle.std.specs.Prelude.{◌≡◌, ℕ, zero, suc, List, [], ◌∷◌, ◌++◌, Some, None, map, replicate}
+use Rattle.std.specs.Prelude.{◌≡◌, ℕ, zero, suc, List, [], ◌∷◌, ◌++◌, None, map, replicate}
 use Rattle.cw_model.specs.declared.token.Kind.TheVariants as kind
-use Rattle.cw_model.specs.declared.syntax.CallKind.TheVariants.{Plain, Spawned}
+use Rattle.cw_model.specs.declared.syntax.CallKind.TheVariants.{Spawned}
 use Rattle.cw_model.specs.declared.syntax.Operator.TheVariants.{Times}
-use Rattle.cw_model.specs.Syntax.{Name, Expr, Variable, Element, Length, Negative, Not, Binary, Stmt, Declare, DeclareArray, Assign, AssignElement, AddTo, Start, Begin, Sync, If, IfElse, While, For, Scope, Cut, Region, Print, Return, Block, End, Then, Program}
+use Rattle.cw_model.specs.Syntax.{Expr, Variable, Element, Length, Negative, Not, Binary, Stmt, Declare, DeclareArray, Assign, AssignElement, AddTo, Start, Begin, Sync, If, IfElse, While, For, Scope, Cut, Region, Print, Return, Block, End, Then, Program}
 use Rattle.cw_model.specs.Captured.{captured}
 use Rattle.cw_model.specs.Sites.{sites_in_block}
 use Rattle.cw_model.specs.Sizes.{token_faults, declaring_lines_in, regions_in_block, loops_in_block, limit_faults, static_size, block_size, program_faults}
 use Rattle.cw_model.specs.Examples.{token}
-use Rattle.cw_model.specs.ExamplePrograms.{a, b, f, g, h, i, j, l, n, p, q, r, s, t, v, x, y, z, main, number, plus, int_param, array_param, int_function, void_function, of_functions, on_line, block, give, call, call_into, spawn, main_of, alone, same_function, idle_and, each_on_its_line, in_every_block, once_in_every_block}
+use Rattle.cw_model.specs.ExamplePrograms.{a, b, f, g, i, j, l, p, r, s, t, v, x, y, number, plus, int_param, array_param, int_function, void_function, of_functions, on_line, block, give, call, main_of, same_function, each_on_its_line, once_in_every_block}
 
 -- limits on tokens
 pub record TokenSizeExamples : Type 0 where

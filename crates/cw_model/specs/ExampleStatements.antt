@@ -1,11 +1,11 @@
 -- Worked examples of statements: what they do, what they cost, and what loops do by halves.
-use Rattle.std.specs.Prelude.{◌≡◌, ℕ, List, [], ◌∷◌, Some, None, codes}
+use Rattle.std.specs.Prelude.{◌≡◌, ℕ, List, [], ◌∷◌, None, codes}
 use Rattle.cw_model.specs.declared.syntax.CallKind.TheVariants.{Plain}
 use Rattle.cw_model.specs.declared.syntax.Operator.TheVariants.{Equal, Less, Times}
-use Rattle.cw_model.specs.Syntax.{Expr, Variable, Element, Length, Negative, Not, Binary, Stmt, Declare, DeclareArray, Assign, AssignElement, AddTo, Start, Begin, Sync, If, IfElse, While, For, Scope, Cut, Region, Print, Return, Block, End, Then, Function, Program}
+use Rattle.cw_model.specs.Syntax.{Variable, Element, Length, Negative, Not, Binary, Stmt, Declare, DeclareArray, Assign, AssignElement, AddTo, Start, Begin, Sync, If, IfElse, While, For, Scope, Cut, Region, Print, Return, Block, End, Then, Program}
 use Rattle.cw_model.specs.Captured.{captured}
 use Rattle.cw_model.specs.Examples.{Writes, Costs}
-use Rattle.cw_model.specs.ExamplePrograms.{a, b, f, g, h, i, j, l, n, p, r, s, t, v, x, y, z, main, number, plus, minus, int_param, array_param, int_function, void_function, of_functions, on_line, block, give, call, call_into, spawn, spawn_into, main_of, alone, with_sum, followed_by, in_every_block}
+use Rattle.cw_model.specs.ExamplePrograms.{a, b, f, g, h, i, j, l, n, r, s, t, v, x, y, z, main, number, plus, minus, int_param, array_param, int_function, void_function, of_functions, on_line, block, give, call, call_into, spawn_into, main_of, alone, with_sum, in_every_block}
 
 -- a declaration in a line, and its value printed
 abbrev pub declared_and_printed : ℕ → Block

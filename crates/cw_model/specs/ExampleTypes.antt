@@ -1,10 +1,9 @@
 -- Worked examples of names and types: programs that break one rule each, and some that keep it narrowly.
-use Rattle.std.specs.Prelude.{◌≡◌, ℕ, true, false, List, [], ◌∷◌, Some, None, codes}
+use Rattle.std.specs.Prelude.{false, [], ◌∷◌, None}
 use Rattle.cw_model.specs.declared.syntax.CallKind.TheVariants.{Plain}
-use Rattle.cw_model.specs.declared.syntax.Operator.TheVariants.{Equal}
-use Rattle.cw_model.specs.Syntax.{Name, Expr, Variable, Element, Length, Negative, Not, Binary, Stmt, Declare, DeclareArray, Assign, AssignElement, AddTo, Start, Begin, If, IfElse, While, For, Scope, Cut, Region, Print, Return, Block, End, Then, Function, Program}
+use Rattle.cw_model.specs.Syntax.{Variable, Element, Length, Negative, Not, Stmt, Declare, DeclareArray, Assign, AssignElement, AddTo, Start, Begin, If, IfElse, While, For, Scope, Cut, Print, Return, Block, End, Then, Function, Program}
 use Rattle.cw_model.specs.Examples.{IsAccepted, BreaksTypes}
-use Rattle.cw_model.specs.ExamplePrograms.{a, b, f, g, h, i, j, l, n, q, r, s, t, v, x, y, main, number, plus, int_param, array_param, int_function, void_function, of_functions, on_line, block, give, call, call_into, main_of, alone, same_function, with_sum, followed_by, in_every_block, once_in_every_block}
+use Rattle.cw_model.specs.ExamplePrograms.{a, b, f, g, h, i, l, q, r, s, t, v, x, y, main, number, plus, int_param, array_param, int_function, void_function, of_functions, on_line, block, give, call, call_into, main_of, alone, same_function, with_sum, once_in_every_block}
 
 -- int f(int v) { return v; } void g(int a[]) { } void h() { } int q(int v, int b[]) { return v; } before main
 abbrev pub with_callees : Function → Program

@@ -1,13 +1,12 @@
 -- Worked examples of expressions: what they come to, at which cost, and where they trap.
-use Rattle.std.specs.Prelude.{◌≡◌, ℕ, zero, suc, List, [], ◌∷◌, codes}
-use Rattle.cw_model.specs.Limits.{usual_limit}
+use Rattle.std.specs.Prelude.{ℕ, zero, suc, List, [], ◌∷◌, codes}
 use Rattle.cw_model.specs.declared.trap.Trap.{Trap}
 use Rattle.cw_model.specs.declared.trap.Trap.TheVariants as trap
 use Rattle.cw_model.specs.declared.syntax.Operator.{Operator}
 use Rattle.cw_model.specs.declared.syntax.Operator.TheVariants.{Equal, Unequal, Less, AtMost, Greater, AtLeast, Plus, Minus, Times, Divide, Modulo}
-use Rattle.cw_model.specs.Syntax.{Expr, Variable, Element, Length, Negative, Not, Binary, Stmt, Declare, DeclareArray, Assign, AssignElement, AddTo, If, IfElse, While, For, Cut, Region, Print, Block, End, Then, Program}
+use Rattle.cw_model.specs.Syntax.{Expr, Variable, Element, Length, Negative, Not, Binary, Stmt, Declare, DeclareArray, AssignElement, AddTo, If, IfElse, While, For, Cut, Region, Print, End, Then, Program}
 use Rattle.cw_model.specs.Examples.{TrapsAt, IsOver, Costs}
-use Rattle.cw_model.specs.ExamplePrograms.{a, b, f, i, l, n, r, s, t, x, y, main, number, plus, minus, int_param, int_function, of_functions, on_line, block, give, call, call_into, alone, same_function, with_sum, main_of}
+use Rattle.cw_model.specs.ExamplePrograms.{a, b, f, i, l, r, s, t, x, main, number, plus, minus, int_function, on_line, give, call, alone, same_function, with_sum}
 
 -- a number below 0
 abbrev pub below_0 : ℕ → Expr
