@@ -130,6 +130,8 @@ pub record FreedExamples : Type 0 where
   pub spawn_in_if : BreaksOwnership (before_print (If (number 1) takes_x)) (3 ∷ [])
   pub spawn_in_one_branch : BreaksOwnership (before_print (IfElse (number 1) takes_x End)) (3 ∷ [])
   pub spawn_in_the_other_branch : BreaksOwnership (before_print (IfElse (number 1) End takes_x)) (3 ∷ [])
+  pub spawn_after_a_print_in_if : BreaksOwnership (before_print (If (number 1) (on_line 2 (Print (number 1) ∷ spawn_into x 1 f (number 1 ∷ []) ∷ [])))) (3 ∷ [])
+  pub spawn_before_a_sync_in_if : IsAccepted (before_print (If (number 1) (on_line 2 (spawn_into x 1 f (number 1 ∷ []) ∷ Sync ∷ []))))
   -- the second turn writes what the first one took
   pub spawn_in_while : BreaksOwnership (before_print (While (number 0) takes_x)) (2 ∷ 3 ∷ [])
   -- a branch that surely returns leaves nothing taken
@@ -139,6 +141,8 @@ pub record FreedExamples : Type 0 where
   -- a name that is still taken as its block ends counts at its declaration; a sync block joins first
   pub own_names : BreaksOwnership (with_names (in_every_block takes_its_own (joined_at 17))) (3 ∷ 5 ∷ 6 ∷ 8 ∷ [])
   pub own_arrays : BreaksOwnership (with_names (in_every_block takes_its_own_array (joined_at 17))) (3 ∷ 5 ∷ 6 ∷ 8 ∷ [])
+  -- a name that is declared again is another name
+  pub declared_again : BreaksOwnership (with_names (Then 2 (If (number 1) (Then 2 (Print (number 1)) (takes_its_own 3))) (Then 4 (Declare z (number 0)) (Then 5 (Print (Variable z)) (joined_at 6))))) (3 ∷ [])
   pub own_name_before_return : IsAccepted (with_names (Then 2 (If (number 1) (followed_by (takes_its_own 2) (on_line 2 (give (number 0) ∷ [])))) (joined_at 3)))
   pub body_joins : IsAccepted (with_sum (same_function ∷ void_function p [] (takes_its_own 2) ∷ main_of (give (number 0) ∷ []) ∷ []))
   -- at a cut's end its array is free again, and no other

@@ -155,4 +155,5 @@ pub record GlobalTypeExamples : Type 0 where
   -- of a function and a reducer of one name the later breaks the rule
   pub function_before_its_reducer : BreaksTypes (record { reducers = (record { name = f; line = 3 }) ∷ []; functions = int_function f 2 [] (block (give (number 0) ∷ [])) ∷ main_of (give (number 0) ∷ []) ∷ [] }) (3 ∷ [])
   pub reducer_before_its_function : BreaksTypes (record { reducers = (record { name = main; line = 1 }) ∷ []; functions = int_function main 2 [] (block (give (number 0) ∷ [])) ∷ [] }) (2 ∷ [])
+  pub reducer_of_the_second_name : BreaksTypes (record { reducers = (record { name = main; line = 9 }) ∷ []; functions = int_function f 2 [] (block (give (number 0) ∷ [])) ∷ main_of (give (number 0) ∷ []) ∷ [] }) (9 ∷ [])
   pub reducer_for_main : BreaksTypes (record { reducers = (record { name = main; line = 3 }) ∷ []; functions = int_function f 2 [] (block (give (number 0) ∷ [])) ∷ [] }) (1 ∷ [])

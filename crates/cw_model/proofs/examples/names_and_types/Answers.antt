@@ -129,5 +129,6 @@ returns-clause-globals c = record {
   two_reducers_of_one_name = (refl, refl);
   function_before_its_reducer = (refl, refl);
   reducer_before_its_function = (refl, refl);
+  reducer_of_the_second_name = (refl, refl);
   reducer_for_main = (refl, refl);
 }
