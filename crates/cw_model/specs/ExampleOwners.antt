@@ -101,6 +101,10 @@ takes_its_own line = on_line line (Declare z (number 0) ∷ spawn_into z 1 f (nu
 abbrev pub takes_its_own_array : ℕ → Block
 takes_its_own_array line = on_line line (DeclareArray z (number 1) ∷ spawn 1 g (Variable z ∷ []) ∷ [])
 
+-- a spawn takes x, then comes a statement on line 2 around a sync and, on line 5, a print of x
+abbrev pub around_print : (Block → Stmt) → Program
+around_print around = with_names (Then 1 (spawn_into x 1 f (number 1 ∷ [])) (Then 2 (around (Then 4 Sync (Then 5 (Print (Variable x)) End))) (joined_at 6)))
+
 -- what takes a name, and what frees it
 pub record FreedExamples : Type 0 where
   pub spawn_takes_its_target : BreaksOwnership (before_print (spawn_into x 1 f (Variable x ∷ []))) (3 ∷ [])
@@ -116,6 +120,10 @@ pub record FreedExamples : Type 0 where
   pub sync_in_cut : BreaksOwnership (between (Cut a (number 0) l r syncs)) (3 ∷ [])
   pub sync_in_region : BreaksOwnership (between (Region t syncs)) (3 ∷ [])
   pub sync_in_loop : BreaksOwnership (between (For i i i (number 0) (number 1) 64 [] syncs)) (3 ∷ [])
+  pub sync_before_a_print_in_scope : BreaksOwnership (around_print (λ body. Scope body)) (5 ∷ [])
+  pub sync_before_a_print_in_cut : BreaksOwnership (around_print (λ body. Cut a (number 0) l r body)) (5 ∷ [])
+  pub sync_before_a_print_in_region : BreaksOwnership (around_print (λ body. Region t body)) (5 ∷ [])
+  pub sync_before_a_print_in_loop : BreaksOwnership (around_print (λ body. For i i i (number 0) (number 1) 64 [] body)) (5 ∷ [])
   pub spawn_in_scope : IsAccepted (before_print (Scope takes_x))
   pub spawn_in_cut : IsAccepted (before_print (Cut a (number 0) l r takes_x))
   pub spawn_in_region : IsAccepted (before_print (Region t takes_x))
@@ -134,6 +142,7 @@ pub record FreedExamples : Type 0 where
   pub spawn_before_a_sync_in_if : IsAccepted (before_print (If (number 1) (on_line 2 (spawn_into x 1 f (number 1 ∷ []) ∷ Sync ∷ []))))
   -- the second turn writes what the first one took
   pub spawn_in_while : BreaksOwnership (before_print (While (number 0) takes_x)) (2 ∷ 3 ∷ [])
+  pub spawn_into_the_test_of_while : BreaksOwnership (with_names (Then 2 (While (Variable x) (on_line 3 (spawn_into x 1 f (number 1 ∷ []) ∷ []))) (joined_at 4))) (2 ∷ 3 ∷ [])
   -- a branch that surely returns leaves nothing taken
   pub spawn_before_return : IsAccepted (before_print (If (number 1) (on_line 2 (spawn_into x 1 f (number 1 ∷ []) ∷ give (number 0) ∷ []))))
   pub return_in_if : BreaksOwnership (between (If (number 1) (on_line 2 (give (number 0) ∷ [])))) (3 ∷ [])
@@ -195,6 +204,7 @@ pub record LoopOwnerExamples : Type 0 where
   pub name_of_a_turn_written_in_an_inner_loop : BreaksOwnership (in_loop (Scope (on_line 3 (Declare z (number 0) ∷ For j j j (number 0) (number 1) 64 [] (on_line 5 (Assign z (number 1) ∷ [])) ∷ [])))) (5 ∷ [])
   pub array_of_a_turn_in_an_inner_loop : BreaksOwnership (in_loop (Scope (on_line 3 (DeclareArray z (number 1) ∷ For j j j (number 0) (number 1) 64 [] (on_line 5 (Print (Length z) ∷ [])) ∷ [])))) (5 ∷ [])
   pub in_each_block : BreaksOwnership (with_names (Then 1 (For j j j (number 0) (number 1) 64 [] (once_in_every_block (λ line. Assign x (number 1)) End)) (joined_at 17))) (3 ∷ 5 ∷ 6 ∷ 8 ∷ 10 ∷ 12 ∷ 13 ∷ 14 ∷ 16 ∷ [])
+  pub in_an_inner_loop_in_each_block : BreaksOwnership (with_names (once_in_every_block (λ line. For j j j (number 0) (number 1) 64 [] (on_line line (Assign x (number 1) ∷ []))) (joined_at 17))) (3 ∷ 5 ∷ 6 ∷ 8 ∷ 10 ∷ 12 ∷ 14 ∷ 16 ∷ [])
   pub parameter_written : BreaksOwnership (of_functions (int_function f 1 (int_param v ∷ []) (on_line 2 (For i i i (number 0) (number 2) 64 [] (on_line 3 (Assign v (number 1) ∷ [])) ∷ give (number 0) ∷ [])) ∷ main_of (give (number 0) ∷ []) ∷ [])) (3 ∷ [])
   pub parts_of_a_cut : IsAccepted (with_names (on_line 2 (Cut a (number 1) l r (on_line 2 (For i i i (number 0) (number 1) 64 (l ∷ r ∷ []) (on_line 2 (AssignElement l (Variable i) (Element r (Variable i)) ∷ [])) ∷ [])) ∷ give (number 0) ∷ [])))
   pub left_part_in_a_loop : BreaksOwnership (with_names (on_line 2 (Cut a (number 1) l r (on_line 2 (For i i i (number 0) (number 1) 64 [] (on_line 3 (Print (Length l) ∷ [])) ∷ [])) ∷ give (number 0) ∷ []))) (3 ∷ [])
