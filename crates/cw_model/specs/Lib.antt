@@ -17,6 +17,7 @@ pub mod Outcome
 pub mod Loops
 pub mod Meaning
 pub mod LoopLaws
+pub mod WorkLaw
 pub mod Answers
 pub mod Rows
 pub mod TreeLaws

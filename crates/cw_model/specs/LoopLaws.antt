@@ -1,12 +1,12 @@
 -- A loop by halves is the plain loop: the same turns in the same order, with the costs and the tree of the halves.
 use Rattle.std.specs.Prelude.{◌≡◌, ◌<◌, ◌≤◌, ℕ, suc, ◌+◌, ◌-◌, ℤ, pos, ◌+ℤ◌, List, ◌++◌, length, map, flat_map, sum_by}
 use Rattle.cw_model.specs.declared.trap.Trap.{Trap}
-use Rattle.cw_model.specs.Syntax.{Name, Expr, Block, Function}
-use Rattle.cw_model.specs.Trees.{Tree, Series, tree_of, normal}
+use Rattle.cw_model.specs.Syntax.{Name, Expr, For, Block, Function}
+use Rattle.cw_model.specs.Trees.{Tree, Series, work, tree_of, normal}
 use Rattle.cw_model.specs.Frames.{Frame, array_of, new_int, inside_loop, leave}
 use Rattle.cw_model.specs.Outcome.{Trace, Done, Trapped, Piece, ◌>>=◌, gives, value_of, pay, as_one}
 use Rattle.cw_model.specs.Loops.{Turn, TurnsLead, loop_turns, halves, loop_cost, loop_tree}
-use Rattle.cw_model.specs.Meaning.{Calls, Way, going, run_all, frame_of}
+use Rattle.cw_model.specs.Meaning.{Calls, Way, going, run, run_all, call, frame_of}
 use Rattle.cw_model.specs.Captured.{captured}
 use Rattle.cw_model.specs.Expressions.{evaluate, and_then, Gives}
 use Rattle.cw_model.specs.Ints.{natural}
@@ -75,3 +75,39 @@ pub record TrapsAsPlain (inner : ℤ → Frame → Piece Frame) (n : ℕ) (from 
   pub own_lines : List ℤ
   pub next_traps : inner (from +ℤ pos (length turns)) reached given ≡ Trapped trap line own_lines
   pub same_lines : lines ≡ lines_of turns ++ own_lines
+
+-- a `cilk_for` is a loop by halves
+abbrev pub ForsAreByHalves : Type 0
+ForsAreByHalves =
+    (x y z : Name) (from to : Expr) (grain : ℕ) (over : List Name) (b : Block) (line : ℕ) (fs : List Function) (calls : Calls) (frame : Frame) →
+    run (For x y z from to grain over b) line fs calls frame ≡ for_piece x from to grain over b line fs calls frame
+
+-- the body of a `cilk_for` in a call is one that the laws of loops speak of
+abbrev pub ForsHaveBodies : Type 0
+ForsHaveBodies = (bound depth : ℕ) (fs : List Function) (x : Name) (over : List Name) (b : Block) →
+    IsBody (for_body x over b fs (call bound depth fs)) (for_turn x over b fs (call bound depth fs))
+
+-- a loop by halves that is done did what the turns of the plain loop do in order
+abbrev pub LoopsRunAsPlain : Type 0
+LoopsRunAsPlain =
+    (body inner : ℤ → Frame → Piece Frame) → IsBody body inner →
+    (grain k q n : ℕ) (from : ℤ) (frame : Frame) (left : ℕ) (frame' : Frame) (left' : ℕ) (t : Trace) →
+    halves (suc n) grain k q n from body frame left ≡ Done frame' left' t → RunsAsPlain inner grain k q n from frame left frame' left' t
+
+-- a loop by halves that traps did what fewer turns of the plain loop do in order, and the next turn traps so
+abbrev pub LoopsTrapAsPlain : Type 0
+LoopsTrapAsPlain =
+    (body inner : ℤ → Frame → Piece Frame) → IsBody body inner →
+    (grain k q n : ℕ) (from : ℤ) (frame : Frame) (left : ℕ) (trap : Trap) (line : ℕ) (lines : List ℤ) →
+    halves (suc n) grain k q n from body frame left ≡ Trapped trap line lines → TrapsAsPlain inner n from frame trap line lines
+
+-- the work of a loop's tree is what its leaves and inner nodes cost, and the work of its turns
+abbrev pub LoopWorkAddsUp : Type 0
+LoopWorkAddsUp = (grain k q : ℕ) (ts : List Tree) → 0 < grain →
+    work (loop_tree (suc (length ts)) grain k q ts) ≡ loop_cost grain k q (length ts) + sum_by work ts
+
+-- any greater bound on the depth of a loop does the same
+abbrev pub LoopsAreDeepEnough : Type 0
+LoopsAreDeepEnough =
+    (grain k q n depth : ℕ) (from : ℤ) (body : ℤ → Frame → Piece Frame) (frame : Frame) (left : ℕ) → 0 < grain → n < depth →
+    halves depth grain k q n from body frame left ≡ halves (suc n) grain k q n from body frame left
