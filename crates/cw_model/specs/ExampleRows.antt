@@ -35,19 +35,29 @@ longer_rest_program = of_functions (
 -- rows of tags and sites
 pub record RowExamples : Type 0 where
   -- the inner execution is not counted a second time
-  pub nested_region : Scales nested_region_program (2 ∷ []) usual_burden (codes ",40,40,1.000,40,1.000" ∷ codes "t,24,24,1.000,24,1.000" ∷ [])
+  pub nested_region :
+      Scales nested_region_program (2 ∷ []) usual_burden (codes ",40,40,1.000,40,1.000" ∷ codes "t,24,24,1.000,24,1.000" ∷ [])
   -- what stands in a region belongs to the call around it
   pub nested_region_sites : Attributes nested_region_program (2 ∷ [])
       (codes "0,root,1,main,1,6,6,40,40" ∷ codes "1,call,1,f,2,20,20,20,20" ∷ codes "2,call,1,f,1,14,14,34,34" ∷ [])
-  pub two_executions : Scales two_executions_program [] 10 (codes ",14,12,1.166,32,0.437" ∷ codes "t,8,6,1.333,26,0.307" ∷ [])
-  pub two_tags : Scales two_tags_program [] 0 (codes ",10,10,1.000,10,1.000" ∷ codes "t,6,6,1.000,6,1.000" ∷ codes "r,2,2,1.000,2,1.000" ∷ [])
+  pub two_executions :
+      Scales two_executions_program [] 10 (codes ",14,12,1.166,32,0.437" ∷ codes "t,8,6,1.333,26,0.307" ∷ [])
+  pub two_tags :
+      Scales two_tags_program [] 0 (codes ",10,10,1.000,10,1.000" ∷ codes "t,6,6,1.000,6,1.000" ∷ codes "r,2,2,1.000,2,1.000" ∷ [])
   pub two_tags_sites : Attributes two_tags_program [] (codes "0,root,1,main,1,10,10,10,10" ∷ [])
-  pub never_executed : Scales (alone (If (number 0) (block (Region t End ∷ [])) ∷ give (number 0) ∷ [])) [] 10 (codes ",4,4,1.000,4,1.000" ∷ codes "t,0,0,0.000,0,0.000" ∷ [])
-  pub site_in_loop : Attributes (idle_and (For i i i (number 0) (number 2) 64 [] (block (call 1 p [] ∷ [])) ∷ give (number 0) ∷ [])) []
+  pub never_executed :
+      Scales (alone (If (number 0) (block (Region t End ∷ [])) ∷ give (number 0) ∷ [])) [] 10
+      (codes ",4,4,1.000,4,1.000" ∷ codes "t,0,0,0.000,0,0.000" ∷ [])
+  pub site_in_loop :
+      Attributes (idle_and (For i i i (number 0) (number 2) 64 [] (block (call 1 p [] ∷ [])) ∷ give (number 0) ∷ [])) []
       (codes "0,root,1,main,1,43,43,45,45" ∷ codes "1,call,1,p,2,2,2,2,2" ∷ [])
-  pub longer_rest : Attributes longer_rest_program [] (codes "0,root,1,main,1,8,8,10,8" ∷ codes "1,spawn,1,f,1,2,0,2,2" ∷ [])
-  pub never_called : Attributes (idle_and (If (number 0) (block (spawn 1 p [] ∷ [])) ∷ give (number 0) ∷ [])) [] (codes "0,root,1,main,1,4,4,4,4" ∷ codes "1,spawn,1,p,0,0,0,0,0" ∷ [])
-  pub tags_by_place : tags_of (of_functions (int_function main 1 [] (once_in_every_block (λ line. Region (line ∷ []) End) End) ∷ []))
+  pub longer_rest :
+      Attributes longer_rest_program [] (codes "0,root,1,main,1,8,8,10,8" ∷ codes "1,spawn,1,f,1,2,0,2,2" ∷ [])
+  pub never_called :
+      Attributes (idle_and (If (number 0) (block (spawn 1 p [] ∷ [])) ∷ give (number 0) ∷ [])) []
+      (codes "0,root,1,main,1,4,4,4,4" ∷ codes "1,spawn,1,p,0,0,0,0,0" ∷ [])
+  pub tags_by_place :
+      tags_of (of_functions (int_function main 1 [] (once_in_every_block (λ line. Region (line ∷ []) End) End) ∷ []))
       ≡ (3 ∷ []) ∷ (5 ∷ []) ∷ (6 ∷ []) ∷ (8 ∷ []) ∷ (10 ∷ []) ∷ (12 ∷ []) ∷ (14 ∷ []) ∷ t ∷ (16 ∷ []) ∷ []
   pub tags_once : tags_of (idle_and (Region r End ∷ Region t End ∷ Region r End ∷ [])) ≡ r ∷ t ∷ []
 

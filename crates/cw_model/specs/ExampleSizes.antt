@@ -14,13 +14,20 @@ use Rattle.cw_model.specs.ExamplePrograms.{a, b, f, g, i, j, l, p, r, s, t, v, x
 pub record TokenSizeExamples : Type 0 where
   pub braces_open : token_faults 0 0 (replicate 65 (token kind.LeftBrace)) ≡ 1 ∷ []
   pub brackets_open : token_faults 0 0 (replicate 65 (token kind.LeftBracket)) ≡ 1 ∷ []
-  pub parenthesis_closes : token_faults 0 0 (replicate 64 (token kind.LeftParen) ++ token kind.RightParen ∷ token kind.LeftParen ∷ []) ≡ []
-  pub bracket_closes : token_faults 0 0 (replicate 64 (token kind.LeftParen) ++ token kind.RightBracket ∷ token kind.LeftParen ∷ []) ≡ []
-  pub brace_closes : token_faults 0 0 (replicate 64 (token kind.LeftParen) ++ token kind.RightBrace ∷ token kind.LeftParen ∷ []) ≡ []
-  pub other_tokens_close_nothing : token_faults 0 0 (replicate 64 (token kind.LeftParen) ++ token kind.Comma ∷ token kind.LeftParen ∷ []) ≡ 1 ∷ []
-  pub opening_brace_ends_a_row : token_faults 0 0 (replicate 256 (token kind.Minus) ++ token kind.LeftBrace ∷ replicate 256 (token kind.Minus)) ≡ []
-  pub closing_brace_ends_a_row : token_faults 0 0 (replicate 256 (token kind.Minus) ++ token kind.RightBrace ∷ replicate 256 (token kind.Minus)) ≡ []
-  pub comma_ends_no_row : token_faults 0 0 (replicate 200 (token kind.Minus) ++ token kind.Comma ∷ replicate 56 (token kind.Minus)) ≡ 1 ∷ []
+  pub parenthesis_closes :
+      token_faults 0 0 (replicate 64 (token kind.LeftParen) ++ token kind.RightParen ∷ token kind.LeftParen ∷ []) ≡ []
+  pub bracket_closes :
+      token_faults 0 0 (replicate 64 (token kind.LeftParen) ++ token kind.RightBracket ∷ token kind.LeftParen ∷ []) ≡ []
+  pub brace_closes :
+      token_faults 0 0 (replicate 64 (token kind.LeftParen) ++ token kind.RightBrace ∷ token kind.LeftParen ∷ []) ≡ []
+  pub other_tokens_close_nothing :
+      token_faults 0 0 (replicate 64 (token kind.LeftParen) ++ token kind.Comma ∷ token kind.LeftParen ∷ []) ≡ 1 ∷ []
+  pub opening_brace_ends_a_row :
+      token_faults 0 0 (replicate 256 (token kind.Minus) ++ token kind.LeftBrace ∷ replicate 256 (token kind.Minus)) ≡ []
+  pub closing_brace_ends_a_row :
+      token_faults 0 0 (replicate 256 (token kind.Minus) ++ token kind.RightBrace ∷ replicate 256 (token kind.Minus)) ≡ []
+  pub comma_ends_no_row :
+      token_faults 0 0 (replicate 200 (token kind.Minus) ++ token kind.Comma ∷ replicate 56 (token kind.Minus)) ≡ 1 ∷ []
 
 -- regions with so many different tags, each on a line of its own
 abbrev pub tagged : ℕ → ℕ → Block → Block
@@ -33,24 +40,32 @@ wide_function declared = of_functions (int_function f 7 (replicate 16 (int_param
 
 -- limits on names, functions, reducers and tags, and what of them stands in blocks
 pub record DeclarationSizeExamples : Type 0 where
-  pub integers : declaring_lines_in (once_in_every_block (λ line. Declare x (number 0)) End) ≡ 3 ∷ 5 ∷ 6 ∷ 8 ∷ 9 ∷ 10 ∷ 12 ∷ 13 ∷ 13 ∷ 14 ∷ 16 ∷ []
-  pub arrays : declaring_lines_in (once_in_every_block (λ line. DeclareArray x (number 0)) End) ≡ 3 ∷ 5 ∷ 6 ∷ 8 ∷ 9 ∷ 10 ∷ 12 ∷ 13 ∷ 13 ∷ 14 ∷ 16 ∷ []
-  pub no_other_statement_declares : declaring_lines_in (once_in_every_block (λ line. Print (number 0)) End) ≡ 9 ∷ 13 ∷ 13 ∷ []
-  pub loops : loops_in_block (once_in_every_block (λ line. For j j j (number 0) (number 1) 64 [] End) End) ≡ 3 ∷ 5 ∷ 6 ∷ 8 ∷ 9 ∷ 10 ∷ 12 ∷ 14 ∷ 16 ∷ []
+  pub integers :
+      declaring_lines_in (once_in_every_block (λ line. Declare x (number 0)) End) ≡ 3 ∷ 5 ∷ 6 ∷ 8 ∷ 9 ∷ 10 ∷ 12 ∷ 13 ∷ 13 ∷ 14 ∷ 16 ∷ []
+  pub arrays :
+      declaring_lines_in (once_in_every_block (λ line. DeclareArray x (number 0)) End) ≡ 3 ∷ 5 ∷ 6 ∷ 8 ∷ 9 ∷ 10 ∷ 12 ∷ 13 ∷ 13 ∷ 14 ∷ 16 ∷ []
+  pub no_other_statement_declares :
+      declaring_lines_in (once_in_every_block (λ line. Print (number 0)) End) ≡ 9 ∷ 13 ∷ 13 ∷ []
+  pub loops :
+      loops_in_block (once_in_every_block (λ line. For j j j (number 0) (number 1) 64 [] End) End) ≡ 3 ∷ 5 ∷ 6 ∷ 8 ∷ 9 ∷ 10 ∷ 12 ∷ 14 ∷ 16 ∷ []
   pub regions : regions_in_block (once_in_every_block (λ line. Region (line ∷ []) End) End)
       ≡ (3 ∷ [], 3) ∷ (5 ∷ [], 5) ∷ (6 ∷ [], 6) ∷ (8 ∷ [], 8) ∷ (10 ∷ [], 10) ∷ (12 ∷ [], 12) ∷ (14 ∷ [], 14) ∷ (t, 15) ∷ (16 ∷ [], 16) ∷ []
-  pub call_statements : map (λ site. site.line) (sites_in_block (once_in_every_block (λ line. call line f []) End)) ≡ 3 ∷ 5 ∷ 6 ∷ 8 ∷ 10 ∷ 12 ∷ 14 ∷ 16 ∷ []
+  pub call_statements :
+      map (λ site. site.line) (sites_in_block (once_in_every_block (λ line. call line f []) End)) ≡ 3 ∷ 5 ∷ 6 ∷ 8 ∷ 10 ∷ 12 ∷ 14 ∷ 16 ∷ []
   pub captured_names : captured j (once_in_every_block (λ line. Print (Variable (line ∷ []))) End)
       ≡ (3 ∷ []) ∷ (5 ∷ []) ∷ (6 ∷ []) ∷ (8 ∷ []) ∷ (10 ∷ []) ∷ (12 ∷ []) ∷ (14 ∷ []) ∷ (16 ∷ []) ∷ []
-  pub captured_once : captured j (once_in_every_block (λ line. Print (plus (Variable x) (plus (Variable i) (Variable j)))) End) ≡ x ∷ []
+  pub captured_once :
+      captured j (once_in_every_block (λ line. Print (plus (Variable x) (plus (Variable i) (Variable j)))) End) ≡ x ∷ []
   pub most_parameters : limit_faults (wide_function 0) ≡ []
   pub parameters : limit_faults (of_functions (int_function f 7 (replicate 17 (int_param x)) End ∷ [])) ≡ 7 ∷ []
   pub names_with_parameters : limit_faults (wide_function 241) ≡ 241 ∷ []
   pub most_names_with_parameters : limit_faults (wide_function 240) ≡ []
   pub most_functions : limit_faults (of_functions (replicate 1024 (int_function f 7 [] End))) ≡ []
   pub functions : limit_faults (of_functions (replicate 1025 (int_function f 7 [] End))) ≡ 7 ∷ []
-  pub most_reducers : limit_faults (record { reducers = replicate 32 (record { name = s; line = 7 }); functions = [] }) ≡ []
-  pub reducers : limit_faults (record { reducers = replicate 33 (record { name = s; line = 7 }); functions = [] }) ≡ 7 ∷ []
+  pub most_reducers :
+      limit_faults (record { reducers = replicate 32 (record { name = s; line = 7 }); functions = [] }) ≡ []
+  pub reducers :
+      limit_faults (record { reducers = replicate 33 (record { name = s; line = 7 }); functions = [] }) ≡ 7 ∷ []
   pub most_tags : limit_faults (of_functions (int_function f 1 [] (tagged 64 1 End) ∷ [])) ≡ []
   pub tags : limit_faults (of_functions (int_function f 1 [] (tagged 65 1 End) ∷ [])) ≡ 65 ∷ []
   -- a tag is counted once
@@ -96,8 +111,10 @@ pub record InstructionSizeExamples : Type 0 where
   pub call_of_an_integer : Takes (call 1 f (plus (number 1) (number 2) ∷ [])) 4
   pub call_of_an_array_and_an_integer : Takes (call 1 g (Variable a ∷ number 2 ∷ [])) 2
   pub loop : Takes (For i i i (number 0) (number 1) 64 [] (block (Print (number 0) ∷ []))) 40
-  pub loop_over_two : Takes (For i i i (number 0) (number 1) 64 (a ∷ b ∷ []) (block (AssignElement b (Variable i) (Variable i) ∷ []))) 53
-  pub loop_of_two_captured : Takes (For i i i (number 0) (number 1) 64 [] (block (AddTo s (plus (Variable x) (plus (Variable i) (Variable y))) ∷ []))) 50
+  pub loop_over_two :
+      Takes (For i i i (number 0) (number 1) 64 (a ∷ b ∷ []) (block (AssignElement b (Variable i) (Variable i) ∷ []))) 53
+  pub loop_of_two_captured :
+      Takes (For i i i (number 0) (number 1) 64 [] (block (AddTo s (plus (Variable x) (plus (Variable i) (Variable y))) ∷ []))) 50
   pub shifted_print : Takes (Print shifted) 5
   pub shifted_declaration : Takes (Declare x shifted) 5
   pub shifted_new_array : Takes (DeclareArray x shifted) 5

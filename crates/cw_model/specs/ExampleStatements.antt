@@ -30,30 +30,55 @@ array_and body = of_functions (int_function main 1 [] (Then 1 (DeclareArray a (n
 -- what statements do
 pub record EffectExamples : Type 0 where
   -- a name ends with its block, so that each print shows its own; a while whose test fails and the other branch print nothing
-  pub names_end_with_blocks : Costs (array_and (in_every_block declared_and_printed (on_line 17 (Declare y (number 17) ∷ give (Variable y) ∷ [])))) [] 72
+  pub names_end_with_blocks :
+      Costs (array_and (in_every_block declared_and_printed (on_line 17 (Declare y (number 17) ∷ give (Variable y) ∷ [])))) [] 72
       (codes "3" ∷ codes "5" ∷ codes "10" ∷ codes "12" ∷ codes "14" ∷ codes "16" ∷ codes "return 17" ∷ [])
-  pub names_end_with_a_turn : Writes (alone (Declare i (number 0) ∷ While (Binary Less (Variable i) (number 2)) (block (Declare y (Variable i) ∷ Print (Variable y) ∷ Assign i (plus (Variable i) (number 1)) ∷ [])) ∷ give (number 0) ∷ [])) [] 1000
+  pub names_end_with_a_turn :
+      Writes (alone (Declare i (number 0) ∷ While (Binary Less (Variable i) (number 2)) (block (Declare y (Variable i) ∷ Print (Variable y) ∷ Assign i (plus (Variable i) (number 1)) ∷ [])) ∷ give (number 0) ∷ []))
+      [] 1000
       (codes "0" ∷ codes "1" ∷ codes "return 0" ∷ [])
-  pub names_end_with_the_other_branch : Writes (alone (IfElse (number 0) End (block (Declare y (number 1) ∷ [])) ∷ Declare y (number 2) ∷ give (Variable y) ∷ [])) [] 1000 (codes "return 2" ∷ [])
-  pub outer_names_stay : Writes (alone (Declare x (number 0) ∷ If (number 1) (block (Assign x (number 5) ∷ Declare y (number 1) ∷ [])) ∷ give (Variable x) ∷ [])) [] 1000 (codes "return 5" ∷ [])
-  pub early_return : Costs (alone (If (number 1) (block (give (number 5) ∷ [])) ∷ give (number 6) ∷ [])) [] 4 (codes "return 5" ∷ [])
-  pub return_of_one_branch : Costs (alone (IfElse (number 1) (block (give (number 5) ∷ [])) End ∷ give (number 6) ∷ [])) [] 4 (codes "return 5" ∷ [])
-  pub return_of_the_other_branch : Costs (alone (IfElse (number 0) End (block (give (number 5) ∷ [])) ∷ give (number 6) ∷ [])) [] 4 (codes "return 5" ∷ [])
-  pub return_of_a_turn : Costs (alone (While (number 1) (block (give (number 5) ∷ [])) ∷ give (number 6) ∷ [])) [] 4 (codes "return 5" ∷ [])
-  pub arguments_by_place : Costs (with_callees (Declare x (number 0) ∷ call_into x 1 f (number 5 ∷ number 3 ∷ []) ∷ give (Variable x) ∷ [])) [] 11 (codes "return 2" ∷ [])
-  pub spawned_arguments : Costs (with_callees (Declare x (number 0) ∷ spawn_into x 1 f (number 5 ∷ number 3 ∷ []) ∷ Sync ∷ give (Variable x) ∷ [])) [] 12 (codes "return 2" ∷ [])
-  pub dropped_result : Costs (with_callees (Declare x (number 7) ∷ call 1 f (number 5 ∷ number 3 ∷ []) ∷ give (Variable x) ∷ [])) [] 11 (codes "return 7" ∷ [])
-  pub arrays_by_place : Costs (with_callees (DeclareArray a (number 1) ∷ DeclareArray b (number 1) ∷ call 1 g (Variable b ∷ Variable a ∷ []) ∷ print_both)) [] 20 (codes "2" ∷ codes "1" ∷ codes "return 0" ∷ [])
-  pub integer_and_array : Costs (with_callees (DeclareArray a (number 3) ∷ Declare x (number 0) ∷ spawn_into x 1 h (number 9 ∷ Variable a ∷ []) ∷ Sync ∷ Print (Element a (number 0)) ∷ give (Variable x) ∷ [])) [] 17 (codes "9" ∷ codes "return 3" ∷ [])
-  pub sums_of_two_reducers : Writes (record { reducers = (record { name = s; line = 1 }) ∷ (record { name = t; line = 1 }) ∷ []; functions = main_of (AddTo t (number 1) ∷ AddTo s (number 2) ∷ AddTo t (number 3) ∷ give (number 0) ∷ []) ∷ [] }) [] 1000
+  pub names_end_with_the_other_branch :
+      Writes (alone (IfElse (number 0) End (block (Declare y (number 1) ∷ [])) ∷ Declare y (number 2) ∷ give (Variable y) ∷ []))
+      [] 1000 (codes "return 2" ∷ [])
+  pub outer_names_stay :
+      Writes (alone (Declare x (number 0) ∷ If (number 1) (block (Assign x (number 5) ∷ Declare y (number 1) ∷ [])) ∷ give (Variable x) ∷ []))
+      [] 1000 (codes "return 5" ∷ [])
+  pub early_return :
+      Costs (alone (If (number 1) (block (give (number 5) ∷ [])) ∷ give (number 6) ∷ [])) [] 4 (codes "return 5" ∷ [])
+  pub return_of_one_branch :
+      Costs (alone (IfElse (number 1) (block (give (number 5) ∷ [])) End ∷ give (number 6) ∷ [])) [] 4 (codes "return 5" ∷ [])
+  pub return_of_the_other_branch :
+      Costs (alone (IfElse (number 0) End (block (give (number 5) ∷ [])) ∷ give (number 6) ∷ [])) [] 4 (codes "return 5" ∷ [])
+  pub return_of_a_turn :
+      Costs (alone (While (number 1) (block (give (number 5) ∷ [])) ∷ give (number 6) ∷ [])) [] 4 (codes "return 5" ∷ [])
+  pub arguments_by_place :
+      Costs (with_callees (Declare x (number 0) ∷ call_into x 1 f (number 5 ∷ number 3 ∷ []) ∷ give (Variable x) ∷ []))
+      [] 11 (codes "return 2" ∷ [])
+  pub spawned_arguments :
+      Costs (with_callees (Declare x (number 0) ∷ spawn_into x 1 f (number 5 ∷ number 3 ∷ []) ∷ Sync ∷ give (Variable x) ∷ []))
+      [] 12 (codes "return 2" ∷ [])
+  pub dropped_result :
+      Costs (with_callees (Declare x (number 7) ∷ call 1 f (number 5 ∷ number 3 ∷ []) ∷ give (Variable x) ∷ [])) [] 11 (codes "return 7" ∷ [])
+  pub arrays_by_place :
+      Costs (with_callees (DeclareArray a (number 1) ∷ DeclareArray b (number 1) ∷ call 1 g (Variable b ∷ Variable a ∷ []) ∷ print_both))
+      [] 20 (codes "2" ∷ codes "1" ∷ codes "return 0" ∷ [])
+  pub integer_and_array :
+      Costs (with_callees (DeclareArray a (number 3) ∷ Declare x (number 0) ∷ spawn_into x 1 h (number 9 ∷ Variable a ∷ []) ∷ Sync ∷ Print (Element a (number 0)) ∷ give (Variable x) ∷ []))
+      [] 17 (codes "9" ∷ codes "return 3" ∷ [])
+  pub sums_of_two_reducers :
+      Writes (record { reducers = (record { name = s; line = 1 }) ∷ (record { name = t; line = 1 }) ∷ []; functions = main_of (AddTo t (number 1) ∷ AddTo s (number 2) ∷ AddTo t (number 3) ∷ give (number 0) ∷ []) ∷ [] })
+      [] 1000
       (codes "sum s = 2" ∷ codes "sum t = 4" ∷ codes "return 0" ∷ [])
-  pub arguments_of_main : Writes (of_functions (int_function main 1 (int_param n ∷ int_param v ∷ []) (block (give (minus (Variable n) (Variable v)) ∷ [])) ∷ [])) (5 ∷ 3 ∷ []) 1000 (codes "return 2" ∷ [])
+  pub arguments_of_main :
+      Writes (of_functions (int_function main 1 (int_param n ∷ int_param v ∷ []) (block (give (minus (Variable n) (Variable v)) ∷ [])) ∷ []))
+      (5 ∷ 3 ∷ []) 1000 (codes "return 2" ∷ [])
   pub parts_of_a_cut : Writes (alone (
       DeclareArray a (number 3) ∷ AssignElement a (number 0) (number 1) ∷ AssignElement a (number 1) (number 2) ∷ AssignElement a (number 2) (number 3)
       ∷ Cut a (number 1) l r (block (Print (Length l) ∷ Print (Length r) ∷ Print (Element l (number 0)) ∷ Print (Element r (number 0)) ∷ AssignElement r (number 1) (number 9) ∷ []))
       ∷ Print (Element a (number 0)) ∷ Print (Element a (number 1)) ∷ give (Element a (number 2)) ∷ [])) [] 1000
       (codes "1" ∷ codes "2" ∷ codes "1" ∷ codes "2" ∷ codes "1" ∷ codes "2" ∷ codes "return 9" ∷ [])
-  pub new_array_is_zero : Writes (alone (DeclareArray a (number 2) ∷ give (Element a (number 1)) ∷ [])) [] 1000 (codes "return 0" ∷ [])
+  pub new_array_is_zero :
+      Writes (alone (DeclareArray a (number 2) ∷ give (Element a (number 1)) ∷ [])) [] 1000 (codes "return 0" ∷ [])
 
 -- int main() { int i = 0; while (i < 2) { if (i == 0) { print(7); } else { print(8); } i = i + 1; } return i; }
 abbrev pub turns_program : Program
@@ -67,16 +92,22 @@ turns_program = alone (
 -- what statements cost
 pub record CostExamples : Type 0 where
   pub turns : Costs turns_program [] 39 (codes "7" ∷ codes "8" ∷ codes "return 2" ∷ [])
-  pub assignment : Costs (alone (Declare x (number 0) ∷ Assign x (number 5) ∷ give (Variable x) ∷ [])) [] 6 (codes "return 5" ∷ [])
+  pub assignment :
+      Costs (alone (Declare x (number 0) ∷ Assign x (number 5) ∷ give (Variable x) ∷ [])) [] 6 (codes "return 5" ∷ [])
   pub new_array : Costs (alone (DeclareArray a (number 1) ∷ give (number 0) ∷ [])) [] 4 (codes "return 0" ∷ [])
-  pub addition : Costs (with_sum (main_of (AddTo s (number 5) ∷ give (number 0) ∷ []) ∷ [])) [] 4 (codes "sum s = 5" ∷ codes "return 0" ∷ [])
-  pub test_that_fails : Costs (alone (If (number 0) (block (Print (number 1) ∷ [])) ∷ give (number 0) ∷ [])) [] 4 (codes "return 0" ∷ [])
+  pub addition :
+      Costs (with_sum (main_of (AddTo s (number 5) ∷ give (number 0) ∷ []) ∷ [])) [] 4 (codes "sum s = 5" ∷ codes "return 0" ∷ [])
+  pub test_that_fails :
+      Costs (alone (If (number 0) (block (Print (number 1) ∷ [])) ∷ give (number 0) ∷ [])) [] 4 (codes "return 0" ∷ [])
   pub test_that_holds : Costs (alone (If (number 1) End ∷ give (number 0) ∷ [])) [] 4 (codes "return 0" ∷ [])
   pub sync : Costs (alone (Sync ∷ give (number 0) ∷ [])) [] 3 (codes "return 0" ∷ [])
   pub scope : Costs (alone (Scope End ∷ give (number 0) ∷ [])) [] 4 (codes "return 0" ∷ [])
   pub region : Costs (alone (Region t End ∷ give (number 0) ∷ [])) [] 4 (codes "return 0" ∷ [])
-  pub void_call : Costs (of_functions (void_function g [] End ∷ main_of (call 1 g [] ∷ give (number 0) ∷ []) ∷ [])) [] 4 (codes "return 0" ∷ [])
-  pub plain_return : Costs (of_functions (void_function g [] (block (Return None ∷ [])) ∷ main_of (call 1 g [] ∷ give (number 0) ∷ []) ∷ [])) [] 4 (codes "return 0" ∷ [])
+  pub void_call :
+      Costs (of_functions (void_function g [] End ∷ main_of (call 1 g [] ∷ give (number 0) ∷ []) ∷ [])) [] 4 (codes "return 0" ∷ [])
+  pub plain_return :
+      Costs (of_functions (void_function g [] (block (Return None ∷ [])) ∷ main_of (call 1 g [] ∷ give (number 0) ∷ []) ∷ []))
+      [] 4 (codes "return 0" ∷ [])
 
 -- a loop that names two outer integers
 abbrev pub capture_program : (grain : ℕ) → Program
@@ -108,12 +139,18 @@ pub record LoopExamples : Type 0 where
   pub captured_integers : Costs (capture_program 64) [] 59 (codes "sum s = 8" ∷ codes "return 0" ∷ [])
   pub captured_by_halves : Costs (capture_program 1) [] 98 (codes "sum s = 8" ∷ codes "return 0" ∷ [])
   pub inner_bound : Costs inner_bound_program [] 61 (codes "return 0" ∷ [])
-  pub own_names : Costs (alone (For i i i (number 0) (number 1) 64 [] (block (Declare x (number 1) ∷ Declare n (Variable x) ∷ [])) ∷ give (number 0) ∷ [])) [] 34 (codes "return 0" ∷ [])
+  pub own_names :
+      Costs (alone (For i i i (number 0) (number 1) 64 [] (block (Declare x (number 1) ∷ Declare n (Variable x) ∷ [])) ∷ give (number 0) ∷ []))
+      [] 34 (codes "return 0" ∷ [])
   pub two_arrays : Costs two_arrays_program [] 117 (codes "return 1" ∷ [])
-  pub two_leaves : Costs (alone (For i i i (number 0) (number 2) 1 [] End ∷ give (number 0) ∷ [])) [] 76 (codes "return 0" ∷ [])
-  pub turns_in_order : Writes (alone (For i i i (number 3) (number 8) 2 [] (block (Print (Variable i) ∷ [])) ∷ give (number 0) ∷ [])) [] 1000
+  pub two_leaves :
+      Costs (alone (For i i i (number 0) (number 2) 1 [] End ∷ give (number 0) ∷ [])) [] 76 (codes "return 0" ∷ [])
+  pub turns_in_order :
+      Writes (alone (For i i i (number 3) (number 8) 2 [] (block (Print (Variable i) ∷ [])) ∷ give (number 0) ∷ [])) [] 1000
       (codes "3" ∷ codes "4" ∷ codes "5" ∷ codes "6" ∷ codes "7" ∷ codes "return 0" ∷ [])
-  pub names_end_with_a_turn : Writes (alone (For i i i (number 0) (number 2) 64 [] (block (Declare y (Variable i) ∷ Print (Variable y) ∷ [])) ∷ Declare y (number 5) ∷ give (Variable y) ∷ [])) [] 1000
+  pub names_end_with_a_turn :
+      Writes (alone (For i i i (number 0) (number 2) 64 [] (block (Declare y (Variable i) ∷ Print (Variable y) ∷ [])) ∷ Declare y (number 5) ∷ give (Variable y) ∷ []))
+      [] 1000
       (codes "0" ∷ codes "1" ∷ codes "return 5" ∷ [])
 
 -- where a body names an outer integer
@@ -124,10 +161,14 @@ pub record CaptureExamples : Type 0 where
   pub no_target : captured i (block (Assign y (number 0) ∷ call_into y 1 f [] ∷ AddTo s (number 0) ∷ [])) ≡ []
   pub own_integer : captured i (block (Declare x (number 0) ∷ Print (Variable x) ∷ [])) ≡ []
   pub own_array : captured i (block (DeclareArray z (number 1) ∷ call 1 g (Variable z ∷ []) ∷ [])) ≡ []
-  pub own_variable : captured i (block (For j j j (number 0) (number 1) 64 [] (block (Print (Variable j) ∷ [])) ∷ [])) ≡ []
-  pub own_parts : captured i (block (Cut z (number 0) l r (block (call 1 g (Variable l ∷ []) ∷ call 2 g (Variable r ∷ []) ∷ [])) ∷ [])) ≡ []
-  pub own_in_each_block : captured j (in_every_block (λ line. on_line line (Declare (line ∷ []) (number 0) ∷ Print (Variable (line ∷ [])) ∷ [])) End) ≡ []
-  pub in_order_and_once : captured i (block (Print (plus (Variable x) (Variable y)) ∷ Print (plus (Variable z) (Variable x)) ∷ [])) ≡ x ∷ y ∷ z ∷ []
+  pub own_variable :
+      captured i (block (For j j j (number 0) (number 1) 64 [] (block (Print (Variable j) ∷ [])) ∷ [])) ≡ []
+  pub own_parts :
+      captured i (block (Cut z (number 0) l r (block (call 1 g (Variable l ∷ []) ∷ call 2 g (Variable r ∷ []) ∷ [])) ∷ [])) ≡ []
+  pub own_in_each_block :
+      captured j (in_every_block (λ line. on_line line (Declare (line ∷ []) (number 0) ∷ Print (Variable (line ∷ [])) ∷ [])) End) ≡ []
+  pub in_order_and_once :
+      captured i (block (Print (plus (Variable x) (Variable y)) ∷ Print (plus (Variable z) (Variable x)) ∷ [])) ≡ x ∷ y ∷ z ∷ []
   pub printed : CapturesX (Print (Variable x))
   pub declared : CapturesX (Declare y (Variable x))
   pub length_of_a_new_array : CapturesX (DeclareArray b (Variable x))

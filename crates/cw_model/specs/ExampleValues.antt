@@ -50,7 +50,9 @@ pub record OperatorExamples : Type 0 where
   pub not_5 : Computes (Not (number 5)) 3 (codes "return 0")
   pub not_below_0 : Computes (Not (below_0 5)) 4 (codes "return 0")
   pub length : Costs (alone (DeclareArray a (number 7) ∷ give (Length a) ∷ [])) [] 4 (codes "return 7" ∷ [])
-  pub element : Costs (alone (DeclareArray a (number 2) ∷ AssignElement a (number 1) (number 9) ∷ give (Element a (number 1)) ∷ [])) [] 8 (codes "return 9" ∷ [])
+  pub element :
+      Costs (alone (DeclareArray a (number 2) ∷ AssignElement a (number 1) (number 9) ∷ give (Element a (number 1)) ∷ []))
+      [] 8 (codes "return 9" ∷ [])
   pub variable : Costs (alone (Declare x (number 3) ∷ give (Variable x) ∷ [])) [] 4 (codes "return 3" ∷ [])
 
 -- an array of two elements on line 1, a statement on line 2, and the end on line 3
@@ -69,7 +71,8 @@ pub record TrapExamples : Type 0 where
   pub product_too_great : TrapsWithin (Print (Binary Times greatest (number 2))) 5 trap.Overflow 2
   pub quotient_by_0 : TrapsWithin (Print (of_two Divide 1 0)) 5 trap.DivisionByZero 2
   pub rest_by_0 : TrapsWithin (Print (of_two Modulo 1 0)) 5 trap.DivisionByZero 2
-  pub left_operand_first : TrapsWithin (Print (plus (of_two Divide 1 0) (plus greatest (number 1)))) 5 trap.DivisionByZero 2
+  pub left_operand_first :
+      TrapsWithin (Print (plus (of_two Divide 1 0) (plus greatest (number 1)))) 5 trap.DivisionByZero 2
   pub right_operand : TrapsWithin (Print (plus (number 1) (of_two Divide 1 0))) 6 trap.DivisionByZero 2
   pub under_negative : TrapsWithin (Print (Negative (of_two Divide 1 0))) 5 trap.DivisionByZero 2
   pub past_the_end : TrapsWithin (Print (Element a (number 2))) 4 trap.OutOfBounds 2
@@ -87,13 +90,16 @@ pub record TrapExamples : Type 0 where
   pub result : TrapsWithin (give (of_two Divide 1 0)) 5 trap.DivisionByZero 2
   pub test_of_if : TrapsWithin (If (of_two Divide 1 0) (on_line 4 (Print (number 1) ∷ []))) 5 trap.DivisionByZero 2
   pub test_of_if_else : TrapsWithin (IfElse (of_two Divide 1 0) End End) 5 trap.DivisionByZero 2
-  pub test_of_while : TrapsWithin (While (of_two Divide 1 0) (on_line 4 (Print (number 1) ∷ []))) 5 trap.DivisionByZero 2
-  pub lower_end : TrapsWithin (For i i i (of_two Divide 1 0) (plus greatest (number 1)) 64 [] End) 5 trap.DivisionByZero 2
+  pub test_of_while :
+      TrapsWithin (While (of_two Divide 1 0) (on_line 4 (Print (number 1) ∷ []))) 5 trap.DivisionByZero 2
+  pub lower_end :
+      TrapsWithin (For i i i (of_two Divide 1 0) (plus greatest (number 1)) 64 [] End) 5 trap.DivisionByZero 2
   pub upper_end : TrapsWithin (For i i i (number 0) (of_two Divide 1 0) 64 [] End) 6 trap.DivisionByZero 2
   pub range_past_the_end : TrapsWithin (For i i i (number 0) (number 3) 64 (a ∷ []) End) 5 trap.OutOfBounds 2
   pub range_before_the_start : TrapsWithin (For i i i (below_0 1) (number 2) 64 (a ∷ []) End) 6 trap.OutOfBounds 2
   -- too many turns come before a range outside an array
-  pub too_many_turns_first : TrapsWithin (For i i i (number 0) (number 2147483648) 64 (a ∷ []) End) 5 trap.TooManyTurns 2
+  pub too_many_turns_first :
+      TrapsWithin (For i i i (number 0) (number 2147483648) 64 (a ∷ []) End) 5 trap.TooManyTurns 2
   pub cut_past_the_end : TrapsWithin (Cut a (number 3) l r End) 4 trap.OutOfBounds 2
   pub cut_before_the_start : TrapsWithin (Cut a (below_0 1) l r End) 5 trap.OutOfBounds 2
   -- the line is that of the innermost statement
