@@ -4,7 +4,7 @@ use Rattle.std.proofs.lemmas.List.Elements.{Contains-append_left, Contains-appen
 use Rattle.cw_model.specs.declared.syntax.CallKind.TheVariants.{Spawned}
 use Rattle.cw_model.specs.Syntax.{Name, Expr, Stmt, Call, Sync, If, IfElse, While, For, Scope, Cut, Region, Return, Block, End, Then, Function}
 use Rattle.cw_model.specs.Typing.{block_returns}
-use Rattle.cw_model.specs.Ownership.{Holder, CutOf, Taken, freed, uncut, without, where_it_goes_on, own_names, taken_after, taken_after_all, IsLeastClosed}
+use Rattle.cw_model.specs.Ownership.{Holder, CutOf, Taken, freed, cut_ended, without, where_it_goes_on, own_names, taken_after, taken_after_all, IsLeastClosed}
 use Rattle.cw_model.specs.WhileLaw.{one_turn}
 
 -- what is kept by a filter
@@ -108,7 +108,7 @@ mutual
   stmt_acts fs depth (Scope b) = ends (depth + 1) (own_names b) _ (block_acts fs (depth + 1) b)
   stmt_acts fs depth (Region tag b) = ends (depth + 1) (own_names b) _ (block_acts fs (depth + 1) b)
   stmt_acts fs depth (Cut a e l r b) =
-      one_after_another _ (uncut a)
+      one_after_another _ (cut_ended a)
       (one_after_another (λ set. (a, CutOf) ∷ set) _ (some_join ((a, CutOf) ∷ [])) (ends (depth + 1) (l ∷ r ∷ own_names b) _ (block_acts fs (depth + 1) b)))
       (some_stays _)
   stmt_acts fs depth (For x y z from to grain over b) = ends (depth + 1) (x ∷ own_names b) _ (block_acts fs (depth + 1) b)

@@ -13,9 +13,9 @@ use Rattle.cw_model.specs.declared.syntax.CallKind.TheVariants.{Plain, Spawned}
 use Rattle.cw_model.specs.Syntax.{Name, Expr, Stmt, Declare, DeclareArray, Assign, AssignElement, AddTo, Call, Start, Begin, Sync, If, IfElse, While, For, Scope, Cut, Region, Print, Return, Block, End, Then, Param, Function}
 use Rattle.cw_model.specs.Frames.{Frame, no_frame, leave, inside_loop, new_array, new_int}
 use Rattle.cw_model.specs.Expressions.{Evaluated, Gives, Traps, evaluate}
-use Rattle.cw_model.specs.Outcome.{Trace, shows, Outcome, Done, Trapped, Over, then_do, Piece, ◌>>=◌, gives, show, pay, value_of, joined_up, as_one}
+use Rattle.cw_model.specs.Outcome.{Trace, shows, Outcome, Done, Trapped, Over, then_do, Piece, ◌>>=◌, gives, show, pay, pay_for, joined_up, as_one}
 use Rattle.cw_model.specs.Loops.{turn_start, turn_end, leaf_start, leaf_end, node_start, node_call, node_end, leaf_turns, halves}
-use Rattle.cw_model.specs.Meaning.{Way, Onward, Back, onward, frame_of, scoped, Returned, Entry, Deeper, SameDepth, Calls, function_of, given_array, arguments, call_event, start_event, turns, run, run_all, end_of_call, call, depth_of}
+use Rattle.cw_model.specs.Meaning.{Completion, Normal, ByReturn, onward, frame_of, scoped, Returned, Entry, Deeper, SameDepth, Calls, function_of, given_array, arguments, call_event, start_event, turns, run, run_all, end_of_call, call, depth_of}
 use Rattle.cw_model.proofs.Endings.{Ends, at_end, at_trap, at_limit, weaken, then_ends, one_ends, when_done}
 
 -- the work of the tree of some events
@@ -74,7 +74,7 @@ trapped_if : {A : Type 0} (b : Bool) (left : ℕ) (trap : Trap) (line : ℕ) →
 trapped_if true left trap line = at_limit
 trapped_if false left trap line = at_trap tt
 
-spends_value : (e : Evaluated) (line : ℕ) → Spends (value_of e line)
+spends_value : (e : Evaluated) (line : ℕ) → Spends (pay_for e line)
 spends_value (Gives v k) line = record { paid = λ left. paid_if (nat_lt left k) left k v refl }
 spends_value (Traps trap k) line = record { paid = λ left. trapped_if (nat_lt left k) left trap line }
 
@@ -87,11 +87,11 @@ spends_as_one part same p = record {
 spends_in_series : {A : Type 0} {piece : Piece A} → Spends piece → Spends (as_one Series piece)
 spends_in_series p = spends_as_one Series (λ t. omega arith) p
 
-spends_onward : (way : Way) (next : Frame → Piece Way) → ((frame : Frame) → Spends (next frame)) → Spends (onward way next)
-spends_onward (Onward frame) next f = f frame
-spends_onward (Back v frame) next f = spends_nothing (Back v frame)
+spends_onward : (way : Completion) (next : Frame → Piece Completion) → ((frame : Frame) → Spends (next frame)) → Spends (onward way next)
+spends_onward (Normal frame) next f = f frame
+spends_onward (ByReturn v frame) next f = spends_nothing (ByReturn v frame)
 
-spends_scoped : (before : Frame) {piece : Piece Way} → Spends piece → Spends (scoped before piece)
+spends_scoped : (before : Frame) {piece : Piece Completion} → Spends piece → Spends (scoped before piece)
 spends_scoped before p = spends_then p (λ way. spends_onward way _ (λ frame. spends_nothing _))
 
 spends_if : {A : Type 0} {piece other : Piece A} (b : Bool) → Spends piece → Spends other → Spends (if b then piece else other)
@@ -105,7 +105,7 @@ spends_arguments (p ∷ ps) (e ∷ es) frame line given =
     spends_if p.is_array (spends_arguments ps es frame line (new_array p.name (given_array e frame) given))
     (spends_then (spends_value (evaluate e frame) line) (λ v. spends_arguments ps es frame line (new_int p.name v given)))
 
-spends_turns : (bound : ℕ) (test : Frame → Evaluated) (line : ℕ) (body : Frame → Piece Way) → ((frame : Frame) → Spends (body frame)) →
+spends_turns : (bound : ℕ) (test : Frame → Evaluated) (line : ℕ) (body : Frame → Piece Completion) → ((frame : Frame) → Spends (body frame)) →
     (frame : Frame) → Spends (turns bound test line body frame)
 spends_turns zero test line body f frame = spends_over
 spends_turns (suc bound) test line body f frame =
@@ -147,7 +147,7 @@ module _ (fs : List Function) (calls : Calls) (spend : (entry : Entry) (f : Func
     spends_stmt (AssignElement a i e) line frame = spends_then (spends_value _ line) (λ i. spends_then (spends_value _ line) (λ v. spends_nothing _))
     spends_stmt (AddTo s e) line frame =
         spends_then (spends_value _ line) (λ v. spends_then (spends_pay 1) (λ _.
-        spends_then (spends_in_view (record { lines = []; additions = (s, v) ∷ []; events = [] }) refl) (λ _. spends_nothing (Onward frame))))
+        spends_then (spends_in_view (record { lines = []; additions = (s, v) ∷ []; events = [] }) refl) (λ _. spends_nothing (Normal frame))))
     spends_stmt (Call kind site target callee es) line frame =
         spends_then (spends_arguments (function_of callee fs).params es frame line no_frame) (λ given. spends_then (spends_pay 1) (λ _.
         spends_then (spends_as_one (call_event kind site) (call_is_work kind site) (spend Deeper (function_of callee fs) given line)) (λ returned. spends_nothing _)))
@@ -157,7 +157,7 @@ module _ (fs : List Function) (calls : Calls) (spend : (entry : Entry) (f : Func
     spends_stmt (Begin callee from to captured over) line frame =
         spends_then (spends_value _ line) (λ lo. spends_then (spends_value _ line) (λ hi. spends_then (spends_pay _) (λ _.
         spends_then (spends_value _ line) (λ n. spends_then (spends_in_series (spend SameDepth (function_of callee fs) _ line)) (λ returned. spends_nothing _)))))
-    spends_stmt Sync line frame = spends_then spends_join (λ _. spends_then (spends_pay 1) (λ _. spends_nothing (Onward frame)))
+    spends_stmt Sync line frame = spends_then spends_join (λ _. spends_then (spends_pay 1) (λ _. spends_nothing (Normal frame)))
     spends_stmt (If e b) line frame =
         spends_then (spends_value _ line) (λ v. spends_then (spends_pay 1) (λ _. spends_if (is_zero v) (spends_nothing _) (spends_scoped frame (spends_block b frame))))
     spends_stmt (IfElse e b c) line frame =
@@ -183,18 +183,18 @@ module _ (fs : List Function) (calls : Calls) (spend : (entry : Entry) (f : Func
         spends_onward way _ (λ frame'. spends_then (spends_pay 1) (λ _. spends_nothing _))))
     spends_stmt (Print e) line frame =
         spends_then (spends_value _ line) (λ v. spends_then (spends_pay 1) (λ _.
-        spends_then (spends_in_view (record { lines = v ∷ []; additions = []; events = [] }) refl) (λ _. spends_nothing (Onward frame))))
-    spends_stmt (Return None) line frame = spends_then spends_join (λ _. spends_then (spends_pay 1) (λ _. spends_nothing (Back None frame)))
+        spends_then (spends_in_view (record { lines = v ∷ []; additions = []; events = [] }) refl) (λ _. spends_nothing (Normal frame))))
+    spends_stmt (Return None) line frame = spends_then spends_join (λ _. spends_then (spends_pay 1) (λ _. spends_nothing (ByReturn None frame)))
     spends_stmt (Return (Some e)) line frame =
-        spends_then (spends_value _ line) (λ v. spends_then spends_join (λ _. spends_then (spends_pay 1) (λ _. spends_nothing (Back (Some v) frame))))
+        spends_then (spends_value _ line) (λ v. spends_then spends_join (λ _. spends_then (spends_pay 1) (λ _. spends_nothing (ByReturn (Some v) frame))))
 
     pub spends_block : (b : Block) (frame : Frame) → Spends (run_all b fs calls frame)
     spends_block End frame = spends_nothing _
     spends_block (Then line s b) frame = spends_then (spends_stmt s line frame) (λ way. spends_onward way _ (λ frame'. spends_block b frame'))
 
-spends_end : (way : Way) → Spends (end_of_call way)
-spends_end (Back v frame) = spends_nothing _
-spends_end (Onward frame) = spends_then spends_join (λ _. spends_then (spends_pay 1) (λ _. spends_nothing (None, frame)))
+spends_end : (way : Completion) → Spends (end_of_call way)
+spends_end (ByReturn v frame) = spends_nothing _
+spends_end (Normal frame) = spends_then spends_join (λ _. spends_then (spends_pay 1) (λ _. spends_nothing (None, frame)))
 
 pub spends_call : (bound depth : ℕ) (fs : List Function) (entry : Entry) (f : Function) (given : Frame) (line : ℕ) → Spends (call bound depth fs entry f given line)
 unfolding call
@@ -215,7 +215,7 @@ same_turn : (x : Name) (over : List Name) (b : Block) (fs : List Function) (call
     for_body x over b fs calls i frame left ≡ as_one Series (for_turn x over b fs calls i frame) left
 same_turn x over b fs calls i frame left = go (run_all b fs calls (inside_loop over (new_int x i frame)) left)
   where
-    go : (o : Outcome Way) → then_do (joined_up Series o) (λ way. gives (leave frame (frame_of way))) ≡ joined_up Series (then_do o (λ way. gives (leave frame (frame_of way))))
+    go : (o : Outcome Completion) → then_do (joined_up Series o) (λ way. gives (leave frame (frame_of way))) ≡ joined_up Series (then_do o (λ way. gives (leave frame (frame_of way))))
     go (Done way left' t) = rw (append-nil t.events) refl
     go (Trapped trap line lines) = refl
     go Over = refl

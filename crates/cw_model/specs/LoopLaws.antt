@@ -4,9 +4,9 @@ use Rattle.cw_model.specs.declared.trap.Trap.{Trap}
 use Rattle.cw_model.specs.Syntax.{Name, Expr, For, Block, Function}
 use Rattle.cw_model.specs.Trees.{Tree, Series, work, tree_of, normal}
 use Rattle.cw_model.specs.Frames.{Frame, array_of, new_int, inside_loop, leave}
-use Rattle.cw_model.specs.Outcome.{Trace, Done, Trapped, Piece, ◌>>=◌, gives, value_of, pay, as_one}
+use Rattle.cw_model.specs.Outcome.{Trace, Done, Trapped, Piece, ◌>>=◌, gives, pay_for, pay, as_one}
 use Rattle.cw_model.specs.Loops.{Turn, TurnsLead, loop_turns, halves, loop_cost, loop_tree}
-use Rattle.cw_model.specs.Meaning.{Calls, Way, going, run, run_all, call, frame_of}
+use Rattle.cw_model.specs.Meaning.{Calls, Completion, going, run, run_all, call, frame_of}
 use Rattle.cw_model.specs.Captured.{captured}
 use Rattle.cw_model.specs.Expressions.{evaluate, and_then, Gives}
 use Rattle.cw_model.specs.Ints.{natural}
@@ -29,13 +29,13 @@ for_body x over b fs calls i now = do
   gives (leave now (frame_of way))
 
 -- a `cilk_for`: its bounds, what it captures, the number of its turns, and the loop by halves of its body as one part in series
-abbrev pub for_piece : Name → (from to : Expr) → (grain : ℕ) → List Name → Block → (line : ℕ) → List Function → Calls → Frame → Piece Way
+abbrev pub for_piece : Name → (from to : Expr) → (grain : ℕ) → List Name → Block → (line : ℕ) → List Function → Calls → Frame → Piece Completion
 for_piece x from to grain over b line fs calls frame = do
   let k = length (captured x b)
-  lo ← value_of (evaluate from frame) line
-  hi ← value_of (evaluate to frame) line
+  lo ← pay_for (evaluate from frame) line
+  hi ← pay_for (evaluate to frame) line
   _ ← pay k
-  n ← value_of (and_then (Gives (pos 0) 0) (λ v. loop_turns lo hi (map (array_of frame) over))) line
+  n ← pay_for (and_then (Gives (pos 0) 0) (λ v. loop_turns lo hi (map (array_of frame) over))) line
   frame' ← as_one Series (halves (suc (natural n)) grain k (length over) (natural n) lo (for_body x over b fs calls) frame)
   going frame'
 

@@ -11,30 +11,30 @@ use Rattle.cw_model.specs.Captured.{captured}
 use Rattle.cw_model.specs.Frames.{Frame, no_frame, int_of, array_of, set_int, set_array, new_int, new_array, inside_loop, leave, set_result}
 use Rattle.cw_model.specs.Expressions.{Evaluated, Gives, and_then, dearer, written, index_cost, evaluate}
 use Rattle.cw_model.specs.Trees.{Tree, Invocation, Execution, Marked, Event, Series, Fork, Join}
-use Rattle.cw_model.specs.Outcome.{shows, Trapped, Over, Piece, ◌>>=◌, gives, show, pay, value_of, as_one}
+use Rattle.cw_model.specs.Outcome.{shows, Trapped, Over, Piece, ◌>>=◌, gives, show, pay, pay_for, as_one}
 use Rattle.cw_model.specs.Loops.{loop_turns, halves}
 
--- where a statement leaves off: it goes on, or the call returns
-pub data Way : Type 0 where
-  Onward : Frame → Way
-  Back : Option ℤ → Frame → Way
+-- how a statement completes: normally, or by a return of its call
+pub data Completion : Type 0 where
+  Normal : Frame → Completion
+  ByReturn : Option ℤ → Frame → Completion
 
--- a statement that goes on, and what follows it
-abbrev pub onward : Way → (Frame → Piece Way) → Piece Way
-onward (Onward frame) next = next frame
-onward (Back v frame) next = gives (Back v frame)
+-- what follows a statement that completes normally
+abbrev pub onward : Completion → (Frame → Piece Completion) → Piece Completion
+onward (Normal frame) next = next frame
+onward (ByReturn v frame) next = gives (ByReturn v frame)
 
--- it goes on with this frame
-abbrev pub going : Frame → Piece Way
-going frame = gives (Onward frame)
+-- it completes normally with this frame
+abbrev pub going : Frame → Piece Completion
+going frame = gives (Normal frame)
 
--- the frame where a statement leaves off
-abbrev pub frame_of : Way → Frame
-frame_of (Onward frame) = frame
-frame_of (Back v frame) = frame
+-- the frame that a statement leaves
+abbrev pub frame_of : Completion → Frame
+frame_of (Normal frame) = frame
+frame_of (ByReturn v frame) = frame
 
 -- a block whose names are gone at its end
-abbrev pub scoped : Frame → Piece Way → Piece Way
+abbrev pub scoped : Frame → Piece Completion → Piece Completion
 scoped before piece = do
   way ← piece
   onward way (λ frame. going (leave before frame))
@@ -79,7 +79,7 @@ arguments (p ∷ ps) (e ∷ es) frame line given =
     if p.is_array
     then arguments ps es frame line (new_array p.name (given_array e frame) given)
     else (do
-      v ← value_of (evaluate e frame) line
+      v ← pay_for (evaluate e frame) line
       arguments ps es frame line (new_int p.name v given))
 
 -- the array of one argument stands under its own name again
@@ -104,10 +104,10 @@ start_event Plain t = Series t
 start_event Spawned t = Fork t
 
 -- the turns of a while, at most as many as the bound says
-abbrev pub turns : ℕ → (Frame → Evaluated) → (line : ℕ) → (Frame → Piece Way) → Frame → Piece Way
+abbrev pub turns : ℕ → (Frame → Evaluated) → (line : ℕ) → (Frame → Piece Completion) → Frame → Piece Completion
 turns zero test line body frame = λ left. Over
 turns (suc bound) test line body frame = do
-  v ← value_of (test frame) line
+  v ← pay_for (test frame) line
   _ ← pay 1
   if is_zero v then going frame else (do
     way ← body frame
@@ -148,25 +148,25 @@ slices_back (a ∷ over) from callee frame =
 
 abbrev mutual
   -- a statement in its line, on a frame
-  pub run : Stmt → ℕ → List Function → Calls → Frame → Piece Way
+  pub run : Stmt → ℕ → List Function → Calls → Frame → Piece Completion
   run (Declare x e) line fs calls frame = do
-    v ← value_of (evaluate e frame) line
+    v ← pay_for (evaluate e frame) line
     _ ← pay 1
     going (new_int x v frame)
   run (DeclareArray a e) line fs calls frame = do
-    v ← value_of (and_then (evaluate e frame) new_length) line
+    v ← pay_for (and_then (evaluate e frame) new_length) line
     going (new_array a (replicate (natural v) (pos 0)) frame)
   run (Assign x e) line fs calls frame = do
-    v ← value_of (evaluate e frame) line
+    v ← pay_for (evaluate e frame) line
     _ ← pay 1
     going (set_int x v frame)
   -- the index comes first, and the last instruction tests it
   run (AssignElement a i e) line fs calls frame = do
-    at ← value_of (dearer (index_cost frame a) (evaluate i frame)) line
-    v ← value_of (and_then (evaluate e frame) (written (array_of frame a) at)) line
+    at ← pay_for (dearer (index_cost frame a) (evaluate i frame)) line
+    v ← pay_for (and_then (evaluate e frame) (written (array_of frame a) at)) line
     going (set_array a (slice_set (array_of frame a) (natural at) v) frame)
   run (AddTo s e) line fs calls frame = do
-    v ← value_of (evaluate e frame) line
+    v ← pay_for (evaluate e frame) line
     _ ← pay 1
     _ ← show (record { lines = []; additions = (s, v) ∷ []; events = [] })
     going frame
@@ -183,10 +183,10 @@ abbrev mutual
     returned ← as_one (start_event kind) (calls SameDepth f given line)
     going (returned_arrays f.params es returned.1 frame)
   run (Begin callee from to captured over) line fs calls frame = do
-    lo ← value_of (evaluate from frame) line
-    hi ← value_of (evaluate to frame) line
+    lo ← pay_for (evaluate from frame) line
+    hi ← pay_for (evaluate to frame) line
     _ ← pay (length captured)
-    n ← value_of (and_then (Gives (pos 0) 0) (λ v. loop_turns lo hi (map (array_of frame) over))) line
+    n ← pay_for (and_then (Gives (pos 0) 0) (λ v. loop_turns lo hi (map (array_of frame) over))) line
     let f = function_of callee fs
     let given = loop_frame f.params (lo ∷ (lo +ℤ n) ∷ map (int_of frame) captured) (map (λ a. take (natural n) (drop (natural lo) (array_of frame a))) over) no_frame
     returned ← as_one Series (calls SameDepth f given line)
@@ -197,11 +197,11 @@ abbrev mutual
     _ ← pay 1
     going frame
   run (If e b) line fs calls frame = do
-    v ← value_of (evaluate e frame) line
+    v ← pay_for (evaluate e frame) line
     _ ← pay 1
     if is_zero v then going frame else scoped frame (run_all b fs calls frame)
   run (IfElse e b c) line fs calls frame = do
-    v ← value_of (evaluate e frame) line
+    v ← pay_for (evaluate e frame) line
     _ ← pay 1
     if is_zero v then scoped frame (run_all c fs calls frame) else (do
       way ← scoped frame (run_all b fs calls frame)
@@ -213,10 +213,10 @@ abbrev mutual
       λ left. turns (suc left) (evaluate e) line (λ frame'. scoped frame' (run_all b fs calls frame')) frame left
   run (For x y z from to grain over b) line fs calls frame = do
     let k = length (captured x b)
-    lo ← value_of (evaluate from frame) line
-    hi ← value_of (evaluate to frame) line
+    lo ← pay_for (evaluate from frame) line
+    hi ← pay_for (evaluate to frame) line
     _ ← pay k
-    n ← value_of (and_then (Gives (pos 0) 0) (λ v. loop_turns lo hi (map (array_of frame) over))) line
+    n ← pay_for (and_then (Gives (pos 0) 0) (λ v. loop_turns lo hi (map (array_of frame) over))) line
     frame' ← as_one Series (halves (suc (natural n)) grain k (length over) (natural n) lo (λ i now. do
       way ← as_one Series (run_all b fs calls (inside_loop over (new_int x i now)))
       gives (leave now (frame_of way))) frame)
@@ -228,7 +228,7 @@ abbrev mutual
       _ ← pay 1
       going frame')
   run (Cut a e l r b) line fs calls frame = do
-    v ← value_of (and_then (evaluate e frame) (cut_place (array_of frame a))) line
+    v ← pay_for (and_then (evaluate e frame) (cut_place (array_of frame a))) line
     let xs = array_of frame a
     let inside = new_array r (drop (natural v) xs) (new_array l (take (natural v) xs) frame)
     way ← as_one Series (scoped inside (run_all b fs calls inside))
@@ -243,32 +243,32 @@ abbrev mutual
       _ ← pay 1
       going frame')
   run (Print e) line fs calls frame = do
-    v ← value_of (evaluate e frame) line
+    v ← pay_for (evaluate e frame) line
     _ ← pay 1
     _ ← show (record { lines = v ∷ []; additions = []; events = [] })
     going frame
   run (Return None) line fs calls frame = do
     _ ← show (shows (Join ∷ []))
     _ ← pay 1
-    gives (Back None frame)
+    gives (ByReturn None frame)
   -- the expression of a return is counted before the join
   run (Return (Some e)) line fs calls frame = do
-    v ← value_of (evaluate e frame) line
+    v ← pay_for (evaluate e frame) line
     _ ← show (shows (Join ∷ []))
     _ ← pay 1
-    gives (Back (Some v) frame)
+    gives (ByReturn (Some v) frame)
 
   -- the statements of a block in order
-  pub run_all : Block → List Function → Calls → Frame → Piece Way
+  pub run_all : Block → List Function → Calls → Frame → Piece Completion
   run_all End fs calls frame = going frame
   run_all (Then line s b) fs calls frame = do
     way ← run s line fs calls frame
     onward way (λ frame'. run_all b fs calls frame')
 
 -- what a function's body leaves: its value, and the frame for the arrays that go back; its end joins
-abbrev pub end_of_call : Way → Piece Returned
-end_of_call (Back v frame) = gives (v, frame)
-end_of_call (Onward frame) = do
+abbrev pub end_of_call : Completion → Piece Returned
+end_of_call (ByReturn v frame) = gives (v, frame)
+end_of_call (Normal frame) = do
   _ ← show (shows (Join ∷ []))
   _ ← pay 1
   gives (None, frame)

@@ -63,9 +63,9 @@ abbrev pub pay : ℕ → Piece (Unit {0})
 pay cost = λ left. if nat_lt left cost then Over else Done tt (left - cost) (shows (works cost))
 
 -- an expression in a line; its trap counts only within the budget
-abbrev pub value_of : Evaluated → (line : ℕ) → Piece ℤ
-value_of (Gives v cost) line = λ left. if nat_lt left cost then Over else Done v (left - cost) (shows (works cost))
-value_of (Traps trap cost) line = λ left. if nat_lt left cost then Over else Trapped trap line []
+abbrev pub pay_for : Evaluated → (line : ℕ) → Piece ℤ
+pay_for (Gives v cost) line = λ left. if nat_lt left cost then Over else Done v (left - cost) (shows (works cost))
+pay_for (Traps trap cost) line = λ left. if nat_lt left cost then Over else Trapped trap line []
 
 -- the events of an outcome stand in its place as one event, made of their tree
 abbrev pub joined_up : {A : Type 0} → (Tree → Event) → Outcome A → Outcome A

@@ -36,8 +36,8 @@ is_cut_of a (x, SpawnIn d) = false
 is_cut_of a (x, CutOf) = same_name a x
 
 -- the end of a cut frees its array
-abbrev pub uncut : Name → Taken → Taken
-uncut a taken = filter (λ t. not (is_cut_of a t)) taken
+abbrev pub cut_ended : Name → Taken → Taken
+cut_ended a taken = filter (λ t. not (is_cut_of a t)) taken
 
 -- the names of a block end with it
 abbrev pub without : List Name → Taken → Taken
@@ -98,7 +98,7 @@ abbrev mutual
   taken_after fs depth (Scope b) taken = freed (depth + 1) (without (own_names b) (taken_after_all fs (depth + 1) b taken))
   taken_after fs depth (Region tag b) taken = freed (depth + 1) (without (own_names b) (taken_after_all fs (depth + 1) b taken))
   taken_after fs depth (Cut a e l r b) taken =
-      uncut a (freed (depth + 1) (without (l ∷ r ∷ own_names b) (taken_after_all fs (depth + 1) b ((a, CutOf) ∷ taken))))
+      cut_ended a (freed (depth + 1) (without (l ∷ r ∷ own_names b) (taken_after_all fs (depth + 1) b ((a, CutOf) ∷ taken))))
   taken_after fs depth (For x y z from to grain over b) taken =
       freed (depth + 1) (without (x ∷ own_names b) (taken_after_all fs (depth + 1) b taken))
   taken_after fs depth _ taken = taken
