@@ -1,10 +1,11 @@
 -- Worked examples of statements: what they do, what they cost, and what loops do by halves.
 use Rattle.std.specs.Prelude.{◌≡◌, ℕ, List, [], ◌∷◌, None, codes}
+use Rattle.cw_model.specs.declared.trap.Trap.TheVariants as trap
 use Rattle.cw_model.specs.declared.syntax.CallKind.TheVariants.{Plain}
 use Rattle.cw_model.specs.declared.syntax.Operator.TheVariants.{Equal, Less, Times}
 use Rattle.cw_model.specs.Syntax.{Variable, Element, Length, Negative, Not, Binary, Stmt, Declare, DeclareArray, Assign, AssignElement, AddTo, Start, Begin, Sync, If, IfElse, While, For, Scope, Cut, Region, Print, Return, Block, End, Then, Program}
 use Rattle.cw_model.specs.Captured.{captured}
-use Rattle.cw_model.specs.Examples.{Writes, Costs}
+use Rattle.cw_model.specs.Examples.{Writes, TrapsAt, Costs}
 use Rattle.cw_model.specs.ExamplePrograms.{a, b, f, g, h, i, j, l, n, r, s, t, v, x, y, z, main, number, plus, minus, int_param, array_param, int_function, void_function, of_functions, on_line, block, give, call, call_into, spawn_into, main_of, alone, with_sum, in_every_block}
 
 -- a declaration in a line, and its value printed
@@ -152,6 +153,14 @@ pub record LoopExamples : Type 0 where
       Writes (alone (For i i i (number 0) (number 2) 64 [] (block (Declare y (Variable i) ∷ Print (Variable y) ∷ [])) ∷ Declare y (number 5) ∷ give (Variable y) ∷ []))
       [] 1000
       (codes "0" ∷ codes "1" ∷ codes "return 5" ∷ [])
+  -- where the upper end is not above the lower one there is no turn, and no trap
+  pub equal_ends : Costs (alone (DeclareArray a (number 2) ∷ For i i i (number 9) (number 9) 64 (a ∷ []) End ∷ give (number 0) ∷ [])) [] 21 (codes "return 0" ∷ [])
+  pub lower_end_above : Costs (alone (DeclareArray a (number 2) ∷ For i i i (number 9) (number 8) 64 (a ∷ []) End ∷ give (number 0) ∷ [])) [] 21 (codes "return 0" ∷ [])
+  pub range_past_the_second_array :
+      TrapsAt (alone (DeclareArray a (number 2) ∷ DeclareArray b (number 1) ∷ For i i i (number 0) (number 2) 64 (a ∷ b ∷ []) End ∷ give (number 0) ∷ [])) [] 1000 trap.OutOfBounds 1
+  pub both_halves_are_kept :
+      Costs (alone (DeclareArray a (number 2) ∷ For i i i (number 0) (number 2) 1 (a ∷ []) (block (AssignElement a (Variable i) (number 5) ∷ [])) ∷ give (Element a (number 0)) ∷ []))
+      [] 94 (codes "return 5" ∷ [])
 
 -- where a body names an outer integer
 pub record CaptureExamples : Type 0 where

@@ -53,6 +53,10 @@ returns-clause-loops c = record {
   two_leaves = (refl, refl);
   turns_in_order = refl;
   names_end_with_a_turn = refl;
+  equal_ends = (refl, refl);
+  lower_end_above = (refl, refl);
+  range_past_the_second_array = refl;
+  both_halves_are_kept = (refl, refl);
 }
 
 pub returns-clause-captures : goal.returns-clause-captures
