@@ -5,7 +5,7 @@ use Rattle.cw_model.specs.declared.syntax.CallKind.TheVariants.{Plain}
 use Rattle.cw_model.specs.declared.syntax.Operator.TheVariants.{Equal, Less, Times}
 use Rattle.cw_model.specs.Syntax.{Variable, Element, Length, Negative, Not, Binary, Stmt, Declare, DeclareArray, Assign, AssignElement, AddTo, Start, Begin, Sync, If, IfElse, While, For, Scope, Cut, Region, Print, Return, Block, End, Then, Program}
 use Rattle.cw_model.specs.Captured.{captured}
-use Rattle.cw_model.specs.Examples.{Writes, TrapsAt, Costs}
+use Rattle.cw_model.specs.Examples.{Writes, Scales, TrapsAt, Costs}
 use Rattle.cw_model.specs.ExamplePrograms.{a, b, f, g, h, i, j, l, n, r, s, t, v, x, y, z, main, number, plus, minus, int_param, array_param, int_function, void_function, of_functions, on_line, block, give, call, call_into, spawn_into, main_of, alone, with_sum, in_every_block}
 
 -- a declaration in a line, and its value printed
@@ -161,6 +161,13 @@ pub record LoopExamples : Type 0 where
   pub both_halves_are_kept :
       Costs (alone (DeclareArray a (number 2) ∷ For i i i (number 0) (number 2) 1 (a ∷ []) (block (AssignElement a (Variable i) (number 5) ∷ [])) ∷ give (Element a (number 0)) ∷ []))
       [] 94 (codes "return 5" ∷ [])
+  -- the smaller half of an odd range is spawned: 3 + 17 + (3 + 47 beside 36) + 1 + 2
+  pub odd_range : Scales (alone (For i i i (number 0) (number 5) 4 [] End ∷ give (number 0) ∷ [])) [] 0 (codes ",109,73,1.493,73,1.493" ∷ [])
+  -- a node ends after its join, also where the child is the longer side: 3 + 17 + (35 beside 3 + 29) + 1 + 2
+  pub longer_child :
+      Scales (alone (
+      For i i i (number 0) (number 2) 1 [] (block (If (Binary Less (Variable i) (number 1)) (block (Print (number 1) ∷ Print (number 2) ∷ Print (number 3) ∷ [])) ∷ []))
+      ∷ give (number 0) ∷ [])) [] 0 (codes ",90,58,1.551,58,1.551" ∷ [])
 
 -- where a body names an outer integer
 pub record CaptureExamples : Type 0 where

@@ -57,6 +57,8 @@ returns-clause-loops c = record {
   lower_end_above = (refl, refl);
   range_past_the_second_array = refl;
   both_halves_are_kept = (refl, refl);
+  odd_range = refl;
+  longer_child = refl;
 }
 
 pub returns-clause-captures : goal.returns-clause-captures
