@@ -185,6 +185,9 @@ pub record FreedExamples : Type 0 where
       BreaksOwnership (with_names (Then 2 (Cut a (number 0) l r (on_line 3 (Print (Length a) ∷ []))) (joined_at 4))) (3 ∷ [])
   pub sync_in_its_cut :
       BreaksOwnership (with_names (Then 2 (Cut a (number 0) l r (on_line 3 (Sync ∷ Print (Length a) ∷ []))) (joined_at 4))) (3 ∷ [])
+  -- a cut holds its array for its block alone: what a spawn took before is still taken
+  pub after_a_cut_of_a_taken_array :
+      BreaksOwnership (with_names (Then 2 (spawn 1 g (Variable a ∷ [])) (Then 3 (Cut a (number 0) l r End) (Then 4 (Print (Length a)) (joined_at 5))))) (3 ∷ 4 ∷ [])
   pub after_an_inner_cut :
       BreaksOwnership (with_names (Then 2 (Cut a (number 0) l r (Then 3 (Cut b (number 0) n z End) (Then 4 (Print (Length a)) End))) (joined_at 5)))
       (4 ∷ [])

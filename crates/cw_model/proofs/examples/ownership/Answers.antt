@@ -93,6 +93,7 @@ returns-clause-freed c = record {
   after_cut = (refl, refl, refl, refl, refl);
   in_cut = (refl, refl, refl);
   sync_in_its_cut = (refl, refl, refl);
+  after_a_cut_of_a_taken_array = (refl, refl, refl);
   after_an_inner_cut = (refl, refl, refl);
 }
 
