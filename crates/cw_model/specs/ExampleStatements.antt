@@ -5,6 +5,8 @@ use Rattle.cw_model.specs.declared.syntax.CallKind.TheVariants.{Plain}
 use Rattle.cw_model.specs.declared.syntax.Operator.TheVariants.{Equal, Less, Times}
 use Rattle.cw_model.specs.Syntax.{Variable, Element, Length, Negative, Not, Binary, Stmt, Declare, DeclareArray, Assign, AssignElement, AddTo, Start, Begin, Sync, If, IfElse, While, For, Scope, Cut, Region, Print, Return, Block, End, Then, Program}
 use Rattle.cw_model.specs.Captured.{captured}
+use Rattle.cw_model.specs.Trees.{Tree, Leaf, Seq, Par}
+use Rattle.cw_model.specs.Loops.{loop_tree, inner_nodes, loop_cost}
 use Rattle.cw_model.specs.Examples.{Writes, Scales, TrapsAt, Costs}
 use Rattle.cw_model.specs.ExamplePrograms.{a, b, f, g, h, i, j, l, n, r, s, t, v, x, y, z, main, number, plus, minus, int_param, array_param, int_function, void_function, of_functions, on_line, block, give, call, call_into, spawn_into, main_of, alone, with_sum, in_every_block}
 
@@ -135,6 +137,10 @@ two_arrays_program = alone (
     ∷ For i i i (number 0) (number 2) 1 (a ∷ b ∷ []) (block (AssignElement b (Variable i) (Variable i) ∷ AssignElement a (Variable i) (Element b (Variable i)) ∷ []))
     ∷ give (Element a (number 1)) ∷ [])
 
+-- the tree of a leaf with one turn, whose body is one strand
+abbrev pub leaf_of : ℕ → Tree
+leaf_of k = Seq (Leaf 8) (Seq (Leaf 5) (Seq (Leaf k) (Seq (Leaf 6) (Leaf 6))))
+
 -- loops: their costs, what they capture, and the order of their turns
 pub record LoopExamples : Type 0 where
   pub captured_integers : Costs (capture_program 64) [] 59 (codes "sum s = 8" ∷ codes "return 0" ∷ [])
@@ -168,6 +174,13 @@ pub record LoopExamples : Type 0 where
       Scales (alone (
       For i i i (number 0) (number 2) 1 [] (block (If (Binary Less (Variable i) (number 1)) (block (Print (number 1) ∷ Print (number 2) ∷ Print (number 3) ∷ [])) ∷ []))
       ∷ give (number 0) ∷ [])) [] 0 (codes ",90,58,1.551,58,1.551" ∷ [])
+  -- three leaves and two inner nodes: 3 * 14 + 5 * 11 + 2 * (21 + 5 + 2 * 2)
+  pub cost_of_five_turns : loop_cost 2 2 1 5 ≡ 157
+  pub cost_of_a_leaf : loop_cost 5 2 1 5 ≡ 69
+  pub nodes_of_five_turns : inner_nodes 6 2 5 ≡ 2
+  -- one integer and two arrays: a node is 17 + 4 * 2 + 1 up to its spawn, 3 + 1 up to its call, and 2 + 1 after its join
+  pub tree_of_three_turns : loop_tree 4 1 1 2 (Leaf 7 ∷ Leaf 11 ∷ Leaf 13 ∷ []) ≡
+      Seq (Leaf 26) (Seq (Par (leaf_of 7) (Seq (Leaf 4) (Seq (Leaf 26) (Seq (Par (leaf_of 11) (Seq (Leaf 4) (leaf_of 13))) (Leaf 3))))) (Leaf 3))
 
 -- where a body names an outer integer
 pub record CaptureExamples : Type 0 where

@@ -59,6 +59,10 @@ returns-clause-loops c = record {
   both_halves_are_kept = (refl, refl);
   odd_range = refl;
   longer_child = refl;
+  cost_of_five_turns = refl;
+  cost_of_a_leaf = refl;
+  nodes_of_five_turns = refl;
+  tree_of_three_turns = refl;
 }
 
 pub returns-clause-captures : goal.returns-clause-captures
