@@ -1,10 +1,11 @@
 -- Worked examples of expressions: what they come to, at which cost, and where they trap.
-use Rattle.std.specs.Prelude.{ℕ, zero, suc, List, [], ◌∷◌, codes}
+use Rattle.std.specs.Prelude.{◌≡◌, ℕ, zero, suc, List, [], ◌∷◌, codes}
 use Rattle.cw_model.specs.declared.trap.Trap.{Trap}
 use Rattle.cw_model.specs.declared.trap.Trap.TheVariants as trap
 use Rattle.cw_model.specs.declared.syntax.Operator.{Operator}
 use Rattle.cw_model.specs.declared.syntax.Operator.TheVariants.{Equal, Unequal, Less, AtMost, Greater, AtLeast, Plus, Minus, Times, Divide, Modulo}
 use Rattle.cw_model.specs.Syntax.{Expr, Variable, Element, Length, Negative, Not, Binary, Stmt, Declare, DeclareArray, AssignElement, AddTo, If, IfElse, While, For, Cut, Region, Print, End, Then, Program}
+use Rattle.cw_model.specs.Ints.{trap_number}
 use Rattle.cw_model.specs.Examples.{TrapsAt, IsOver, Costs}
 use Rattle.cw_model.specs.ExamplePrograms.{a, b, f, i, l, r, s, t, x, main, number, plus, minus, int_function, on_line, give, call, alone, same_function, with_sum}
 
@@ -107,3 +108,9 @@ pub record TrapExamples : Type 0 where
   pub in_while : TrapsWithin (While (number 1) (on_line 4 (Print (of_two Divide 1 0) ∷ []))) 7 trap.DivisionByZero 4
   pub in_cut : TrapsWithin (Cut a (number 1) l r (on_line 4 (Print (Element l (number 1)) ∷ []))) 6 trap.OutOfBounds 4
   pub in_region : TrapsWithin (Region t (on_line 4 (Print (of_two Divide 1 0) ∷ []))) 6 trap.DivisionByZero 4
+  pub number_of_overflow : trap_number trap.Overflow ≡ 1
+  pub number_of_a_zero_divisor : trap_number trap.DivisionByZero ≡ 2
+  pub number_of_a_place_outside : trap_number trap.OutOfBounds ≡ 3
+  pub number_of_a_bad_length : trap_number trap.BadLength ≡ 4
+  pub number_of_too_many_turns : trap_number trap.TooManyTurns ≡ 5
+  pub number_of_too_deep : trap_number trap.TooDeep ≡ 6

@@ -72,4 +72,10 @@ returns-clause-traps c = record {
   in_while = (refl, refl);
   in_cut = (refl, refl);
   in_region = (refl, refl);
+  number_of_overflow = refl;
+  number_of_a_zero_divisor = refl;
+  number_of_a_place_outside = refl;
+  number_of_a_bad_length = refl;
+  number_of_too_many_turns = refl;
+  number_of_too_deep = refl;
 }
