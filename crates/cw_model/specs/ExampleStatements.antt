@@ -80,6 +80,8 @@ pub record EffectExamples : Type 0 where
       ∷ Cut a (number 1) l r (block (Print (Length l) ∷ Print (Length r) ∷ Print (Element l (number 0)) ∷ Print (Element r (number 0)) ∷ AssignElement r (number 1) (number 9) ∷ []))
       ∷ Print (Element a (number 0)) ∷ Print (Element a (number 1)) ∷ give (Element a (number 2)) ∷ [])) [] 1000
       (codes "1" ∷ codes "2" ∷ codes "1" ∷ codes "2" ∷ codes "1" ∷ codes "2" ∷ codes "return 9" ∷ [])
+  pub parts_end_with_a_cut :
+      Writes (alone (DeclareArray a (number 2) ∷ Cut a (number 1) l r End ∷ Cut a (number 0) l r (block (Print (Length l) ∷ [])) ∷ give (number 0) ∷ [])) [] 1000 (codes "0" ∷ codes "return 0" ∷ [])
   pub new_array_is_zero :
       Writes (alone (DeclareArray a (number 2) ∷ give (Element a (number 1)) ∷ [])) [] 1000 (codes "return 0" ∷ [])
 

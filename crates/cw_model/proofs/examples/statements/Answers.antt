@@ -23,6 +23,7 @@ returns-clause-effects c = record {
   sums_of_two_reducers = refl;
   arguments_of_main = refl;
   parts_of_a_cut = refl;
+  parts_end_with_a_cut = refl;
   new_array_is_zero = refl;
 }
 
