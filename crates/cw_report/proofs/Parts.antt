@@ -2,6 +2,7 @@
 use Rattle.std.proofs.Common.{◌≡◌, ◌==◌, false, [], ◌∷◌, ℕ, ◌+◌, ◌-◌, List, ◌++◌, length, take, drop, sym, ap, ◌∙◌, append_assoc, take-append-drop, Option, Some, None, Result, Ok, Err, IsErrAnd}
 use Rattle.std.specs.Io.KnownBytes.{Appends}
 use Rattle.std.proofs.lemmas.List.{take_rest}
+use Rattle.cw_report.specs.Seen.{Seen}
 use Rattle.cw_report.specs.Sinks.{AppendsBefore, AppendsPart, WritesAll, WritesPart, Writes}
 use Rattle.cw_text.specs.declared.fault.Fault.{Fault}
 use Rattle.cw_text.specs.declared.fault.Fault.TheVariants as fault
@@ -28,18 +29,18 @@ longer-AppendsPart : (a b : Option (List ℕ)) (xs ys : List ℕ) → AppendsPar
 longer-AppendsPart a b xs ys (left, (done, split, wrote)) = (left ++ ys, (done, ap (λ l. l ++ ys) split ∙ append_assoc done left ys, wrote))
 
 -- one text after another
-pub then-Writes : {A : Type 0} (a b c : Option (List ℕ)) (f g h : ℕ) (xs ys : List ℕ) (r : Result A Fault) → WritesAll a b f g xs → Writes b c g h ys r → Writes a c f h (xs ++ ys) r
-then-Writes a b c f g h xs ys (Ok x) p q = record { bytes = then-Appends a b c xs ys p.bytes q.bytes; failed = q.failed ∙ p.failed }
-then-Writes a b c f g h xs ys (Err e) p q =
-    (q.0, record { bytes = after-AppendsPart a b c xs ys p.bytes q.1.bytes; failed = q.1.failed ∙ ap (λ n. n + 1) p.failed })
+pub then-Writes : {A : Type 0} (a b c : Seen) (xs ys : List ℕ) (r : Result A Fault) → WritesAll a b xs → Writes b c ys r → Writes a c (xs ++ ys) r
+then-Writes a b c xs ys (Ok x) p q = record { bytes = then-Appends a.bytes b.bytes c.bytes xs ys p.bytes q.bytes; failed = q.failed ∙ p.failed }
+then-Writes a b c xs ys (Err e) p q =
+    (q.0, record { bytes = after-AppendsPart a.bytes b.bytes c.bytes xs ys p.bytes q.1.bytes; failed = q.1.failed ∙ ap (λ n. n + 1) p.failed })
 
 -- no text after one that was not written
-longer-WritesPart : (a b : Option (List ℕ)) (f g : ℕ) (xs ys : List ℕ) → WritesPart a b f g xs → WritesPart a b f g (xs ++ ys)
-longer-WritesPart a b f g xs ys p = record { bytes = longer-AppendsPart a b xs ys p.bytes; failed = p.failed }
+longer-WritesPart : (a b : Seen) (xs ys : List ℕ) → WritesPart a b xs → WritesPart a b (xs ++ ys)
+longer-WritesPart a b xs ys p = record { bytes = longer-AppendsPart a.bytes b.bytes xs ys p.bytes; failed = p.failed }
 
-pub still-Writes : {A : Type 0} (a b : Option (List ℕ)) (f g : ℕ) (xs ys : List ℕ) (e : Fault) (r : Result A Fault) → (e ≡ fault.Write) × WritesPart a b f g xs → IsErrAnd r (λ x. x ≡ e) → Writes a b f g (xs ++ ys) r
-still-Writes a b f g xs ys e (Ok x) p h = absurd h
-still-Writes a b f g xs ys e (Err x) p h = (h ∙ p.0, longer-WritesPart a b f g xs ys p.1)
+pub still-Writes : {A : Type 0} (a b : Seen) (xs ys : List ℕ) (e : Fault) (r : Result A Fault) → (e ≡ fault.Write) × WritesPart a b xs → IsErrAnd r (λ x. x ≡ e) → Writes a b (xs ++ ys) r
+still-Writes a b xs ys e (Ok x) p h = absurd h
+still-Writes a b xs ys e (Err x) p h = (h ∙ p.0, longer-WritesPart a b xs ys p.1)
 
 -- while something is left there is a text
 pub some_left : (left text : List ℕ) (a b : Option (List ℕ)) → AppendsBefore left a b text → text ≡ [] → false ≡ (length left == 0) → ⊥

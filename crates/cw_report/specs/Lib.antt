@@ -1,4 +1,5 @@
-pub mod Sinks
+pub mod Seen
 pub mod Counters
+pub mod Sinks
 pub mod Texts
 pub mod Answers

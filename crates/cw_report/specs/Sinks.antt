@@ -1,12 +1,15 @@
--- What writes do to the bytes that a sink took and to its count of failed writes.
+-- What writes do to what is seen of a sink.
 use Rattle.std.specs.Prelude.{◌≡◌, ℕ, ◌+◌, ◌==◌, List, ◌++◌, Option, Result, MatchResult, if◌then◌else◌}
-use Rattle.std.specs.Io.KnownBytes.{Appends}
+use Rattle.std.specs.Io.KnownBytes.{Appends, WriteAppends}
 use Rattle.cw_text.specs.declared.fault.Fault.{Fault}
 use Rattle.cw_text.specs.declared.fault.Fault.TheVariants as fault
+use Rattle.cw_report.specs.Counters.{CountsWrite}
+use Rattle.cw_report.specs.Seen.{Seen}
 
--- a write that fails or takes no byte adds one to the count
-abbrev pub CountsWrite : {E : Type 0} → ℕ → ℕ → Result ℕ E → Type 0
-CountsWrite old new r = MatchResult r (λ n. new ≡ (if n == 0 then old + 1 else old)) (λ _. new ≡ old + 1)
+-- one write of a text: the bytes that it says it took were appended, and it is counted where it failed
+pub record Puts {E : Type 0} (old new : Seen) (text : List ℕ) (r : Result ℕ E) : Type 0 where
+  pub bytes : WriteAppends old.bytes new.bytes r text
+  pub count : CountsWrite old.failures new.failures r
 
 -- known bytes grow by the text up to what is left of it
 abbrev pub AppendsBefore : List ℕ → Option (List ℕ) → Option (List ℕ) → List ℕ → Type 0
@@ -17,17 +20,15 @@ abbrev pub AppendsPart : Option (List ℕ) → Option (List ℕ) → List ℕ �
 AppendsPart old new text = (left : List ℕ) × AppendsBefore left old new text
 
 -- all of the text, and no write failed
-pub record WritesAll (old new : Option (List ℕ)) (failed_before failed_after : ℕ) (text : List ℕ) : Type 0 where
-  pub bytes : Appends old new text
-  pub failed : failed_after ≡ failed_before
+pub record WritesAll (old new : Seen) (text : List ℕ) : Type 0 where
+  pub bytes : Appends old.bytes new.bytes text
+  pub failed : new.failures ≡ old.failures
 
 -- a beginning of the text, and then a write failed
-pub record WritesPart (old new : Option (List ℕ)) (failed_before failed_after : ℕ) (text : List ℕ) : Type 0 where
-  pub bytes : AppendsPart old new text
-  pub failed : failed_after ≡ failed_before + 1
+pub record WritesPart (old new : Seen) (text : List ℕ) : Type 0 where
+  pub bytes : AppendsPart old.bytes new.bytes text
+  pub failed : new.failures ≡ old.failures + 1
 
 -- the text was written, or a beginning of it where a write failed
-abbrev pub Writes : {A : Type 0} → (old new : Option (List ℕ)) → (failed_before failed_after : ℕ) → List ℕ → Result A Fault → Type 0
-Writes old new failed_before failed_after text r =
-    MatchResult r (λ _. WritesAll old new failed_before failed_after text)
-    (λ e. (e ≡ fault.Write) × WritesPart old new failed_before failed_after text)
+abbrev pub Writes : {A : Type 0} → (old new : Seen) → List ℕ → Result A Fault → Type 0
+Writes old new text r = MatchResult r (λ _. WritesAll old new text) (λ e. (e ≡ fault.Write) × WritesPart old new text)

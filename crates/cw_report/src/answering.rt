@@ -1,8 +1,10 @@
-//! What a run is answered with.
+//! What a check and a run are answered with.
 
 ghost use Rattle.std.specs.Prelude.{◌≡◌, [], ◌<◌, ◌-◌, ◌^◌};
+ghost use Rattle.cw_model.specs.Report.{check_text};
+ghost use Rattle.cw_report.specs.Sinks.{Writes};
 ghost use Rattle.cw_report.specs.Texts.{handed_text};
-ghost use Rattle.cw_report.specs.Answers.{Answers};
+ghost use Rattle.cw_report.specs.Answers.{AnswersText};
 
 use crate::sink::Sink;
 use crate::text::{ended_line, printed_text};
@@ -11,6 +13,18 @@ use cw_machine::alone::Ended;
 use cw_machine::verified::Verified;
 use cw_text::Fault;
 use std::alloc::Global;
+
+/// Writes the report of a check: `ok` and a line feed. No memory is taken.
+///
+/// The error is `Write` where a write failed or took no byte: the sink took a beginning of the text,
+/// and counts one more failed write. It asks that fewer than 2^64 - 1 writes to the sink failed
+/// before.
+pub fn ok<W: Sink>(to: &mut W) -> Result<(), Fault>
+    requires { (W.seen to.old).failures < 2 ^ 64 - 1 }
+    ensures { Writes (W.seen to.old) (W.seen to.new) check_text result }
+{
+    write_text(to, b"ok\n")
+}
 
 /// Writes the report of a run: the line of its value, or, where it trapped, the values that it
 /// printed before, each on a line. Of any other fault nothing is written, and the sink is left
@@ -28,9 +42,9 @@ pub fn answer<W: Sink>(
     ended: &Result<Ended, Fault>,
     to: &mut W,
 ) -> Result<(), Fault>
-    requires { W.failed to.old < 2 ^ 64 - 1 }
+    requires { (W.seen to.old).failures < 2 ^ 64 - 1 }
     ensures idle { handed_text ended.now ≡ [] → to.new ≡ to.old }
-    ensures answers { Answers W.contents W.failed to.old to.new (handed_text ended.now) result }
+    ensures answers { AnswersText W.seen to.old to.new (handed_text ended.now) result }
 {
     match ended {
         Ok(ended) => {

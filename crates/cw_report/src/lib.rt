@@ -1,13 +1,18 @@
-//! The texts of reports, and the sinks that they are written to.
+//! The texts of reports, the sinks that they are written to, and readers and writers that count the
+//! calls that failed.
 #![tactic(auto)]
 
 mod answering;
+mod counted;
+mod input;
 mod sink;
 #[cfg(test)]
 mod tests;
 mod text;
 mod writing;
 
-pub use answering::answer;
-pub use sink::{Counted, Sink};
+pub use answering::{answer, ok};
+pub use counted::Counted;
+pub use input::Input;
+pub use sink::Sink;
 pub use writing::{write_fault, write_text};

@@ -1,6 +1,7 @@
 //! Texts on sinks with little room, and the lines of values and faults.
 
-use crate::sink::{Counted, Sink};
+use crate::counted::Counted;
+use crate::sink::Sink;
 use crate::text::{ended_line, printed_text};
 use crate::writing::{write_fault, write_text};
 use cw_model::trap::Trap;

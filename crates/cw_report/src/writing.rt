@@ -15,10 +15,9 @@ use itoa::Buffer;
 ///
 /// It asks that fewer than 2^64 - 1 writes to the sink failed before.
 pub fn write_text<W: Sink>(to: &mut W, text: &[u8]) -> Result<(), Fault>
-    requires { W.failed to.old < 2 ^ 64 - 1 }
+    requires { (W.seen to.old).failures < 2 ^ 64 - 1 }
     ensures idle { text.now ≡ [] → to.new ≡ to.old }
-    ensures writes { Writes (W.contents to.old) (W.contents to.new) (W.failed to.old) (W.failed to.new)
-        text.now result }
+    ensures writes { Writes (W.seen to.old) (W.seen to.new) text.now result }
 {
     let mut rest = text;
     while !rest.is_empty() {
@@ -36,8 +35,8 @@ pub fn write_text<W: Sink>(to: &mut W, text: &[u8]) -> Result<(), Fault>
 ///
 /// It asks that fewer than 2^64 - 1 writes to the sink failed before.
 pub fn write_fault<W: Sink>(to: &mut W, fault: &Fault) -> Result<(), Fault>
-    requires { W.failed to.old < 2 ^ 64 - 1 }
-    ensures { Writes (W.contents to.old) (W.contents to.new) (W.failed to.old) (W.failed to.new)
+    requires { (W.seen to.old).failures < 2 ^ 64 - 1 }
+    ensures { Writes (W.seen to.old) (W.seen to.new)
         (fault_text fault.now ++ codes "\n") result }
 {
     match fault {
@@ -57,8 +56,8 @@ pub fn write_fault<W: Sink>(to: &mut W, fault: &Fault) -> Result<(), Fault>
 
 // The line of a trap.
 fn write_trap<W: Sink>(to: &mut W, number: u32, line: u32) -> Result<(), Fault>
-    requires { W.failed to.old < 2 ^ 64 - 1 }
-    ensures { Writes (W.contents to.old) (W.contents to.new) (W.failed to.old) (W.failed to.new)
+    requires { (W.seen to.old).failures < 2 ^ 64 - 1 }
+    ensures { Writes (W.seen to.old) (W.seen to.new)
         ((codes "trap " ++ decimal number) ++ (codes " line " ++ decimal line ++ codes "\n")) result }
 {
     write_number(to, b"trap ", number)?;
@@ -67,8 +66,8 @@ fn write_trap<W: Sink>(to: &mut W, number: u32, line: u32) -> Result<(), Fault>
 
 // A number after some text, and a line feed.
 fn write_line<W: Sink>(to: &mut W, front: &[u8], number: u32) -> Result<(), Fault>
-    requires { W.failed to.old < 2 ^ 64 - 1 }
-    ensures { Writes (W.contents to.old) (W.contents to.new) (W.failed to.old) (W.failed to.new)
+    requires { (W.seen to.old).failures < 2 ^ 64 - 1 }
+    ensures { Writes (W.seen to.old) (W.seen to.new)
         (front.now ++ decimal number ++ codes "\n") result }
 {
     write_number(to, front, number)?;
@@ -77,8 +76,8 @@ fn write_line<W: Sink>(to: &mut W, front: &[u8], number: u32) -> Result<(), Faul
 
 // A number after some text.
 fn write_number<W: Sink>(to: &mut W, front: &[u8], number: u32) -> Result<(), Fault>
-    requires { W.failed to.old < 2 ^ 64 - 1 }
-    ensures { Writes (W.contents to.old) (W.contents to.new) (W.failed to.old) (W.failed to.new)
+    requires { (W.seen to.old).failures < 2 ^ 64 - 1 }
+    ensures { Writes (W.seen to.old) (W.seen to.new)
         (front.now ++ decimal number) result }
 {
     write_text(to, front)?;

@@ -5,8 +5,8 @@ use Rattle.cw_report.proofs.writing.write_text.Given as goal
 
 abbrev pub invariant-loop-rest : goal.invariant-loop-rest
 invariant-loop-rest g l = record {
-  bytes : AppendsBefore l.rest (g.W.Write.contents l.initial.to) (g.W.Write.contents l.to) l.initial.rest;
-  failed : g.W.Sink.failed l.to ≡ g.W.Sink.failed l.initial.to;
+  bytes : AppendsBefore l.rest (g.W.Sink.seen l.initial.to).bytes (g.W.Sink.seen l.to).bytes l.initial.rest;
+  failed : (g.W.Sink.seen l.to).failures ≡ (g.W.Sink.seen l.initial.to).failures;
   idle : l.initial.rest ≡ [] → l.to ≡ l.initial.to;
 }
 

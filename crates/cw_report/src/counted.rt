@@ -1,0 +1,101 @@
+//! Readers and writers that count the calls that failed.
+
+ghost use Rattle.std.specs.Prelude.{◌≡◌, ◌<◌, ◌-◌, ◌^◌};
+ghost use Rattle.std.specs.Io.{ReadsAtMost, WritesAtMost};
+ghost use Rattle.std.specs.Io.KnownBytes.{Keeps, ReadConsumes, WriteAppends};
+ghost use Rattle.cw_report.specs.Counters.{CountsRead, CountsWrite, failures_of, inner_of};
+
+use crate::input::Input;
+use crate::sink::Sink;
+use std::io;
+use std::io::{Read, Write};
+
+/// A reader or a writer with the number of its calls that failed: an input of a reader, and a sink of
+/// a writer, with one call of it for each of theirs. A flush that fails is not counted.
+#[derive(Drop)]
+pub struct Counted<T> {
+    inner: T,
+    failures: u64,
+}
+
+impl<T> Counted<T> {
+    /// The reader or writer, none of whose calls failed so far.
+    pub fn new(inner: T) -> Self
+        ensures inner { inner_of result ≡ inner }
+        ensures none_failed { failures_of result ≡ 0 }
+    {
+        Counted { inner, failures: 0 }
+    }
+
+    /// The reader or writer, as the calls left it.
+    pub fn into_inner(self) -> T
+        ensures { result ≡ inner_of self }
+    {
+        let Counted { inner, failures: _ } = self;
+        inner
+    }
+}
+
+impl<W: Write> Write for Counted<W> {
+    ghost contents = { λ c. W.contents c.inner };
+
+    fn write(&mut self, bytes: &[u8]) -> io::Result<usize>
+        ensures bound { WritesAtMost result bytes.now }
+        ensures bytes { WriteAppends (W.contents (inner_of self.old)) (W.contents (inner_of self.new)) result bytes.now }
+        ensures count { failures_of self.old < 2 ^ 64 - 1
+            → CountsWrite (failures_of self.old) (failures_of self.new) result }
+    {
+        let result = self.inner.write(bytes);
+        match result {
+            Ok(n) if 0 < n => {}
+            _ => self.failures = self.failures.saturating_add(1),
+        }
+        result
+    }
+
+    fn flush(&mut self) -> io::Result<()>
+        ensures bytes { Keeps (W.contents (inner_of self.old)) (W.contents (inner_of self.new)) }
+        ensures count { failures_of self.new ≡ failures_of self.old }
+    {
+        self.inner.flush()
+    }
+}
+
+impl<W: Write> Sink for Counted<W> {
+    ghost use Rattle.cw_report.specs.Seen.{seen_as};
+
+    ghost seen = { λ c. seen_as (W.contents c.inner) c.failures };
+
+    fn failures(&self) -> u64 {
+        self.failures
+    }
+
+    fn put(&mut self, bytes: &[u8]) -> io::Result<usize> {
+        self.write(bytes)
+    }
+}
+
+impl<R: Read> Read for Counted<R> {
+    ghost remaining = { λ c. R.remaining c.inner };
+
+    fn read(&mut self, bytes: &mut [u8]) -> io::Result<usize>
+        ensures bound { ReadsAtMost result bytes.new }
+        ensures bytes { ReadConsumes (R.remaining (inner_of self.old)) (R.remaining (inner_of self.new)) result bytes.new }
+        ensures count { failures_of self.old < 2 ^ 64 - 1
+            → CountsRead (failures_of self.old) (failures_of self.new) result }
+    {
+        let result = self.inner.read(bytes);
+        if result.is_err() {
+            self.failures = self.failures.saturating_add(1);
+        }
+        result
+    }
+}
+
+impl<R: Read> Input for Counted<R> {
+    ghost failed = { λ c. c.failures };
+
+    fn failed_reads(&self) -> u64 {
+        self.failures
+    }
+}

@@ -1,0 +1,14 @@
+//! Readers that tell how many of their reads failed.
+
+ghost use Rattle.std.specs.Prelude.{◌≡◌, ℕ};
+
+use std::io::Read;
+
+/// A reader that tells how many of its reads failed.
+pub trait Input: Read {
+    ghost failed: { Self → ℕ };
+
+    /// The number of reads that failed so far.
+    fn failed_reads(&self) -> u64
+        ensures { result ≡ failed self.now };
+}
