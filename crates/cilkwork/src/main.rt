@@ -5,7 +5,7 @@ ghost use Rattle.std.specs.Prelude.{◌≡◌};
 ghost use Rattle.std.specs.IoError.{error_kind};
 ghost use Rattle.cilkwork.specs.Words.{unread_fault};
 
-use cw_cli::{CountedReads, Request, refuse, request, say, tool, unread};
+use cw_cli::{Request, refuse, request, say, tool, unread};
 use cw_report::Counted;
 use cw_text::Fault;
 use std::alloc::Global;
@@ -23,7 +23,7 @@ fn main(rt: HostRuntime) -> ExitCode {
         Err(fault) => refuse(&fault, &mut err),
         Ok(words) if words.is_empty() => {
             let asked = Request::of_standard_input(alloc);
-            let mut source = CountedReads::new(rt.reader());
+            let mut source = Counted::new(rt.reader());
             tool(alloc, &asked, &mut source, &mut out, &mut err)
         }
         Ok(words) => match request(alloc, words.as_slice()) {
@@ -31,7 +31,7 @@ fn main(rt: HostRuntime) -> ExitCode {
             Ok(asked) => match File::open(&rt, asked.file.as_str()) {
                 Err(error) => unread(&error, &mut err),
                 Ok(file) => {
-                    let mut source = CountedReads::new(file);
+                    let mut source = Counted::new(file);
                     tool(alloc, &asked, &mut source, &mut out, &mut err)
                 }
             },

@@ -7,5 +7,6 @@ mod Taken
 mod Told
 mod Refusals
 mod Stages
+mod First
 mod Runs
 mod Tools

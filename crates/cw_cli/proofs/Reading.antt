@@ -1,5 +1,5 @@
 -- The walk over words that start with no hyphen.
-use Rattle.std.proofs.Common.{◌≡◌, ◌∙◌, ◌<◌, ◌^◌, ◌==◌, ◌++◌, ap, ap₂, sym, refl, arith, ℕ, suc, Bool, false, List, [], ◌∷◌, length, Option, Some, None, codes, unwrap_or, is_some}
+use Rattle.std.proofs.Common.{◌≡◌, ◌∙◌, ◌<◌, ◌^◌, ◌==◌, ◌++◌, ap, ap₂, sym, refl, arith, ℕ, suc, Bool, false, List, [], ◌∷◌, drop, length, Option, Some, None, codes, unwrap_or, is_some}
 use Rattle.std.specs.List.{All, fold}
 use Rattle.std.specs.Prelude.{if◌then◌else◌}
 use Rattle.std.specs.Option.{option_map_or}
@@ -13,9 +13,11 @@ use Rattle.clap.specs.Walk.{first_of, long_or_other, short_or_plain, trailing, H
 use Rattle.clap.specs.Simple.{App, Shape, built, names_of, entered, new_shape, subcommand_of}
 use Rattle.clap.specs.Faults.{flag_word_fault, bundle_fault, other_fault, turn_fault, walk_fault, step_fault, settle_fault, defaults_fault, check_fault, entered_fault}
 use Rattle.clap.proofs.OnLiterals.{clap_on_literals}
-use Rattle.cw_cli.specs.Command.{command_line, usual_limit_word}
-use Rattle.cw_cli.specs.Requests.{AreRead, HaveRun, faults, limit_text, texts_of}
-use Rattle.cw_cli.specs.WordLaws.{IsPlain}
+use Rattle.cw_cli.specs.Command.{burden_row, command_line, limit_row}
+use Rattle.cw_cli.specs.Requests.{AreRead, HaveCommand, Words, command_name, faults, numbers_of, texts_of}
+use Rattle.cw_cli.specs.WordLaws.{IsPlain, checking}
+use Rattle.cw_cli.specs.declared.asked.Mode.{Mode}
+use Rattle.cw_cli.specs.declared.asked.Mode.TheVariants as mode
 
 -- ---- one word, of any command without subcommands
 
@@ -57,7 +59,7 @@ turn s waiting position word h none plain =
     ap₂ (λ (k : Kinds) (m : Held × Step). or_else k (step_fault s position m.0 m.1))
     (ap (λ o. other_fault s o word h) none ∙ no_flag_fault s word h plain) (met s.rules waiting position word h none plain)
 
--- ---- the words after `run`
+-- ---- the commands
 
 abbrev first_shape : List Shape → Shape
 first_shape [] = new_shape []
@@ -66,101 +68,126 @@ first_shape (s ∷ rest) = s
 abbrev pub line : App
 line = built command_line
 
+abbrev pub check : Shape
+check = first_shape line.subs
+
 abbrev pub run : Shape
-run = first_shape line.subs
+run = first_shape (drop 1 line.subs)
+
+abbrev pub shape_of : Mode → Shape
+shape_of mode.Check = check
+shape_of mode.Run = run
 
 abbrev held : List Row → Option (Text × List Text) → Held
 held rows pending = record { rows = rows; pending = pending; skip = 0 }
 
--- what is held before the source: a limit or none
-abbrev before : Option Text → Held
-before None = held [] None
-before (Some n) = held [] (Some (codes "limit", n ∷ []))
+-- ---- the words after `run`
 
-abbrev rows_before : Option Text → List Row
-rows_before l = (settled run.rules (before l)).rows
+-- what is given before the source: no number, a limit or a burden
+pub data Given : Type 0 where
+  nothing : Given
+  limited : Text → Given
+  burdened : Text → Given
 
-abbrev source_met : Option Text → Text → Walk
-source_met l file = at idle 2 (held (rows_before l) (Some (codes "FILE", file ∷ [])))
+-- what is held before the source
+abbrev before : Given → Held
+before nothing = held [] None
+before (limited n) = held [] (Some (codes "limit", n ∷ []))
+before (burdened n) = held [] (Some (codes "burden", n ∷ []))
 
-abbrev rows_with : Option Text → Text → List Row
-rows_with l file = (settled run.rules (source_met l file).held).rows
+abbrev rows_before : Given → List Row
+rows_before g = (settled run.rules (before g)).rows
 
-abbrev args_met : Option Text → Text → Text → List Text → Walk
-args_met l file v vs = at positional 2 (held (rows_with l file) (Some (codes "ARGS", v ∷ vs)))
+abbrev source_met : Given → Text → Walk
+source_met g file = at idle 2 (held (rows_before g) (Some (codes "FILE", file ∷ [])))
 
-source_step : (l : Option Text) (file : Text) → IsPlain file → walked run.rules [] (at idle 1 (before l)) file ≡ source_met l file
-source_step None file plain = step run.rules idle 1 file (before None) refl plain
-source_step (Some n) file plain = step run.rules idle 1 file (before (Some n)) refl plain
+abbrev rows_with : Given → Text → List Row
+rows_with g file = (settled run.rules (source_met g file).held).rows
 
-source_turn : (l : Option Text) (file : Text) → IsPlain file → turn_fault run [] (at idle 1 (before l)) file ≡ []
-source_turn None file plain = turn run idle 1 file (before None) refl plain
-source_turn (Some n) file plain = turn run idle 1 file (before (Some n)) refl plain
+abbrev args_met : Given → Text → Text → List Text → Walk
+args_met g file v vs = at positional 2 (held (rows_with g file) (Some (codes "ARGS", v ∷ vs)))
 
-first_step : (l : Option Text) (file v : Text) → IsPlain v → walked run.rules [] (source_met l file) v ≡ args_met l file v []
-first_step l file v plain = step run.rules idle 2 v (source_met l file).held refl plain
+source_step : (g : Given) (file : Text) → IsPlain file → walked run.rules [] (at idle 1 (before g)) file ≡ source_met g file
+source_step nothing file plain = step run.rules idle 1 file (before nothing) refl plain
+source_step (limited n) file plain = step run.rules idle 1 file (before (limited n)) refl plain
+source_step (burdened n) file plain = step run.rules idle 1 file (before (burdened n)) refl plain
 
-first_turn : (l : Option Text) (file v : Text) → IsPlain v → turn_fault run [] (source_met l file) v ≡ []
-first_turn None file v plain = turn run idle 2 v (source_met None file).held refl plain
-first_turn (Some n) file v plain = turn run idle 2 v (source_met (Some n) file).held refl plain
+source_turn : (g : Given) (file : Text) → IsPlain file → turn_fault run [] (at idle 1 (before g)) file ≡ []
+source_turn nothing file plain = turn run idle 1 file (before nothing) refl plain
+source_turn (limited n) file plain = turn run idle 1 file (before (limited n)) refl plain
+source_turn (burdened n) file plain = turn run idle 1 file (before (burdened n)) refl plain
 
-next_step : (l : Option Text) (file v : Text) (vs : List Text) (word : Text) → IsPlain word → walked run.rules [] (args_met l file v vs) word ≡ args_met l file v (vs ++ word ∷ [])
-next_step l file v vs word plain = step run.rules positional 2 word (args_met l file v vs).held refl plain
+first_step : (g : Given) (file v : Text) → IsPlain v → walked run.rules [] (source_met g file) v ≡ args_met g file v []
+first_step g file v plain = step run.rules idle 2 v (source_met g file).held refl plain
 
-next_turn : (l : Option Text) (file v : Text) (vs : List Text) (word : Text) → IsPlain word → turn_fault run [] (args_met l file v vs) word ≡ []
-next_turn l file v vs word plain = turn run positional 2 word (args_met l file v vs).held refl plain
+first_turn : (g : Given) (file v : Text) → IsPlain v → turn_fault run [] (source_met g file) v ≡ []
+first_turn nothing file v plain = turn run idle 2 v (source_met nothing file).held refl plain
+first_turn (limited n) file v plain = turn run idle 2 v (source_met (limited n) file).held refl plain
+first_turn (burdened n) file v plain = turn run idle 2 v (source_met (burdened n) file).held refl plain
+
+next_step : (g : Given) (file v : Text) (vs : List Text) (word : Text) → IsPlain word → walked run.rules [] (args_met g file v vs) word ≡ args_met g file v (vs ++ word ∷ [])
+next_step g file v vs word plain = step run.rules positional 2 word (args_met g file v vs).held refl plain
+
+next_turn : (g : Given) (file v : Text) (vs : List Text) (word : Text) → IsPlain word → turn_fault run [] (args_met g file v vs) word ≡ []
+next_turn g file v vs word plain = turn run positional 2 word (args_met g file v vs).held refl plain
 
 all_rest : (x : Text) (xs : List Text) → All IsPlain (x ∷ xs) → All IsPlain xs
 all_rest x xs h k d lt = h (suc k) d (omega (arith, lt))
 
-rest_walk : (l : Option Text) (file v : Text) (vs rest : List Text) → All IsPlain rest → fold (walked run.rules []) (args_met l file v vs) rest ≡ args_met l file v (vs ++ rest)
-rest_walk l file v vs [] plain = ap (args_met l file v) (sym (append-nil vs))
-rest_walk l file v vs (word ∷ rest) plain =
-    ap (λ w. fold (walked run.rules []) w rest) (next_step l file v vs word (plain 0 word (omega arith)))
-    ∙ rest_walk l file v (vs ++ word ∷ []) rest (all_rest word rest plain) ∙ ap (args_met l file v) (append_assoc vs (word ∷ []) rest)
+rest_walk : (g : Given) (file v : Text) (vs rest : List Text) → All IsPlain rest → fold (walked run.rules []) (args_met g file v vs) rest ≡ args_met g file v (vs ++ rest)
+rest_walk g file v vs [] plain = ap (args_met g file v) (sym (append-nil vs))
+rest_walk g file v vs (word ∷ rest) plain =
+    ap (λ w. fold (walked run.rules []) w rest) (next_step g file v vs word (plain 0 word (omega arith)))
+    ∙ rest_walk g file v (vs ++ word ∷ []) rest (all_rest word rest plain) ∙ ap (args_met g file v) (append_assoc vs (word ∷ []) rest)
 
-rest_fault : (l : Option Text) (file v : Text) (vs rest : List Text) → All IsPlain rest → walk_fault run [] (args_met l file v vs) rest ≡ []
+rest_fault : (g : Given) (file v : Text) (vs rest : List Text) → All IsPlain rest → walk_fault run [] (args_met g file v vs) rest ≡ []
 unfolding walk_fault
-rest_fault l file v vs [] plain = refl
-rest_fault l file v vs (word ∷ rest) plain =
-    ap₂ (λ k w. or_else k (walk_fault run [] w rest)) (next_turn l file v vs word (plain 0 word (omega arith))) (next_step l file v vs word (plain 0 word (omega arith)))
-    ∙ rest_fault l file v (vs ++ word ∷ []) rest (all_rest word rest plain)
+rest_fault g file v vs [] plain = refl
+rest_fault g file v vs (word ∷ rest) plain =
+    ap₂ (λ k w. or_else k (walk_fault run [] w rest)) (next_turn g file v vs word (plain 0 word (omega arith))) (next_step g file v vs word (plain 0 word (omega arith)))
+    ∙ rest_fault g file v (vs ++ word ∷ []) rest (all_rest word rest plain)
 
 -- the walk's end
-abbrev end : Option Text → Text → List Text → Walk
-end l file [] = source_met l file
-end l file (v ∷ vs) = args_met l file v vs
+abbrev end : Given → Text → List Text → Walk
+end g file [] = source_met g file
+end g file (v ∷ vs) = args_met g file v vs
 
-args_walk : (l : Option Text) (file : Text) (args : List Text) → All IsPlain args → fold (walked run.rules []) (source_met l file) args ≡ end l file args
-args_walk l file [] plain = refl
-args_walk l file (v ∷ vs) plain = ap (λ w. fold (walked run.rules []) w vs) (first_step l file v (plain 0 v (omega arith))) ∙ rest_walk l file v [] vs (all_rest v vs plain)
+args_walk : (g : Given) (file : Text) (args : List Text) → All IsPlain args → fold (walked run.rules []) (source_met g file) args ≡ end g file args
+args_walk g file [] plain = refl
+args_walk g file (v ∷ vs) plain = ap (λ w. fold (walked run.rules []) w vs) (first_step g file v (plain 0 v (omega arith))) ∙ rest_walk g file v [] vs (all_rest v vs plain)
 
-args_fault : (l : Option Text) (file : Text) (args : List Text) → All IsPlain args → walk_fault run [] (source_met l file) args ≡ []
+args_fault : (g : Given) (file : Text) (args : List Text) → All IsPlain args → walk_fault run [] (source_met g file) args ≡ []
 unfolding walk_fault
-args_fault l file [] plain = refl
-args_fault l file (v ∷ vs) plain =
-    ap₂ (λ k w. or_else k (walk_fault run [] w vs)) (first_turn l file v (plain 0 v (omega arith))) (first_step l file v (plain 0 v (omega arith)))
-    ∙ rest_fault l file v [] vs (all_rest v vs plain)
+args_fault g file [] plain = refl
+args_fault g file (v ∷ vs) plain =
+    ap₂ (λ k w. or_else k (walk_fault run [] w vs)) (first_turn g file v (plain 0 v (omega arith))) (first_step g file v (plain 0 v (omega arith)))
+    ∙ rest_fault g file v [] vs (all_rest v vs plain)
 
-source_walk : (l : Option Text) (file : Text) (args : List Text) → IsPlain file → All IsPlain args → fold (walked run.rules []) (at idle 1 (before l)) (file ∷ args) ≡ end l file args
-source_walk l file args plain plains = ap (λ w. fold (walked run.rules []) w args) (source_step l file plain) ∙ args_walk l file args plains
+source_walk : (g : Given) (file : Text) (args : List Text) → IsPlain file → All IsPlain args → fold (walked run.rules []) (at idle 1 (before g)) (file ∷ args) ≡ end g file args
+source_walk g file args plain plains = ap (λ w. fold (walked run.rules []) w args) (source_step g file plain) ∙ args_walk g file args plains
 
-source_fault : (l : Option Text) (file : Text) (args : List Text) → IsPlain file → All IsPlain args → walk_fault run [] (at idle 1 (before l)) (file ∷ args) ≡ []
+source_fault : (g : Given) (file : Text) (args : List Text) → IsPlain file → All IsPlain args → walk_fault run [] (at idle 1 (before g)) (file ∷ args) ≡ []
 unfolding walk_fault
-source_fault l file args plain plains =
-    ap₂ (λ k w. or_else k (walk_fault run [] w args)) (source_turn l file plain) (source_step l file plain) ∙ args_fault l file args plains
+source_fault g file args plain plains =
+    ap₂ (λ k w. or_else k (walk_fault run [] w args)) (source_turn g file plain) (source_step g file plain) ∙ args_fault g file args plains
 
--- ---- the limit before the source
+-- ---- a number before the source
 
-abbrev limit_words : Option Text → List Text
-limit_words None = []
-limit_words (Some n) = codes "--limit" ∷ n ∷ []
+abbrev number_words : Given → List Text
+number_words nothing = []
+number_words (limited n) = codes "--limit" ∷ n ∷ []
+number_words (burdened n) = codes "--burden" ∷ n ∷ []
 
-abbrev IsLimit : Option Text → Type 0
-IsLimit None = Unit {0}
-IsLimit (Some n) = IsPlain n
+abbrev IsGiven : Given → Type 0
+IsGiven nothing = Unit {0}
+IsGiven (limited n) = IsPlain n
+IsGiven (burdened n) = IsPlain n
 
-limit_step : walked run.rules [] (walk_from nothing_held) (codes "--limit") ≡ at (option (codes "limit")) 1 (held [] (Some (codes "limit", [])))
+-- between the name of an option and its value
+abbrev waiting : Text → Walk
+waiting id = at (option id) 1 (held [] (Some (id, [])))
+
+limit_step : walked run.rules [] (walk_from nothing_held) (codes "--limit") ≡ waiting (codes "limit")
 unfolding clap_on_literals
 limit_step = refl
 
@@ -168,25 +195,61 @@ limit_turn : turn_fault run [] (walk_from nothing_held) (codes "--limit") ≡ []
 unfolding clap_on_literals
 limit_turn = refl
 
-value_step : (n : Text) → IsPlain n → walked run.rules [] (at (option (codes "limit")) 1 (held [] (Some (codes "limit", [])))) n ≡ at idle 1 (before (Some n))
-value_step n plain = step run.rules (option (codes "limit")) 1 n (held [] (Some (codes "limit", []))) refl plain
+burden_step : walked run.rules [] (walk_from nothing_held) (codes "--burden") ≡ waiting (codes "burden")
+unfolding clap_on_literals
+burden_step = refl
 
-value_turn : (n : Text) → IsPlain n → turn_fault run [] (at (option (codes "limit")) 1 (held [] (Some (codes "limit", [])))) n ≡ []
-value_turn n plain = turn run (option (codes "limit")) 1 n (held [] (Some (codes "limit", []))) refl plain
+burden_turn : turn_fault run [] (walk_from nothing_held) (codes "--burden") ≡ []
+unfolding clap_on_literals
+burden_turn = refl
 
-words_walk : (l : Option Text) (file : Text) (args : List Text) → IsLimit l → IsPlain file → All IsPlain args
-    → fold (walked run.rules []) (walk_from nothing_held) (limit_words l ++ file ∷ args) ≡ end l file args
-words_walk None file args limit plain plains = source_walk None file args plain plains
-words_walk (Some n) file args limit plain plains =
-    ap (λ w. fold (walked run.rules []) w (n ∷ file ∷ args)) limit_step ∙ ap (λ w. fold (walked run.rules []) w (file ∷ args)) (value_step n limit) ∙ source_walk (Some n) file args plain plains
+limit_value_step : (n : Text) → IsPlain n → walked run.rules [] (waiting (codes "limit")) n ≡ at idle 1 (before (limited n))
+limit_value_step n plain = step run.rules (option (codes "limit")) 1 n (waiting (codes "limit")).held refl plain
 
-words_fault : (l : Option Text) (file : Text) (args : List Text) → IsLimit l → IsPlain file → All IsPlain args
-    → walk_fault run [] (walk_from nothing_held) (limit_words l ++ file ∷ args) ≡ []
+limit_value_turn : (n : Text) → IsPlain n → turn_fault run [] (waiting (codes "limit")) n ≡ []
+limit_value_turn n plain = turn run (option (codes "limit")) 1 n (waiting (codes "limit")).held refl plain
+
+burden_value_step : (n : Text) → IsPlain n → walked run.rules [] (waiting (codes "burden")) n ≡ at idle 1 (before (burdened n))
+burden_value_step n plain = step run.rules (option (codes "burden")) 1 n (waiting (codes "burden")).held refl plain
+
+burden_value_turn : (n : Text) → IsPlain n → turn_fault run [] (waiting (codes "burden")) n ≡ []
+burden_value_turn n plain = turn run (option (codes "burden")) 1 n (waiting (codes "burden")).held refl plain
+
+words_walk : (g : Given) (file : Text) (args : List Text) → IsGiven g → IsPlain file → All IsPlain args
+    → fold (walked run.rules []) (walk_from nothing_held) (number_words g ++ file ∷ args) ≡ end g file args
+words_walk nothing file args given plain plains = source_walk nothing file args plain plains
+words_walk (limited n) file args given plain plains =
+    ap (λ w. fold (walked run.rules []) w (n ∷ file ∷ args)) limit_step ∙ ap (λ w. fold (walked run.rules []) w (file ∷ args)) (limit_value_step n given)
+    ∙ source_walk (limited n) file args plain plains
+words_walk (burdened n) file args given plain plains =
+    ap (λ w. fold (walked run.rules []) w (n ∷ file ∷ args)) burden_step ∙ ap (λ w. fold (walked run.rules []) w (file ∷ args)) (burden_value_step n given)
+    ∙ source_walk (burdened n) file args plain plains
+
+words_fault : (g : Given) (file : Text) (args : List Text) → IsGiven g → IsPlain file → All IsPlain args
+    → walk_fault run [] (walk_from nothing_held) (number_words g ++ file ∷ args) ≡ []
 unfolding walk_fault
-words_fault None file args limit plain plains = source_fault None file args plain plains
-words_fault (Some n) file args limit plain plains =
+words_fault nothing file args given plain plains = source_fault nothing file args plain plains
+words_fault (limited n) file args given plain plains =
     ap₂ (λ k w. or_else k (walk_fault run [] w (n ∷ file ∷ args))) limit_turn limit_step
-    ∙ ap₂ (λ k w. or_else k (walk_fault run [] w (file ∷ args))) (value_turn n limit) (value_step n limit) ∙ source_fault (Some n) file args plain plains
+    ∙ ap₂ (λ k w. or_else k (walk_fault run [] w (file ∷ args))) (limit_value_turn n given) (limit_value_step n given) ∙ source_fault (limited n) file args plain plains
+words_fault (burdened n) file args given plain plains =
+    ap₂ (λ k w. or_else k (walk_fault run [] w (n ∷ file ∷ args))) burden_turn burden_step
+    ∙ ap₂ (λ k w. or_else k (walk_fault run [] w (file ∷ args))) (burden_value_turn n given) (burden_value_step n given) ∙ source_fault (burdened n) file args plain plains
+
+-- ---- the word after `check`
+
+abbrev check_met : Text → Walk
+check_met file = at idle 2 (held [] (Some (codes "FILE", file ∷ [])))
+
+check_step : (file : Text) → IsPlain file → walked check.rules [] (walk_from nothing_held) file ≡ check_met file
+check_step file plain = step check.rules idle 1 file nothing_held refl plain
+
+check_turn : (file : Text) → IsPlain file → turn_fault check [] (walk_from nothing_held) file ≡ []
+check_turn file plain = turn check idle 1 file nothing_held refl plain
+
+check_walk_fault : (file : Text) → IsPlain file → walk_fault check [] (walk_from nothing_held) (file ∷ []) ≡ []
+unfolding walk_fault
+check_walk_fault file plain = ap (λ k. or_else k []) (check_turn file plain)
 
 -- ---- the checks after the words
 
@@ -202,76 +265,106 @@ abbrev pub level : Shape → Walk → Bool → Kinds → Kinds → Kinds → Kin
 level s w has walk below settle =
     or_else walk (or_else below (or_else settle (or_else (defaults_fault (settled s.rules w.held).rows s.rules) (check_fault s (finished s.rules w.held) has))))
 
-abbrev pub run_level : Walk → Kinds → Kinds
-run_level w walk = level run w false walk [] (settle_fault run.rules run.args_override_self w.held)
+abbrev command_level : Shape → Walk → Kinds → Kinds
+command_level s w walk = level s w false walk [] (settle_fault s.rules s.args_override_self w.held)
 
-end_level : (l : Option Text) (file : Text) (args : List Text) → length args < 2 ^ 64 → run_level (end l file args) [] ≡ []
+end_level : (g : Given) (file : Text) (args : List Text) → length args < 2 ^ 64 → command_level run (end g file args) [] ≡ []
 unfolding defaults_fault
-end_level None file [] lt = refl
-end_level (Some n) file [] lt = refl
-end_level None file (v ∷ vs) lt = ap (level run (end None file (v ∷ vs)) false [] []) (ap₂ or_else (range_fits (length (v ∷ vs)) lt) (values_accepted false (v ∷ vs)))
-end_level (Some n) file (v ∷ vs) lt = ap (level run (end (Some n) file (v ∷ vs)) false [] []) (ap₂ or_else (range_fits (length (v ∷ vs)) lt) (values_accepted false (v ∷ vs)))
+end_level nothing file [] lt = refl
+end_level (limited n) file [] lt = refl
+end_level (burdened n) file [] lt = refl
+end_level nothing file (v ∷ vs) lt = ap (level run (end nothing file (v ∷ vs)) false [] []) (ap₂ or_else (range_fits (length (v ∷ vs)) lt) (values_accepted false (v ∷ vs)))
+end_level (limited n) file (v ∷ vs) lt = ap (level run (end (limited n) file (v ∷ vs)) false [] []) (ap₂ or_else (range_fits (length (v ∷ vs)) lt) (values_accepted false (v ∷ vs)))
+end_level (burdened n) file (v ∷ vs) lt = ap (level run (end (burdened n) file (v ∷ vs)) false [] []) (ap₂ or_else (range_fits (length (v ∷ vs)) lt) (values_accepted false (v ∷ vs)))
 
--- ---- the word `run`
+check_level : (file : Text) → command_level check (check_met file) [] ≡ []
+unfolding defaults_fault
+check_level file = refl
 
-abbrev pub stopped_at : List Text → Walk
-stopped_at words = record { held = nothing_held; waiting = idle; position = 1; is_trailing = false; stopped = Some (codes "run", words) }
+-- ---- the word for the command
 
-pub run_step : walked line.top.rules (names_of line) (walk_from nothing_held) (codes "run") ≡ stopped_at []
+abbrev pub stopped_at : Text → List Text → Walk
+stopped_at name words = record { held = nothing_held; waiting = idle; position = 1; is_trailing = false; stopped = Some (name, words) }
+
+command_step : (m : Mode) → walked line.top.rules (names_of line) (walk_from nothing_held) (command_name m) ≡ stopped_at (command_name m) []
 unfolding clap_on_literals
-run_step = refl
+command_step mode.Check = refl
+command_step mode.Run = refl
 
-run_turn : turn_fault line.top (names_of line) (walk_from nothing_held) (codes "run") ≡ []
+command_turn : (m : Mode) → turn_fault line.top (names_of line) (walk_from nothing_held) (command_name m) ≡ []
 unfolding clap_on_literals
-run_turn = refl
+command_turn mode.Check = refl
+command_turn mode.Run = refl
 
-pub stopped_walk : (words rest : List Text) → fold (walked line.top.rules (names_of line)) (stopped_at words) rest ≡ stopped_at (words ++ rest)
+pub stopped_walk : (name : Text) (words rest : List Text) → fold (walked line.top.rules (names_of line)) (stopped_at name words) rest ≡ stopped_at name (words ++ rest)
 unfolding walked
-stopped_walk words [] = ap stopped_at (sym (append-nil words))
-stopped_walk words (w ∷ rest) = stopped_walk (words ++ w ∷ []) rest ∙ ap stopped_at (append_assoc words (w ∷ []) rest)
+stopped_walk name words [] = ap (stopped_at name) (sym (append-nil words))
+stopped_walk name words (w ∷ rest) = stopped_walk name (words ++ w ∷ []) rest ∙ ap (stopped_at name) (append_assoc words (w ∷ []) rest)
 
-stopped_fault : (words rest : List Text) → walk_fault line.top (names_of line) (stopped_at words) rest ≡ []
+stopped_fault : (name : Text) (words rest : List Text) → walk_fault line.top (names_of line) (stopped_at name words) rest ≡ []
 unfolding walked walk_fault
-stopped_fault words [] = refl
-stopped_fault words (w ∷ rest) = stopped_fault (words ++ w ∷ []) rest
+stopped_fault name words [] = refl
+stopped_fault name words (w ∷ rest) = stopped_fault name (words ++ w ∷ []) rest
 
-top_walk : (rest : List Text) → walk line.top.rules (names_of line) nothing_held (codes "run" ∷ rest) ≡ stopped_at rest
-top_walk rest = ap (λ w. fold (walked line.top.rules (names_of line)) w rest) run_step ∙ stopped_walk [] rest
+top_walk : (m : Mode) (rest : List Text) → walk line.top.rules (names_of line) nothing_held (command_name m ∷ rest) ≡ stopped_at (command_name m) rest
+top_walk m rest = ap (λ w. fold (walked line.top.rules (names_of line)) w rest) (command_step m) ∙ stopped_walk (command_name m) [] rest
 
-top_fault : (rest : List Text) → walk_fault line.top (names_of line) (walk_from nothing_held) (codes "run" ∷ rest) ≡ []
+top_fault : (m : Mode) (rest : List Text) → walk_fault line.top (names_of line) (walk_from nothing_held) (command_name m ∷ rest) ≡ []
 unfolding walk_fault
-top_fault rest = ap₂ (λ k w. or_else k (walk_fault line.top (names_of line) w rest)) run_turn run_step ∙ stopped_fault [] rest
+top_fault m rest = ap₂ (λ k w. or_else k (walk_fault line.top (names_of line) w rest)) (command_turn m) (command_step m) ∙ stopped_fault (command_name m) [] rest
 
-abbrev pub top_level : Walk → Kinds → Kinds
+abbrev top_level : Walk → Kinds → Kinds
 top_level w walk = level line.top w (is_some (entered line w.stopped)) walk (entered_fault line w.stopped) (settle_fault line.top.rules line.top.args_override_self w.held)
 
--- after `run` the words go to its own level
-run_faults : (rest : List Text) → run_level (walk run.rules [] nothing_held rest) (walk_fault run [] (walk_from nothing_held) rest) ≡ [] → faults (codes "run" ∷ rest) ≡ []
+-- after the word for a command the words go to its own level
+command_faults : (m : Mode) (rest : List Text) → command_level (shape_of m) (walk (shape_of m).rules [] nothing_held rest) (walk_fault (shape_of m) [] (walk_from nothing_held) rest) ≡ []
+    → faults (command_name m ∷ rest) ≡ []
 unfolding defaults_fault
-run_faults rest none = ap₂ top_level (top_walk rest) (top_fault rest) ∙ ap (λ k. or_else k []) none
+command_faults mode.Check rest none = ap₂ top_level (top_walk mode.Check rest) (top_fault mode.Check rest) ∙ ap (λ k. or_else k []) none
+command_faults mode.Run rest none = ap₂ top_level (top_walk mode.Run rest) (top_fault mode.Run rest) ∙ ap (λ k. or_else k []) none
 
-run_rows : (rest : List Text) → subcommand_of command_line (codes "run" ∷ rest) ≡ Some (codes "run", finished run.rules (walk run.rules [] nothing_held rest).held)
-run_rows rest = ap (λ w. entered line w.stopped) (top_walk rest)
+command_rows : (m : Mode) (rest : List Text) → subcommand_of command_line (command_name m ∷ rest) ≡ Some (command_name m, finished (shape_of m).rules (walk (shape_of m).rules [] nothing_held rest).held)
+command_rows mode.Check rest = ap (λ w. entered line w.stopped) (top_walk mode.Check rest)
+command_rows mode.Run rest = ap (λ w. entered line w.stopped) (top_walk mode.Run rest)
 
 -- ---- what the words are read as
 
-abbrev limit_of : Option Text → Text
-limit_of None = usual_limit_word
-limit_of (Some n) = n
+abbrev numbers_given : Given → List Text
+numbers_given nothing = limit_row.usual ∷ burden_row.usual ∷ []
+numbers_given (limited n) = n ∷ burden_row.usual ∷ []
+numbers_given (burdened n) = limit_row.usual ∷ n ∷ []
 
-end_rows : (words : List Text) (l : Option Text) (file : Text) (args : List Text) → HaveRun words (finished run.rules (end l file args).held) → AreRead words file args (limit_of l)
-end_rows words None file [] h = record { rows = _; run = h; file_is = refl; args_are = refl; limit_is = refl }
-end_rows words None file (v ∷ vs) h = record { rows = _; run = h; file_is = refl; args_are = refl; limit_is = refl }
-end_rows words (Some n) file [] h = record { rows = _; run = h; file_is = refl; args_are = refl; limit_is = refl }
-end_rows words (Some n) file (v ∷ vs) h = record { rows = _; run = h; file_is = refl; args_are = refl; limit_is = refl }
+abbrev ran : Given → Text → List Text → Words
+ran g file args = record { mode = mode.Run; file = file; args = args; numbers = numbers_given g }
 
-pub are_read : (l : Option Text) (file : Text) (args : List Text) → IsLimit l → IsPlain file → All IsPlain args → length args < 2 ^ 64
-    → AreRead (codes "run" ∷ limit_words l ++ file ∷ args) file args (limit_of l)
-are_read l file args limit plain plains few =
-    let rest = limit_words l ++ file ∷ args in
-    let walked_is = words_walk l file args limit plain plains in
-    let none = ap₂ run_level walked_is (words_fault l file args limit plain plains) ∙ end_level l file args few in
-    end_rows (codes "run" ∷ rest) l file args (run_faults rest none, run_rows rest ∙ ap (λ w. Some (codes "run", finished run.rules w.held)) walked_is)
+end_rows : (words : List Text) (g : Given) (file : Text) (args : List Text) → HaveCommand words mode.Run (finished run.rules (end g file args).held) → AreRead words (ran g file args)
+end_rows words nothing file [] h = record { rows = _; command = h; file_is = refl; args_are = refl; numbers_are = refl }
+end_rows words nothing file (v ∷ vs) h = record { rows = _; command = h; file_is = refl; args_are = refl; numbers_are = refl }
+end_rows words (limited n) file [] h = record { rows = _; command = h; file_is = refl; args_are = refl; numbers_are = refl }
+end_rows words (limited n) file (v ∷ vs) h = record { rows = _; command = h; file_is = refl; args_are = refl; numbers_are = refl }
+end_rows words (burdened n) file [] h = record { rows = _; command = h; file_is = refl; args_are = refl; numbers_are = refl }
+end_rows words (burdened n) file (v ∷ vs) h = record { rows = _; command = h; file_is = refl; args_are = refl; numbers_are = refl }
+
+pub are_read : (g : Given) (file : Text) (args : List Text) → IsGiven g → IsPlain file → All IsPlain args → length args < 2 ^ 64
+    → AreRead (codes "run" ∷ number_words g ++ file ∷ args) (ran g file args)
+are_read g file args given plain plains few =
+    let rest = number_words g ++ file ∷ args in
+    let walked_is = words_walk g file args given plain plains in
+    let none = ap₂ (command_level run) walked_is (words_fault g file args given plain plains) ∙ end_level g file args few in
+    end_rows (codes "run" ∷ rest) g file args (command_faults mode.Run rest none, command_rows mode.Run rest ∙ ap (λ w. Some (codes "run", finished run.rules w.held)) walked_is)
+
+pub check_is_read : (file : Text) → IsPlain file → AreRead (codes "check" ∷ file ∷ []) (checking file)
+check_is_read file plain =
+    let rest = file ∷ [] in
+    let walked_is = check_step file plain in
+    let none = ap₂ (command_level check) walked_is (check_walk_fault file plain) ∙ check_level file in
+    record {
+      rows = finished check.rules (check_met file).held;
+      command = (command_faults mode.Check rest none, command_rows mode.Check rest ∙ ap (λ w. Some (codes "check", finished check.rules w.held)) walked_is);
+      file_is = refl;
+      args_are = refl;
+      numbers_are = refl;
+    }
 
 -- ---- what a request of the words is
 
@@ -279,14 +372,29 @@ abbrev rows_in : Option (Text × List Row) → List Row
 rows_in None = []
 rows_in (Some p) = p.1
 
-pub same_rows : (words : List Text) (rows rows' : List Row) → HaveRun words rows → HaveRun words rows' → rows ≡ rows'
-same_rows words rows rows' h k = ap rows_in (sym h.1 ∙ k.1)
+abbrev name_in : Option (Text × List Row) → Text
+name_in None = []
+name_in (Some p) = p.0
 
-pub read_once : (words : List Text) (file file' : Text) (args args' : List Text) (limit limit' : Text) → AreRead words file args limit → AreRead words file' args' limit'
-    → (file ≡ file') × (args ≡ args') × (limit ≡ limit')
-read_once words file file' args args' limit limit' h k =
-    let same = same_rows words h.rows k.rows h.run k.run in (
-      ap (λ o. unwrap_or o []) (sym h.file_is ∙ ap (first_of (codes "FILE")) same ∙ k.file_is),
-      sym h.args_are ∙ ap (λ rows. texts_of rows (codes "ARGS")) same ∙ k.args_are,
-      sym h.limit_is ∙ ap limit_text same ∙ k.limit_is,
-    )
+pub same_rows : (words : List Text) (m m' : Mode) (rows rows' : List Row) → HaveCommand words m rows → HaveCommand words m' rows' → rows ≡ rows'
+same_rows words m m' rows rows' h k = ap rows_in (sym h.1 ∙ k.1)
+
+same_mode : (m m' : Mode) → command_name m ≡ command_name m' → m ≡ m'
+same_mode mode.Check mode.Check e = refl
+same_mode mode.Check mode.Run e = let n = ap length e in absurd (omega (arith, n))
+same_mode mode.Run mode.Check e = let n = ap length e in absurd (omega (arith, n))
+same_mode mode.Run mode.Run e = refl
+
+words_are : (a b : Words) → a.mode ≡ b.mode → a.file ≡ b.file → a.args ≡ b.args → a.numbers ≡ b.numbers → a ≡ b
+words_are a b m f xs ns =
+    ap (λ x. record a { mode = x }) m ∙ ap (λ x. record a { mode = b.mode; file = x }) f
+    ∙ ap (λ x. record a { mode = b.mode; file = b.file; args = x }) xs ∙ ap (λ x. record b { numbers = x }) ns
+
+pub read_once : (given : List Text) (words words' : Words) → AreRead given words → AreRead given words' → words ≡ words'
+read_once given words words' h k =
+    let same = same_rows given words.mode words'.mode h.rows k.rows h.command k.command in
+    words_are words words'
+    (same_mode words.mode words'.mode (ap name_in (sym h.command.1 ∙ k.command.1)))
+    (ap (λ o. unwrap_or o []) (sym h.file_is ∙ ap (first_of (codes "FILE")) same ∙ k.file_is))
+    (sym h.args_are ∙ ap (λ rows. texts_of rows (codes "ARGS")) same ∙ k.args_are)
+    (sym h.numbers_are ∙ ap numbers_of same ∙ k.numbers_are)

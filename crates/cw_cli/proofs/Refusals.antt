@@ -1,5 +1,5 @@
 -- A stage that refuses its input refuses the bytes.
-use Rattle.std.proofs.Common.{◌≡◌, ℕ, List, [], Result, Ok, Err, MatchResult, IsErrAnd, subst, sym, ap, ◌∙◌}
+use Rattle.std.proofs.Common.{◌≡◌, ℕ, List, [], Option, Some, None, Result, Ok, Err, MatchResult, IsErrAnd, subst, sym, ap, ◌∙◌}
 use Rattle.cw_model.specs.declared.token.Token.{Token}
 use Rattle.cw_model.specs.Syntax.{Program}
 use Rattle.cw_model.specs.Text.{IsSourceText}
@@ -14,6 +14,9 @@ use Rattle.cw_types.specs.declared.tree.Tree.{Tree}
 use Rattle.cw_own.specs.Faults.{BreaksOwnership}
 use Rattle.cw_gen.specs.Generates as gen
 use Rattle.cw_code.specs.Code.{Code}
+use Rattle.cw_model.specs.Lines.{lowest}
+use Rattle.cw_model.proofs.Lowest.{least_line, no_lines}
+use Rattle.cw_cli.specs.Later.{later_lines}
 use Rattle.cw_cli.specs.Sources
 use Rattle.cw_cli.specs.Compiled.{IsCompiled}
 
@@ -59,19 +62,27 @@ module _ (bytes : List ℕ) (program : Program) (source : Sources.IsSourceOf byt
     is_program : program_of other ≡ program
     is_program = ap program_of same ∙ typed.same
 
-    keeps : ownership_faults program ≡ []
-    keeps = subst (λ p. ownership_faults p ≡ []) is_program owned
+    accepted : Sources.IsAccepted bytes program
+    accepted = record { source = source; within = typed.within; typed = typed.typed; owned = subst (λ p. ownership_faults p ≡ []) is_program owned }
 
-    code_refused : (f : Fault) → gen.Why program f → Sources.IsRefused bytes f
-    code_refused (fault.Size p) h = Sources.code program source typed.within typed.typed keeps h
-    code_refused fault.Memory h = tt
-    code_refused _ h = absurd h
+    -- an accepted program that holds what is not compiled so far
+    pub tree_later : (line : ℕ) → lowest None (later_lines program) ≡ Some line → Sources.PassesLimit bytes line
+    tree_later line h = Sources.later program accepted (least_line (later_lines program) line h)
 
-    -- the code of the owned tree
-    pub tree_too_large : (f : Fault) → gen.Why (program_of other) f → Sources.IsRefused bytes f
-    tree_too_large f h = code_refused f (subst (λ p. gen.Why p f) is_program h)
+    module _ (none : lowest None (later_lines program) ≡ None) where
+      taken : later_lines program ≡ []
+      taken = no_lines (later_lines program) none
 
-    pub compiled : (code : Code) → gen.Generates (program_of other) code → IsCompiled bytes code
-    compiled code h =
-        let g : gen.Generates program code = subst (λ p. gen.Generates p code) is_program h in
-        record { program = program; compiles = record { source = source; within = typed.within; typed = typed.typed; owned = keeps; small = g.small }; generates = g }
+      code_refused : (f : Fault) → gen.Why program f → Sources.IsRefused bytes f
+      code_refused (fault.Size p) h = Sources.code program accepted taken h
+      code_refused fault.Memory h = tt
+      code_refused _ h = absurd h
+
+      -- the code of the owned tree
+      pub tree_too_large : (f : Fault) → gen.Why (program_of other) f → Sources.IsRefused bytes f
+      tree_too_large f h = code_refused f (subst (λ p. gen.Why p f) is_program h)
+
+      pub compiled : (code : Code) → gen.Generates (program_of other) code → IsCompiled bytes code
+      compiled code h =
+          let g : gen.Generates program code = subst (λ p. gen.Generates p code) is_program h in
+          record { program = program; compiles = record { accepted = accepted; taken = taken; small = g.small }; generates = g }

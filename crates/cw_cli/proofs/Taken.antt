@@ -1,4 +1,4 @@
--- Words that are taken have `run` and a source.
+-- Words that are taken have a command and a source.
 use Rattle.std.proofs.Common.{◌≡◌, ◌⊎◌, inl, inr, ap, sym, refl, subst, ◌∙◌, ℕ, zero, suc, Bool, true, false, cond, not, ◌&&◌, ◌||◌, drop, List, [], ◌∷◌, length, Option, Some, None, codes, is_some}
 use Rattle.std.specs.Prelude.{encode_utf8, find, slice_get, option_map, if◌then◌else◌}
 use Rattle.std.specs.Option.{option_map_or}
@@ -11,8 +11,10 @@ use Rattle.clap.specs.Simple.{Shape, new_rule, entered, names_of}
 use Rattle.clap.specs.Takes.{is_given}
 use Rattle.clap.specs.Faults.{other_fault, turn_fault, walk_fault, step_fault, flag_word_fault, bundle_fault, flags_fault, bundle_step_fault, long_fault, short_fault, check_fault, defaults_fault, entered_fault, settle_fault}
 use Rattle.clap.specs.declared.error.ErrorKind.TheVariants as kind
-use Rattle.cw_cli.specs.Requests.{AreRead, faults, limit_text, texts_of}
-use Rattle.cw_cli.proofs.Reading.{line, run, level, stopped_at, stopped_walk}
+use Rattle.cw_cli.specs.Requests.{AreRead, Words, command_name, faults, words_in}
+use Rattle.cw_cli.specs.declared.asked.Mode.{Mode}
+use Rattle.cw_cli.specs.declared.asked.Mode.TheVariants as mode
+use Rattle.cw_cli.proofs.Reading.{check, line, run, level, shape_of, stopped_at, stopped_walk}
 use Rattle.cw_cli.proofs.Filled.{NamesNoSource, NotSource, filled_finished, given_first}
 
 both_none : (a b : Kinds) → or_else a b ≡ [] → (a ≡ []) × (b ≡ [])
@@ -26,7 +28,7 @@ find_one test x = go (test x)
     go true = inr refl
     go false = inl refl
 
--- ---- the words before `run`
+-- ---- the words before the command
 
 abbrev names : Names
 names = names_of line
@@ -90,9 +92,9 @@ flag_refused (Some p) word h = long_refused p.0 p.1 (both_none _ _ h).0
 abbrev none_of : Kinds
 none_of = []
 
--- the walk stops at `run`, or at no word
+-- the walk stops at a command, or at no word
 abbrev Stops : Walk → Type 0
-Stops w = (w.stopped ≡ None) ⊎ ((rest : List Text) × (w ≡ stopped_at rest))
+Stops w = (w.stopped ≡ None) ⊎ ((m : Mode) × (rest : List Text) × (w ≡ stopped_at (command_name m) rest))
 
 abbrev walk_on : Walk → List Text → Walk
 walk_on w words = fold (walked rules names) w words
@@ -128,28 +130,29 @@ dashes_stop word words true e met is h =
     subst (λ w. Stops (walk_on w words)) (sym same) (trailing_stops words (subst (λ w. walk_fault line.top names w words ≡ []) same h))
 dashes_stop word words false e met is h = absurd (flag_refused (long_of word) word e)
 
-by_name : (o : Option Text) (word : Text) (words : List Text) → (o ≡ None) ⊎ ((o ≡ Some (codes "run")) ⊎ (o ≡ Some (codes "help"))) → turn_by o word ≡ []
+by_name : (o : Option Text) (word : Text) (words : List Text) → (o ≡ None) ⊎ (((m : Mode) × (o ≡ Some (command_name m))) ⊎ (o ≡ Some (codes "help"))) → turn_by o word ≡ []
     → walk_fault line.top names (walked_by o word) words ≡ [] → Stops (walk_on (walked_by o word) words)
 by_name None word words is e h = dashes_stop word words (bytes_eq word (45 ∷ 45 ∷ [])) e _ refl h
 by_name (Some name) word words (inl is) e h = cc
-by_name (Some name) word words (inr (inl is)) e h =
-    let same : walked_by (Some name) word ≡ stopped_at [] = ap (λ o. walked_by o word) is in
-    inr (words, ap (λ w. walk_on w words) same ∙ stopped_walk [] words)
+by_name (Some name) word words (inr (inl (m, is))) e h =
+    let same : walked_by (Some name) word ≡ stopped_at (command_name m) [] = ap (λ o. walked_by o word) is in
+    inr (m, words, ap (λ w. walk_on w words) same ∙ stopped_walk (command_name m) [] words)
 by_name (Some name) word words (inr (inr is)) e h = absurd (no (subst (λ o. turn_by o word ≡ []) is e))
   where
     no : turn_by (Some (codes "help")) word ≡ [] → ⊥
     no t = cc
 
-subcommand_is : (word : Text) → (subcommand_met names idle word ≡ None) ⊎ ((subcommand_met names idle word ≡ Some (codes "run")) ⊎ (subcommand_met names idle word ≡ Some (codes "help")))
-subcommand_is word = go (bytes_eq (codes "run") word) (bytes_eq (codes "help") word)
+subcommand_is : (word : Text) → (subcommand_met names idle word ≡ None) ⊎ (((m : Mode) × (subcommand_met names idle word ≡ Some (command_name m))) ⊎ (subcommand_met names idle word ≡ Some (codes "help")))
+subcommand_is word = go (bytes_eq (codes "check") word) (bytes_eq (codes "run") word) (bytes_eq (codes "help") word)
   where
-    name : Bool → Bool → Option Text
-    name a b = option_map (λ (s : Text × List Text). s.0) (cond (a || false) (Some (codes "run", [])) (cond (b || false) (Some (codes "help", [])) None))
+    name : Bool → Bool → Bool → Option Text
+    name a b c = option_map (λ (s : Text × List Text). s.0) (cond (a || false) (Some (codes "check", [])) (cond (b || false) (Some (codes "run", [])) (cond (c || false) (Some (codes "help", [])) None)))
 
-    go : (a b : Bool) → (name a b ≡ None) ⊎ ((name a b ≡ Some (codes "run")) ⊎ (name a b ≡ Some (codes "help")))
-    go true b = inr (inl refl)
-    go false true = inr (inr refl)
-    go false false = inl refl
+    go : (a b c : Bool) → (name a b c ≡ None) ⊎ (((m : Mode) × (name a b c ≡ Some (command_name m))) ⊎ (name a b c ≡ Some (codes "help")))
+    go true b c = inr (inl (mode.Check, refl))
+    go false true c = inr (inl (mode.Run, refl))
+    go false false true = inr (inr refl)
+    go false false false = inl refl
 
 stops : (words : List Text) → walk_fault line.top names start words ≡ [] → Stops (walk_on start words)
 unfolding walk_fault walked
@@ -157,26 +160,39 @@ stops [] h = inl refl
 stops (word ∷ words) h = let parts = both_none (turn_by (subcommand_met names idle word) word) (walk_fault line.top names (walked_by (subcommand_met names idle word) word) words) h in
     by_name (subcommand_met names idle word) word words (subcommand_is word) parts.0 parts.1
 
--- ---- the words after `run`
+-- ---- the words after the command
 
-limit_or_help : (a b : Bool) → NotSource (cond a (Some (first (drop 2 run.rules))) (cond b (Some (first (drop 3 run.rules))) None))
-limit_or_help true b = λ is. cc
-limit_or_help false true = λ is. cc
-limit_or_help false false = tt
+number_or_help : (a b c : Bool) → NotSource (cond a (Some (first (drop 2 run.rules))) (cond b (Some (first (drop 3 run.rules))) (cond c (Some (first (drop 4 run.rules))) None)))
+number_or_help true b c = λ is. cc
+number_or_help false true c = λ is. cc
+number_or_help false false true = λ is. cc
+number_or_help false false false = tt
 
-no_flag_of_source : NamesNoSource run.rules
-no_flag_of_source = (
-  (λ name. limit_or_help (has_long (first (drop 2 run.rules)) name) (has_long (first (drop 3 run.rules)) name)),
-  (λ x. limit_or_help false (has_short (first (drop 3 run.rules)) x)),
+help_or_none : (a : Bool) → NotSource (cond a (Some (first (drop 1 check.rules))) None)
+help_or_none true = λ is. cc
+help_or_none false = tt
+
+no_flag_of_source : (m : Mode) → NamesNoSource (shape_of m).rules
+no_flag_of_source mode.Check = (
+  (λ name. help_or_none (has_long (first (drop 1 check.rules)) name)),
+  (λ x. help_or_none (has_short (first (drop 1 check.rules)) x)),
+)
+no_flag_of_source mode.Run = (
+  (λ name. number_or_help (has_long (first (drop 2 run.rules)) name) (has_long (first (drop 3 run.rules)) name) (has_long (first (drop 4 run.rules)) name)),
+  (λ x. number_or_help false false (has_short (first (drop 4 run.rules)) x)),
 )
 
 -- a source is required
-source_given : (rows : List Row) → check_fault run rows false ≡ [] → is_given (codes "FILE") rows ≡ true
-source_given rows h = go (is_given (codes "FILE") rows) h
+source_given : (m : Mode) (rows : List Row) → check_fault (shape_of m) rows false ≡ [] → is_given (codes "FILE") rows ≡ true
+source_given m rows h = go (is_given (codes "FILE") rows) (of_mode m h)
   where
     go : (g : Bool) → (if not g || false then kind.MissingRequiredArgument ∷ [] else none_of) ≡ [] → g ≡ true
     go true e = refl
     go false e = cc
+
+    of_mode : (m : Mode) → check_fault (shape_of m) rows false ≡ [] → (if not (is_given (codes "FILE") rows) || false then kind.MissingRequiredArgument ∷ [] else none_of) ≡ []
+    of_mode mode.Check e = e
+    of_mode mode.Run e = e
 
 -- and a subcommand
 stopped_somewhere : (rows : List Row) (w : Walk) → w.stopped ≡ None → check_fault line.top rows (is_some (entered line w.stopped)) ≡ [] → ⊥
@@ -199,27 +215,39 @@ some_text : (o : Option Text) → is_some o ≡ true → (t : Text) × (o ≡ So
 some_text None h = cc
 some_text (Some t) h = (t, refl)
 
-pub taken : (words : List Text) → faults words ≡ [] → (file : Text) × (args : List Text) × (limit : Text) × AreRead words file args limit
-taken words h =
-    let w = walk_on start words in
-    let top = level_passes line.top w (is_some (entered line w.stopped)) (walk_fault line.top names start words) (entered_fault line w.stopped) (settle_fault rules line.top.args_override_self w.held) h in
-    elim (stops words top.0) [
+-- the level of a command, where the words enter it
+below_of : (m : Mode) (rest : List Text) → entered_fault line (Some (command_name m, rest)) ≡ []
+    → check_fault (shape_of m) (finished (shape_of m).rules (walk (shape_of m).rules [] nothing_held rest).held) false ≡ []
+below_of mode.Check rest h =
+    let end = walk check.rules [] nothing_held rest in
+    (level_passes check end false (walk_fault check [] start rest) [] (settle_fault check.rules check.args_override_self end.held) h).2
+below_of mode.Run rest h =
+    let end = walk run.rules [] nothing_held rest in
+    (level_passes run end false (walk_fault run [] start rest) [] (settle_fault run.rules run.args_override_self end.held) h).2
+
+entered_is : (m : Mode) (rest : List Text) → entered line (Some (command_name m, rest)) ≡ Some (command_name m, finished (shape_of m).rules (walk (shape_of m).rules [] nothing_held rest).held)
+entered_is mode.Check rest = refl
+entered_is mode.Run rest = refl
+
+pub taken : (given : List Text) → faults given ≡ [] → (words : Words) × AreRead given words
+taken given h =
+    let w = walk_on start given in
+    let top = level_passes line.top w (is_some (entered line w.stopped)) (walk_fault line.top names start given) (entered_fault line w.stopped) (settle_fault rules line.top.args_override_self w.held) h in
+    elim (stops given top.0) [
       | inl none ↦ absurd (stopped_somewhere (finished rules w.held) w none top.2)
-      | inr at_run ↦
-          let below : entered_fault line (Some (codes "run", at_run.0)) ≡ [] = subst (λ (v : Walk). entered_fault line v.stopped ≡ []) at_run.1 top.1 in
-          let end = walk run.rules [] nothing_held at_run.0 in
-          let rows = finished run.rules end.held in
-          let inner = level_passes run end false (walk_fault run [] start at_run.0) [] (settle_fault run.rules run.args_override_self end.held) below in
-          let source = some_text (first_of (codes "FILE") rows) (given_first rows (filled_finished run.rules at_run.0 start no_flag_of_source (tt, tt)) (source_given rows inner.2)) in (
-            source.0,
-            texts_of rows (codes "ARGS"),
-            limit_text rows,
+      | inr at_command ↦
+          let m = at_command.0 in
+          let rest = at_command.1 in
+          let below : entered_fault line (Some (command_name m, rest)) ≡ [] = subst (λ (v : Walk). entered_fault line v.stopped ≡ []) at_command.2 top.1 in
+          let rows = finished (shape_of m).rules (walk (shape_of m).rules [] nothing_held rest).held in
+          let source = some_text (first_of (codes "FILE") rows) (given_first rows (filled_finished (shape_of m).rules rest start (no_flag_of_source m) (tt, tt)) (source_given m rows (below_of m rest below))) in (
+            words_in m source.0 rows,
             record {
               rows = rows;
-              run = (h, ap (λ (v : Walk). entered line v.stopped) at_run.1);
+              command = (h, ap (λ (v : Walk). entered line v.stopped) at_command.2 ∙ entered_is m rest);
               file_is = source.1;
               args_are = refl;
-              limit_is = refl;
+              numbers_are = refl;
             },
           )
     ]

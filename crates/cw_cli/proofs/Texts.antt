@@ -6,8 +6,8 @@ use Rattle.clap.specs.Words.{first_of, first_value, matched_of, raw_values, rows
 use Rattle.clap.proofs.WalkLemmas.{first_value-rows, raw_values-rows}
 use Rattle.clap.specs.declared.parser.matches.Found.{Found}
 use Rattle.cw_model.specs.Pieces.{value_of}
-use Rattle.cw_cli.specs.Command.{usual_limit_word}
-use Rattle.cw_cli.specs.Requests.{texts_of, values_of, limit_text, IsArgument, IsFaultUnless}
+use Rattle.cw_cli.specs.Command.{NumberRow}
+use Rattle.cw_cli.specs.Requests.{texts_of, values_of, number_text, IsArgument, IsFaultUnless}
 use Rattle.cw_text.specs.declared.fault.Fault.{Fault}
 use Rattle.cw_text.specs.declared.fault.Fault.TheVariants as fault
 
@@ -41,11 +41,11 @@ texts_proper ts texts e a = let P : List (List ℕ) → Type 0 = λ xs. All IsAr
     all_lent (t ∷ ts) a zero d lt = a 0 t.now (omega arith)
     all_lent (t ∷ ts) a (suc k) d lt = all_lent ts (λ j e less. a (suc j) e (omega (arith, less))) k d (omega (arith, lt))
 
--- the text for the limit, or the usual one
-pub limit_given : (found : Found) (r : Option (Bor (List ℕ))) (usual given : Bor (List ℕ)) → option_map (λ s. s.now) r ≡ first_value found (codes "limit") → usual.now ≡ usual_limit_word → given ≡ unwrap_or r usual → given.now ≡ limit_text (rows_of found)
-limit_given found r usual given e u g = ap (λ s. s.now) g ∙ or_usual r usual u ∙ ap (λ o. unwrap_or o usual_limit_word) (e ∙ first_value-rows found (codes "limit"))
+-- the text for a number, or the usual one
+pub number_given : (found : Found) (row : NumberRow) (r : Option (Bor (List ℕ))) (usual given : Bor (List ℕ)) → option_map (λ s. s.now) r ≡ first_value found row.name → usual.now ≡ row.usual → given ≡ unwrap_or r usual → given.now ≡ number_text (rows_of found) row
+number_given found row r usual given e u g = ap (λ s. s.now) g ∙ or_usual r usual u ∙ ap (λ o. unwrap_or o row.usual) (e ∙ first_value-rows found row.name)
   where
-    or_usual : (r : Option (Bor (List ℕ))) (usual : Bor (List ℕ)) → usual.now ≡ usual_limit_word → (unwrap_or r usual).now ≡ unwrap_or (option_map (λ s. s.now) r) usual_limit_word
+    or_usual : (r : Option (Bor (List ℕ))) (usual : Bor (List ℕ)) → usual.now ≡ row.usual → (unwrap_or r usual).now ≡ unwrap_or (option_map (λ s. s.now) r) row.usual
     or_usual None usual u = u
     or_usual (Some s) usual u = refl
 

@@ -1,5 +1,5 @@
 -- What an analysis of bytes answers, and what it writes.
-use Rattle.std.specs.Prelude.{◌≡◌, ◌≢◌, ℕ, ℤ, List, length, Option}
+use Rattle.std.specs.Prelude.{◌≡◌, ◌≢◌, ℕ, ℤ, List, length, Result, MatchResult}
 use Rattle.cw_model.specs.declared.trap.Trap.{Trap}
 use Rattle.cw_model.specs.Syntax.{Program}
 use Rattle.cw_model.specs.Meaning.{function_of}
@@ -8,6 +8,7 @@ use Rattle.cw_model.specs.Report as report
 use Rattle.cw_model.specs.Report.{report_text}
 use Rattle.cw_text.specs.declared.fault.Fault.{Fault}
 use Rattle.cw_text.specs.declared.fault.Fault.TheVariants as fault
+use Rattle.cw_report.specs.Seen.{Seen}
 use Rattle.cw_report.specs.Sinks.{WritesAll, WritesPart}
 use Rattle.cw_cli.specs.Requests.{AreInRange}
 use Rattle.cw_cli.specs.Sources.{Compiles, IsRefused}
@@ -17,6 +18,7 @@ use Rattle.cw_cli.specs.declared.asked.Options.{Options}
 
 -- the report that a mode of the command line asks for
 abbrev pub mode_of : Mode → report.Mode
+mode_of mode.Check = report.Check
 mode_of mode.Run = report.Run
 
 -- main has so many parameters, and the limit and the burden are in range
@@ -33,7 +35,7 @@ pub record IsRunOf (bytes : List ℕ) (args : List ℤ) (options : Options) (pro
 abbrev pub answer_to : Program → List ℤ → Options → Answer
 answer_to program args options = serial_answer program args options.limit
 
--- the report of a program
+-- the report of a program; that of a check says nothing of what the program answers
 abbrev pub text_of : Program → List ℤ → Options → List ℕ
 text_of program args options = report_text (mode_of options.mode) program options.burden (answer_to program args options)
 
@@ -42,17 +44,43 @@ abbrev pub HasEnded : Answer → Type 0
 HasEnded (Ended v lines sums tree) = Unit {0}
 HasEnded _ = ⊥
 
--- a sink, by the bytes that it took and by its count of failed writes, goes from one state to another
-module _ {W : Type 0} (contents : W → Option (List ℕ)) (failed : W → ℕ) (old new : W) where
+-- a sink goes from one state to another
+module _ {W : Type 0} (seen : W → Seen) (old new : W) where
   -- it took all of a text
   abbrev pub Took : List ℕ → Type 0
-  Took text = WritesAll (contents old) (contents new) (failed old) (failed new) text
+  Took text = WritesAll (seen old) (seen new) text
 
   -- it took a beginning of a text, and then a write failed
   abbrev pub TookPart : List ℕ → Type 0
-  TookPart text = WritesPart (contents old) (contents new) (failed old) (failed new) text
+  TookPart text = WritesPart (seen old) (seen new) text
 
   module _ (bytes : List ℕ) (args : List ℤ) (options : Options) where
+    -- the bytes are refused for this reason
+    pub record IsRefusedFor (f : Fault) : Type 0 where
+      pub refused : IsRefused bytes f
+      pub untouched : new ≡ old
+
+    -- the bytes compile, and the sink took the report
+    pub record IsChecked : Type 0 where
+      pub program : Program
+      pub compiles : Compiles bytes program
+      pub took : Took (text_of program args options)
+
+    -- the bytes compile, and a write of the report failed
+    pub record IsCheckCutShort : Type 0 where
+      pub program : Program
+      pub compiles : Compiles bytes program
+      pub took : TookPart (text_of program args options)
+
+    -- what must hold where a check answers this fault: nothing is run, so no fault of a run comes
+    abbrev pub IsUnchecked : Fault → Type 0
+    IsUnchecked fault.OverLimit = ⊥
+    IsUnchecked (fault.Trap trap line printed) = ⊥
+    IsUnchecked fault.Memory = new ≡ old
+    IsUnchecked fault.Write = IsCheckCutShort
+    IsUnchecked fault.Arguments = ⊥
+    IsUnchecked f = IsRefusedFor f
+
     -- the program that the bytes mean ended within its limit, and the sink took its report
     pub record IsReported : Type 0 where
       pub program : Program
@@ -88,12 +116,7 @@ module _ {W : Type 0} (contents : W → Option (List ℕ)) (failed : W → ℕ) 
       pub misused : ¬ (MayRun program args options)
       pub untouched : new ≡ old
 
-    -- the bytes are refused for this reason
-    pub record IsRefusedFor (f : Fault) : Type 0 where
-      pub refused : IsRefused bytes f
-      pub untouched : new ≡ old
-
-    -- what must hold where this fault is answered
+    -- what must hold where a run answers this fault
     abbrev pub IsUnreported : Fault → Type 0
     IsUnreported fault.OverLimit = IsOverLimit
     IsUnreported (fault.Trap trap line printed) = IsTrapped trap line printed.items
@@ -101,3 +124,16 @@ module _ {W : Type 0} (contents : W → Option (List ℕ)) (failed : W → ℕ) 
     IsUnreported fault.Write = IsCutShort
     IsUnreported fault.Arguments = IsMisused
     IsUnreported f = IsRefusedFor f
+
+    -- what a run answers
+    abbrev pub IsRun : Result (Unit {0}) Fault → Type 0
+    IsRun r = MatchResult r (λ _. IsReported) IsUnreported
+
+    -- what an analysis in this mode answers
+    abbrev pub IsAnalysedIn : Mode → Result (Unit {0}) Fault → Type 0
+    IsAnalysedIn mode.Check r = MatchResult r (λ _. IsChecked) IsUnchecked
+    IsAnalysedIn mode.Run r = IsRun r
+
+    -- what an analysis answers
+    abbrev pub IsAnalysed : Result (Unit {0}) Fault → Type 0
+    IsAnalysed r = IsAnalysedIn options.mode r

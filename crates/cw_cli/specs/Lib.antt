@@ -1,10 +1,11 @@
 pub mod Numbers
 pub mod Command
+pub mod Rows
 pub mod Requests
+pub mod Later
 pub mod Sources
 pub mod Compiled
 pub mod Analyses
-pub mod Inputs
 pub mod Tools
 pub mod Laws
 pub mod WordLaws

@@ -1,5 +1,6 @@
 -- What the words ask for.
-use Rattle.std.specs.Prelude.{◌≡◌, ◌≢◌, ◌≤◌, ℤ, Bool, true, false, pos, List, [], map, All, Some, unwrap_or, codes, string_bytes, is_some}
+use Rattle.std.specs.Prelude.{◌≡◌, ◌≢◌, ◌≤◌, ℕ, ℤ, Bool, true, false, pos, List, [], ◌∷◌, map, All, Option, Some, unwrap_or, codes, string_bytes, is_some}
+use Rattle.std.specs.Option.{SomeIff}
 use Rattle.clap.specs.Words.{IsAmong, Kinds, Row, Text, all_of, fault_of, first_of, subcommand_of}
 use Rattle.clap.specs.declared.error.ErrorKind.{ErrorKind}
 use Rattle.clap.specs.declared.error.ErrorKind.TheVariants as kind
@@ -8,7 +9,8 @@ use Rattle.cw_model.specs.Pieces.{value_of}
 use Rattle.cw_text.specs.declared.fault.Fault.{Fault}
 use Rattle.cw_text.specs.declared.fault.Fault.TheVariants as fault
 use Rattle.cw_cli.specs.Numbers.{IsNumberWithin}
-use Rattle.cw_cli.specs.Command.{command_line, usual_limit_word}
+use Rattle.cw_cli.specs.Command.{NumberRow, command_line, number_rows}
+use Rattle.cw_cli.specs.declared.asked.Mode.{Mode}
 use Rattle.cw_cli.specs.declared.asked.Mode.TheVariants as mode
 use Rattle.cw_cli.specs.declared.asked.Options.{Options}
 use Rattle.cw_cli.specs.declared.asked.Request.{Request}
@@ -25,9 +27,37 @@ pub record AreInRange (options : Options) : Type 0 where
 abbrev pub usual_options : Options
 usual_options = record { mode = mode.Run; limit = usual_limit; burden = usual_burden }
 
+-- the name of a command
+abbrev pub command_name : Mode → Text
+command_name mode.Check = codes "check"
+command_name mode.Run = codes "run"
+
+-- what a command's words are: its mode, its source, the arguments of main, and a word for each row of the table of numbers
+pub record Words : Type 0 where
+  pub mode : Mode
+  pub file : Text
+  pub args : List Text
+  pub numbers : List Text
+
+-- the numbers of the options, in the order of the table
+abbrev pub option_numbers : Options → List ℕ
+option_numbers o = o.limit ∷ o.burden ∷ []
+
 -- what the rows have for an argument that is given any number of times
 abbrev pub texts_of : List Row → Text → List Text
 texts_of rows id = unwrap_or (all_of id rows) []
+
+-- the word for a number, or the usual one
+abbrev pub number_text : List Row → NumberRow → Text
+number_text rows row = unwrap_or (first_of row.name rows) row.usual
+
+-- the number that a word writes, exactly where it is in the range of the row
+abbrev pub IsNumberOf : Text → NumberRow → Option ℕ → Type 0
+IsNumberOf text row n = SomeIff n (IsNumberWithin row.least row.most text) (value_of text)
+
+-- the words for all numbers
+abbrev pub numbers_of : List Row → List Text
+numbers_of rows = map (λ row. number_text rows row) number_rows
 
 -- a word that writes an argument of main
 abbrev pub IsArgument : Text → Type 0
@@ -37,63 +67,64 @@ IsArgument text = IsNumberWithin 0 most_number text
 abbrev pub values_of : List Text → List ℤ
 values_of texts = map (λ text. pos (value_of text)) texts
 
--- the word for the limit, or the usual one
-abbrev pub limit_text : List Row → Text
-limit_text rows = unwrap_or (first_of (codes "limit") rows) usual_limit_word
+-- each word writes a number in the range of its row
+abbrev pub AreWithin : List NumberRow → List Text → Type 0
+AreWithin [] [] = Unit {0}
+AreWithin (row ∷ rows) (text ∷ texts) = IsNumberWithin row.least row.most text × AreWithin rows texts
+AreWithin _ _ = ⊥
 
--- the arguments and the limit are numbers in range
-abbrev pub AreNumbers : List Text → Text → Type 0
-AreNumbers args limit = All IsArgument args × IsNumberWithin 1 most_limit limit
+-- the arguments and the numbers of the options are numbers in range
+abbrev pub AreNumbers : (args numbers : List Text) → Type 0
+AreNumbers args numbers = All IsArgument args × AreWithin number_rows numbers
 
--- the request is of this source, with the numbers that these words write
-pub record IsRequestOf (file : Text) (args : List Text) (limit : Text) (r : Request) : Type 0 where
-  pub numbers : AreNumbers args limit
-  pub file_is : string_bytes r.file ≡ file
-  pub args_are : r.args.items ≡ values_of args
-  pub mode_is : r.options.mode ≡ mode.Run
-  pub limit_is : r.options.limit ≡ value_of limit
-  pub burden_is : r.options.burden ≡ usual_burden
+-- the request is what these words ask for
+pub record IsRequestOf (words : Words) (r : Request) : Type 0 where
+  pub in_range : AreNumbers words.args words.numbers
+  pub file_is : string_bytes r.file ≡ words.file
+  pub args_are : r.args.items ≡ values_of words.args
+  pub mode_is : r.options.mode ≡ words.mode
+  pub numbers_are : option_numbers r.options ≡ map value_of words.numbers
 
--- the request that the rows of `run` make
-pub record IsAskedBy (rows : List Row) (r : Request) : Type 0 where
+-- the words that the rows of a command have, of this source
+abbrev pub words_in : Mode → Text → List Row → Words
+words_in m file rows = record { mode = m; file = file; args = texts_of rows (codes "ARGS"); numbers = numbers_of rows }
+
+-- the request that the rows of a command make
+pub record IsAskedBy (m : Mode) (rows : List Row) (r : Request) : Type 0 where
   pub file : first_of (codes "FILE") rows ≡ Some (string_bytes r.file)
-  pub request : IsRequestOf (string_bytes r.file) (texts_of rows (codes "ARGS")) (limit_text rows) r
+  pub request : IsRequestOf (words_in m (string_bytes r.file) rows) r
 
 -- the rows make a request
 abbrev pub AreProper : List Row → Type 0
-AreProper rows = (is_some (first_of (codes "FILE") rows) ≡ true) × AreNumbers (texts_of rows (codes "ARGS")) (limit_text rows)
+AreProper rows = (is_some (first_of (codes "FILE") rows) ≡ true) × AreNumbers (texts_of rows (codes "ARGS")) (numbers_of rows)
 
 -- the kinds of error that the words may bring; none where they are taken
 abbrev pub faults : List Text → Kinds
-faults words = fault_of command_line words
+faults given = fault_of command_line given
 
--- the words are taken, and have `run` with these rows
-abbrev pub HaveRun : List Text → List Row → Type 0
-HaveRun words rows = (faults words ≡ []) × (subcommand_of command_line words ≡ Some (codes "run", rows))
+-- the words are taken, and have this command with these rows
+abbrev pub HaveCommand : List Text → Mode → List Row → Type 0
+HaveCommand given m rows = (faults given ≡ []) × (subcommand_of command_line given ≡ Some (command_name m, rows))
 
--- the words are taken, and have `run` with this source, these arguments and this limit
-pub record AreRead (words : List Text) (file : Text) (args : List Text) (limit : Text) : Type 0 where
+-- what is given is taken, and read as these words
+pub record AreRead (given : List Text) (words : Words) : Type 0 where
   pub rows : List Row
-  pub run : HaveRun words rows
-  pub file_is : first_of (codes "FILE") rows ≡ Some file
-  pub args_are : texts_of rows (codes "ARGS") ≡ args
-  pub limit_is : limit_text rows ≡ limit
+  pub command : HaveCommand given words.mode rows
+  pub file_is : first_of (codes "FILE") rows ≡ Some words.file
+  pub args_are : texts_of rows (codes "ARGS") ≡ words.args
+  pub numbers_are : numbers_of rows ≡ words.numbers
 
--- the request is of what the words are read as
-pub record Asks (words : List Text) (r : Request) : Type 0 where
-  pub file : Text
-  pub args : List Text
-  pub limit : Text
-  pub read : AreRead words file args limit
-  pub request : IsRequestOf file args limit r
+-- the request is of the words that what is given is read as
+pub record Asks (given : List Text) (r : Request) : Type 0 where
+  pub words : Words
+  pub read : AreRead given words
+  pub request : IsRequestOf words r
 
--- the words are read, and an argument or the limit is no number or out of range
-pub record HaveBadNumber (words : List Text) : Type 0 where
-  pub file : Text
-  pub args : List Text
-  pub limit : Text
-  pub read : AreRead words file args limit
-  pub bad : ¬ (AreNumbers args limit)
+-- what is given is read, and an argument or a number of an option is no number or out of range
+pub record HaveBadNumber (given : List Text) : Type 0 where
+  pub words : Words
+  pub read : AreRead given words
+  pub bad : ¬ (AreNumbers words.args words.numbers)
 
 -- what is wrong where something does not hold, unless memory ran out
 abbrev pub IsFaultUnless : Type 0 → Fault → Type 0

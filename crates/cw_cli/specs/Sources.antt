@@ -8,6 +8,7 @@ use Rattle.cw_model.specs.Syntax.{Program}
 use Rattle.cw_model.specs.Ownership.{KeepsOwnership, ownership_faults}
 use Rattle.cw_model.specs.Sizes.{token_faults, limit_faults, program_faults}
 use Rattle.cw_parse.specs.Parsed.{IsParsed, IsUnderivable}
+use Rattle.cw_cli.specs.Later.{later_lines}
 use Rattle.cw_types.specs.Faults.{IsFirstTypeFault, typing_lines}
 use Rattle.cw_text.specs.declared.fault.Fault.{Fault}
 use Rattle.cw_text.specs.declared.fault.Fault.TheVariants as fault
@@ -23,12 +24,17 @@ pub record IsSourceOf (bytes : List ℕ) (program : Program) : Type 0 where
   pub has_tokens : HasTokens bytes tokens
   pub parsed : IsParsed bytes tokens program
 
--- the bytes are a source of this program, which keeps every limit and every rule
-pub record Compiles (bytes : List ℕ) (program : Program) : Type 0 where
+-- the bytes are a source of this program, which passes no limit on its parts and keeps every rule
+pub record IsAccepted (bytes : List ℕ) (program : Program) : Type 0 where
   pub source : IsSourceOf bytes program
   pub within : limit_faults program ≡ []
   pub typed : typing_lines program ≡ []
   pub owned : KeepsOwnership program
+
+-- such a program holds nothing that is not compiled so far, and is small enough
+pub record Compiles (bytes : List ℕ) (program : Program) : Type 0 where
+  pub accepted : IsAccepted bytes program
+  pub taken : later_lines program ≡ []
   pub small : program_faults program ≡ []
 
 -- the bytes are no source text, or their first fault is a byte that starts nothing or a number that is too great
@@ -56,14 +62,14 @@ pub record IsDisowned (bytes : List ℕ) (line : ℕ) : Type 0 where
   pub typed : typing_lines program ≡ []
   pub least : IsLeastLine (ownership_faults program) line
 
--- the first limit that is passed, stage by stage: bytes, a name, tokens, the program's parts, and its code
+-- the first limit that is passed, stage by stage: bytes, a name, tokens, the program's parts, what is compiled so far, and its code
 pub data PassesLimit (bytes : List ℕ) (line : ℕ) : Type 0 where
   length : IsTooLong bytes line → PassesLimit bytes line
   name : IsSourceText bytes → HasNameFault bytes line → PassesLimit bytes line
   tokens : (ts : List Token) → HasTokens bytes ts → IsLeastLine (token_faults 0 0 ts) line → PassesLimit bytes line
   parts : (program : Program) → IsSourceOf bytes program → IsLeastLine (limit_faults program) line → PassesLimit bytes line
-  code : (program : Program) → IsSourceOf bytes program → limit_faults program ≡ [] → typing_lines program ≡ [] → KeepsOwnership program →
-      IsLeastLine (program_faults program) line → PassesLimit bytes line
+  later : (program : Program) → IsAccepted bytes program → IsLeastLine (later_lines program) line → PassesLimit bytes line
+  code : (program : Program) → IsAccepted bytes program → later_lines program ≡ [] → IsLeastLine (program_faults program) line → PassesLimit bytes line
 
 -- what must hold of the bytes where this fault is answered for them: the first stage that refuses them, and its line
 abbrev pub IsRefused : List ℕ → Fault → Type 0

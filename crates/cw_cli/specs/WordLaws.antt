@@ -1,55 +1,83 @@
 -- What words come to that start with no hyphen, and some that are written out.
-use Rattle.std.specs.Prelude.{◌≡◌, ◌≢◌, ◌^◌, ◌<◌, List, [], ◌∷◌, All, Some, codes, length, slice_get}
+use Rattle.std.specs.Prelude.{◌≡◌, ◌≢◌, ◌^◌, ◌<◌, ℕ, List, [], ◌∷◌, ◌++◌, All, Some, codes, length, map, slice_get}
 use Rattle.clap.specs.Words.{Text}
 use Rattle.clap.specs.declared.error.ErrorKind.TheVariants as kind
-use Rattle.cw_model.specs.Limits.{most_limit, usual_limit}
+use Rattle.cw_model.specs.Limits.{usual_limit, usual_burden}
 use Rattle.cw_model.specs.Pieces.{value_of}
-use Rattle.cw_cli.specs.Numbers.{IsNumberWithin}
-use Rattle.cw_cli.specs.Command.{usual_limit_word}
-use Rattle.cw_cli.specs.Requests.{AreRead, faults}
+use Rattle.cw_cli.specs.Command.{limit_row, burden_row, number_rows, usual_numbers}
+use Rattle.cw_cli.specs.Requests.{AreRead, AreWithin, Words, faults}
+use Rattle.cw_cli.specs.declared.asked.Mode.TheVariants as mode
 
 -- the word starts with no hyphen
 abbrev pub IsPlain : Text → Type 0
 IsPlain word = slice_get word 0 ≢ Some 45
 
--- such words after `run` are the source and the arguments, in their order, and the limit is the usual one
+-- a check of this source
+abbrev pub checking : Text → Words
+checking file = record { mode = mode.Check; file = file; args = []; numbers = usual_numbers }
+
+-- a run of this source on these arguments, with the words for the limit and the burden
+abbrev pub running : (file : Text) (args : List Text) (limit burden : Text) → Words
+running file args limit burden = record { mode = mode.Run; file = file; args = args; numbers = limit ∷ burden ∷ [] }
+
+-- such a word after `check` is the source
+abbrev pub CheckIsRead : Type 0
+CheckIsRead = (file : Text) → IsPlain file → AreRead (codes "check" ∷ file ∷ []) (checking file)
+
+-- such words after `run` are the source and the arguments, in their order, and the numbers are the usual ones
 abbrev pub PlainWordsAreRead : Type 0
 PlainWordsAreRead = (file : Text) (args : List Text) → IsPlain file → All IsPlain args → length args < 2 ^ 64 →
-    AreRead (codes "run" ∷ file ∷ args) file args usual_limit_word
+    AreRead (codes "run" ∷ file ∷ args) (running file args limit_row.usual burden_row.usual)
 
 -- the same with a limit before them
 abbrev pub LimitIsRead : Type 0
 LimitIsRead = (limit file : Text) (args : List Text) → IsPlain limit → IsPlain file → All IsPlain args → length args < 2 ^ 64 →
-    AreRead (codes "run" ∷ codes "--limit" ∷ limit ∷ file ∷ args) file args limit
+    AreRead (codes "run" ∷ codes "--limit" ∷ limit ∷ file ∷ args) (running file args limit burden_row.usual)
 
--- words that are taken are read as some source, arguments and limit
+-- the same with a burden before them
+abbrev pub BurdenIsRead : Type 0
+BurdenIsRead = (burden file : Text) (args : List Text) → IsPlain burden → IsPlain file → All IsPlain args → length args < 2 ^ 64 →
+    AreRead (codes "run" ∷ codes "--burden" ∷ burden ∷ file ∷ args) (running file args limit_row.usual burden)
+
+-- words that are taken are read
 abbrev pub TakenWordsAreRead : Type 0
-TakenWordsAreRead = (words : List Text) → faults words ≡ [] → (file : Text) × (args : List Text) × (limit : Text) × AreRead words file args limit
+TakenWordsAreRead = (given : List Text) → faults given ≡ [] → (words : Words) × AreRead given words
 
--- and as no others
+-- and in one way
 abbrev pub WordsAreReadOnce : Type 0
-WordsAreReadOnce = (words : List Text) (file file' : Text) (args args' : List Text) (limit limit' : Text) → AreRead words file args limit → AreRead words file' args' limit' →
-    (file ≡ file') × (args ≡ args') × (limit ≡ limit')
+WordsAreReadOnce = (given : List Text) (words words' : Words) → AreRead given words → AreRead given words' → words ≡ words'
 
--- the word for the usual limit is a number in range, and writes the usual limit
-abbrev pub UsualLimitIsWritten : Type 0
-UsualLimitIsWritten = IsNumberWithin 1 most_limit usual_limit_word × (value_of usual_limit_word ≡ usual_limit)
+-- the words for the usual numbers are numbers in range, and write the usual limit and the usual burden
+abbrev pub UsualNumbersAreWritten : Type 0
+UsualNumbersAreWritten = AreWithin number_rows usual_numbers × (map value_of usual_numbers ≡ usual_limit ∷ usual_burden ∷ [])
 
--- a limit after the source, attached to its name, and words after `--`
+-- numbers after the source, attached to their names, and words after `--`
 abbrev pub WordExamples : Type 0
 WordExamples =
-    AreRead (codes "run" ∷ codes "f" ∷ codes "4" ∷ codes "7" ∷ codes "--limit" ∷ codes "9" ∷ []) (codes "f") (codes "4" ∷ codes "7" ∷ []) (codes "9")
-    × AreRead (codes "run" ∷ codes "f" ∷ codes "4" ∷ codes "--limit" ∷ codes "9" ∷ codes "7" ∷ []) (codes "f") (codes "4" ∷ codes "7" ∷ []) (codes "9")
-    × AreRead (codes "run" ∷ codes "--limit=1" ∷ codes "--" ∷ codes "-f" ∷ codes "-1" ∷ []) (codes "-f") (codes "-1" ∷ []) (codes "1")
+    AreRead (codes "check" ∷ codes "f" ∷ []) (checking (codes "f"))
+    × AreRead (codes "check" ∷ codes "--" ∷ codes "-f" ∷ []) (checking (codes "-f"))
+    × AreRead (codes "run" ∷ codes "f" ∷ codes "4" ∷ codes "7" ∷ codes "--limit" ∷ codes "9" ∷ [])
+      (running (codes "f") (codes "4" ∷ codes "7" ∷ []) (codes "9") (codes "15000"))
+    × AreRead (codes "run" ∷ codes "f" ∷ codes "4" ∷ codes "--limit" ∷ codes "9" ∷ codes "7" ∷ [])
+      (running (codes "f") (codes "4" ∷ codes "7" ∷ []) (codes "9") (codes "15000"))
+    × AreRead (codes "run" ∷ codes "--burden" ∷ codes "0" ∷ codes "f" ∷ codes "--limit=9" ∷ [])
+      (running (codes "f") [] (codes "9") (codes "0"))
+    × AreRead (codes "run" ∷ codes "--limit=1" ∷ codes "--" ∷ codes "-f" ∷ codes "-1" ∷ [])
+      (running (codes "-f") (codes "-1" ∷ []) (codes "1") (codes "15000"))
 
--- words that are not taken: none, no source, an unknown word, a negative number, no limit, two limits, and calls for help
+-- words that are not taken: none, no source, a word too many for a check, a limit for a check, an unknown word, a negative number,
+-- no limit, two limits, and calls for help
 abbrev pub RefusalExamples : Type 0
 RefusalExamples =
     (faults [] ≡ kind.MissingSubcommand ∷ [])
     × (faults (codes "run" ∷ []) ≡ kind.MissingRequiredArgument ∷ [])
+    × (faults (codes "check" ∷ []) ≡ kind.MissingRequiredArgument ∷ [])
+    × (faults (codes "check" ∷ codes "f" ∷ codes "1" ∷ []) ≡ kind.UnknownArgument ∷ [])
+    × (faults (codes "check" ∷ codes "f" ∷ codes "--limit=9" ∷ []) ≡ kind.UnknownArgument ∷ [])
     × (faults (codes "f" ∷ []) ≡ kind.UnknownArgument ∷ kind.InvalidSubcommand ∷ [])
     × (faults (codes "run" ∷ codes "f" ∷ codes "-1" ∷ []) ≡ kind.UnknownArgument ∷ [])
     × (faults (codes "run" ∷ codes "f" ∷ codes "--limit" ∷ []) ≡ kind.InvalidValue ∷ [])
     × (faults (codes "run" ∷ codes "f" ∷ codes "--limit=1" ∷ codes "--limit=2" ∷ []) ≡ kind.ArgumentConflict ∷ [])
     × (faults (codes "--help" ∷ []) ≡ kind.DisplayHelp ∷ [])
+    × (faults (codes "check" ∷ codes "--help" ∷ []) ≡ kind.DisplayHelp ∷ [])
     × (faults (codes "run" ∷ codes "--help" ∷ []) ≡ kind.DisplayHelp ∷ [])

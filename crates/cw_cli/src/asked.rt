@@ -15,18 +15,20 @@ pub const USUAL_BURDEN: u64 = 15_000;
 /// What the program is asked to write.
 #[derive(Clone, Copy, Debug, PartialEq, Eq)]
 pub enum Mode {
+    /// That the source compiles. Nothing is run.
+    Check,
     /// The value that the program's `main` gives.
     Run,
 }
 
-/// How to analyse a program.
+/// How to analyse a program. A check uses neither the limit nor the burden, and a run not the burden.
 #[derive(Clone, Copy, Debug, PartialEq, Eq)]
 pub struct Options {
     /// What to write.
     pub mode: Mode,
     /// The greatest cost of the run in instructions, from 1 to 2^62.
     pub limit: u64,
-    /// What each spawn's continuation is charged in instructions, up to 1,000,000,000.
+    /// What each spawn's continuation is charged in instructions, from 0 to 1,000,000,000.
     pub burden: u64,
 }
 
@@ -35,7 +37,7 @@ pub struct Options {
 pub struct Request {
     /// The path of the source.
     pub file: String,
-    /// The arguments of `main`, each from 0 on.
+    /// The arguments of `main`, each from 0 on; none of a check.
     pub args: Vec<i64>,
     pub options: Options,
 }
@@ -47,7 +49,7 @@ pub enum Said {
     Help(String),
     /// What is wrong with the words, for standard error.
     Misuse(String),
-    /// `Arguments` for a word that is no number, or one out of range, and `Memory`.
+    /// `Arguments` for a word that is no number, or a number that is out of range, and `Memory`.
     Fault(Fault),
 }
 

@@ -1,12 +1,19 @@
 //! What holds of all bytes, and of all words.
 
-ghost use Rattle.cw_cli.specs.Laws.{CompiledAreNotRefused, HaveOneProgram, HaveOneRefusal};
+ghost use Rattle.cw_cli.specs.Laws.{
+  CompiledAreNotRefused,
+  HaveOneProgram,
+  HaveOneRefusal,
+  TakenAreFirst,
+};
 ghost use Rattle.cw_cli.specs.WordLaws.{
+  BurdenIsRead,
+  CheckIsRead,
   LimitIsRead,
   PlainWordsAreRead,
   RefusalExamples,
   TakenWordsAreRead,
-  UsualLimitIsWritten,
+  UsualNumbersAreWritten,
   WordExamples,
   WordsAreReadOnce,
 };
@@ -34,23 +41,31 @@ pub fn one_answer()
     cw_parse::laws::no_tree_beside_a_fault();
 }
 
-/// Words after `run` that start with no hyphen are the source and the arguments, and `--limit` with
-/// a word before them is the limit.
-pub fn plain_words()
-    ensures usual { PlainWordsAreRead }
-    ensures limited { LimitIsRead }
+/// A program that keeps the rules of names and types, and holds nothing that is not compiled so far,
+/// is one of those that the generator takes.
+pub fn taken_programs()
+    ensures { TakenAreFirst }
 {}
 
-/// Words that are taken are read as a source, arguments and a limit, and in one way.
+/// A word after `check` that starts with no hyphen is the source. Such words after `run` are the
+/// source and the arguments, and `--limit` or `--burden` with a word before them is that number.
+pub fn plain_words()
+    ensures check { CheckIsRead }
+    ensures usual { PlainWordsAreRead }
+    ensures limited { LimitIsRead }
+    ensures burdened { BurdenIsRead }
+{}
+
+/// Words that are taken are read as a command with a source, arguments and numbers, and in one way.
 pub fn read_words()
     ensures taken { TakenWordsAreRead }
     ensures once { WordsAreReadOnce }
 {}
 
-/// Words written out, and what they are read as or refused for; the word for the usual limit, and the
-/// number that it writes.
+/// Words written out, and what they are read as or refused for; the words for the usual numbers, and
+/// the numbers that they write.
 pub fn written_words()
-    ensures usual { UsualLimitIsWritten }
+    ensures usual { UsualNumbersAreWritten }
     ensures read { WordExamples }
     ensures refused { RefusalExamples }
 {}

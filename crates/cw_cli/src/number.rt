@@ -6,6 +6,41 @@ ghost use Rattle.std.specs.Option.{SomeIff};
 ghost use Rattle.cw_model.specs.Pieces.{is_digit, value_of};
 ghost use Rattle.cw_cli.specs.Numbers.{IsNumber, IsNumberWithin};
 
+use cw_machine::alone::{MOST_BURDEN, MOST_LIMIT};
+
+/// An option that takes a number.
+#[derive(Clone, Copy)]
+pub struct NumberOption {
+    /// Its name, without the hyphens.
+    pub name: &'static str,
+    /// The least number that it takes.
+    pub least: u64,
+    /// The greatest number that it takes.
+    pub most: u64,
+    /// The word for the number where the option is not given.
+    pub usual: &'static str,
+    /// What the help says of it.
+    pub help: &'static str,
+}
+
+/// The limit of a run.
+pub const LIMIT: NumberOption = NumberOption {
+    name: "limit",
+    least: 1,
+    most: MOST_LIMIT,
+    usual: "1000000000",
+    help: "The most instructions that the run may cost",
+};
+
+/// The burden of a spawn.
+pub const BURDEN: NumberOption = NumberOption {
+    name: "burden",
+    least: 0,
+    most: MOST_BURDEN,
+    usual: "15000",
+    help: "The instructions that a spawn is charged",
+};
+
 /// The number that the text writes, where it is digits alone, at least one, and the number is in
 /// range.
 pub fn read_number(text: &str, least: u64, most: u64) -> Option<u64>

@@ -1,13 +1,19 @@
 //! What the program answers on a source, and what it says in place of a run.
 
-ghost use Rattle.std.specs.Prelude.{◌<◌, ◌-◌, ◌^◌, IfSome};
+ghost use Rattle.std.specs.Prelude.{◌<◌, ◌-◌, ◌^◌};
 ghost use Rattle.std.specs.IoError.{error_kind};
-ghost use Rattle.cw_cli.specs.Tools.{IsRefusal, IsSaidAnswer, IsToolAnswer, IsUnreadAnswer};
+ghost use Rattle.cw_cli.specs.Tools.{
+  IsFileAnswer,
+  IsRefusal,
+  IsSaidAnswer,
+  IsToolAnswer,
+  IsUnreadAnswer,
+  OnItsBytes,
+};
 
 use crate::analysis::analyse_alone;
 use crate::asked::{Request, Said};
-use crate::input::Input;
-use cw_report::{Sink, write_fault, write_text};
+use cw_report::{Input, Sink, write_fault, write_text};
 use cw_text::Fault;
 use cw_text::source::MOST_BYTES;
 use std::alloc::Global;
@@ -23,8 +29,9 @@ const MOST_READ: u64 = MOST_BYTES as u64 + 1;
 /// `err`. No more than one byte past the greatest size of a source is read. Whether the write to
 /// `err` fails changes nothing. Fewer than 2^64 - 1 writes to each sink failed before.
 ///
-/// Where a read of the source failed, and so it cannot be read, `unread` tells of that, and nothing
-/// is written to `out`. Nothing is promised of a reader that does not tell its bytes.
+/// Where a read of the source failed, and so it cannot be read, the line is `file` and the status 5,
+/// for whatever reason it failed, and nothing is written to `out`. It is `memory` and 6 where memory
+/// ran out for the bytes. Of a reader that does not tell its bytes, as a file, some bytes are meant.
 pub fn tool<D: Input, W: Sink, E: Sink>(
     alloc: Global,
     asked: &Request,
@@ -32,16 +39,16 @@ pub fn tool<D: Input, W: Sink, E: Sink>(
     out: &mut W,
     err: &mut E,
 ) -> u8
-    requires out { W.failed out.old < 2 ^ 64 - 1 }
-    requires err { E.failed err.old < 2 ^ 64 - 1 }
-    ensures { IfSome (D.remaining source.old) (λ bytes. IsToolAnswer W.contents W.failed out.old out.new
-        E.contents E.failed err.old err.new bytes asked.now (D.failed source.old) (D.failed source.new) result) }
+    requires out { (W.seen out.old).failures < 2 ^ 64 - 1 }
+    requires err { (E.seen err.old).failures < 2 ^ 64 - 1 }
+    ensures { OnItsBytes (D.remaining source.old) (λ bytes. IsToolAnswer W.seen out.old out.new
+        E.seen err.old err.new asked.now (D.failed source.old) (D.failed source.new) bytes result) }
 {
-    let failures = source.failures();
+    let failures = source.failed_reads();
     let mut bytes = Vec::new(alloc);
-    if let Err(error) = (&mut *source).take(MOST_READ).read_to_end(&mut bytes) {
-        if source.failures() > failures {
-            return unread(&error, err);
+    if (&mut *source).take(MOST_READ).read_to_end(&mut bytes).is_err() {
+        if source.failed_reads() > failures {
+            return tell_file(err);
         }
         return refuse(&Fault::Memory, err);
     }
@@ -52,15 +59,23 @@ pub fn tool<D: Input, W: Sink, E: Sink>(
     }
 }
 
-/// Says that a source cannot be read; gives the exit status: `file` and 5, or, where that is for
+/// Says that a source cannot be opened; gives the exit status: `file` and 5, or, where that is for
 /// want of memory, `memory` and 6. Whether the write to `err` fails changes nothing.
 pub fn unread<E: Sink>(error: &io::Error, err: &mut E) -> u8
-    requires { E.failed err.old < 2 ^ 64 - 1 }
-    ensures { IsUnreadAnswer E.contents E.failed err.old err.new (error_kind error.now) result }
+    requires { (E.seen err.old).failures < 2 ^ 64 - 1 }
+    ensures { IsUnreadAnswer E.seen err.old err.new (error_kind error.now) result }
 {
     if error.kind() == io::ErrorKind::OutOfMemory {
         return refuse(&Fault::Memory, err);
     }
+    tell_file(err)
+}
+
+// Writes the line for a source that cannot be read; gives the exit status.
+fn tell_file<E: Sink>(err: &mut E) -> u8
+    requires { (E.seen err.old).failures < 2 ^ 64 - 1 }
+    ensures { IsFileAnswer E.seen err.old err.new result }
+{
     let _ = write_text(err, b"file\n");
     5
 }
@@ -72,10 +87,9 @@ pub fn unread<E: Sink>(error: &io::Error, err: &mut E) -> u8
 /// the help cannot be written, the fault's line goes to `err`, with status 7. Whether a write to
 /// `err` fails changes nothing.
 pub fn say<W: Sink, E: Sink>(said: &Said, out: &mut W, err: &mut E) -> u8
-    requires out { W.failed out.old < 2 ^ 64 - 1 }
-    requires err { E.failed err.old < 2 ^ 64 - 1 }
-    ensures { IsSaidAnswer W.contents W.failed out.old out.new E.contents E.failed err.old err.new
-        said.now result }
+    requires out { (W.seen out.old).failures < 2 ^ 64 - 1 }
+    requires err { (E.seen err.old).failures < 2 ^ 64 - 1 }
+    ensures { IsSaidAnswer W.seen out.old out.new E.seen err.old err.new said.now result }
 {
     match said {
         Said::Help(text) => match write_text(out, text.as_bytes()) {
@@ -93,8 +107,8 @@ pub fn say<W: Sink, E: Sink>(said: &Said, out: &mut W, err: &mut E) -> u8
 /// Writes the line of a fault to `err`; gives the exit status. Whether the write fails changes
 /// nothing.
 pub fn refuse<E: Sink>(fault: &Fault, err: &mut E) -> u8
-    requires { E.failed err.old < 2 ^ 64 - 1 }
-    ensures { IsRefusal E.contents E.failed err.old err.new fault.now result }
+    requires { (E.seen err.old).failures < 2 ^ 64 - 1 }
+    ensures { IsRefusal E.seen err.old err.new fault.now result }
 {
     let _ = write_fault(err, fault);
     fault.status()

@@ -10,17 +10,19 @@ ghost use Rattle.cw_cli.specs.Requests.{
   IsArgument,
   IsAskedBy,
   IsFaultUnless,
+  IsNumberOf,
   IsSaidAt,
   IsSaidOf,
   faults,
+  number_text,
 };
+ghost use Rattle.cw_cli.specs.Rows.{row_of};
 
-use crate::asked::{Mode, Options, Request, Said, USUAL_BURDEN};
-use crate::command::{USUAL_LIMIT_WORD, command};
-use crate::number::read_number;
+use crate::asked::{Mode, Options, Request, Said};
+use crate::command::command;
+use crate::number::{BURDEN, LIMIT, NumberOption, read_number};
 use clap::error::ErrorKind;
 use clap::{ArgMatches, Error};
-use cw_machine::alone::MOST_LIMIT;
 use cw_text::Fault;
 use std::alloc::Global;
 
@@ -30,7 +32,7 @@ const MOST_ARGUMENT: u64 = i64::MAX as u64;
 /// Reads the program's words, without the program's own name.
 ///
 /// The error is what to say in place of a run: the help, what is wrong with the words, `Arguments`
-/// where the limit or an argument of `main` is no number or out of range, or `Memory`.
+/// where the limit, the burden or an argument of `main` is no number or out of range, or `Memory`.
 pub fn request(alloc: Global, words: &[String]) -> Result<Request, Said>
     ensures ok { IfOk result (Asks (map string_bytes words.now)) }
     ensures why { IfErr result (IsSaidOf (map string_bytes words.now)) }
@@ -39,8 +41,11 @@ pub fn request(alloc: Global, words: &[String]) -> Result<Request, Said>
         Ok(matches) => matches,
         Err(error) => return Err(said_of(alloc, &error)),
     };
+    if let Some(given) = matches.subcommand_matches("check") {
+        return Ok(asked_by(alloc, Mode::Check, given)?);
+    }
     match matches.subcommand_matches("run") {
-        Some(given) => Ok(run_request(alloc, given)?),
+        Some(given) => Ok(asked_by(alloc, Mode::Run, given)?),
         None => Err(Said::Fault(Fault::Arguments)),
     }
 }
@@ -54,27 +59,37 @@ fn matches_of<'a>(alloc: Global, words: &'a [String]) -> Result<ArgMatches<'a>, 
     Ok(matches)
 }
 
-fn run_request(alloc: Global, given: &ArgMatches<'_>) -> Result<Request, Fault>
-    ensures ok { IfOk result (IsAskedBy (rows_of (found_of given.now))) }
+fn asked_by(alloc: Global, mode: Mode, given: &ArgMatches<'_>) -> Result<Request, Fault>
+    ensures ok { IfOk result (IsAskedBy mode (rows_of (found_of given.now))) }
     ensures why { IfErr result (IsFaultUnless (AreProper (rows_of (found_of given.now)))) }
 {
-    let limit = given.get_str("limit").unwrap_or(USUAL_LIMIT_WORD);
-    let (Some(file), Some(limit)) = (given.get_str("FILE"), read_number(limit, 1, MOST_LIMIT))
-    else {
+    let (Some(file), Some(limit), Some(burden)) = (
+        given.get_str("FILE"),
+        number_of(given, LIMIT),
+        number_of(given, BURDEN),
+    ) else {
         return Err(Fault::Arguments);
     };
     let args = args_of(alloc, given.get_strs("ARGS").unwrap_or(&[]))?;
     let file = String::from_str(alloc, file)?;
     let options = Options {
-        mode: Mode::Run,
+        mode,
         limit,
-        burden: USUAL_BURDEN,
+        burden,
     };
     Ok(Request {
         file,
         args,
         options,
     })
+}
+
+// The number that is given for an option, or the usual one.
+fn number_of(given: &ArgMatches<'_>, option: NumberOption) -> Option<u64>
+    ensures { IsNumberOf (number_text (rows_of (found_of given.now)) (row_of option)) (row_of option) result }
+{
+    let text = given.get_str(option.name).unwrap_or(option.usual);
+    read_number(text, option.least, option.most)
 }
 
 fn args_of(alloc: Global, texts: &[&str]) -> Result<Vec<i64>, Fault>

@@ -1,6 +1,6 @@
 //! The program as a whole, over memory.
 
-use cw_cli::{CountedReads, Request, request, say, tool};
+use cw_cli::{Request, request, say, tool};
 use cw_report::Counted;
 use std::alloc::{AllocError, Global};
 use std::test::Fail;
@@ -28,7 +28,7 @@ pub fn answer(alloc: Global, words: &str, source: &[u8]) -> Result<(u8, Vec<u8>,
     let mut err = Counted::new(Vec::new(alloc));
     let status = match request(alloc, words.as_slice()) {
         Ok(asked) => {
-            let mut source = CountedReads::new(source);
+            let mut source = Counted::new(source);
             tool(alloc, &asked, &mut source, &mut out, &mut err)
         }
         Err(said) => say(&said, &mut out, &mut err),

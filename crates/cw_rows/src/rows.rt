@@ -108,6 +108,8 @@ fn runs(rt: HostRuntime) -> Result<(), Fail> {
         when("run f --limit 9", SPAWN, 0, "return 1\n", ""),
         when("run f --limit 8", SPAWN, 4, "", "over limit\n"),
         when("run f --limit 1", SPAWN, 4, "", "over limit\n"),
+        // the burden changes nothing of a run
+        when("run f --limit 9 --burden 0", SPAWN, 0, "return 1\n", ""),
         when("run f 9223372036854775807", ECHO, 0, greatest, ""),
         when("run f 9223372036854775807 --limit 2", ECHO, 0, greatest, ""),
         when("run f 0 --limit 1", ECHO, 4, "", "over limit\n"),
@@ -127,6 +129,26 @@ fn runs(rt: HostRuntime) -> Result<(), Fail> {
         assert_eq!(rt; status, row.status, "{}", row.words);
         assert_eq!(rt; out.as_slice(), row.out.as_bytes(), "{}", row.words);
         assert_eq!(rt; err.as_slice(), row.err.as_bytes(), "{}", row.words);
+    }
+    Ok(())
+}
+
+#[test]
+fn checks(rt: HostRuntime) -> Result<(), Fail> {
+    for row in [
+        when("check f", SPAWN, 0, "ok\n", ""),
+        when("check f", LATER, 0, "ok\n", ""),
+        // main takes an argument, which a check does not read
+        when("check f", ECHO, 0, "ok\n", ""),
+        when("check f", TAKEN, 2, "", "refused 4 line 13\n"),
+        when("check f", b"int main() { return x; }", 2, "", "refused 3 line 1\n"),
+        when("check f", b"", 2, "", "refused 2 line 1\n"),
+        when("check f", b"\n\xff", 2, "", "refused 1 line 2\n"),
+    ] {
+        let (status, out, err) = answer(rt.alloc(), row.words, row.source)?;
+        assert_eq!(rt; status, row.status, "{}", row.err);
+        assert_eq!(rt; out.as_slice(), row.out.as_bytes(), "{}", row.err);
+        assert_eq!(rt; err.as_slice(), row.err.as_bytes(), "{}", row.err);
     }
     Ok(())
 }

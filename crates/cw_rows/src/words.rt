@@ -7,29 +7,41 @@ use std::test::Fail;
 #[test]
 fn reads_requests(rt: HostRuntime) -> Result<(), Fail> {
     let alloc = rt.alloc();
-    for (line, file, args, limit) in [
-        ("run f.cilk", "f.cilk", [].as_slice(), 1_000_000_000),
+    for (line, mode, args, limit, burden) in [
+        ("check f.cilk", Mode::Check, [].as_slice(), 1_000_000_000, 15_000),
+        ("check -- f.cilk", Mode::Check, [].as_slice(), 1_000_000_000, 15_000),
+        ("run f.cilk", Mode::Run, [].as_slice(), 1_000_000_000, 15_000),
         (
             "run --limit 9 f.cilk 4 9223372036854775807",
-            "f.cilk",
+            Mode::Run,
             [4, 9223372036854775807].as_slice(),
             9,
+            15_000,
         ),
         (
             "run f.cilk 007 --limit 4611686018427387904 00000000000000000000000000000000000012",
-            "f.cilk",
+            Mode::Run,
             [7, 12].as_slice(),
             4_611_686_018_427_387_904,
+            15_000,
         ),
-        ("run --limit=1 -- f.cilk 0", "f.cilk", [0].as_slice(), 1),
+        ("run --limit=1 -- f.cilk 0", Mode::Run, [0].as_slice(), 1, 15_000),
+        ("run --burden 0 f.cilk 3", Mode::Run, [3].as_slice(), 1_000_000_000, 0),
+        (
+            "run f.cilk --burden=1000000000 --limit=7",
+            Mode::Run,
+            [].as_slice(),
+            7,
+            1_000_000_000,
+        ),
     ] {
         let asked = asked(alloc, line)?;
         let options = Options {
-            mode: Mode::Run,
+            mode,
             limit,
-            burden: 15_000,
+            burden,
         };
-        assert_eq!(rt; asked.file.as_str(), file, "{line}");
+        assert_eq!(rt; asked.file.as_str(), "f.cilk", "{line}");
         assert_eq!(rt; asked.args.as_slice(), args, "{line}");
         assert_eq!(rt; asked.options, options, "{line}");
     }
@@ -46,6 +58,9 @@ const REFUSED: &[(&str, &str)] = &[
     ("run f --limit 4611686018427387905", "arguments\n"),
     ("run f --limit 1e3", "arguments\n"),
     ("run f --limit +1", "arguments\n"),
+    ("run f --burden 1000000001", "arguments\n"),
+    ("run f --burden +0", "arguments\n"),
+    ("run f --burden x --limit 9", "arguments\n"),
     // words
     ("run f -1", "error: unexpected argument '-1' found\n"),
     (
@@ -60,15 +75,30 @@ const REFUSED: &[(&str, &str)] = &[
         "run f --workers 2",
         "error: unexpected argument '--workers' found\n",
     ),
+    (
+        "check",
+        "error: the following required arguments were not provided:\n",
+    ),
+    ("check f 1", "error: unexpected argument '1' found\n"),
+    (
+        "check f --limit 9",
+        "error: unexpected argument '--limit' found\n",
+    ),
+    (
+        "run f --burden 1 --burden 1",
+        "error: the argument '--burden <N>' cannot be used multiple times\n",
+    ),
     ("walk f", "error: unrecognized subcommand 'walk'\n"),
     ("f", "error: unrecognized subcommand 'f'\n"),
 ];
 
-// Words that ask for help, and its beginning.
-const HELPED: &[(&str, &str)] = &[
-    ("--help", "Work and span of fork-join programs\n"),
-    ("run --help", "Runs a program and writes"),
-    ("help run", "Runs a program and writes"),
+// Words that ask for help, its beginning, and something that it says.
+const HELPED: &[(&str, &str, &str)] = &[
+    ("--help", "Checks and runs", "standard input"),
+    ("--help", "Checks and runs", "  4  over limit "),
+    ("check --help", "Compiles a program", "  6  memory "),
+    ("run --help", "Runs a program", "4611686018427387904"),
+    ("help run", "Runs a program", "1000000000"),
 ];
 
 #[test]
@@ -83,12 +113,15 @@ fn refuses_words(rt: HostRuntime) -> Result<(), Fail> {
 
 #[test]
 fn gives_help(rt: HostRuntime) -> Result<(), Fail> {
-    for (line, text) in HELPED {
+    for (line, start, part) in HELPED {
         let (status, out, err) = answer(rt.alloc(), line, b"")?;
         assert_eq!(rt; (status, err.len()), (0, 0), "{line}");
         let help = String::from_utf8(out).map_err(|_| Fail::from("no text"))?;
-        assert!(rt; help.as_str().starts_with(text), "{line}");
-        assert!(rt; help.as_str().contains("  4  over limit "), "{line}");
+        assert!(rt; help.as_str().starts_with(start), "{line}");
+        assert!(rt; help.as_str().contains(part), "{line}");
+        for text in help.as_str().lines() {
+            assert!(rt; text.len() <= 80, "{text}");
+        }
     }
     Ok(())
 }

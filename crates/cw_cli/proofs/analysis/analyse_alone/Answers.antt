@@ -1,34 +1,13 @@
-use Rattle.std.proofs.Common.{◌≡◌, Ok, Err, rules, sym, subst}
-use Rattle.cw_code.specs.Code.{code_view}
-use Rattle.cw_cli.specs.Compiled.{IsCompiled}
-use Rattle.cw_cli.proofs.Refusals.{handed_on}
-use Rattle.cw_cli.proofs.Runs.{refusal, finished, unwritten}
+use Rattle.std.proofs.Common.{rules}
+use Rattle.cw_cli.proofs.Runs.{checked, refusal, run_is}
 use Rattle.cw_cli.proofs.analysis.analyse_alone.Goals as goal
 
-pub returns-in_err-compile : goal.returns-in_err-compile
-returns-in_err-compile g c =
-    handed_on _ _ _ c.from_residual.result (refusal g.W.Write.contents g.W.Sink.failed c.args.out.now c.args.bytes.now c.args.args.now c.args.options _ c.in_err-compile.ensures) (search rules)
+pub returns-in_err-code : goal.returns-in_err-code
+returns-in_err-code g c = refusal g.W.Sink.seen c.args.out.now c.args.bytes.now c.args.args.now c.args.options _ c.in_err-code.ensures c.from_residual.result (search rules)
 
-pub returns-in_err-answer : goal.returns-in_err-answer
-returns-in_err-answer g c =
-    let same : c.in_ok-share.share.value ≡ c.in_ok-compile.field-0 = search rules in
-    let compiled : IsCompiled c.args.bytes.now (code_view c.in_ok-share.share.value.code) = subst (λ v. IsCompiled c.args.bytes.now (code_view v.code)) (sym same) c.in_ok-compile.ensures in
-    handed_on _ _ _ c.from_residual-in_err-answer.result
-    (unwritten c.args.bytes.now c.args.args.now c.args.options _ compiled g.W.Write.contents g.W.Sink.failed c.args.out.now c.answer.new.to c.run_alone-ended.result c.run_alone-ended.ensures c.in_err-answer.ensures.idle _ c.in_err-answer.ensures.answers)
-    (search rules)
+pub returns-in-Check : goal.returns-in-Check
+returns-in-Check g c = checked g.W.Sink.seen c.args.out.now c.ok.new.to c.args.bytes.now c.args.args.now c.args.options _ c.in_ok-code.ensures c.in-Check.is c.ok.result c.ok.ensures
 
-pub returns-in_err-ended : goal.returns-in_err-ended
-returns-in_err-ended g c =
-    let same : c.in_ok-share.share.value ≡ c.in_ok-compile.field-0 = search rules in
-    let compiled : IsCompiled c.args.bytes.now (code_view c.in_ok-share.share.value.code) = subst (λ v. IsCompiled c.args.bytes.now (code_view v.code)) (sym same) c.in_ok-compile.ensures in
-    let is : c.run_alone-ended.result ≡ Err c.in_err-ended.field-0.0 = search rules in
-    handed_on _ _ _ c.from_residual-in_err-ended.result
-    (finished c.args.bytes.now c.args.args.now c.args.options _ compiled g.W.Write.contents g.W.Sink.failed c.args.out.now c.answer.new.to c.run_alone-ended.result _ is c.run_alone-ended.ensures c.in_ok-answer.ensures.answers c.in_ok-answer.ensures.idle)
-    (search rules)
-
-pub returns : goal.returns
-returns g c =
-    let same : c.in_ok-share.share.value ≡ c.in_ok-compile.field-0 = search rules in
-    let compiled : IsCompiled c.args.bytes.now (code_view c.in_ok-share.share.value.code) = subst (λ v. IsCompiled c.args.bytes.now (code_view v.code)) (sym same) c.in_ok-compile.ensures in
-    let is : c.run_alone-ended.result ≡ Ok c.in_ok-ended.field-0 = search rules in
-    finished c.args.bytes.now c.args.args.now c.args.options _ compiled g.W.Write.contents g.W.Sink.failed c.args.out.now c.answer.new.to c.run_alone-ended.result _ is c.run_alone-ended.ensures c.in_ok-answer.ensures.answers c.in_ok-answer.ensures.idle
+pub returns-in-Run : goal.returns-in-Run
+returns-in-Run g c =
+    run_is g.W.Sink.seen c.args.out.now c.run.new.out c.args.bytes.now c.args.args.now c.args.options c.in-Run.is c.run.result (c.run.ensures c.args.bytes.now c.in-Run.is c.in_ok-code.ensures)

@@ -1,7 +1,7 @@
-use Rattle.std.proofs.Common.{rules}
+use Rattle.std.proofs.Common.{rules, sym, ◌∙◌}
 use Rattle.cw_parse.specs.View as parsed
 use Rattle.cw_cli.specs.Sources.{IsSourceOf}
-use Rattle.cw_cli.proofs.Refusals.{handed_on, tree_refused, source_of, types_refused, tree_disowned, tree_too_large, compiled}
+use Rattle.cw_cli.proofs.Refusals.{handed_on, tree_refused, source_of, types_refused, tree_disowned, tree_later, tree_too_large, compiled}
 use Rattle.cw_cli.proofs.compiling.compile.Goals as goal
 
 pub returns-in_err-ast : goal.returns-in_err-ast
@@ -20,15 +20,21 @@ returns-in_err-owned c =
     source_of c.args.bytes.now c.in_ok-source.source c.in_ok-tokens.tokens.items c.as_slice.result.now c.in_ok-source.ensures c.as_slice.ensures.value (search rules) c.in_ok-tokens.ensures _ c.in_ok-ast.ensures in
     handed_on _ _ _ c.from_residual-in_err-owned.result (tree_disowned c.args.bytes.now _ source c.in_ok-typed.typed.tree c.in_ok-typed.ensures _ c.in_err-owned.ensures) (search rules)
 
+pub returns-in-Some : goal.returns-in-Some
+returns-in-Some c =
+    let source : IsSourceOf c.args.bytes.now (parsed.program_of c.in_ok-ast.ast) =
+    source_of c.args.bytes.now c.in_ok-source.source c.in_ok-tokens.tokens.items c.as_slice.result.now c.in_ok-source.ensures c.as_slice.ensures.value (search rules) c.in_ok-tokens.ensures _ c.in_ok-ast.ensures in
+    tree_later c.args.bytes.now _ source c.in_ok-typed.typed.tree c.in_ok-typed.ensures c.in_ok-owned.owned.typed.tree c.in_ok-owned.ensures c.in_ok-owned.owned.owned c.in-Some.line (sym c.later_line-later.ensures ∙ c.in-Some.is)
+
 pub returns-in_err-code : goal.returns-in_err-code
 returns-in_err-code c =
     let source : IsSourceOf c.args.bytes.now (parsed.program_of c.in_ok-ast.ast) =
     source_of c.args.bytes.now c.in_ok-source.source c.in_ok-tokens.tokens.items c.as_slice.result.now c.in_ok-source.ensures c.as_slice.ensures.value (search rules) c.in_ok-tokens.ensures _ c.in_ok-ast.ensures in
     handed_on _ _ _ c.from_residual-in_err-code.result
-    (tree_too_large c.args.bytes.now _ source c.in_ok-typed.typed.tree c.in_ok-typed.ensures c.in_ok-owned.owned.typed.tree c.in_ok-owned.ensures c.in_ok-owned.owned.owned _ c.in_err-code.ensures) (search rules)
+    (tree_too_large c.args.bytes.now _ source c.in_ok-typed.typed.tree c.in_ok-typed.ensures c.in_ok-owned.owned.typed.tree c.in_ok-owned.ensures c.in_ok-owned.owned.owned (search rules) _ c.in_err-code.ensures) (search rules)
 
 pub returns : goal.returns
 returns c =
     let source : IsSourceOf c.args.bytes.now (parsed.program_of c.in_ok-ast.ast) =
     source_of c.args.bytes.now c.in_ok-source.source c.in_ok-tokens.tokens.items c.as_slice.result.now c.in_ok-source.ensures c.as_slice.ensures.value (search rules) c.in_ok-tokens.ensures _ c.in_ok-ast.ensures in
-    compiled c.args.bytes.now _ source c.in_ok-typed.typed.tree c.in_ok-typed.ensures c.in_ok-owned.owned.typed.tree c.in_ok-owned.ensures c.in_ok-owned.owned.owned _ c.in_ok-code.ensures
+    compiled c.args.bytes.now _ source c.in_ok-typed.typed.tree c.in_ok-typed.ensures c.in_ok-owned.owned.typed.tree c.in_ok-owned.ensures c.in_ok-owned.owned.owned (search rules) _ c.in_ok-code.ensures

@@ -3,6 +3,6 @@ use Rattle.cw_cli.proofs.telling.refuse.Goals as goal
 
 pub returns : goal.returns
 returns g c = record {
-  line = tries g.E.Write.contents g.E.Sink.failed c.args.err.now c.write_fault.new.to _ c.write_fault.result c.write_fault.ensures;
+  line = tries g.E.Sink.seen c.args.err.now c.write_fault.new.to _ c.write_fault.result c.write_fault.ensures;
   status_is = c.status.ensures;
 }

@@ -6,29 +6,26 @@ use Rattle.cw_cli.proofs.telling.say.Goals as goal
 
 pub returns-in-Ok : goal.returns-in-Ok
 returns-in-Ok g c =
-    let contents = g.W.Write.contents in
-    let failed = g.W.Sink.failed in
+    let seen = g.W.Sink.seen in
     let old = c.args.out.now in
     let new = c.write_text.new.to in
-    rw (c.in-Help.is) (whole (subst (λ t. WritesAll (contents old) (contents new) (failed old) (failed new) t) c.as_bytes.ensures.value c.in-Ok.ensures.writes) refl refl)
+    rw (c.in-Help.is) (whole (subst (λ t. WritesAll (seen old) (seen new) t) c.as_bytes.ensures.value c.in-Ok.ensures.writes) refl refl)
 
 pub returns-in-Err : goal.returns-in-Err
 returns-in-Err g c =
-    let contents = g.W.Write.contents in
-    let failed = g.W.Sink.failed in
+    let seen = g.W.Sink.seen in
     let old = c.args.out.now in
     let new = c.write_text.new.to in
-    let refusal = subst (λ f. IsRefusal g.E.Write.contents g.E.Sink.failed c.args.err.now c.refuse.new.err f c.refuse.result) c.in-Err.ensures.writes.0 c.refuse.ensures in
-    rw (c.in-Help.is) (cut_short (subst (λ t. WritesPart (contents old) (contents new) (failed old) (failed new) t) c.as_bytes.ensures.value c.in-Err.ensures.writes.1) refusal)
+    let refusal = subst (λ f. IsRefusal g.E.Sink.seen c.args.err.now c.refuse.new.err f c.refuse.result) c.in-Err.ensures.writes.0 c.refuse.ensures in
+    rw (c.in-Help.is) (cut_short (subst (λ t. WritesPart (seen old) (seen new) t) c.as_bytes.ensures.value c.in-Err.ensures.writes.1) refusal)
 
 pub returns-in-Misuse : goal.returns-in-Misuse
 returns-in-Misuse g c =
-    let contents = g.E.Write.contents in
-    let failed = g.E.Sink.failed in
+    let seen = g.E.Sink.seen in
     let old = c.args.err.now in
     let new = c.write_text-in-Misuse.new.to in
-    let told = tries contents failed old new _ c.write_text-in-Misuse.result c.write_text-in-Misuse.ensures.writes in
-    rw (c.in-Misuse.is) (record { untouched = refl; text_is = subst (λ t. TriesText contents failed old new t) c.as_bytes-in-Misuse.ensures.value told; status_is = refl })
+    let told = tries seen old new _ c.write_text-in-Misuse.result c.write_text-in-Misuse.ensures.writes in
+    rw (c.in-Misuse.is) (record { untouched = refl; text_is = subst (λ t. TriesText seen old new t) c.as_bytes-in-Misuse.ensures.value told; status_is = refl })
 
 pub returns-in-Fault : goal.returns-in-Fault
 returns-in-Fault g c = rw (c.in-Fault.is) (record { untouched = refl; refusal = c.refuse-in-Fault.ensures })

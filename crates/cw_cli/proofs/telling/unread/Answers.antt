@@ -1,7 +1,6 @@
-use Rattle.std.proofs.Common.{◌≡◌, rules, refl, false, true}
+use Rattle.std.proofs.Common.{◌≡◌, rules, false, true}
 use Rattle.std.specs.declared.io.ErrorKind.TheVariants.{OutOfMemory}
 use Rattle.std.specs.IoError.{error_kind}
-use Rattle.cw_cli.proofs.Tools.{tries}
 use Rattle.cw_cli.proofs.telling.unread.Goals as goal
 
 pub returns-then-eq : goal.returns-then-eq
@@ -12,5 +11,5 @@ returns-then-eq g c =
 pub returns : goal.returns
 returns g c = record {
   memory = λ e. absurd (let bad : true ≡ false = search rules in cc);
-  file = λ e. record { line = tries g.E.Write.contents g.E.Sink.failed c.args.err.now c.write_text.new.to _ c.write_text.result c.write_text.ensures.writes; status_is = refl };
+  file = λ e. c.tell_file.ensures;
 }
