@@ -1,13 +1,13 @@
 -- What no later stage is needed for is of the first grammar, where it is well typed.
-use Rattle.std.proofs.Common.{◌≡◌, ℕ, Bool, true, false, not, ◌&&◌, ◌||◌, List, [], ◌∷◌, ◌++◌, Option, Some, None, map, flat_map, refl, ap, sym, ◌∙◌}
+use Rattle.std.proofs.Common.{◌≡◌, ℕ, Bool, true, false, not, ◌&&◌, ◌||◌, List, [], ◌∷◌, ◌++◌, Some, None, map, flat_map, refl, ap, ◌∙◌}
 use Rattle.std.specs.List.{list_all, list_any}
 use Rattle.cw_model.specs.Lines.{unless}
-use Rattle.cw_model.specs.Syntax.{Name, Expr, Number, Variable, Element, Length, Negative, Not, Binary, Stmt, Declare, DeclareArray, Assign, AssignElement, AddTo, Call, Start, Begin, Sync, If, IfElse, While, For, Scope, Cut, Region, Print, Return, Block, End, Then, Param, Function, Reducer, Program}
+use Rattle.cw_model.specs.Syntax.{Expr, Number, Variable, Element, Length, Negative, Not, Binary, Stmt, Declare, DeclareArray, Assign, AssignElement, AddTo, Call, Start, Begin, Sync, If, IfElse, While, For, Scope, Cut, Region, Print, Return, Block, End, Then, Param, Function, Reducer, Program}
 use Rattle.cw_model.specs.FirstGrammar.{is_first_expr, is_first_stmt, is_first_body, is_first_function, is_first}
 use Rattle.cw_model.specs.Answers.{main_name}
 use Rattle.cw_model.specs.Names.{differ, is_among, same_name}
 use Rattle.cw_model.specs.Typing.{globals, Returns, Known, surely_returns, block_returns, ends_block, faults_in, faults_in_block, declares, is_head, faults_of, repeated_names, type_faults}
-use Rattle.cw_cli.specs.Later.{has_array, holds_later, is_taken, later_in_function, later_lines, later_lines_in, later_within, own_exprs}
+use Rattle.cw_cli.specs.Later.{has_array, holds_later, is_taken, later_in_function, later_lines, later_lines_in, later_within}
 
 both_nil : {A : Type 0} (xs ys : List A) → xs ++ ys ≡ [] → (xs ≡ []) × (ys ≡ [])
 both_nil [] ys h = (refl, h)

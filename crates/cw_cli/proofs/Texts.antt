@@ -1,5 +1,5 @@
 -- Texts that are lent.
-use Rattle.std.proofs.Common.{◌≡◌, ℕ, ℤ, List, [], ◌∷◌, map, pos, codes, zero, suc, arith, refl, ap, sym, ◌∙◌, subst, Option, Some, None, option_map, unwrap_or, Bor}
+use Rattle.std.proofs.Common.{◌≡◌, ℕ, ℤ, List, [], ◌∷◌, map, pos, zero, suc, arith, refl, ap, sym, ◌∙◌, subst, Option, Some, None, option_map, unwrap_or, Bor}
 use Rattle.std.specs.List.{All}
 use Rattle.std.proofs.lemmas.List.Elements.{All-map}
 use Rattle.clap.specs.Words.{first_of, first_value, matched_of, raw_values, rows_of}

@@ -1,5 +1,5 @@
 -- A source of which one byte too many is read at most, and lines on standard error.
-use Rattle.std.proofs.Common.{◌≡◌, ℕ, ℤ, option_map, IfSome, ◌<◌, ◌≤◌, ◌⊎◌, inl, inr, List, [], ◌++◌, ◌+◌, length, take, Option, Some, None, Result, Ok, Err, refl, sym, ◌∙◌, subst, arith, Bool, true, false}
+use Rattle.std.proofs.Common.{◌≡◌, ℕ, ℤ, option_map, IfSome, ◌<◌, ◌≤◌, ◌⊎◌, inl, inr, List, [], ◌++◌, ◌+◌, length, take, Option, Some, None, Result, Ok, Err, refl, sym, subst, arith, Bool, true, false}
 use Rattle.std.proofs.lemmas.List.{append-nil, take_all, length-take-le}
 use Rattle.std.specs.Prelude.{nat_le, is_err, OnOk}
 use Rattle.std.proofs.lemmas.Bool.Decides.{nat_tests}

@@ -1,5 +1,5 @@
 -- What words come to that start with no hyphen, and some that are written out.
-use Rattle.std.specs.Prelude.{◌≡◌, ◌≢◌, ◌^◌, ◌<◌, ℕ, List, [], ◌∷◌, ◌++◌, All, Some, codes, length, map, slice_get}
+use Rattle.std.specs.Prelude.{◌≡◌, ◌≢◌, ◌^◌, ◌<◌, List, [], ◌∷◌, All, Some, codes, length, map, slice_get}
 use Rattle.clap.specs.Words.{Text}
 use Rattle.clap.specs.declared.error.ErrorKind.TheVariants as kind
 use Rattle.cw_model.specs.Limits.{usual_limit, usual_burden}
@@ -57,13 +57,13 @@ WordExamples =
     AreRead (codes "check" ∷ codes "f" ∷ []) (checking (codes "f"))
     × AreRead (codes "check" ∷ codes "--" ∷ codes "-f" ∷ []) (checking (codes "-f"))
     × AreRead (codes "run" ∷ codes "f" ∷ codes "4" ∷ codes "7" ∷ codes "--limit" ∷ codes "9" ∷ [])
-      (running (codes "f") (codes "4" ∷ codes "7" ∷ []) (codes "9") (codes "15000"))
+    (running (codes "f") (codes "4" ∷ codes "7" ∷ []) (codes "9") (codes "15000"))
     × AreRead (codes "run" ∷ codes "f" ∷ codes "4" ∷ codes "--limit" ∷ codes "9" ∷ codes "7" ∷ [])
-      (running (codes "f") (codes "4" ∷ codes "7" ∷ []) (codes "9") (codes "15000"))
+    (running (codes "f") (codes "4" ∷ codes "7" ∷ []) (codes "9") (codes "15000"))
     × AreRead (codes "run" ∷ codes "--burden" ∷ codes "0" ∷ codes "f" ∷ codes "--limit=9" ∷ [])
-      (running (codes "f") [] (codes "9") (codes "0"))
+    (running (codes "f") [] (codes "9") (codes "0"))
     × AreRead (codes "run" ∷ codes "--limit=1" ∷ codes "--" ∷ codes "-f" ∷ codes "-1" ∷ [])
-      (running (codes "-f") (codes "-1" ∷ []) (codes "1") (codes "15000"))
+    (running (codes "-f") (codes "-1" ∷ []) (codes "1") (codes "15000"))
 
 -- words that are not taken: none, no source, a word too many for a check, a limit for a check, an unknown word, a negative number,
 -- no limit, two limits, and calls for help

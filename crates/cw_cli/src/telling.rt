@@ -46,7 +46,11 @@ pub fn tool<D: Input, W: Sink, E: Sink>(
 {
     let failures = source.failed_reads();
     let mut bytes = Vec::new(alloc);
-    if (&mut *source).take(MOST_READ).read_to_end(&mut bytes).is_err() {
+    if (&mut *source)
+        .take(MOST_READ)
+        .read_to_end(&mut bytes)
+        .is_err()
+    {
         if source.failed_reads() > failures {
             return tell_file(err);
         }

@@ -1,5 +1,5 @@
 use Rattle.std.proofs.Common.{◌≡◌, ◌∙◌, ap, codes, rules}
-use Rattle.clap.specs.Words.{App, app_of, new_app, with_subcommand}
+use Rattle.clap.specs.Words.{app_of, new_app, with_subcommand}
 use Rattle.cw_cli.specs.Command.{check_line, run_line, with_words_alone}
 use Rattle.cw_cli.proofs.command.command.Goals as goal
 

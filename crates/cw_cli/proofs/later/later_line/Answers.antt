@@ -1,4 +1,4 @@
-use Rattle.std.proofs.Common.{◌≡◌, None, map, flat_map, ap, sym, ◌∙◌}
+use Rattle.std.proofs.Common.{None, map, flat_map, ap, sym, ◌∙◌}
 use Rattle.cw_model.specs.Lines.{lowest}
 use Rattle.cw_model.specs.Syntax.{Reducer}
 use Rattle.cw_model.proofs.Lowest.{lowest-append}

@@ -9,8 +9,7 @@ use Rattle.cw_cli.proofs.laws.written_words.Goals as goal
 usual : UsualNumbersAreWritten
 usual =
     let limit : value_of limit_row.usual ≡ usual_limit = refl in
-    let burden : value_of burden_row.usual ≡ usual_burden = refl in
-    (
+    let burden : value_of burden_row.usual ≡ usual_burden = refl in (
       (
         ((refl, omega arith, omega (arith, limit)), omega (arith, limit), omega (arith, limit)),
         (((refl, omega arith, omega (arith, burden)), omega (arith, burden), omega (arith, burden)), tt),
