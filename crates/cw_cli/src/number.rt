@@ -29,7 +29,7 @@ pub const LIMIT: NumberOption = NumberOption {
     least: 1,
     most: MOST_LIMIT,
     usual: "1000000000",
-    help: "The most instructions that the run may cost",
+    help: "The most that the run may cost",
 };
 
 /// The burden of a spawn.

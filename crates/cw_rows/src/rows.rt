@@ -141,7 +141,13 @@ fn checks(rt: HostRuntime) -> Result<(), Fail> {
         // main takes an argument, which a check does not read
         when("check f", ECHO, 0, "ok\n", ""),
         when("check f", TAKEN, 2, "", "refused 4 line 13\n"),
-        when("check f", b"int main() { return x; }", 2, "", "refused 3 line 1\n"),
+        when(
+            "check f",
+            b"int main() { return x; }",
+            2,
+            "",
+            "refused 3 line 1\n",
+        ),
         when("check f", b"", 2, "", "refused 2 line 1\n"),
         when("check f", b"\n\xff", 2, "", "refused 1 line 2\n"),
     ] {

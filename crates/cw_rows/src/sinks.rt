@@ -104,10 +104,7 @@ fn tells_of_unread_sources(rt: HostRuntime) -> Result<(), Fail> {
     let alloc = rt.alloc();
     let asked = asked(alloc, "run f")?;
     // a read that fails is told in one way, whatever its reason
-    for kind in [
-        io::ErrorKind::PermissionDenied,
-        io::ErrorKind::OutOfMemory,
-    ] {
+    for kind in [io::ErrorKind::PermissionDenied, io::ErrorKind::OutOfMemory] {
         let mut out = Counted::new(Vec::new(alloc));
         let mut err = Counted::new(Vec::new(alloc));
         let mut source = Counted::new(Broken { kind });

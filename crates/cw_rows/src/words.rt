@@ -8,9 +8,27 @@ use std::test::Fail;
 fn reads_requests(rt: HostRuntime) -> Result<(), Fail> {
     let alloc = rt.alloc();
     for (line, mode, args, limit, burden) in [
-        ("check f.cilk", Mode::Check, [].as_slice(), 1_000_000_000, 15_000),
-        ("check -- f.cilk", Mode::Check, [].as_slice(), 1_000_000_000, 15_000),
-        ("run f.cilk", Mode::Run, [].as_slice(), 1_000_000_000, 15_000),
+        (
+            "check f.cilk",
+            Mode::Check,
+            [].as_slice(),
+            1_000_000_000,
+            15_000,
+        ),
+        (
+            "check -- f.cilk",
+            Mode::Check,
+            [].as_slice(),
+            1_000_000_000,
+            15_000,
+        ),
+        (
+            "run f.cilk",
+            Mode::Run,
+            [].as_slice(),
+            1_000_000_000,
+            15_000,
+        ),
         (
             "run --limit 9 f.cilk 4 9223372036854775807",
             Mode::Run,
@@ -25,8 +43,20 @@ fn reads_requests(rt: HostRuntime) -> Result<(), Fail> {
             4_611_686_018_427_387_904,
             15_000,
         ),
-        ("run --limit=1 -- f.cilk 0", Mode::Run, [0].as_slice(), 1, 15_000),
-        ("run --burden 0 f.cilk 3", Mode::Run, [3].as_slice(), 1_000_000_000, 0),
+        (
+            "run --limit=1 -- f.cilk 0",
+            Mode::Run,
+            [0].as_slice(),
+            1,
+            15_000,
+        ),
+        (
+            "run --burden 0 f.cilk 3",
+            Mode::Run,
+            [3].as_slice(),
+            1_000_000_000,
+            0,
+        ),
         (
             "run f.cilk --burden=1000000000 --limit=7",
             Mode::Run,
