@@ -2,7 +2,7 @@
 use Rattle.std.specs.Prelude.{ℕ, Bool, true, false, not, ◌&&◌, ◌||◌, List, [], ◌∷◌, ◌++◌, Some, None, map, flat_map}
 use Rattle.std.specs.List.{list_any}
 use Rattle.cw_model.specs.Lines.{unless}
-use Rattle.cw_model.specs.Syntax.{Expr, Number, Variable, Element, Length, Negative, Not, Binary, Stmt, Declare, DeclareArray, Assign, AssignElement, AddTo, Call, Start, Begin, If, IfElse, While, For, Scope, Cut, Region, Print, Return, Block, End, Then, Param, Function, Program}
+use Rattle.cw_model.specs.Syntax.{Expr, Number, Variable, Element, Length, Negative, Not, Binary, Stmt, Declare, DeclareArray, Assign, AssignElement, AddTo, Call, Start, Begin, If, IfElse, While, For, Scope, Cut, Region, Print, Return, Block, End, Then, Param, Function, Reducer, Program}
 
 -- the forms of an expression that are not taken so far
 abbrev pub is_later_expr : Expr → Bool
@@ -90,6 +90,14 @@ has_array params = list_any (λ p. p.is_array) params
 abbrev pub later_in_function : Function → List ℕ
 later_in_function f = unless (f.gives_int && not (has_array f.params)) f.line ++ later_lines_in f.body
 
--- the lines of a program's statements and items that no stage after ownership takes so far; no reducer is taken
+-- the lines of reducers, none of which is taken
+abbrev pub later_reducers : List Reducer → List ℕ
+later_reducers reducers = map (λ r. r.line) reducers
+
+-- the lines of functions
+abbrev pub later_functions : List Function → List ℕ
+later_functions functions = flat_map later_in_function functions
+
+-- the lines of a program's statements and items that no stage after ownership takes so far
 abbrev pub later_lines : Program → List ℕ
-later_lines program = map (λ r. r.line) program.reducers ++ flat_map later_in_function program.functions
+later_lines program = later_reducers program.reducers ++ later_functions program.functions

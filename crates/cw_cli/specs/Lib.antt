@@ -1,7 +1,7 @@
 pub mod Numbers
 pub mod Command
-pub mod Rows
 pub mod Requests
+pub mod Rows
 pub mod Later
 pub mod Sources
 pub mod Compiled

@@ -20,11 +20,12 @@ use std::alloc::Global;
 ///
 /// The first stage that refuses the bytes decides, with its line: `Size` for too many bytes, else
 /// `Lexical` for one that is not ASCII; `Lexical` and `Size` for tokens; `Size` for too many
-/// brackets open or too many tokens in a row, else `Syntax`; `Size` for the parts of the program, and `Types`;
-/// `Ownership`; `Size` at the least line of a statement or an item that is not compiled so far; and
-/// `Size` for its code, at line 1. `Memory` where memory runs out.
+/// brackets open or too many tokens in a row, else `Syntax`; `Size` for the parts of the program, and
+/// `Types`; `Ownership`; `Size` at the least line of a statement or an item that is not compiled so
+/// far; and `Size` for its code, at line 1. `Memory` where memory runs out.
 pub fn compile(alloc: Global, bytes: &[u8]) -> Result<Verified, Fault>
-    ensures { MatchResult result (λ made. IsCompiled bytes.now (code_view made.code)) (IsRefused bytes.now) }
+    ensures { MatchResult result
+        (λ made. IsCompiled bytes.now (code_view made.code)) (IsRefused bytes.now) }
 {
     let source = Source::read(alloc, bytes)?;
     let tokens = lex(alloc, &source)?;

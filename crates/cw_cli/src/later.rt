@@ -1,18 +1,29 @@
 //! What is parsed, typed and owned, and is taken by no stage after that so far.
 
-ghost use Rattle.std.specs.Prelude.{◌≡◌, None, map, flat_map, not};
+ghost use Rattle.std.specs.Prelude.{◌≡◌, None, map};
 ghost use Rattle.std.specs.List.{list_any};
 ghost use Rattle.cw_model.specs.Lines.{lowest};
-ghost use Rattle.cw_parse.specs.View.{block_of, expr_of, exprs_of, function_of, param_of, program_of, reducer_of, stmt_of};
+ghost use Rattle.cw_parse.specs.View.{
+  block_of,
+  expr_of,
+  exprs_of,
+  function_of,
+  param_of,
+  program_of,
+  reducer_of,
+  stmt_of,
+};
 ghost use Rattle.cw_cli.specs.Later.{
   has_array,
   holds_later,
   is_later_expr,
   is_later_form,
   is_taken,
+  later_functions,
   later_in_function,
   later_lines,
   later_lines_in,
+  later_reducers,
   later_within,
   own_exprs,
 };
@@ -32,7 +43,7 @@ pub fn later_line(ast: &Ast) -> Option<u32>
 
 // Notes the lines of the reducers.
 fn note_reducers(reducers: &[Reducer], least: &mut LeastLine)
-    ensures { least.new.line ≡ lowest least.old.line (map (λ r. r.line) (map reducer_of reducers.now)) }
+    ensures { least.new.line ≡ lowest least.old.line (later_reducers (map reducer_of reducers.now)) }
 {
     for reducer in reducers {
         least.note(false, reducer.line);
@@ -41,7 +52,8 @@ fn note_reducers(reducers: &[Reducer], least: &mut LeastLine)
 
 // Notes the lines of functions, at their heads and in their bodies.
 fn note_functions(functions: &[Function], least: &mut LeastLine)
-    ensures { least.new.line ≡ lowest least.old.line (flat_map later_in_function (map function_of functions.now)) }
+    ensures { least.new.line
+        ≡ lowest least.old.line (later_functions (map function_of functions.now)) }
 {
     for function in functions {
         note_function(function, least);

@@ -1,6 +1,18 @@
 //! The program's words, read by the rules of its command line.
 
-ghost use Rattle.std.specs.Prelude.{◌≡◌, ◌∷◌, [], ◌++◌, All, IfErr, IfOk, OnOk, map, pos, string_bytes};
+ghost use Rattle.std.specs.Prelude.{
+  ◌≡◌,
+  ◌∷◌,
+  [],
+  ◌++◌,
+  All,
+  IfErr,
+  IfOk,
+  OnOk,
+  map,
+  pos,
+  string_bytes,
+};
 ghost use Rattle.clap.specs.Words.{FailsBy, kind_of, rows_of, found_of, subcommand_of, subcommand_rows_of};
 ghost use Rattle.cw_model.specs.Pieces.{value_of};
 ghost use Rattle.cw_cli.specs.Command.{command_line};
@@ -10,13 +22,11 @@ ghost use Rattle.cw_cli.specs.Requests.{
   IsArgument,
   IsAskedBy,
   IsFaultUnless,
-  IsNumberOf,
   IsSaidAt,
   IsSaidOf,
   faults,
-  number_text,
 };
-ghost use Rattle.cw_cli.specs.Rows.{row_of};
+ghost use Rattle.cw_cli.specs.Rows.{IsGivenNumber};
 
 use crate::asked::{Mode, Options, Request, Said};
 use crate::command::command;
@@ -86,7 +96,7 @@ fn asked_by(alloc: Global, mode: Mode, given: &ArgMatches<'_>) -> Result<Request
 
 // The number that is given for an option, or the usual one.
 fn number_of(given: &ArgMatches<'_>, option: NumberOption) -> Option<u64>
-    ensures { IsNumberOf (number_text (rows_of (found_of given.now)) (row_of option)) (row_of option) result }
+    ensures { IsGivenNumber (rows_of (found_of given.now)) option result }
 {
     let text = given.get_str(option.name).unwrap_or(option.usual);
     read_number(text, option.least, option.most)
