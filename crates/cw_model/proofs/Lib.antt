@@ -13,3 +13,4 @@ mod Halves
 mod LoopTrees
 pub mod Spending
 pub mod Lowest
+mod Numbering

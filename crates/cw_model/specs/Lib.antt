@@ -23,6 +23,7 @@ pub mod Rows
 pub mod TreeLaws
 pub mod Sites
 pub mod Report
+pub mod SiteLaw
 pub mod Typing
 pub mod Ownership
 pub mod WhileLaw

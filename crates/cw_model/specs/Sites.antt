@@ -1,5 +1,5 @@
 -- Call sites: where the invocations of a run are made, each with its number.
-use Rattle.std.specs.Prelude.{ℕ, List, [], ◌∷◌, ◌++◌, flat_map}
+use Rattle.std.specs.Prelude.{ℕ, suc, Bool, true, ◌&&◌, nat_eq, List, [], ◌∷◌, ◌++◌, flat_map}
 use Rattle.cw_model.specs.declared.syntax.CallKind.{CallKind}
 use Rattle.cw_model.specs.Syntax.{Name, Stmt, Call, If, IfElse, While, For, Scope, Cut, Region, Block, End, Then, Program}
 use Rattle.cw_model.specs.Meaning.{function_of}
@@ -42,3 +42,8 @@ call_sites program = flat_map (λ f. sites_in_block f.body) program.functions
 -- the invocation of main by the run itself
 abbrev pub root_site : Program → CallSite
 root_site program = record { number = 0; kind = Root; line = (function_of main_name program.functions).line; callee = main_name }
+
+-- the sites have the numbers that follow this one, in their order
+abbrev pub are_numbered : ℕ → List CallSite → Bool
+are_numbered n [] = true
+are_numbered n (s ∷ sites) = nat_eq s.number (suc n) && are_numbered (suc n) sites

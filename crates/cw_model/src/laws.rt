@@ -2,6 +2,7 @@
 
 ghost use Rattle.std.specs.Prelude.{◌<◌, ◌≡◌, true, ℕ};
 ghost use Rattle.cw_model.specs.Dag.{IsBurdenedSpan, IsSpan};
+ghost use Rattle.cw_model.specs.SiteLaw.{SitesAreNumbered};
 ghost use Rattle.cw_model.specs.LoopLaws.{ForsAreByHalves, ForsHaveBodies, LoopsRunAsPlain, LoopsTrapAsPlain, LoopWorkAddsUp, LoopsAreDeepEnough};
 ghost use Rattle.cw_model.specs.Rows.{sites_below};
 ghost use Rattle.cw_model.specs.TreeLaws.{ReadSame, Regrouped, SitesAddUp};
@@ -72,4 +73,10 @@ pub fn loop_work_adds_up()
 /// The bound on the depth of a loop is never what stops it: any greater bound does the same.
 pub fn loop_is_deep_enough()
     ensures { LoopsAreDeepEnough }
+{}
+
+/// The call statements of a derived program are numbered from 1 in the order of their places.
+#[tactic(auto, using(crate::proofs::Numbering::derived_is_numbered))]
+pub fn derived_sites_are_numbered()
+    ensures { SitesAreNumbered }
 {}

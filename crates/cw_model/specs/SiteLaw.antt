@@ -1,0 +1,11 @@
+-- The law of the numbers of call statements.
+use Rattle.std.specs.Prelude.{◌≡◌, ℕ, true, List}
+use Rattle.cw_model.specs.declared.token.Token.{Token}
+use Rattle.cw_model.specs.Syntax.{Program}
+use Rattle.cw_model.specs.Sites.{are_numbered, call_sites}
+use Rattle.cw_model.specs.Grammar.{Derives}
+
+-- what is derived has its call statements numbered from 1, in the order of their places
+abbrev pub SitesAreNumbered : Type 0
+SitesAreNumbered =
+    (text : List ℕ) (ts : List Token) (program : Program) → Derives text ts program → are_numbered 0 (call_sites program) ≡ true
