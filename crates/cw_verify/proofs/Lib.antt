@@ -1,0 +1,6 @@
+pub mod Tests
+pub mod Lists
+pub mod Rows
+pub mod Tables
+pub mod Spreading
+pub mod Verifying

@@ -1,0 +1,19 @@
+use Rattle.std.proofs.Common.{arith, ◌≡◌, ◌-◌, ◌++◌, ◌∷◌, [], Some, None, ap, ◌∙◌}
+use Rattle.std.specs.Prelude.{List, Option, replicate}
+use Rattle.cw_code.specs.Fits.{first_shape}
+use Rattle.cw_verify.specs.declared.found.Found.{Found}
+use Rattle.cw_verify.proofs.Spreading.{begun}
+use Rattle.cw_verify.proofs.search.begin.Goals as goal
+
+pub returns : goal.returns
+returns c =
+    let f = c.args.f.now in
+    let n = c.loop-i._i in
+    let first = c.in_ok-first.first in
+    let many : n ≡ f.end - f.start - 1 = omega (arith, c.loop-i-test.false, c.loop-i.auto._i-end) in
+    let none : List (Option Found) = replicate n None in
+    let is : c.loop-i.found.items ≡ Some first ∷ none = c.loop-i.invariant ∙ ap (λ l. l ++ none) (c.in_ok-push.ensures.items ∙ ap (λ l. l ++ Some first ∷ []) c.new-found.ensures.items) in
+    record {
+      shapes = begun c.loop-i.found.items first n f is c.in_ok-first.ensures ∙ ap (λ k. Some (first_shape f) ∷ replicate k None) many;
+      work = c.in_ok-push-3.ensures.items ∙ ap (λ l. l ++ 0 ∷ []) c.new-work.ensures.items;
+    }

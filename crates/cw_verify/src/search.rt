@@ -1,0 +1,197 @@
+//! The search for the table of a function: from its first place on, each instruction is visited, and again each time
+//! that more comes to its place.
+
+ghost use Rattle.std.specs.Prelude.{◌≡◌, ◌+◌, ◌-◌, ◌<◌, ◌≤◌, ◌^◌, true, if◌then◌else◌, length, [], ◌∷◌, ◌++◌, Some, MatchResult, slice_get, map};
+ghost use Rattle.cw_code.specs.Code.{code_view};
+ghost use Rattle.cw_code.specs.Fits as fits;
+ghost use Rattle.cw_verify.specs.Table as table;
+
+use crate::found::{self, Found};
+use crate::named::past;
+use cw_code::code::{Code, Func, Instr};
+use cw_text::Fault;
+use std::alloc::Global;
+use std::mem;
+
+/// What is known of a function's places so far.
+#[derive(Debug, Drop)]
+struct Search {
+    /// What each place finds, by its distance from the first one; nothing where it was not reached yet.
+    found: Vec<Option<Found>>,
+    /// The places to visit, by their distance from the first one.
+    work: Vec<usize>,
+}
+
+impl Search {
+    // A place is noted, if more came to it.
+    fn note(&mut self, k: usize, more: bool) -> Result<(), Fault>
+        ensures found { self.new.found.items ≡ self.old.found.items }
+        ensures work { MatchResult result (λ _. self.new.work.items ≡ (if more then self.old.work.items ++ k ∷ [] else self.old.work.items)) (λ e. e ≡ Fault.Memory) }
+    {
+        if more {
+            self.work.push(k)?;
+        }
+        Ok(())
+    }
+
+    // A shape comes to a place, if it is there; whether that reaches the place. A place to which more comes is noted.
+    fn come(&mut self, k: usize, shape: Found) -> Result<bool, Fault>
+        ensures { table.Tells result (table.come (table.so_far self.old) k (table.shape_view shape)) self.old self.new }
+    {
+        if k >= self.found.len() {
+            return Err(Fault::Code);
+        }
+        let there = mem::replace(&mut self.found[k], None);
+        match there {
+            None => {
+                self.found[k] = Some(shape);
+                self.note(k, true)?;
+                Ok(true)
+            }
+            Some(there) => {
+                let (joined, more) = found::join(there, &shape)?;
+                self.found[k] = Some(joined);
+                self.note(k, more)?;
+                Ok(false)
+            }
+        }
+    }
+
+    // A shape comes to two places.
+    fn come_both(
+        &mut self,
+        alloc: Global,
+        k: usize,
+        other: usize,
+        shape: Found,
+    ) -> Result<bool, Fault>
+        ensures { table.Tells result (table.come_all (table.so_far self.old) (k ∷ other ∷ []) (table.shape_view shape)) self.old self.new }
+    {
+        let copy = found::copy(alloc, &shape)?;
+        match self.come(k, shape) {
+            Err(e) => Err(e),
+            Ok(reached) => match self.come(other, copy) {
+                Err(e) => Err(e),
+                Ok(more) => Ok(reached | more),
+            },
+        }
+    }
+
+    // What an instruction leaves comes to the places that it goes on to.
+    fn spread(
+        &mut self,
+        alloc: Global,
+        code: &Code,
+        f: &Func,
+        place: usize,
+        i: &Instr,
+        left: Found,
+    ) -> Result<bool, Fault>
+        requires from { f.now.start ≤ place }
+        requires there { place < length code.now.instrs.items }
+        requires named { fits.names_well (code_view code.now) f.now place i.now ≡ true }
+        ensures { table.Tells result (table.come_all (table.so_far self.old) (map (λ p. p - f.now.start) (fits.nexts place i.now)) (table.shape_view left)) self.old self.new }
+    {
+        let _code = code;
+        let start = f.start;
+        let next = place + 1 - start;
+        match i {
+            Instr::Push(_) => self.come(next, left),
+            Instr::Load(_) => self.come(next, left),
+            Instr::Store(_) => self.come(next, left),
+            Instr::Unary(_, _) => self.come(next, left),
+            Instr::Binary(_, _) => self.come(next, left),
+            Instr::Skip(n) => self.come(past(place, *n, f.end) - start, left),
+            Instr::SkipIfZero(n) => self.come_both(alloc, next, past(place, *n, f.end) - start, left),
+            Instr::GoBack(n) => self.come(place - *n as usize - start, left),
+            Instr::Call(_, _) => self.come(next, left),
+            Instr::Sync => self.come(next, left),
+            Instr::Open(_) => self.come(next, left),
+            Instr::Close => self.come(next, left),
+            Instr::Print => self.come(next, left),
+            Instr::AddTo(_) => self.come(next, left),
+            Instr::ReturnValue => Ok(false),
+            Instr::Return => Ok(false),
+        }
+    }
+
+    // The instruction at a place finds what it needs, and what it leaves comes to the places that it goes on to.
+    fn visit(&mut self, alloc: Global, code: &Code, f: &Func, k: usize) -> Result<bool, Fault>
+        requires row { k < length self.old.found.items }
+        requires there { f.now.start + k < length code.now.instrs.items }
+        requires named { table.IsNamed (code_view code.now) f.now (f.now.start + k) }
+        ensures { (i : Instr) → slice_get code.now.instrs.items (f.now.start + k) ≡ Some i → table.Tells result (table.visited (code_view code.now) f.now.start (table.so_far self.old) k i) self.old self.new }
+    {
+        let place = f.start + k;
+        let i = code.instrs[place];
+        let shape = match &self.found[k] {
+            None => return Ok(false),
+            Some(shape) => {
+                if !found::is_ready(code, shape, &i) {
+                    return Err(Fault::Code);
+                }
+                found::copy(alloc, shape)?
+            }
+        };
+        let left = found::leave(alloc, code, shape, &i)?;
+        self.spread(alloc, code, f, place, &i, left)
+    }
+
+    // Noted places are visited, up to the first visit that reaches a place; whether there was one.
+    fn settle(&mut self, alloc: Global, code: &Code, f: &Func) -> Result<bool, Fault>
+        requires there { f.now.end ≤ length code.now.instrs.items }
+        requires named { table.AllNamed (code_view code.now) f.now }
+        requires search { table.Searches (code_view code.now) f.now self.old }
+        ensures { MatchResult result (table.Settled (code_view code.now) f.now self.old self.new) (table.Fails (table.HasNone (code_view code.now) f.now)) }
+    {
+        while let Some(k) = self.work.pop() {
+            match self.visit(alloc, code, f, k) {
+                Err(e) => return Err(e),
+                Ok(reached) => {
+                    if reached {
+                        return Ok(true);
+                    }
+                }
+            }
+        }
+        Ok(false)
+    }
+}
+
+// A search at its begin: the first place is reached, and noted.
+fn begin(alloc: Global, f: &Func) -> Result<Search, Fault>
+    requires { f.now.start < f.now.end }
+    ensures { MatchResult result (λ s. table.Begins f.now s) (λ e. e ≡ Fault.Memory) }
+{
+    let first = found::first(alloc, f)?;
+    let mut found = Vec::new(alloc);
+    found.push(Some(first))?;
+    for _i in 0..f.end - f.start - 1 {
+        found.push(None)?;
+    }
+    let mut work = Vec::new(alloc);
+    work.push(0)?;
+    Ok(Search { found, work })
+}
+
+/// The table of a function whose instructions name what is there.
+///
+/// The error is `Code` exactly where the function has no table.
+pub fn find(alloc: Global, code: &Code, f: &Func) -> Result<Vec<Option<Found>>, Fault>
+    requires order { f.now.start < f.now.end }
+    requires there { f.now.end ≤ length code.now.instrs.items }
+    requires named { table.AllNamed (code_view code.now) f.now }
+    ensures { MatchResult result (λ found. (f.now.start + length found.items ≡ f.now.end) × fits.IsTable (code_view code.now) f.now (table.table_of f.now.start (table.shapes_of found.items))) (table.Fails (table.HasNone (code_view code.now) f.now)) }
+{
+    let mut search = begin(alloc, f)?;
+    loop {
+        match search.settle(alloc, code, f) {
+            Err(e) => return Err(e),
+            Ok(reached) => {
+                if !reached {
+                    return Ok(search.found);
+                }
+            }
+        }
+    }
+}
