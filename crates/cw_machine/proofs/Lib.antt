@@ -1,3 +1,6 @@
+pub mod Tests
 pub mod Cells
-pub mod Quiet
+pub mod Holding
+pub mod Moves
+pub mod Running
 pub mod FromMain

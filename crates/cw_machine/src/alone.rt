@@ -3,10 +3,11 @@
 ghost use Rattle.std.specs.Prelude.{◌≡◌, MatchResult};
 ghost use Rattle.cw_code.specs.Code.{code_view};
 ghost use Rattle.cw_machine.specs.Runs as runs;
+ghost use Rattle.cw_model.specs.Answers as answers;
 
 use crate::machine::{Machine, Moved};
-use crate::verified::Verified;
 use cw_text::Fault;
+use cw_verify::verified::Verified;
 use std::alloc::Global;
 use std::sync::Arc;
 
@@ -17,15 +18,18 @@ pub const MOST_LIMIT: u64 = 4_611_686_018_427_387_904;
 pub const MOST_BURDEN: u64 = 1_000_000_000;
 
 /// How a run ended that neither trapped nor passed its limit.
-#[derive(Clone, Copy, Debug, PartialEq, Eq)]
+#[derive(Debug, Drop)]
 pub struct Ended {
     /// The value of `main`.
     pub value: i64,
+    /// The values printed, in order.
+    pub lines: Vec<i64>,
 }
 
-/// Runs code on these arguments within `n` instructions: its value, exactly where the code's meaning gives one.
+/// Runs code on these arguments within `n` instructions: its value and the values printed, exactly where the code's
+/// meaning gives them.
 ///
-/// `burden` is the cost of a spawn in instructions; the value does not depend on it.
+/// `burden` is the cost of a spawn in instructions; neither depends on it.
 ///
 /// The error is `Arguments` exactly where the count of the arguments is not that of `main`'s parameters, or `n` is not
 /// in 1..=2^62, or `burden` is above 1,000,000,000; otherwise `OverLimit` exactly where the run costs more than `n`,
@@ -37,25 +41,37 @@ pub fn run_alone(
     n: u64,
     burden: u64,
 ) -> Result<Ended, Fault>
-    ensures { MatchResult result (λ e. runs.Runs (code_view code.value.code) args.now n burden e.value) (runs.Why (code_view code.value.code) args.now n burden) }
+    ensures { MatchResult result (λ e. runs.Runs (code_view code.value.code) args.now n burden e.value e.lines.items) (runs.Why (code_view code.value.code) args.now n burden) }
 {
     let verified: &Verified = &code;
-    let f = verified.code.funcs[verified.code.main as usize];
+    let main = verified.code.main as usize;
+    let f = verified.func(main);
     if !is_asked(f.params, args.len(), n, burden) {
         return Err(Fault::Arguments);
     }
-    let mut machine = Machine::new(alloc, f, args)?;
-    match machine.run(&verified.code, n) {
-        Moved::Gave(value) => Ok(Ended { value }),
+    let mut machine = Machine::new(alloc, f, verified.room(main), args)?;
+    match machine.run(verified, n) {
+        Moved::Gave(value) => Ok(Ended {
+            value: int_given(value),
+            lines: machine.lines,
+        }),
         Moved::On => Err(Fault::OverLimit),
         Moved::Trapped(trap, line) => Err(Fault::Trap {
             code: trap,
             line,
-            output: Vec::new(alloc),
+            output: machine.lines,
         }),
         Moved::NoMemory => Err(Fault::Memory),
-        // verified code is never stuck
-        Moved::Stuck => Err(Fault::Code),
+    }
+}
+
+// The value that a call gave, and 0 where it gave none.
+fn int_given(value: Option<i64>) -> i64
+    ensures { result ≡ answers.int_given value }
+{
+    match value {
+        Some(v) => v,
+        None => 0,
     }
 }
 

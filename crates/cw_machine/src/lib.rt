@@ -3,7 +3,4 @@
 
 pub mod alone;
 mod machine;
-pub mod program;
-#[cfg(test)]
-mod tests;
-pub mod verified;
+mod operate;

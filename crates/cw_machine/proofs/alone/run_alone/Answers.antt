@@ -1,115 +1,100 @@
-use Rattle.std.proofs.Common.{rules, arith, ◌≡◌, ◌∙◌, length, true, false, Some, sym, ap, subst, w64, of_z, to_z}
+use Rattle.std.proofs.Common.{rules, arith, ◌≡◌, ◌≤◌, ◌-◌, ◌++◌, ℤ, pos, ◌∙◌, length, true, false, Some, sym, ap, subst, w64, of_z, to_z}
+use Rattle.std.specs.Prelude.{replicate}
+use Rattle.std.specs.Coded.{le_prop}
+use Rattle.std.proofs.Math.Bool.{Bool-set}
+use Rattle.std.proofs.Math.Logic.{∥∥₁_elim, ∥∥₁_map}
 use Rattle.std.proofs.lemmas.Int.{to_z-of_z}
-use Rattle.cw_model.specs.Answers.{TrappedAt}
+use Rattle.cw_model.specs.Answers.{int_given}
 use Rattle.cw_code.specs.Code.{code_view}
-use Rattle.cw_code.specs.Run.{first_state}
-use Rattle.cw_machine.specs.declared.verified.Verified.{Verified}
+use Rattle.cw_code.specs.Run.{first_state, code_serial}
 use Rattle.cw_text.specs.declared.fault.Fault.TheVariants as fault
+use Rattle.cw_verify.specs.declared.verified.Verified.{Verified}
+use Rattle.cw_verify.specs.Resolved.{room_of}
 use Rattle.cw_machine.specs.Shows.{Reaches}
-use Rattle.cw_machine.specs.Runs.{is_asked, is_request, Runs, Why}
-use Rattle.cw_machine.proofs.Cells.{found}
-use Rattle.cw_machine.proofs.FromMain.{has_main, main_fits, requested, not_requested, ended, over, trapped, not_stuck, refused}
+use Rattle.cw_machine.specs.Runs.{is_asked, Runs, Why}
+use Rattle.cw_machine.proofs.FromMain.{IsEnded-prop, is_ended, is_over, was_over, IsTrapped-prop, was_trapped, requested, asked_count, main_there, main_has_room, main_room, main_frame, first_shows, ended, over, trapped}
 use Rattle.cw_machine.proofs.alone.run_alone.Goals as goal
 
-pub index-f-requires : goal.index-f-requires
-index-f-requires c =
-    let d = c.deref-verified.result.now in
-    omega (arith, has_main (code_view d.code) d.runs, d.code.funcs.ok.0)
+pub func-f-requires : goal.func-f-requires
+func-f-requires c = let v = c.deref-verified.result.now in ∥∥₁_elim v.ok le_prop (λ ok. main_there v ok)
 
-pub returns-then-not-is_asked : goal.returns-then-not-is_asked
-returns-then-not-is_asked c =
-    let d = c.deref-verified.result.now in
-    let code = code_view d.code in
-    let f = c.index-f.result.now in
-    let is = found d.code.funcs.items d.code.main f (has_main code d.runs) c.index-f.ensures in
-    subst (λ (v : Verified). is_request (code_view v.code) c.args.args.now c.args.n c.args.burden ≡ false) c.deref-verified.ensures
-    (not_requested code f c.args.args.now c.args.n c.args.burden is (sym c.is_asked.ensures ∙ c.if-not-is_asked.true))
+pub room-requires : goal.room-requires
+room-requires c = let v = c.deref-verified.result.now in ∥∥₁_elim v.ok le_prop (λ ok. main_has_room v ok)
 
-pub new-requires-clause-slots : goal.new-requires-clause-slots
-new-requires-clause-slots c =
-    let d = c.deref-verified.result.now in
-    let code = code_view d.code in
-    let f = c.index-f.result.now in
-    let is = found d.code.funcs.items d.code.main f (has_main code d.runs) c.index-f.ensures in
-    main_fits code f d.runs is
-
-pub returns-in_err-machine : goal.returns-in_err-machine
-returns-in_err-machine c =
-    let d = c.deref-verified.result.now in
-    let code = code_view d.code in
-    let f = c.index-f.result.now in
-    let is = found d.code.funcs.items d.code.main f (has_main code d.runs) c.index-f.ensures in
-    let fits = main_fits code f d.runs is in
+pub new-requires : goal.new-requires
+new-requires c =
+    let v = c.deref-verified.result.now in
+    let f = c.func-f.result.now in
     let asked : is_asked f.params (length c.args.args.now) c.args.n c.args.burden ≡ true = sym c.is_asked.ensures ∙ c.if-not-is_asked.false in
-    let before = first_state f c.args.args.now in
-    refused c.from_residual.result (λ e. Runs (code_view c.args.code.value.code) c.args.args.now c.args.n c.args.burden e.value) (Why (code_view c.args.code.value.code) c.args.args.now c.args.n c.args.burden) c.from_residual.ensures.1
-    (subst (λ (v : Verified). Why (code_view v.code) c.args.args.now c.args.n c.args.burden fault.Memory) c.deref-verified.ensures
-    (requested code f c.args.args.now c.args.n c.args.burden is asked))
+    let count = asked_count f c.args.args.now c.args.n c.args.burden asked in
+    let small : f.params ≤ room_of v.rooms.items v.code.main = ∥∥₁_elim v.ok le_prop (λ ok. omega (arith, main_room v f ok c.func-f.ensures, main_frame v f ok c.func-f.ensures)) in
+    omega (arith, c.room.ensures)
+
+pub run-requires : goal.run-requires
+run-requires c =
+    let v = c.deref-verified.result.now in
+    let f = c.func-f.result.now in
+    let args = c.args.args.now in
+    let n = c.args.n in
+    let burden = c.args.burden in
+    let asked : is_asked f.params (length args) n burden ≡ true = sym c.is_asked.ensures ∙ c.if-not-is_asked.false in
+    let count = asked_count f args n burden asked in
+    let made = c.in_ok-machine.ensures in
+    ∥∥₁_map v.ok (λ ok. record { ok = ok; state = first_state f args; shows = first_shows v ok f args c.in_ok-machine.machine c.func-f.ensures count made.place made.first made.frames made.lines (made.cells ∙ ap (λ k. args ++ replicate (k - length args) (pos 0)) c.room.ensures) })
 
 pub returns-in-Gave : goal.returns-in-Gave
 returns-in-Gave c =
-    let d = c.deref-verified.result.now in
-    let code = code_view d.code in
-    let f = c.index-f.result.now in
-    let is = found d.code.funcs.items d.code.main f (has_main code d.runs) c.index-f.ensures in
-    let fits = main_fits code f d.runs is in
-    let asked : is_asked f.params (length c.args.args.now) c.args.n c.args.burden ≡ true = sym c.is_asked.ensures ∙ c.if-not-is_asked.false in
-    let before = first_state f c.args.args.now in
-    let reached = subst (λ r. Reaches r c.run.new.self code c.args.n before) c.in-Gave.is (c.run.ensures before c.in_ok-machine.ensures) in
-    let same : to_z w64 (of_z w64 c.in-Gave.value) ≡ c.in-Gave.value = search (rules, to_z-of_z) in
-    subst (λ (v : Verified). Runs (code_view v.code) c.args.args.now c.args.n c.args.burden (to_z w64 (of_z w64 c.in-Gave.value))) c.deref-verified.ensures
-    (subst (λ x. Runs code c.args.args.now c.args.n c.args.burden x) (sym same) (ended code f c.args.args.now c.args.n c.args.burden c.run.new.self is fits asked c.in-Gave.value reached))
+    let v = c.deref-verified.result.now in
+    let f = c.func-f.result.now in
+    let code = code_view v.code in
+    let args = c.args.args.now in
+    let n = c.args.n in
+    let burden = c.args.burden in
+    let m = c.run.new.self in
+    let asked : is_asked f.params (length args) n burden ≡ true = sym c.is_asked.ensures ∙ c.if-not-is_asked.false in
+    let count = asked_count f args n burden asked in
+    let made = c.in_ok-machine.ensures in
+    let given = c.in-Gave.value in
+    let x = c.int_given.result in
+    let serial = code_serial code args n in
+    let e = is_ended (int_given given) m.lines.items serial (∥∥₁_elim v.ok (IsEnded-prop (int_given given) m.lines.items serial) (λ ok.
+    ended v f args n burden m c.func-f.ensures asked ok given (subst (λ r. Reaches v ok r m n (first_state f args)) c.in-Gave.is (c.run.ensures ok (first_state f args) (first_shows v ok f args c.in_ok-machine.machine c.func-f.ensures count made.place made.first made.frames made.lines (made.cells ∙ ap (λ k. args ++ replicate (k - length args) (pos 0)) c.room.ensures)))))) in
+    let same : to_z w64 (of_z w64 x) ≡ int_given given = search (rules, to_z-of_z) in
+    subst (λ (w : Verified). Runs (code_view w.code) args n burden (to_z w64 (of_z w64 x)) m.lines.items) c.deref-verified.ensures
+    (subst (λ y. Runs code args n burden y m.lines.items) (sym same) (record { asked = requested code f args n burden c.func-f.ensures asked; sums = e.0; tree = e.1; answer = e.2 }))
 
 pub returns-in-On : goal.returns-in-On
 returns-in-On c =
-    let d = c.deref-verified.result.now in
-    let code = code_view d.code in
-    let f = c.index-f.result.now in
-    let is = found d.code.funcs.items d.code.main f (has_main code d.runs) c.index-f.ensures in
-    let fits = main_fits code f d.runs is in
-    let asked : is_asked f.params (length c.args.args.now) c.args.n c.args.burden ≡ true = sym c.is_asked.ensures ∙ c.if-not-is_asked.false in
-    let before = first_state f c.args.args.now in
-    let reached = subst (λ r. Reaches r c.run.new.self code c.args.n before) c.in-On.is (c.run.ensures before c.in_ok-machine.ensures) in
-    subst (λ (v : Verified). Why (code_view v.code) c.args.args.now c.args.n c.args.burden fault.OverLimit) c.deref-verified.ensures
-    (requested code f c.args.args.now c.args.n c.args.burden is asked, over code f c.args.args.now c.args.n c.args.burden c.run.new.self is fits asked reached)
+    let v = c.deref-verified.result.now in
+    let f = c.func-f.result.now in
+    let code = code_view v.code in
+    let args = c.args.args.now in
+    let n = c.args.n in
+    let burden = c.args.burden in
+    let m = c.run.new.self in
+    let asked : is_asked f.params (length args) n burden ≡ true = sym c.is_asked.ensures ∙ c.if-not-is_asked.false in
+    let count = asked_count f args n burden asked in
+    let made = c.in_ok-machine.ensures in
+    let e : is_over (code_serial code args n) ≡ true = ∥∥₁_elim v.ok (hlevel Bool-set) (λ ok. over v f args n burden m c.func-f.ensures asked ok (subst (λ r. Reaches v ok r m n (first_state f args)) c.in-On.is (c.run.ensures ok (first_state f args) (first_shows v ok f args c.in_ok-machine.machine c.func-f.ensures count made.place made.first made.frames made.lines (made.cells ∙ ap (λ k. args ++ replicate (k - length args) (pos 0)) c.room.ensures))))) in
+    subst (λ (w : Verified). Why (code_view w.code) args n burden fault.OverLimit) c.deref-verified.ensures
+    (requested code f args n burden c.func-f.ensures asked, was_over (code_serial code args n) e)
 
 pub returns-in-Trapped : goal.returns-in-Trapped
 returns-in-Trapped c =
-    let d = c.deref-verified.result.now in
-    let code = code_view d.code in
-    let f = c.index-f.result.now in
-    let is = found d.code.funcs.items d.code.main f (has_main code d.runs) c.index-f.ensures in
-    let fits = main_fits code f d.runs is in
-    let asked : is_asked f.params (length c.args.args.now) c.args.n c.args.burden ≡ true = sym c.is_asked.ensures ∙ c.if-not-is_asked.false in
-    let before = first_state f c.args.args.now in
-    let reached = subst (λ r. Reaches r c.run.new.self code c.args.n before) c.in-Trapped.is (c.run.ensures before c.in_ok-machine.ensures) in
+    let v = c.deref-verified.result.now in
+    let f = c.func-f.result.now in
+    let code = code_view v.code in
+    let args = c.args.args.now in
+    let n = c.args.n in
+    let burden = c.args.burden in
+    let m = c.run.new.self in
+    let asked : is_asked f.params (length args) n burden ≡ true = sym c.is_asked.ensures ∙ c.if-not-is_asked.false in
+    let count = asked_count f args n burden asked in
+    let made = c.in_ok-machine.ensures in
     let trap = c.in-Trapped.trap in
     let line = c.in-Trapped.line in
-    subst (λ (v : Verified). Why (code_view v.code) c.args.args.now c.args.n c.args.burden (fault.Trap trap line c.new-in-Trapped.result)) c.deref-verified.ensures (
-      requested code f c.args.args.now c.args.n c.args.burden is asked,
-      trapped code f c.args.args.now c.args.n c.args.burden c.run.new.self is fits asked trap line reached ∙ ap (λ ls. Some (TrappedAt trap line ls)) (sym c.new-in-Trapped.ensures.items),
-    )
-
-pub returns-in-NoMemory : goal.returns-in-NoMemory
-returns-in-NoMemory c =
-    let d = c.deref-verified.result.now in
-    let code = code_view d.code in
-    let f = c.index-f.result.now in
-    let is = found d.code.funcs.items d.code.main f (has_main code d.runs) c.index-f.ensures in
-    let fits = main_fits code f d.runs is in
-    let asked : is_asked f.params (length c.args.args.now) c.args.n c.args.burden ≡ true = sym c.is_asked.ensures ∙ c.if-not-is_asked.false in
-    let before = first_state f c.args.args.now in
-    subst (λ (v : Verified). Why (code_view v.code) c.args.args.now c.args.n c.args.burden fault.Memory) c.deref-verified.ensures
-    (requested code f c.args.args.now c.args.n c.args.burden is asked)
-
-pub returns : goal.returns
-returns c =
-    let d = c.deref-verified.result.now in
-    let code = code_view d.code in
-    let f = c.index-f.result.now in
-    let is = found d.code.funcs.items d.code.main f (has_main code d.runs) c.index-f.ensures in
-    let fits = main_fits code f d.runs is in
-    let asked : is_asked f.params (length c.args.args.now) c.args.n c.args.burden ≡ true = sym c.is_asked.ensures ∙ c.if-not-is_asked.false in
-    let before = first_state f c.args.args.now in
-    let reached = subst (λ r. Reaches r c.run.new.self code c.args.n before) c.in-Stuck.is (c.run.ensures before c.in_ok-machine.ensures) in
-    not_stuck code f c.args.args.now c.args.n c.args.burden c.run.new.self is fits asked d.runs reached
+    let serial = code_serial code args n in
+    let e = was_trapped trap line m.lines.items serial (∥∥₁_elim v.ok (IsTrapped-prop trap line m.lines.items serial) (λ ok.
+    trapped v f args n burden m c.func-f.ensures asked ok trap line (subst (λ r. Reaches v ok r m n (first_state f args)) c.in-Trapped.is (c.run.ensures ok (first_state f args) (first_shows v ok f args c.in_ok-machine.machine c.func-f.ensures count made.place made.first made.frames made.lines (made.cells ∙ ap (λ k. args ++ replicate (k - length args) (pos 0)) c.room.ensures)))))) in
+    subst (λ (w : Verified). Why (code_view w.code) args n burden (fault.Trap trap line m.lines)) c.deref-verified.ensures
+    (requested code f args n burden c.func-f.ensures asked, e)

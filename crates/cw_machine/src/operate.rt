@@ -1,0 +1,61 @@
+//! Operators on two values.
+
+ghost use Rattle.std.specs.Prelude.{◌≡◌, MatchResult};
+ghost use Rattle.cw_model.specs.Ints as ints;
+ghost use Rattle.cw_model.specs.Expressions.{apply};
+ghost use Rattle.cw_code.specs.Run.{apply_unary};
+
+use cw_code::code::UnaryOperator;
+use cw_model::syntax::Operator;
+use cw_model::trap::Trap;
+
+// An operator on two values: its result, or why it traps.
+#[inline(always)]
+pub fn operate(operator: Operator, v: i64, w: i64) -> Result<i64, Trap>
+    ensures { MatchResult result (λ x. apply operator v w ≡ ints.Value x) (λ trap. apply operator v w ≡ ints.Fails trap) }
+{
+    match operator {
+        Operator::Equal => Ok((v == w) as i64),
+        Operator::Unequal => Ok((v != w) as i64),
+        Operator::Less => Ok((v < w) as i64),
+        Operator::AtMost => Ok((v <= w) as i64),
+        Operator::Greater => Ok((v > w) as i64),
+        Operator::AtLeast => Ok((v >= w) as i64),
+        Operator::Plus => v.checked_add(w).ok_or(Trap::Overflow),
+        Operator::Minus => v.checked_sub(w).ok_or(Trap::Overflow),
+        Operator::Times => v.checked_mul(w).ok_or(Trap::Overflow),
+        Operator::Divide => {
+            if w == 0 {
+                Err(Trap::DivisionByZero)
+            } else {
+                v.checked_div(w).ok_or(Trap::Overflow)
+            }
+        }
+        Operator::Modulo => {
+            if w == 0 {
+                Err(Trap::DivisionByZero)
+            } else {
+                v.checked_rem(w).ok_or(Trap::Overflow)
+            }
+        }
+    }
+}
+
+// An operator on a value: its result, or why it traps.
+#[inline(always)]
+pub fn operate_on(operator: UnaryOperator, v: i64) -> Result<i64, Trap>
+    ensures { MatchResult result (λ x. apply_unary operator v ≡ ints.Value x) (λ trap. apply_unary operator v ≡ ints.Fails trap) }
+{
+    match operator {
+        UnaryOperator::Negative => v.checked_neg().ok_or(Trap::Overflow),
+        UnaryOperator::Not => Ok((v == 0) as i64),
+    }
+}
+
+// Whether a value is 0.
+#[inline(always)]
+pub fn is_zero(v: i64) -> bool
+    ensures { result ≡ ints.is_zero v }
+{
+    v == 0
+}
