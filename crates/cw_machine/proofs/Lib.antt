@@ -1,4 +1,4 @@
-pub mod Tests
+pub mod Decided
 pub mod Cells
 pub mod Holding
 pub mod Moves

@@ -1,6 +1,6 @@
 //! A run with one worker.
 
-ghost use Rattle.std.specs.Prelude.{◌≡◌, MatchResult};
+ghost use Rattle.std.specs.Prelude.{◌≡◌};
 ghost use Rattle.cw_code.specs.Code.{code_view};
 ghost use Rattle.cw_machine.specs.Runs as runs;
 ghost use Rattle.cw_model.specs.Answers as answers;
@@ -41,7 +41,7 @@ pub fn run_alone(
     n: u64,
     burden: u64,
 ) -> Result<Ended, Fault>
-    ensures { MatchResult result (λ e. runs.Runs (code_view code.value.code) args.now n burden e.value e.lines.items) (runs.Why (code_view code.value.code) args.now n burden) }
+    ensures { runs.RunsAsCode (code_view code.value.code) args.now n burden result }
 {
     let verified: &Verified = &code;
     let main = verified.code.main as usize;

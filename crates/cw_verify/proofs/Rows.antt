@@ -1,13 +1,13 @@
 -- Rows that meet.
-use Rattle.std.proofs.Common.{◌≡◌, ℕ, zero, suc, ◌+◌, ◌<◌, ◌≤◌, Bool, true, false, ◌||◌, ◌&&◌, if◌then◌else◌, nat_eq, Option, Some, None, List, [], ◌∷◌, ◌++◌, length, get_or, refl, sym, ap, ◌∙◌, subst, arith}
-use Rattle.std.specs.Prelude.{map, option_map, take, drop, replicate, slice_get, slice_set}
-use Rattle.std.specs.Global.{Global, Vec}
+use Rattle.std.proofs.Common.{◌≡◌, ℕ, zero, suc, ◌+◌, ◌<◌, ◌≤◌, Bool, true, false, ◌||◌, ◌&&◌, if◌then◌else◌, nat_eq, Some, List, [], ◌∷◌, ◌++◌, length, get_or, refl, sym, ap, ◌∙◌, arith}
+use Rattle.std.specs.Prelude.{option_map, take, drop, slice_get, slice_set}
+use Rattle.std.specs.Global.{Vec}
 use Rattle.std.proofs.lemmas.List.{length-map, map-append, set-get_or}
 use Rattle.std.proofs.lemmas.Option.{slice_get-map, slice_get-get_or}
 use Rattle.cw_code.specs.Fits.{Row, Shape, is_full_in, full_in_all}
 use Rattle.cw_verify.specs.Table.{rows_of, can_meet, either_empty, either_each, are_alike, unmarked, unmarked_each}
-use Rattle.cw_verify.proofs.Lists.{same_some, map_set, set_same, drop_at, take_more}
-use Rattle.cw_verify.proofs.Tests.{eq_of, equal, first_true, second_true, both_true, first_false}
+use Rattle.cw_verify.proofs.Lists.{map_set, set_same, drop_at, take_more}
+use Rattle.cw_verify.proofs.Decided.{eq_of, equal, second_true, first_false}
 
 pub unmarked_set : (xs : Row) (a : ℕ) (d : Bool) → a < length xs → get_or xs a d ≡ false → unmarked (slice_set xs a true) < unmarked xs
 unmarked_set [] a d lt e = absurd (omega (arith, lt))

@@ -1,7 +1,7 @@
 -- What a step of a search changes, and what it keeps.
-use Rattle.std.proofs.Common.{◌≡◌, ◌≢◌, ◌⊎◌, inl, inr, ⊎_elim, ℕ, zero, suc, ◌+◌, ◌-◌, ◌<◌, ◌≤◌, Bool, true, false, ◌||◌, if◌then◌else◌, Option, Some, None, List, [], ◌∷◌, ◌++◌, length, get_or, refl, sym, ap, ◌∙◌, subst, arith, length-append}
-use Rattle.std.specs.Prelude.{map, replicate, slice_get, slice_set, option_map, Err}
-use Rattle.std.proofs.lemmas.List.{length-map, length-set, length-replicate}
+use Rattle.std.proofs.Common.{◌≡◌, ◌⊎◌, inl, inr, ⊎_elim, ℕ, zero, suc, ◌+◌, ◌-◌, ◌<◌, ◌≤◌, Bool, true, false, ◌||◌, if◌then◌else◌, Option, Some, None, List, [], ◌∷◌, ◌++◌, length, get_or, refl, sym, ap, ◌∙◌, subst, arith, length-append}
+use Rattle.std.specs.Prelude.{replicate, slice_get, slice_set, option_map, Err}
+use Rattle.std.proofs.lemmas.List.{length-map, length-replicate}
 use Rattle.std.proofs.lemmas.Option.{slice_get_within, slice_get-map, slice_get-get_or}
 use Rattle.std.proofs.lemmas.Bool.{cases_eq}
 use Rattle.cw_text.specs.declared.fault.Fault.{Fault}
@@ -12,9 +12,9 @@ use Rattle.cw_code.specs.Code.{Code}
 use Rattle.cw_code.specs.Fits.{Shape, Table, Leads, AllLead, IsTable, first_shape, is_ready, leaves, nexts, names_well}
 use Rattle.cw_verify.specs.declared.found.Found.{Found}
 use Rattle.cw_verify.specs.declared.search.Search.{Search}
-use Rattle.cw_verify.specs.Table.{Shapes, shape_view, shapes_of, joined, come_at, come, then_come, visited, unmarked_at, unmarked_in, unreached, IsIn, left_to_do, Spread, so_far, Tells, shape_at, table_of, Below, Grows, IsDone, IsSearch, Fails, HasNone, AllNamed}
-use Rattle.cw_verify.proofs.Lists.{same_some, there, get_set, set_other, set_set, set_same, map_set, get_left, get_last}
-use Rattle.cw_verify.proofs.Tables.{rows_in, each_refl, leads_at, Visited, visits, visit_done, visit_goes, leads_grown, done_grown, held}
+use Rattle.cw_verify.specs.Table.{Shapes, shape_view, shapes_of, joined, come_at, come, visited, unmarked_at, unmarked_in, unreached, IsIn, left_to_do, Spread, Tells, table_of, IsDone, IsSearch, Fails, AllNamed}
+use Rattle.cw_verify.proofs.Lists.{same_some, set_other, set_set, set_same, map_set, get_left, get_last}
+use Rattle.cw_verify.proofs.Tables.{rows_in, each_refl, leads_at, Visited, visits, visit_done, leads_grown, done_grown, held}
 
 -- places as shapes
 pub shapes_length : (items : List (Option Found)) → length (shapes_of items) ≡ length items

@@ -1,7 +1,7 @@
 -- A table that is found step by step has no more than any table of the function.
-use Rattle.std.proofs.Common.{◌≡◌, ◌≢◌, ◌⊎◌, inl, inr, ⊎_elim, ℕ, zero, suc, ◌+◌, ◌-◌, ◌<◌, ◌≤◌, Bool, true, false, ◌&&◌, ◌||◌, nat_lt, nat_le, nat_eq, not, if◌then◌else◌, Option, Some, None, List, [], ◌∷◌, length, refl, sym, ap, ◌∙◌, subst, arith}
-use Rattle.std.specs.Prelude.{map, replicate, slice_get, slice_set, option_map}
-use Rattle.std.proofs.lemmas.List.{length-set, length-replicate}
+use Rattle.std.proofs.Common.{◌≡◌, ⊎_elim, ℕ, zero, suc, ◌+◌, ◌-◌, ◌<◌, ◌≤◌, Bool, true, false, ◌||◌, nat_le, nat_eq, not, if◌then◌else◌, Option, Some, None, List, [], ◌∷◌, length, refl, sym, ap, ◌∙◌, subst, arith}
+use Rattle.std.specs.Prelude.{map, slice_get, slice_set, option_map}
+use Rattle.std.proofs.lemmas.List.{length-set}
 use Rattle.std.proofs.lemmas.Option.{slice_get_within}
 use Rattle.std.proofs.lemmas.Bool.{cases_eq}
 use Rattle.cw_model.specs.declared.syntax.CallKind.{CallKind}
@@ -10,9 +10,9 @@ use Rattle.cw_code.specs.declared.code.Func.{Func}
 use Rattle.cw_code.specs.declared.code.Instr.{Instr}
 use Rattle.cw_code.specs.declared.code.Instr.TheVariants as instr
 use Rattle.cw_code.specs.Code.{Code}
-use Rattle.cw_code.specs.Fits.{Row, params_of, names_well, Shape, is_full_in, full_in_all, has_slot, has_target, has_arguments, none_open, with_target, none_empty, first_shape, closed_shape, is_ready, leaves, nexts, Covers, CoversEach, Table, Leads, AllLead, IsTable}
+use Rattle.cw_code.specs.Fits.{Row, params_of, names_well, Shape, is_full_in, full_in_all, has_slot, has_target, has_arguments, none_open, with_target, none_empty, closed_shape, is_ready, leaves, nexts, Covers, CoversEach, Table, Leads, AllLead, IsTable}
 use Rattle.cw_verify.specs.Table.{Shapes, either_empty, either_each, are_alike, can_meet, met, joined, come_at, come, then_come, come_all, next_distances, visited_at, visited, shape_at, table_of, Below, Grows, IsDone}
-use Rattle.cw_verify.proofs.Tests.{taken, not_taken, both_true, first_true, second_true, at_most, equal, le_of, lt_of, eq_of}
+use Rattle.cw_verify.proofs.Decided.{taken, both_true, first_true, second_true, at_most, equal, le_of, eq_of}
 use Rattle.cw_verify.proofs.Lists.{same_some, missing, get_set, set_other}
 
 -- rows that cover

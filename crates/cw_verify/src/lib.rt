@@ -6,5 +6,7 @@ mod named;
 pub mod op;
 mod resolve;
 mod search;
+#[cfg(test)]
+mod tests;
 pub mod verified;
 pub mod verify;

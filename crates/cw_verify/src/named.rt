@@ -6,7 +6,7 @@ ghost use Rattle.cw_code.specs.Fits as fits;
 ghost use Rattle.cw_model.specs.Sites.{Of};
 ghost use Rattle.cw_verify.specs.Table as table;
 
-use cw_code::code::{Callee, Code, Func, Instr, BlockKind, Site};
+use cw_code::code::{BlockKind, Callee, Code, Func, Instr, Site};
 use cw_model::syntax::CallKind;
 
 /// How many arguments a function takes; 0 where there is none of this index.

@@ -102,7 +102,12 @@ impl Search {
             Instr::Unary(_, _) => self.come(next, left),
             Instr::Binary(_, _) => self.come(next, left),
             Instr::Skip(n) => self.come(past(place, *n, f.end) - start, left),
-            Instr::SkipIfZero(n) => self.come_both(alloc, next, past(place, *n, f.end) - start, left),
+            Instr::SkipIfZero(n) => self.come_both(
+                alloc,
+                next,
+                past(place, *n, f.end) - start,
+                left,
+            ),
             Instr::GoBack(n) => self.come(place - *n as usize - start, left),
             Instr::Call(_, _) => self.come(next, left),
             Instr::Sync => self.come(next, left),

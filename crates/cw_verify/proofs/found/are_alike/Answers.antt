@@ -1,4 +1,4 @@
-use Rattle.std.proofs.Common.{arith, ◌≡◌, ◌<◌, length, sym, ◌∙◌, ap}
+use Rattle.std.proofs.Common.{arith, ◌<◌, length, sym, ◌∙◌}
 use Rattle.cw_verify.specs.Table.{rows_of}
 use Rattle.cw_verify.proofs.Rows.{row_at, rows_length, not_alike, alike_not, alike_on}
 use Rattle.cw_verify.proofs.found.are_alike.Goals as goal

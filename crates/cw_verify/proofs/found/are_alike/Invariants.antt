@@ -1,4 +1,4 @@
-use Rattle.std.proofs.Common.{◌≡◌, length}
+use Rattle.std.proofs.Common.{◌≡◌}
 use Rattle.std.specs.Prelude.{drop}
 use Rattle.cw_verify.specs.Table.{rows_of, are_alike}
 use Rattle.cw_verify.proofs.found.are_alike.Given as goal

@@ -1,4 +1,4 @@
-use Rattle.std.proofs.Common.{◌≡◌, length, sym, ◌∙◌, ap}
+use Rattle.std.proofs.Common.{◌∙◌, ap}
 use Rattle.cw_verify.specs.Table.{rows_of}
 use Rattle.cw_verify.proofs.Rows.{copies_more}
 use Rattle.cw_verify.proofs.found.copies.Goals as goal

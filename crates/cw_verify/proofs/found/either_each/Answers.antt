@@ -1,7 +1,7 @@
 use Rattle.std.proofs.Common.{arith, ◌≡◌, ◌<◌, length, sym, ◌∙◌, ap, refl, false}
 use Rattle.std.specs.Prelude.{slice_set}
 use Rattle.std.proofs.lemmas.List.{length-set}
-use Rattle.cw_verify.specs.Table.{rows_of, either_empty, unmarked, unmarked_each}
+use Rattle.cw_verify.specs.Table.{rows_of, either_empty, unmarked_each}
 use Rattle.cw_verify.proofs.Lists.{or_false, fewer_or}
 use Rattle.cw_verify.proofs.Rows.{each_none, each_step, each_kept, each_less}
 use Rattle.cw_verify.proofs.found.either_each.Goals as goal

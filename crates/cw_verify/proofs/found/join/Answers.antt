@@ -1,4 +1,4 @@
-use Rattle.std.proofs.Common.{arith, ◌≡◌, length, sym, ◌∙◌, ap}
+use Rattle.std.proofs.Common.{arith, length, sym, ap}
 use Rattle.cw_verify.specs.Table.{shape_view}
 use Rattle.cw_verify.proofs.Rows.{rows_length, meet_length}
 use Rattle.cw_verify.proofs.found.join.Goals as goal

@@ -1,4 +1,4 @@
-use Rattle.std.proofs.Common.{arith, ◌≡◌, ◌+◌, length, subst}
+use Rattle.std.proofs.Common.{arith, subst}
 use Rattle.cw_code.specs.Code.{code_view}
 use Rattle.cw_verify.specs.Table.{so_far, IsSearch}
 use Rattle.cw_verify.proofs.Spreading.{shapes_length, begins, closed_is_table}

@@ -11,7 +11,7 @@ returns-in_ok-note-in-None c =
     let r = come_new items work c.args.k c.replace-there.new.dest c.replace-there.result c.index_mut.result.now c.args.shape lt (c.replace-there.ensures.value ∙ c.index_mut.ensures.value) c.in-None.is in (
       r.0 ∙ ap (λ l. Some (shapes_of l)) (sym c.note.ensures.found),
       subst (λ w. Spread (shapes_of items) (so_far c.note.new.self) work w true) (sym c.in_ok-note-in-None.ensures.work)
-      (subst (λ l. Spread (shapes_of items) (shapes_of l) work (work ++ c.args.k ∷ []) true) (sym c.note.ensures.found) r.1),
+          (subst (λ l. Spread (shapes_of items) (shapes_of l) work (work ++ c.args.k ∷ []) true) (sym c.note.ensures.found) r.1),
     )
 
 pub returns-in_ok-note-in-Some : goal.returns-in_ok-note-in-Some
@@ -25,5 +25,5 @@ returns-in_ok-note-in-Some c =
     (c.replace-there.ensures.value ∙ c.index_mut.ensures.value) c.in-Some.is met.joins met.same met.fewer in (
       r.0 ∙ ap (λ l. Some (shapes_of l)) (sym c.note-in-Some.ensures.found),
       subst (λ w. Spread (shapes_of items) (so_far c.note-in-Some.new.self) work w false) (sym c.in_ok-note-in-Some.ensures.work)
-      (subst (λ l. Spread (shapes_of items) (shapes_of l) work (if more then work ++ c.args.k ∷ [] else work) false) (sym c.note-in-Some.ensures.found) r.1),
+          (subst (λ l. Spread (shapes_of items) (shapes_of l) work (if more then work ++ c.args.k ∷ [] else work) false) (sym c.note-in-Some.ensures.found) r.1),
     )

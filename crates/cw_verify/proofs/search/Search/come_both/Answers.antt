@@ -1,4 +1,4 @@
-use Rattle.std.proofs.Common.{◌≡◌, Some, sym, ap, ◌∙◌}
+use Rattle.std.proofs.Common.{Some, sym, ap, ◌∙◌}
 use Rattle.cw_verify.specs.Table.{shape_view, so_far, come, then_come}
 use Rattle.cw_verify.proofs.Spreading.{spread_both}
 use Rattle.cw_verify.proofs.Tables.{come_length}

@@ -1,5 +1,4 @@
-use Rattle.std.proofs.Common.{arith, ◌≡◌, ◌<◌, ◌+◌, length, sym, subst, ap, ◌∙◌, length-append, ◌∷◌, [], false}
-use Rattle.std.specs.Prelude.{slice_get}
+use Rattle.std.proofs.Common.{arith, ◌≡◌, ◌<◌, ◌+◌, length, sym, subst, ap, ◌∙◌, length-append, ◌∷◌, []}
 use Rattle.cw_code.specs.Code.{code_view}
 use Rattle.cw_verify.specs.Table.{so_far, visited, left_to_do, IsIn, HasNone}
 use Rattle.cw_verify.proofs.Lists.{there}
