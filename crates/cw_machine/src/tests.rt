@@ -30,6 +30,24 @@ fn place(
     Ok(())
 }
 
+// A call site, the next one.
+fn add_site(
+    alloc: Global,
+    code: &mut Code,
+    number: u32,
+    kind: CallKind,
+    function: u32,
+) -> Result<(), AllocError> {
+    code.sites.push(Site {
+        number,
+        kind,
+        line: 1,
+        callee: Vec::new(alloc),
+        function,
+    })?;
+    Ok(())
+}
+
 // Code of a main with one parameter and three names, and of two functions: one gives its first parameter less its
 // second, and one prints its parameter and gives nothing. Each of the three has a site of each kind: 1 and 2 of main, 3
 // and 4 of the second, 5 and 6 of the third.
@@ -60,18 +78,21 @@ fn code_of(alloc: Global, main: &[Instr]) -> Result<Code, AllocError> {
         1,
         &[Instr::Load(0), Instr::Print, Instr::Return],
     )?;
-    let mut number = 1;
     for function in 0..3u32 {
-        for kind in [CallKind::Plain, CallKind::Spawned] {
-            code.sites.push(Site {
-                number,
-                kind,
-                line: 1,
-                callee: Vec::new(alloc),
-                function,
-            })?;
-            number += 1;
-        }
+        add_site(
+            alloc,
+            &mut code,
+            2 * function + 1,
+            CallKind::Plain,
+            function,
+        )?;
+        add_site(
+            alloc,
+            &mut code,
+            2 * function + 2,
+            CallKind::Spawned,
+            function,
+        )?;
     }
     Ok(code)
 }
@@ -100,17 +121,36 @@ fn run(alloc: Global, main: &[Instr], arg: i64, limit: u64) -> Result<Ended, Fau
     Ok(ended)
 }
 
+// Whether two lists of values are the same.
+fn are_same(lines: &Vec<i64>, others: &[i64]) -> bool {
+    lines.as_slice() == others
+}
+
+// Whether a run is over its limit.
+fn is_over(alloc: Global, main: &[Instr], arg: i64, limit: u64) -> bool {
+    match run(alloc, main, arg, limit) {
+        Ok(_) => false,
+        Err(e) => e.number() == 7,
+    }
+}
+
 // Whether a run ends with this value and these lines within this limit, and is over it at one less.
 fn gives(alloc: Global, main: &[Instr], arg: i64, cost: u64, value: i64, lines: &[i64]) -> bool {
     let exact = match run(alloc, main, arg, cost) {
-        Ok(ended) => ended.value == value && ended.lines.as_slice() == lines,
+        Ok(ended) => ended.value == value && are_same(&ended.lines, lines),
         Err(_) => false,
     };
-    let less = match run(alloc, main, arg, cost - 1) {
-        Err(Fault::OverLimit) => true,
+    exact && is_over(alloc, main, arg, cost.wrapping_sub(1))
+}
+
+// Whether a fault is this trap, with these lines before.
+fn is_trap(fault: &Fault, number: u8, at: u32, lines: &[i64]) -> bool {
+    match fault {
+        Fault::Trap { code, line, output } => {
+            code.number() == number && *line == at && are_same(output, lines)
+        }
         _ => false,
-    };
-    exact && less
+    }
 }
 
 // Whether a run traps so within this limit, with these lines before, and is over it at one less.
@@ -123,16 +163,10 @@ fn traps(
     lines: &[i64],
 ) -> bool {
     let exact = match run(alloc, main, arg, cost) {
-        Err(Fault::Trap { code, line, output }) => code.number() == trap.0
-            && line == trap.1
-            && output.as_slice() == lines,
-        _ => false,
+        Ok(_) => false,
+        Err(e) => is_trap(&e, trap.0, trap.1, lines),
     };
-    let less = match run(alloc, main, arg, cost - 1) {
-        Err(Fault::OverLimit) => true,
-        _ => false,
-    };
-    exact && less
+    exact && is_over(alloc, main, arg, cost.wrapping_sub(1))
 }
 
 #[test]
@@ -183,11 +217,7 @@ fn loops(rt: HostRuntime) -> Result<(), AllocError> {
     assert!(rt; gives(alloc, &sum, 0, 4, 0, &[]));
     assert!(rt; gives(alloc, &sum, 5, 59, 15, &[]));
     assert!(rt; gives(alloc, &sum, 100, 1104, 5050, &[]));
-    let forever = match run(alloc, &[Instr::GoBack(0)], 0, 1_000_000) {
-        Err(Fault::OverLimit) => true,
-        _ => false,
-    };
-    assert!(rt; forever);
+    assert!(rt; is_over(alloc, &[Instr::GoBack(0)], 0, 1_000_000));
     Ok(())
 }
 
