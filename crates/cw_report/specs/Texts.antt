@@ -5,12 +5,12 @@ use Rattle.cw_machine.specs.declared.alone.Ended.{Ended}
 use Rattle.cw_text.specs.declared.fault.Fault.{Fault}
 use Rattle.cw_text.specs.declared.fault.Fault.TheVariants as fault
 
--- of a run that ended with this value, where nothing was printed and there are no sums
-abbrev pub ended_text : ℤ → List ℕ
-ended_text v = codes "return " ++ value_line v
+-- of a run that printed these values and ended with this one, where there are no sums
+abbrev pub ended_text : List ℤ → ℤ → List ℕ
+ended_text lines v = flat_map value_line lines ++ (codes "return " ++ value_line v)
 
 -- of a run, or of why it has no value: the lines that it printed before a trap
 abbrev pub handed_text : Result Ended Fault → List ℕ
-handed_text (Ok ended) = ended_text ended.value
+handed_text (Ok ended) = ended_text ended.lines.items ended.value
 handed_text (Err (fault.Trap trap line output)) = flat_map value_line output.items
 handed_text (Err _) = []

@@ -7,10 +7,10 @@ ghost use Rattle.cw_report.specs.Texts.{handed_text};
 ghost use Rattle.cw_report.specs.Answers.{AnswersText};
 
 use crate::sink::Sink;
-use crate::text::{ended_line, printed_text};
+use crate::text::{ended_text, printed_text};
 use crate::writing::write_text;
 use cw_machine::alone::Ended;
-use cw_machine::verified::Verified;
+use cw_verify::verified::Verified;
 use cw_text::Fault;
 use std::alloc::Global;
 
@@ -26,8 +26,8 @@ pub fn ok<W: Sink>(to: &mut W) -> Result<(), Fault>
     write_text(to, b"ok\n")
 }
 
-/// Writes the report of a run: the line of its value, or, where it trapped, the values that it
-/// printed before, each on a line. Of any other fault nothing is written, and the sink is left
+/// Writes the report of a run: the values that it printed, each on a line, and the line of its value,
+/// or, where it trapped, the values that it printed before. Of any other fault nothing is written, and the sink is left
 /// alone; the line of the fault itself is for `write_fault`.
 ///
 /// The error is `Memory` where there is none for the text: nothing was written then. It is `Write`
@@ -48,7 +48,7 @@ pub fn answer<W: Sink>(
 {
     match ended {
         Ok(ended) => {
-            let text = ended_line(alloc, ended.value)?;
+            let text = ended_text(alloc, ended.lines.as_slice(), ended.value)?;
             write_text(to, text.as_slice())
         }
         Err(Fault::Trap { output, .. }) => {

@@ -2,7 +2,7 @@
 
 use crate::counted::Counted;
 use crate::sink::Sink;
-use crate::text::{ended_line, printed_text};
+use crate::text::{ended_text, printed_text};
 use crate::writing::{write_fault, write_text};
 use cw_model::trap::Trap;
 use cw_text::{Fault, Place};
@@ -70,7 +70,7 @@ fn a_flush_that_fails_is_told_and_not_counted(rt: HostRuntime) -> Result<(), Fai
 #[test]
 fn prints_numbers(rt: HostRuntime) -> Result<(), Fail> {
     let alloc = rt.alloc();
-    let least = ended_line(alloc, -9223372036854775808)?;
+    let least = ended_text(alloc, &[], -9223372036854775808)?;
     assert_eq!(rt;
         least.as_slice(),
         b"return -9223372036854775808\n".as_slice()

@@ -2,7 +2,7 @@
 
 ghost use Rattle.std.specs.Prelude.{◌≡◌, ◌++◌, IfErr, IfOk, OnOk, flat_map};
 ghost use Rattle.cw_model.specs.Report.{value_line};
-ghost use Rattle.cw_report.specs.Texts.{ended_text};
+ghost use Rattle.cw_report.specs.Texts as texts;
 
 use cw_text::Fault;
 use itoa::Buffer;
@@ -20,13 +20,14 @@ pub fn printed_text(alloc: Global, values: &[i64]) -> Result<Vec<u8>, Fault>
     Ok(text)
 }
 
-/// What is reported of a run that ended with this value; the error is `Memory` where there is none
-/// for the text.
-pub fn ended_line(alloc: Global, value: i64) -> Result<Vec<u8>, Fault>
-    ensures ok { IfOk result (λ text. text.items ≡ ended_text value) }
+/// What is reported of a run that printed these values and ended with this one; the error is `Memory`
+/// where there is none for the text.
+pub fn ended_text(alloc: Global, printed: &[i64], value: i64) -> Result<Vec<u8>, Fault>
+    ensures ok { IfOk result (λ text. text.items ≡ texts.ended_text printed.now value) }
     ensures why { IfErr result (λ e. e ≡ Fault.Memory) }
 {
-    let mut text = Vec::from_slice(alloc, b"return ")?;
+    let mut text = printed_text(alloc, printed)?;
+    text.extend_from_slice(b"return ")?;
     push_value(&mut text, value)?;
     Ok(text)
 }
