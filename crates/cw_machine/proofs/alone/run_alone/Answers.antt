@@ -1,4 +1,4 @@
-use Rattle.std.proofs.Common.{rules, arith, ◌≡◌, ◌≤◌, ◌-◌, ◌++◌, ℤ, pos, ◌∙◌, length, true, false, Some, sym, ap, subst, w64, of_z, to_z}
+use Rattle.std.proofs.Common.{rules, arith, ◌≡◌, ◌≤◌, ◌-◌, ◌++◌, pos, ◌∙◌, length, true, sym, ap, subst, w64, of_z, to_z}
 use Rattle.std.specs.Prelude.{replicate}
 use Rattle.std.specs.Coded.{le_prop}
 use Rattle.std.proofs.Math.Bool.{Bool-set}
