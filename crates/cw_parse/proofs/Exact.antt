@@ -1,9 +1,9 @@
 -- Readers that read exactly what a relation reads, put together from smaller ones.
-use Rattle.std.proofs.Common.{◌≡◌, ℕ, zero, suc, ◌<◌, ◌≤◌, Bool, true, false, cond, ◌&&◌, List, [], ◌∷◌, ◌++◌, length as len, Ok, Err, refl, sym, ap, subst, ◌∙◌, append_assoc, arith, ◌⊎◌, inl, inr}
+use Rattle.std.proofs.Common.{◌≡◌, ℕ, zero, suc, ◌<◌, ◌≤◌, Bool, true, false, cond, List, [], ◌∷◌, ◌++◌, length as len, Ok, Err, refl, sym, ap, subst, ◌∙◌, append_assoc, arith, ◌⊎◌, inl, inr}
 use Rattle.cw_model.specs.declared.token.Token.{Token}
 use Rattle.cw_model.specs.declared.token.Kind.{Kind}
-use Rattle.cw_parse.specs.Reading.{Read, Reader, ◌>>=◌, token, by_first, unless_token, Step, turn, last, go_on, row}
-use Rattle.cw_parse.proofs.Reader.{Stops, Front, IsUnique, SomeText, Seq, Tok, Done, Stuck, Follows, shorter, stuck_left, stuck_right, stuck_behind, stuck_here, bind_ok, bind_err, ok_is, token_stable, token_ok, token_unique, token_stuck, token_text, done_text, seq_text}
+use Rattle.cw_parse.specs.Reading.{Read, Reader, ◌>>=◌, token, by_first, if_next, unless_next}
+use Rattle.cw_parse.proofs.Reader.{Stops, Front, IsUnique, SomeText, Seq, Tok, tok, Done, done, Stuck, Follows, shorter, stuck_left, stuck_right, stuck_behind, stuck_here, bind_ok, bind_err, ok_is, seq_text}
 
 -- a token of a kind
 abbrev pub mark : Kind → Token
@@ -23,53 +23,119 @@ pub record Exact (U : Type 0) {A : Type 0} (n : ℕ) (R : List Token → A → L
   pub some : SomeText R
   pub stable : (ts : List Token) (a : A) (rest : List Token) → len ts ≤ n → R ts a rest → Front R ts a rest
   pub sound : (ts : List Token) (a : A) (rest : List Token) → f ts ≡ Ok (a, rest) → R ts a rest
-  pub halts : (ts : List Token) (a : A) (rest : List Token) → len ts ≤ n → f ts ≡ Ok (a, rest) → Stops s rest
   pub complete : (ts : List Token) (a : A) (rest : List Token) → len ts ≤ n → R ts a rest → Stops s rest → f ts ≡ Ok (a, rest)
   pub unique : U → IsUnique R s
   pub stuck : U → (ts : List Token) (m : ℕ) → len ts ≤ n → f ts ≡ Err m → Stuck R s ts m
 
-pub token_exact : (U : Type 0) (n : ℕ) (p : Kind → Bool) (k : Kind) → p k ≡ true → Exact U n (Tok p) any (token p)
-token_exact U n p k is = record {
-  some = token_text p (mark k) is;
-  stable = λ ts t rest le d. token_stable p ts t rest d;
-  sound = λ ts t rest e. token_ok p ts t rest e;
-  halts = λ ts t rest le e. any_stops rest;
-  complete = λ ts t rest le d stop. reads ts t rest d.0 d.1;
-  unique = λ u. token_unique p any;
-  stuck = λ u ts m le e. token_stuck p any (mark k) is ts m e;
+-- what the reader f leaves of at most n tokens stops the part that it read
+abbrev pub Halts : {A : Type 0} → ℕ → (Kind → Bool) → Reader A → Type 0
+Halts {A} n s f = (ts : List Token) (a : A) (rest : List Token) → len ts ≤ n → f ts ≡ Ok (a, rest) → Stops s rest
+
+pub any_halts : {A : Type 0} (n : ℕ) (f : Reader A) → Halts n any f
+any_halts n f ts a rest le e = any_stops rest
+
+-- a test of kinds, and what it tests
+pub record Passes (p : Kind → Bool) (K : Kind → Type 0) : Type 0 where
+  pub only : (k : Kind) → p k ≡ true → K k
+  pub is : (k : Kind) → K k → p k ≡ true
+
+pub differ : {b : Bool} → b ≡ true → b ≡ false → ⊥
+differ e f = let clash : true ≡ false = sym e ∙ f in cc
+
+err_is : {A : Type 0} (v w : ℕ) → ◌≡◌ {A = Read A} (Err v) (Err w) → v ≡ w
+err_is v w e = cc
+
+-- ---- one token
+
+tok_first : {K : Kind → Type 0} (x : Token) (vs : List Token) (b : Token) (after : List Token) → Tok K (x ∷ vs) b after → K x.kind
+tok_first x vs b after (tok is) = is
+
+pub token_exact : (U : Type 0) (n : ℕ) (p : Kind → Bool) (K : Kind → Type 0) → Passes p K → (k : Kind) → K k → Exact U n (Tok K) any (token p)
+token_exact U n p K x k fits = record {
+  some = record { text = mark k ∷ []; value = mark k; reads = λ after. tok fits };
+  stable = λ ts t rest le d. front d;
+  sound = sound;
+  complete = λ ts t rest le d stop. reads d;
+  unique = λ u ts a b us vs d _ e _. same d e;
+  stuck = λ u ts m le e. stuck ts m e;
 }
   where
-    reads : (ts : List Token) (t : Token) (rest : List Token) → ts ≡ t ∷ rest → p t.kind ≡ true → token p ts ≡ Ok (t, rest)
-    reads ts t rest e f = rw (e, f) refl
+    front : {ts : List Token} {t : Token} {rest : List Token} → Tok K ts t rest → Front (Tok K) ts t rest
+    front (tok {t = t} is) = record { front = t ∷ []; parts = refl; again = λ ws. tok is }
+
+    sound : (ts : List Token) (t : Token) (rest : List Token) → token p ts ≡ Ok (t, rest) → Tok K ts t rest
+    sound [] t rest e = absurd cc
+    sound (v ∷ vs) t rest e = go (p v.kind) refl e
+      where
+        go : (b : Bool) → p v.kind ≡ b → cond {A = Read Token} b (Ok (v, vs)) (Err (len (v ∷ vs))) ≡ Ok (t, rest) → Tok K (v ∷ vs) t rest
+        go true h e = subst (λ (y : Token × List Token). Tok K (v ∷ vs) y.0 y.1) (ok_is (v, vs) (t, rest) e) (tok (x.only v.kind h))
+        go false h e = absurd cc
+
+    reads : {ts : List Token} {t : Token} {rest : List Token} → Tok K ts t rest → token p ts ≡ Ok (t, rest)
+    reads (tok {t = t} is) = rw (x.is t.kind is) refl
+
+    same : {ts : List Token} {a b : Token} {us vs : List Token} → Tok K ts a us → Tok K ts b vs → (a ≡ b) × (us ≡ vs)
+    same (tok is) (tok is') = (refl, refl)
+
+    stuck : (ts : List Token) (m : ℕ) → token p ts ≡ Err m → Stuck (Tok K) any ts m
+    stuck [] m e = record {
+      front = [];
+      rest = [];
+      parts = refl;
+      left = cc;
+      more = mark k ∷ [];
+      value = mark k;
+      completes = λ after. tok fits;
+      dead = λ t us h vs b after r stop. absurd cc;
+    }
+    stuck (v ∷ vs) m e = go (p v.kind) refl e
+      where
+        go : (b : Bool) → p v.kind ≡ b → cond {A = Read Token} b (Ok (v, vs)) (Err (len (v ∷ vs))) ≡ Err m → Stuck (Tok K) any (v ∷ vs) m
+        go true h e = absurd cc
+        go false h e = record {
+          front = [];
+          rest = v ∷ vs;
+          parts = refl;
+          left = cc;
+          more = mark k ∷ [];
+          value = mark k;
+          completes = λ after. tok fits;
+          dead = λ t us parts ws b after r stop. let one : v ≡ t = cc in differ (x.is t.kind (tok_first t ws b after r)) (ap (λ (y : Token). p y.kind) (sym one) ∙ h);
+        }
+
+-- ---- no token
 
 pub done_exact : (U : Type 0) (n : ℕ) {A : Type 0} (a : A) → Exact U n (Done a) any (λ ts. Ok (a, ts))
 done_exact U n {A} a = record {
-  some = done_text a;
-  stable = λ ts b rest le d. record { front = []; parts = d.0; again = λ ws. (refl, d.1) };
-  sound = λ ts b rest e. sound ts b rest (ok_is (a, ts) (b, rest) e);
-  halts = λ ts b rest le e. any_stops rest;
-  complete = λ ts b rest le d stop. reads ts b rest d.0 d.1;
-  unique = λ u ts b c us vs d _ e _. (d.1 ∙ sym e.1, sym d.0 ∙ e.0);
-  stuck = λ u ts m le e. never ts m e;
+  some = record { text = []; value = a; reads = λ after. done };
+  stable = λ ts b rest le d. front d;
+  sound = λ ts b rest e. subst (λ (y : A × List Token). Done a ts y.0 y.1) (ok_is (a, ts) (b, rest) e) done;
+  complete = λ ts b rest le d stop. reads d;
+  unique = λ u ts b c us vs d _ e _. same d e;
+  stuck = λ u ts m le e. absurd (never ts m e);
 }
   where
-    sound : (ts : List Token) (b : A) (rest : List Token) → ◌≡◌ {A = A × List Token} (a, ts) (b, rest) → Done a ts b rest
-    sound ts b rest e = (ap (λ (x : A × List Token). x.1) e, sym (ap (λ (x : A × List Token). x.0) e))
+    front : {ts : List Token} {b : A} {rest : List Token} → Done a ts b rest → Front (Done a) ts b rest
+    front done = record { front = []; parts = refl; again = λ ws. done }
 
-    reads : (ts : List Token) (b : A) (rest : List Token) → ts ≡ rest → b ≡ a → ◌≡◌ {A = Read A} (Ok (a, ts)) (Ok (b, rest))
-    reads ts b rest e f = rw (e, f) refl
+    reads : {ts : List Token} {b : A} {rest : List Token} → Done a ts b rest → ◌≡◌ {A = Read A} (Ok (a, ts)) (Ok (b, rest))
+    reads done = refl
 
-    never : (ts : List Token) (m : ℕ) → ◌≡◌ {A = Read A} (Ok (a, ts)) (Err m) → Stuck (Done a) any ts m
-    never ts m e = absurd cc
+    same : {ts : List Token} {b c : A} {us vs : List Token} → Done a ts b us → Done a ts c vs → (b ≡ c) × (us ≡ vs)
+    same done done = (refl, refl)
 
--- one part after another
+    never : (ts : List Token) (m : ℕ) → ◌≡◌ {A = Read A} (Ok (a, ts)) (Err m) → ⊥
+    never ts m e = cc
+
+pub done_rest : {A : Type 0} {a : A} (s : Kind → Bool) (us : List Token) (b : A) (rest : List Token) → Done a us b rest → Stops s rest → Stops s us
+done_rest s us b rest done h = h
+
+-- ---- one part after another
+
 module _ (U : Type 0) {A B : Type 0} (m n : ℕ) (R : List Token → A → List Token → Type 0) (G : A → List Token → B → List Token → Type 0) (s s' : Kind → Bool) (f : Reader A) (g : A → Reader B)
-    (first : Exact U m R s f) (second : (a : A) → Exact U n (G a) s' (g a))
+    (first : Exact U m R s f) (halts : Halts m s f) (second : (a : A) → Exact U n (G a) s' (g a))
     (less : (ts : List Token) (a : A) (rest : List Token) → len ts ≤ m → R ts a rest → len rest ≤ n)
     (follows : Follows G s s') where
-  both : Reader B
-  both ts = f ts >>= λ x. g x.0 x.1
-
   seq_front : (ts : List Token) (b : B) (rest : List Token) → len ts ≤ m → Seq R G ts b rest → Front (Seq R G) ts b rest
   seq_front ts b rest le d =
       let x = first.stable ts d.0 d.1 le d.2 in
@@ -91,7 +157,7 @@ module _ (U : Type 0) {A B : Type 0} (m n : ℕ) (R : List Token → A → List 
     | inl w ↦ stuck_left R G s s' ts e follows (λ a. (second a).some) (first.stuck u ts e le w)
     | inr (x, w, w') ↦
         let r = first.sound ts x.0 x.1 w in
-        stuck_right R G s s' ts e x.0 x.1 follows (first.unique u) (first.stable ts x.0 x.1 le r) (first.halts ts x.0 x.1 le w)
+        stuck_right R G s s' ts e x.0 x.1 follows (first.unique u) (first.stable ts x.0 x.1 le r) (halts ts x.0 x.1 le w)
         ((second x.0).stuck u x.1 e (less ts x.0 x.1 le r) w')
   ]
 
@@ -100,7 +166,6 @@ module _ (U : Type 0) {A B : Type 0} (m n : ℕ) (R : List Token → A → List 
     some = seq_text R G first.some (λ a. (second a).some);
     stable = seq_front;
     sound = λ ts b rest e. let x = bind_ok (f ts) (λ x. g x.0 x.1) (b, rest) e in (x.0.0, x.0.1, first.sound ts x.0.0 x.0.1 x.1, (second x.0.0).sound x.0.1 b rest x.2);
-    halts = λ ts b rest le e. let x = bind_ok (f ts) (λ x. g x.0 x.1) (b, rest) e in (second x.0.0).halts x.0.1 b rest (less ts x.0.0 x.0.1 le (first.sound ts x.0.0 x.0.1 x.1)) x.2;
     complete = λ ts b rest le d stop. ap (λ r. r >>= λ x. g x.0 x.1) (first.complete ts d.0 d.1 le d.2 (follows d.0 d.1 b rest d.3 stop)) ∙ (second d.0).complete d.1 b rest (less ts d.0 d.1 le d.2) d.3 stop;
     unique = seq_unique;
     stuck = seq_stuck;
@@ -110,7 +175,30 @@ module _ (U : Type 0) {A B : Type 0} (m n : ℕ) (R : List Token → A → List 
 pub after_part : (U : Type 0) (n : ℕ) {A B : Type 0} (R : List Token → A → List Token → Type 0) (f : Reader A) (G : A → List Token → B → List Token → Type 0) (s : Kind → Bool) (g : A → Reader B)
     → Exact U n R any f → ((a : A) → Exact U n (G a) s (g a)) → Exact U n (Seq R G) s (λ ts. f ts >>= λ x. g x.0 x.1)
 after_part U n R f G s g first second =
-    seq_exact U n n R G any s f g first second (λ ts a rest le d. let x = shorter ts a rest (first.stable ts a rest le d) in omega arith) (λ a us b rest r h. any_stops us)
+    seq_exact U n n R G any s f g first (any_halts n f) second (λ ts a rest le d. let x = shorter ts a rest (first.stable ts a rest le d) in omega arith) (λ a us b rest r h. any_stops us)
+
+-- a part that ends by itself, where less than any token is to stop it
+pub narrow_exact : (U : Type 0) (n : ℕ) {A : Type 0} (R : List Token → A → List Token → Type 0) (s : Kind → Bool) (f : Reader A) → Exact U n R any f → Exact U n R s f
+narrow_exact U n R s f x = record {
+  some = x.some;
+  stable = x.stable;
+  sound = x.sound;
+  complete = λ ts a rest le r stop. x.complete ts a rest le r (any_stops rest);
+  unique = λ u ts a b us vs r su q sv. x.unique u ts a b us vs r (any_stops us) q (any_stops vs);
+  stuck = λ u ts m le e. narrow ts m (x.stuck u ts m le e);
+}
+  where
+    narrow : (ts : List Token) (m : ℕ) → Stuck R any ts m → Stuck R s ts m
+    narrow ts m y = record {
+      front = y.front;
+      rest = y.rest;
+      parts = y.parts;
+      left = y.left;
+      more = y.more;
+      value = y.value;
+      completes = y.completes;
+      dead = λ t us is vs b after r stop. y.dead t us is vs b after r (any_stops after);
+    }
 
 -- the same readers read what another relation reads
 pub same_exact : (U : Type 0) (n : ℕ) {A : Type 0} (R Q : List Token → A → List Token → Type 0) (s : Kind → Bool) (f : Reader A)
@@ -120,7 +208,6 @@ same_exact U n R Q s f into out x = record {
   some = record { text = x.some.text; value = x.some.value; reads = λ after. into (x.some.text ++ after) x.some.value after (x.some.reads after) };
   stable = λ ts a rest le q. let y = x.stable ts a rest le (out ts a rest q) in record { front = y.front; parts = y.parts; again = λ ws. into (y.front ++ ws) a ws (y.again ws) };
   sound = λ ts a rest e. into ts a rest (x.sound ts a rest e);
-  halts = x.halts;
   complete = λ ts a rest le q stop. x.complete ts a rest le (out ts a rest q) stop;
   unique = λ u ts a b us vs q su q' sv. x.unique u ts a b us vs (out ts a us q) su (out ts b vs q') sv;
   stuck = λ u ts m le e. let y = x.stuck u ts m le e in record {
@@ -141,7 +228,6 @@ given U V n R s f u x = record {
   some = x.some;
   stable = x.stable;
   sound = x.sound;
-  halts = x.halts;
   complete = x.complete;
   unique = λ v. x.unique (u v);
   stuck = λ v. x.stuck (u v);
@@ -154,13 +240,9 @@ fewer_exact U m n R s f small x = record {
   sound = x.sound;
   unique = x.unique;
   stable = λ ts a rest le r. x.stable ts a rest (omega arith) r;
-  halts = λ ts a rest le e. x.halts ts a rest (omega arith) e;
   complete = λ ts a rest le r stop. x.complete ts a rest (omega arith) r stop;
   stuck = λ u ts m' le e. x.stuck u ts m' (omega arith) e;
 }
-
-err_is : {A : Type 0} (v w : ℕ) → ◌≡◌ {A = Read A} (Err v) (Err w) → v ≡ w
-err_is v w e = cc
 
 -- a reader that stops on no tokens
 pub zero_exact : (U : Type 0) {A : Type 0} (R : List Token → A → List Token → Type 0) (s : Kind → Bool)
@@ -169,7 +251,6 @@ zero_exact U {A} R s some long unique = record {
   some = some;
   stable = λ ts a rest le r. absurd (let l = long ts a rest r in omega arith);
   sound = λ ts a rest e. absurd (clash (len ts) (a, rest) e);
-  halts = λ ts a rest le e. absurd (clash (len ts) (a, rest) e);
   complete = λ ts a rest le r stop. absurd (let l = long ts a rest r in omega arith);
   unique = unique;
   stuck = λ u ts m le e. none_left ts m le e;
@@ -181,6 +262,113 @@ zero_exact U {A} R s some long unique = record {
     none_left : (ts : List Token) (m : ℕ) → len ts ≤ 0 → ◌≡◌ {A = Read A} (Err (len ts)) (Err m) → Stuck R s ts m
     none_left [] m le e = subst (λ v. Stuck R s [] v) (err_is 0 m e) (stuck_here R s [] some (λ t us vs b after h r stop. absurd cc))
     none_left (t ∷ ts) m le e = absurd (omega arith)
+
+-- two ways to read are one where all lengths have an exact reader
+pub one_way : {A : Type 0} (V : ℕ → Type 0) (R : List Token → A → List Token → Type 0) (s : Kind → Bool) (f : ℕ → Reader A) → ((n : ℕ) → Exact (V n) n R s (f n)) → IsUnique R s
+one_way {A} V R s f x ts b c us vs r su q sv =
+    let e = (x (len ts)).complete ts b us (omega arith) r su in
+    let d = (x (len ts)).complete ts c vs (omega arith) q sv in
+    let same = ok_is (b, us) (c, vs) (sym e ∙ d) in
+    (ap (λ (z : A × List Token). z.0) same, ap (λ (z : A × List Token). z.1) same)
+
+-- ---- a value behind which a kind of token cannot stand
+
+-- no kind that passes the test stops, and any other does
+pub record Against (p s : Kind → Bool) : Type 0 where
+  pub on : (k : Kind) → p k ≡ true → s k ≡ false
+  pub off : (k : Kind) → p k ≡ false → s k ≡ true
+
+module _ {A : Type 0} (p s : Kind → Bool) (against : Against p s) where
+  unless_ok : (a : A) (ts : List Token) (b : A) (rest : List Token) → unless_next p a ts ≡ Ok (b, rest) → (◌≡◌ {A = A × List Token} (a, ts) (b, rest)) × Stops s rest
+  unless_ok a [] b rest e = let q = ok_is (a, []) (b, rest) e in (q, subst (λ (z : A × List Token). Stops s z.1) q tt)
+  unless_ok a (t ∷ ts) b rest e = go (p t.kind) refl e
+    where
+      go : (c : Bool) → p t.kind ≡ c → cond {A = Read A} c (Err (len (t ∷ ts))) (Ok (a, t ∷ ts)) ≡ Ok (b, rest) → (◌≡◌ {A = A × List Token} (a, t ∷ ts) (b, rest)) × Stops s rest
+      go true h e = absurd cc
+      go false h e = let q = ok_is (a, t ∷ ts) (b, rest) e in (q, subst (λ (z : A × List Token). Stops s z.1) q (against.off t.kind h))
+
+  unless_at : (a : A) (ts : List Token) → Stops s ts → unless_next p a ts ≡ Ok (a, ts)
+  unless_at a [] stop = refl
+  unless_at a (t ∷ ts) stop = go (p t.kind) refl
+    where
+      go : (c : Bool) → p t.kind ≡ c → cond {A = Read A} c (Err (len (t ∷ ts))) (Ok (a, t ∷ ts)) ≡ Ok (a, t ∷ ts)
+      go true h = absurd (differ stop (against.on t.kind h))
+      go false h = refl
+
+  unless_err : (a : A) (ts : List Token) (m : ℕ) → unless_next p a ts ≡ Err m → (Stops s ts → ⊥) × (m ≡ len ts)
+  unless_err a [] m e = absurd cc
+  unless_err a (t ∷ ts) m e = go (p t.kind) refl e
+    where
+      go : (c : Bool) → p t.kind ≡ c → cond {A = Read A} c (Err (len (t ∷ ts))) (Ok (a, t ∷ ts)) ≡ Err m → (s t.kind ≡ true → ⊥) × (m ≡ len (t ∷ ts))
+      go true h e = ((λ stop. differ stop (against.on t.kind h)), cc)
+      go false h e = absurd cc
+
+  abbrev pub guarded : Reader A → Reader A
+  guarded f ts = f ts >>= λ y. unless_next p y.0 y.1
+
+  pub guard_halts : (n : ℕ) (f : Reader A) → Halts n s (guarded f)
+  guard_halts n f ts a rest le e =
+      let y = bind_ok (f ts) (λ y. unless_next p y.0 y.1) (a, rest) e in
+      (unless_ok y.0.0 y.0.1 a rest y.2).1
+
+  -- what goes on behind a token, or is nothing
+  pub perhaps_halts : (n : ℕ) (f : Token → Reader A) (a : A) → ((t : Token) → Halts n s (f t)) → Halts n s (if_next p f (λ us. Ok (a, us)))
+  perhaps_halts n f a x [] b rest le e = let q = ok_is (a, []) (b, rest) e in subst (λ (z : A × List Token). Stops s z.1) q tt
+  perhaps_halts n f a x (t ∷ ts) b rest le e = go (p t.kind) refl e
+    where
+      go : (c : Bool) → p t.kind ≡ c → cond {A = Read A} c (f t ts) (Ok (a, t ∷ ts)) ≡ Ok (b, rest) → Stops s rest
+      go true h e = x t ts b rest (omega arith) e
+      go false h e = let q = ok_is (a, t ∷ ts) (b, rest) e in subst (λ (z : A × List Token). Stops s z.1) q (against.off t.kind h)
+
+  module _ (U : Type 0) (n : ℕ) (R : List Token → A → List Token → Type 0) (f : Reader A) (x : Exact U n R any f) where
+    guard_stuck : U → (ts : List Token) (a : A) (us : List Token) (m : ℕ) → Front R ts a us → (Stops s us → ⊥) → m ≡ len us → Stuck R s ts m
+    guard_stuck u ts a us m y off left = record {
+      front = y.front;
+      rest = us;
+      parts = y.parts;
+      left = left;
+      more = [];
+      value = a;
+      completes = λ after. y.again after;
+      dead = λ t ws is vs b after r stop.
+          let one = x.unique u (y.front ++ t ∷ vs) b a after (t ∷ vs) r (any_stops after) (y.again (t ∷ vs)) (any_stops (t ∷ vs)) in
+          let here : s t.kind ≡ true = subst (Stops s) one.1 stop in
+          off (subst (Stops s) (sym is) here);
+    }
+
+    pub guard_exact : Exact U n R s (guarded f)
+    guard_exact = record {
+      some = x.some;
+      stable = x.stable;
+      sound = λ ts a rest e.
+          let y = bind_ok (f ts) (λ y. unless_next p y.0 y.1) (a, rest) e in
+          subst (λ (z : A × List Token). R ts z.0 z.1) (unless_ok y.0.0 y.0.1 a rest y.2).0 (x.sound ts y.0.0 y.0.1 y.1);
+      complete = λ ts a rest le r stop. ap (λ r. r >>= λ y. unless_next p y.0 y.1) (x.complete ts a rest le r (any_stops rest)) ∙ unless_at a rest stop;
+      unique = λ u ts a b us vs r su q sv. x.unique u ts a b us vs r (any_stops us) q (any_stops vs);
+      stuck = λ u ts m le e. elim (bind_err (f ts) (λ y. unless_next p y.0 y.1) m e) [
+        | inl w ↦ (narrow_exact U n R s f x).stuck u ts m le w
+        | inr (y, w, w') ↦
+            let end = unless_err y.0 y.1 m w' in
+            guard_stuck u ts y.0 y.1 m (x.stable ts y.0 y.1 le (x.sound ts y.0 y.1 w)) end.0 end.1
+      ];
+    }
+
+-- what is read stops where its last part does
+pub map_halts : {A B : Type 0} (n : ℕ) (s : Kind → Bool) (f : Reader A) (h : A → B) → Halts n s f → Halts n s (λ ts. f ts >>= λ x. Ok (h x.0, x.1))
+map_halts {A} {B} n s f h x ts b rest le e =
+    let y = bind_ok (f ts) (λ x. Ok (h x.0, x.1)) (b, rest) e in
+    subst (λ (z : B × List Token). Stops s z.1) (ok_is (h y.0.0, y.0.1) (b, rest) y.2) (x ts y.0.0 y.0.1 le y.1)
+
+-- readers that give the same read the same
+pub same_reader : (U : Type 0) (n : ℕ) {A : Type 0} (R : List Token → A → List Token → Type 0) (s : Kind → Bool) (f g : Reader A) → ((ts : List Token) → g ts ≡ f ts) → Exact U n R s f → Exact U n R s g
+same_reader U n R s f g e x = record {
+  some = x.some;
+  stable = x.stable;
+  sound = λ ts a rest h. x.sound ts a rest (sym (e ts) ∙ h);
+  complete = λ ts a rest le r stop. e ts ∙ x.complete ts a rest le r stop;
+  unique = x.unique;
+  stuck = λ u ts m le h. x.stuck u ts m le (sym (e ts) ∙ h);
+}
 
 -- ---- by the kind of the first token
 
@@ -211,14 +399,6 @@ module _ (U : Type 0) {A : Type 0} (n : ℕ) (B : Token → Kind → List Token 
   sound_first : (ts : List Token) (a : A) (rest : List Token) → by_first f ts ≡ Ok (a, rest) → First B ts a rest
   sound_first [] a rest e = absurd cc
   sound_first (t ∷ us) a rest e = sound_by t us a rest (branch t t.kind) e
-
-  halts_by : (t : Token) (us : List Token) (a : A) (rest : List Token) → Branch U n (B t t.kind) s t (f t t.kind) → len us ≤ n → f t t.kind us ≡ Ok (a, rest) → Stops s rest
-  halts_by t us a rest (inr off) le e = absurd (let clash = sym (off.stops us) ∙ e in cc)
-  halts_by t us a rest (inl x) le e = x.halts us a rest le e
-
-  halts_first : (ts : List Token) (a : A) (rest : List Token) → len ts ≤ suc n → by_first f ts ≡ Ok (a, rest) → Stops s rest
-  halts_first [] a rest le e = absurd cc
-  halts_first (t ∷ us) a rest le e = halts_by t us a rest (branch t t.kind) (omega arith) e
 
   complete_by : (t : Token) (ts us : List Token) (a : A) (rest : List Token) → Branch U n (B t t.kind) s t (f t t.kind) → len ts ≤ suc n → ts ≡ t ∷ us → B t t.kind us a rest → Stops s rest → by_first f ts ≡ Ok (a, rest)
   complete_by t ts us a rest (inr off) le e r stop = absurd (off.never us a rest r)
@@ -263,165 +443,10 @@ module _ (U : Type 0) {A : Type 0} (n : ℕ) (B : Token → Kind → List Token 
     some = some;
     stable = λ ts a rest le d. front_by d.0 ts d.1 a rest (branch d.0 d.0.kind) le d.2 d.3;
     sound = sound_first;
-    halts = halts_first;
     complete = λ ts a rest le d stop. complete_by d.0 ts d.1 a rest (branch d.0 d.0.kind) le d.2 d.3 stop;
     unique = unique_first;
     stuck = stuck_first;
   }
-
--- ---- a token alone, or another part
-
-abbrev pub Alone : (Kind → Bool) → {A : Type 0} → A → List Token → A → List Token → Type 0
-Alone p a = Seq (Tok p) (λ (_ : Token). Done a)
-
-abbrev pub Either : (Kind → Bool) → {A : Type 0} → A → (List Token → A → List Token → Type 0) → List Token → A → List Token → Type 0
-Either p a R ts b rest = Alone p a ts b rest ⊎ R ts b rest
-
-begins_same : (t : Token) (ts front rest : List Token) (u : Token) (us vs : List Token) (w : Token) (ws : List Token) → t ∷ ts ≡ front ++ rest → rest ≡ u ∷ us → front ++ u ∷ vs ≡ w ∷ ws → t ≡ w
-begins_same t ts [] rest u us vs w ws e f g = let h : t ∷ ts ≡ u ∷ us = e ∙ f in let one : t ≡ u = cc in let two : u ≡ w = cc in one ∙ two
-begins_same t ts (x ∷ front) rest u us vs w ws e f g = let one : t ≡ x = cc in let two : x ≡ w = cc in one ∙ two
-
-none_left : (front rest : List Token) (u : Token) (us : List Token) → [] ≡ front ++ rest → rest ≡ u ∷ us → ⊥
-none_left [] rest u us e f = let g : [] ≡ u ∷ us = e ∙ f in cc
-none_left (x ∷ front) rest u us e f = cc
-
-module _ (U : Type 0) {A : Type 0} (n : ℕ) (p : Kind → Bool) (a : A) (R : List Token → A → List Token → Type 0) (f : Reader A)
-    (x : Exact U n R any f) (never : (t : Token) (us : List Token) (b : A) (after : List Token) → p t.kind ≡ true → R (t ∷ us) b after → ⊥) where
-  alone_front : (ts : List Token) (b : A) (rest : List Token) → Alone p a ts b rest → Front (Either p a R) ts b rest
-  alone_front ts b rest (t, us, d, e) = record { front = t ∷ []; parts = d.0 ∙ ap (λ w. t ∷ w) e.0; again = λ ws. inl (t, ws, (refl, d.1), (refl, e.1)) }
-
-  either_stable : (ts : List Token) (b : A) (rest : List Token) → len ts ≤ n → Either p a R ts b rest → Front (Either p a R) ts b rest
-  either_stable ts b rest le (inl d) = alone_front ts b rest d
-  either_stable ts b rest le (inr r) = let y = x.stable ts b rest le r in record { front = y.front; parts = y.parts; again = λ ws. inr (y.again ws) }
-
-  either_sound : (ts : List Token) (b : A) (rest : List Token) → unless_token p a f ts ≡ Ok (b, rest) → Either p a R ts b rest
-  either_sound [] b rest e = inr (x.sound [] b rest e)
-  either_sound (t ∷ ts) b rest e = go (p t.kind) refl e
-    where
-      go : (c : Bool) → p t.kind ≡ c → cond {A = Read A} c (Ok (a, ts)) (f (t ∷ ts)) ≡ Ok (b, rest) → Either p a R (t ∷ ts) b rest
-      go true h e = let q = ok_is (a, ts) (b, rest) e in inl (t, ts, (refl, h), (ap (λ (y : A × List Token). y.1) q, sym (ap (λ (y : A × List Token). y.0) q)))
-      go false h e = inr (x.sound (t ∷ ts) b rest e)
-
-  alone_complete : (ts : List Token) (b : A) (rest : List Token) → Alone p a ts b rest → unless_token p a f ts ≡ Ok (b, rest)
-  alone_complete ts b rest (t, us, d, e) = rw (d.0, d.1, e.0, e.1) refl
-
-  other_complete : (ts : List Token) (b : A) (rest : List Token) → len ts ≤ n → R ts b rest → unless_token p a f ts ≡ Ok (b, rest)
-  other_complete [] b rest le r = x.complete [] b rest le r (any_stops rest)
-  other_complete (t ∷ ts) b rest le r = go (p t.kind) refl
-    where
-      go : (c : Bool) → p t.kind ≡ c → cond {A = Read A} c (Ok (a, ts)) (f (t ∷ ts)) ≡ Ok (b, rest)
-      go true h = absurd (never t ts b rest h r)
-      go false h = x.complete (t ∷ ts) b rest le r (any_stops rest)
-
-  either_complete : (ts : List Token) (b : A) (rest : List Token) → len ts ≤ n → Either p a R ts b rest → unless_token p a f ts ≡ Ok (b, rest)
-  either_complete ts b rest le (inl d) = alone_complete ts b rest d
-  either_complete ts b rest le (inr r) = other_complete ts b rest le r
-
-  not_both : (ts : List Token) (b c : A) (us vs : List Token) → Alone p a ts b us → R ts c vs → ⊥
-  not_both ts b c us vs (t, ws, d, e) r = never t ws c vs d.1 (subst (λ w. R w c vs) d.0 r)
-
-  either_unique : U → (ts : List Token) (b c : A) (us vs : List Token) → Either p a R ts b us → Either p a R ts c vs → (b ≡ c) × (us ≡ vs)
-  either_unique u ts b c us vs (inl (t, ws, d, e)) (inl (t', ws', d', e')) =
-      let h : t ∷ ws ≡ t' ∷ ws' = sym d.0 ∙ d'.0 in
-      let tail : ws ≡ ws' = cc in
-      (e.1 ∙ sym e'.1, sym e.0 ∙ tail ∙ e'.0)
-  either_unique u ts b c us vs (inl d) (inr r) = absurd (not_both ts b c us vs d r)
-  either_unique u ts b c us vs (inr r) (inl d) = absurd (not_both ts c b vs us d r)
-  either_unique u ts b c us vs (inr r) (inr q) = x.unique u ts b c us vs r (any_stops us) q (any_stops vs)
-
-  from_other : (ts : List Token) (m : ℕ) → ((front rest : List Token) (u : Token) (us vs : List Token) (b : A) (after : List Token) → ts ≡ front ++ rest → rest ≡ u ∷ us → Alone p a (front ++ u ∷ vs) b after → ⊥)
-      → Stuck R any ts m → Stuck (Either p a R) any ts m
-  from_other ts m apart y = record {
-    front = y.front;
-    rest = y.rest;
-    parts = y.parts;
-    left = y.left;
-    more = y.more;
-    value = y.value;
-    completes = λ after. inr (y.completes after);
-    dead = dead;
-  }
-    where
-      dead : (t : Token) (us : List Token) → y.rest ≡ t ∷ us → (vs : List Token) (b : A) (after : List Token) → Either p a R (y.front ++ t ∷ vs) b after → Stops any after → ⊥
-      dead t us is vs b after (inl d) stop = apart y.front y.rest t us vs b after y.parts is d
-      dead t us is vs b after (inr r) stop = y.dead t us is vs b after r stop
-
-  either_stuck : U → (ts : List Token) (m : ℕ) → len ts ≤ n → unless_token p a f ts ≡ Err m → Stuck (Either p a R) any ts m
-  either_stuck u [] m le e = from_other [] m (λ front rest w us vs b after parts is d. none_left front rest w us parts is) (x.stuck u [] m le e)
-  either_stuck u (t ∷ ts) m le e = go (p t.kind) refl e
-    where
-      go : (c : Bool) → p t.kind ≡ c → cond {A = Read A} c (Ok (a, ts)) (f (t ∷ ts)) ≡ Err m → Stuck (Either p a R) any (t ∷ ts) m
-      go true h e = absurd cc
-      go false h e =
-          from_other (t ∷ ts) m
-          (λ front rest w us vs b after parts is d. let same = begins_same t ts front rest w us vs d.0 d.1 parts is d.2.0 in let clash : true ≡ false = sym d.2.1 ∙ ap (λ (v : Token). p v.kind) (sym same) ∙ h in cc)
-          (x.stuck u (t ∷ ts) m le e)
-
-  pub either_exact : Exact U n (Either p a R) any (unless_token p a f)
-  either_exact = record {
-    some = record { text = x.some.text; value = x.some.value; reads = λ after. inr (x.some.reads after) };
-    stable = either_stable;
-    sound = either_sound;
-    halts = λ ts b rest le e. any_stops rest;
-    complete = λ ts b rest le r stop. either_complete ts b rest le r;
-    unique = λ u ts b c us vs r su q sv. either_unique u ts b c us vs r q;
-    stuck = either_stuck;
-  }
-
--- ---- rows
-
-module _ {A S B : Type 0} (join : A → B → B) (step : ℕ → S → Reader (Step A S B)) (R : S → List Token → Step A S B → List Token → Type 0) (Q : S → List Token → B → List Token → Type 0) where
-  -- what follows a step
-  abbrev pub GoesOn : Step A S B → List Token → B → List Token → Type 0
-  GoesOn (turn a s) = Seq (Q s) (λ b. Done (join a b))
-  GoesOn (last b) = Done b
-
-  module _ (into : (s : S) (ts : List Token) (b : B) (rest : List Token) → Seq (R s) GoesOn ts b rest → Q s ts b rest)
-      (out : (s : S) (ts : List Token) (b : B) (rest : List Token) → Q s ts b rest → Seq (R s) GoesOn ts b rest)
-      (some : (s : S) → SomeText (Q s))
-      (eats : (s : S) (ts : List Token) (a : Step A S B) (rest : List Token) → R s ts a rest → len rest < len ts)
-      (steps : (n : ℕ) (s : S) → Exact (Unit {0}) n (R s) any (step n s)) where
-    abbrev OneWay : Type 0
-    OneWay = (s : S) → IsUnique (Q s) any
-
-    long : (s : S) (ts : List Token) (b : B) (rest : List Token) → Q s ts b rest → 0 < len ts
-    long s ts b rest q = let d = out s ts b rest q in let l = eats s ts d.0 d.1 d.2 in omega arith
-
-    on_exact : (m n : ℕ) → ((s : S) → Exact OneWay m (Q s) any (row join (step n) m s)) → (a : Step A S B) → Exact OneWay m (GoesOn a) any (go_on join (row join (step n) m) a)
-    on_exact m n rows (turn a s) = after_part OneWay m (Q s) (row join (step n) m s) (λ b. Done (join a b)) any (λ b ts. Ok (join a b, ts)) (rows s) (λ b. done_exact OneWay m (join a b))
-    on_exact m n rows (last b) = done_exact OneWay m b
-
-    row_by : (m n : ℕ) → m ≤ n → (s : S) → Exact OneWay m (Q s) any (row join (step n) m s)
-    unfolding row
-    row_by zero n le s = zero_exact OneWay (Q s) any (some s) (long s) (λ u. u s)
-    row_by (suc m) n le s =
-        same_exact OneWay (suc m) (Seq (R s) GoesOn) (Q s) any (λ ts. step n s ts >>= λ x. go_on join (row join (step n) m) x.0 x.1) (into s) (out s)
-        (seq_exact OneWay (suc m) m (R s) GoesOn any any (step n s) (go_on join (row join (step n) m))
-        (fewer_exact OneWay (suc m) n (R s) any (step n s) le (given (Unit {0}) OneWay n (R s) any (step n s) (λ _. tt) (steps n s)))
-        (on_exact m n (row_by m n (omega arith)))
-        (λ ts a rest few r. let l = eats s ts a rest r in omega arith)
-        (λ a us b rest r h. any_stops us))
-
-    pub row_unique : (s : S) → IsUnique (Q s) any
-    row_unique s ts b c us vs r su q sv =
-        let x = (row_by (len ts) (len ts) (omega arith) s).complete ts b us (omega arith) r su in
-        let y = (row_by (len ts) (len ts) (omega arith) s).complete ts c vs (omega arith) q sv in
-        let same = ok_is (b, us) (c, vs) (sym x ∙ y) in
-        (ap (λ (z : B × List Token). z.0) same, ap (λ (z : B × List Token). z.1) same)
-
-    pub row_exact : (U : Type 0) (m n : ℕ) → m ≤ n → (s : S) → Exact U m (Q s) any (row join (step n) m s)
-    row_exact U m n le s = given OneWay U m (Q s) any (row join (step n) m s) (λ _. row_unique) (row_by m n le s)
-
--- ---- what the parts need
-
--- a token, and a part on as many tokens after it
-pub token_then : (U : Type 0) (n : ℕ) {B : Type 0} (p : Kind → Bool) (k : Kind) → p k ≡ true → (G : Token → List Token → B → List Token → Type 0) (s : Kind → Bool) (g : Token → Reader B)
-    → ((t : Token) → Exact U n (G t) s (g t)) → Exact U n (Seq (Tok p) G) s (λ ts. token p ts >>= λ x. g x.0 x.1)
-token_then U n p k is G s g second = after_part U n (Tok p) (token p) G s g (token_exact U n p k is) second
-
--- a last token
-pub token_last : (U : Type 0) (n : ℕ) {B : Type 0} (p : Kind → Bool) (k : Kind) → p k ≡ true → (b : B) → Exact U n (Alone p b) any (λ ts. token p ts >>= λ x. Ok (b, x.1))
-token_last U n p k is b = token_then U n p k is (λ (_ : Token). Done b) any (λ _ ts. Ok (b, ts)) (λ _. done_exact U n b)
 
 -- what stands behind the first token
 pub behind_first : {A : Type 0} (B : Token → Kind → List Token → A → List Token → Type 0) (t : Token) (us : List Token) (a : A) (rest : List Token) → First B (t ∷ us) a rest → B t t.kind us a rest
@@ -443,6 +468,125 @@ first_eats U n B s f branch ts a rest le (t, us, e, r) = go (branch t t.kind)
     go (inr off) = absurd (off.never us a rest r)
     go (inl x) = let l = ap len e in let fewer = shorter us a rest (x.stable us a rest (omega arith) r) in omega arith
 
-pub both_true : (a b : Bool) → (a && b) ≡ true → (a ≡ true) × (b ≡ true)
-both_true true b e = (refl, e)
-both_true false b e = absurd cc
+-- ---- one part behind a token, and else another
+
+begins_same : (t : Token) (ts front rest : List Token) (u : Token) (us vs : List Token) (w : Token) (ws : List Token) → t ∷ ts ≡ front ++ rest → rest ≡ u ∷ us → front ++ u ∷ vs ≡ w ∷ ws → t ≡ w
+begins_same t ts [] rest u us vs w ws e f g = let h : t ∷ ts ≡ u ∷ us = e ∙ f in let one : t ≡ u = cc in let two : u ≡ w = cc in one ∙ two
+begins_same t ts (x ∷ front) rest u us vs w ws e f g = let one : t ≡ x = cc in let two : x ≡ w = cc in one ∙ two
+
+none_left : (front rest : List Token) (u : Token) (us : List Token) → [] ≡ front ++ rest → rest ≡ u ∷ us → ⊥
+none_left [] rest u us e f = let g : [] ≡ u ∷ us = e ∙ f in cc
+none_left (x ∷ front) rest u us e f = cc
+
+module _ (U : Type 0) {A : Type 0} (m n : ℕ) (le : n ≤ suc m) (p : Kind → Bool) (K : Kind → Type 0) (test : Passes p K) (P : Token → List Token → A → List Token → Type 0) (Q : List Token → A → List Token → Type 0)
+    (s : Kind → Bool) (f : Token → Reader A) (g : Reader A) (x : (t : Token) → Exact U m (P t) s (f t)) (y : Exact U n Q s g)
+    (apart : (t : Token) (us : List Token) (b : A) (rest : List Token) → K t.kind → Q (t ∷ us) b rest → Stops s rest → ⊥) where
+  abbrev pub Either : List Token → A → List Token → Type 0
+  Either ts b rest = Seq (Tok K) P ts b rest ⊎ Q ts b rest
+
+  left_front : {ts : List Token} {b : A} {rest : List Token} → len ts ≤ n → Seq (Tok K) P ts b rest → Front Either ts b rest
+  left_front {b = b} {rest = rest} few (t, us, tok is, d) =
+      let z = (x t).stable us b rest (omega arith) d in
+      record { front = t ∷ z.front; parts = ap (λ w. t ∷ w) z.parts; again = λ ws. inl (t, z.front ++ ws, tok is, z.again ws) }
+
+  stable_either : (ts : List Token) (b : A) (rest : List Token) → len ts ≤ n → Either ts b rest → Front Either ts b rest
+  stable_either ts b rest few (inl d) = left_front few d
+  stable_either ts b rest few (inr r) = let z = y.stable ts b rest few r in record { front = z.front; parts = z.parts; again = λ ws. inr (z.again ws) }
+
+  sound_either : (ts : List Token) (b : A) (rest : List Token) → if_next p f g ts ≡ Ok (b, rest) → Either ts b rest
+  sound_either [] b rest e = inr (y.sound [] b rest e)
+  sound_either (t ∷ ts) b rest e = go (p t.kind) refl e
+    where
+      go : (c : Bool) → p t.kind ≡ c → cond {A = Read A} c (f t ts) (g (t ∷ ts)) ≡ Ok (b, rest) → Either (t ∷ ts) b rest
+      go true h e = inl (t, ts, tok (test.only t.kind h), (x t).sound ts b rest e)
+      go false h e = inr (y.sound (t ∷ ts) b rest e)
+
+  left_complete : {ts : List Token} {b : A} {rest : List Token} → len ts ≤ n → Seq (Tok K) P ts b rest → Stops s rest → if_next p f g ts ≡ Ok (b, rest)
+  left_complete {b = b} {rest = rest} few (t, us, tok is, d) stop = rw (test.is t.kind is) ((x t).complete us b rest (omega arith) d stop)
+
+  right_complete : (ts : List Token) (b : A) (rest : List Token) → len ts ≤ n → Q ts b rest → Stops s rest → if_next p f g ts ≡ Ok (b, rest)
+  right_complete [] b rest few r stop = y.complete [] b rest few r stop
+  right_complete (t ∷ ts) b rest few r stop = go (p t.kind) refl
+    where
+      go : (c : Bool) → p t.kind ≡ c → cond {A = Read A} c (f t ts) (g (t ∷ ts)) ≡ Ok (b, rest)
+      go true h = absurd (apart t ts b rest (test.only t.kind h) r stop)
+      go false h = y.complete (t ∷ ts) b rest few r stop
+
+  complete_either : (ts : List Token) (b : A) (rest : List Token) → len ts ≤ n → Either ts b rest → Stops s rest → if_next p f g ts ≡ Ok (b, rest)
+  complete_either ts b rest few (inl d) stop = left_complete few d stop
+  complete_either ts b rest few (inr r) stop = right_complete ts b rest few r stop
+
+  both_ways : {ts : List Token} {b c : A} {us vs : List Token} → Seq (Tok K) P ts b us → Q ts c vs → Stops s vs → ⊥
+  both_ways {c = c} {vs = vs} (t, ws, tok is, d) r stop = apart t ws c vs is r stop
+
+  left_unique : U → {ts : List Token} {b c : A} {us vs : List Token} → Seq (Tok K) P ts b us → Stops s us → Seq (Tok K) P ts c vs → Stops s vs → (b ≡ c) × (us ≡ vs)
+  left_unique u {b = b} {c = c} {us = us} {vs = vs} (t, ws, tok is, d) su (t', ws', tok is', d') sv = (x t).unique u ws b c us vs d su d' sv
+
+  unique_either : U → (ts : List Token) (b c : A) (us vs : List Token) → Either ts b us → Stops s us → Either ts c vs → Stops s vs → (b ≡ c) × (us ≡ vs)
+  unique_either u ts b c us vs (inl d) su (inl e) sv = left_unique u d su e sv
+  unique_either u ts b c us vs (inl d) su (inr r) sv = absurd (both_ways d r sv)
+  unique_either u ts b c us vs (inr r) su (inl d) sv = absurd (both_ways d r su)
+  unique_either u ts b c us vs (inr r) su (inr q) sv = y.unique u ts b c us vs r su q sv
+
+  left_first : {zs : List Token} {b : A} {after : List Token} → Seq (Tok K) P zs b after → (v : Token) × (ws : List Token) × (zs ≡ v ∷ ws) × K v.kind
+  left_first (v, ws, tok is, d) = (v, ws, refl, is)
+
+  left_behind : {t : Token} {zs : List Token} {b : A} {after : List Token} → Seq (Tok K) P (t ∷ zs) b after → P t zs b after
+  left_behind (v, ws, tok is, d) = d
+
+  from_left : (t : Token) (ts : List Token) (e : ℕ) → K t.kind → Stuck (P t) s ts e → Stuck Either s (t ∷ ts) e
+  from_left t ts e is d = record {
+    front = t ∷ d.front;
+    rest = d.rest;
+    parts = ap (λ w. t ∷ w) d.parts;
+    left = d.left;
+    more = d.more;
+    value = d.value;
+    completes = λ after. inl (t, d.front ++ (d.more ++ after), tok is, d.completes after);
+    dead = dead;
+  }
+    where
+      dead : (w : Token) (us : List Token) → d.rest ≡ w ∷ us → (vs : List Token) (b : A) (after : List Token) → Either ((t ∷ d.front) ++ w ∷ vs) b after → Stops s after → ⊥
+      dead w us same vs b after (inl r) stop = d.dead w us same vs b after (left_behind r) stop
+      dead w us same vs b after (inr q) stop = apart t (d.front ++ w ∷ vs) b after is q stop
+
+  from_right : (ts : List Token) (e : ℕ) → ((front rest : List Token) (u : Token) (us vs : List Token) (b : A) (after : List Token) → ts ≡ front ++ rest → rest ≡ u ∷ us → Seq (Tok K) P (front ++ u ∷ vs) b after → ⊥)
+      → Stuck Q s ts e → Stuck Either s ts e
+  from_right ts e none d = record {
+    front = d.front;
+    rest = d.rest;
+    parts = d.parts;
+    left = d.left;
+    more = d.more;
+    value = d.value;
+    completes = λ after. inr (d.completes after);
+    dead = dead;
+  }
+    where
+      dead : (w : Token) (us : List Token) → d.rest ≡ w ∷ us → (vs : List Token) (b : A) (after : List Token) → Either (d.front ++ w ∷ vs) b after → Stops s after → ⊥
+      dead w us same vs b after (inl r) stop = none d.front d.rest w us vs b after d.parts same r
+      dead w us same vs b after (inr q) stop = d.dead w us same vs b after q stop
+
+  stuck_either : U → (ts : List Token) (e : ℕ) → len ts ≤ n → if_next p f g ts ≡ Err e → Stuck Either s ts e
+  stuck_either u [] e few h = from_right [] e (λ front rest w us vs b after parts is d. none_left front rest w us parts is) (y.stuck u [] e few h)
+  stuck_either u (t ∷ ts) e few h = go (p t.kind) refl h
+    where
+      go : (c : Bool) → p t.kind ≡ c → cond {A = Read A} c (f t ts) (g (t ∷ ts)) ≡ Err e → Stuck Either s (t ∷ ts) e
+      go true k h = from_left t ts e (test.only t.kind k) ((x t).stuck u ts e (omega arith) h)
+      go false k h =
+          from_right (t ∷ ts) e
+          (λ front rest w us vs b after parts is d.
+          let z = left_first d in
+          let same = begins_same t ts front rest w us vs z.0 z.1 parts is z.2 in
+          differ (test.is z.0.kind z.3) (ap (λ (v : Token). p v.kind) (sym same) ∙ k))
+          (y.stuck u (t ∷ ts) e few h)
+
+  pub if_next_exact : Exact U n Either s (if_next p f g)
+  if_next_exact = record {
+    some = record { text = y.some.text; value = y.some.value; reads = λ after. inr (y.some.reads after) };
+    stable = stable_either;
+    sound = sound_either;
+    complete = complete_either;
+    unique = unique_either;
+    stuck = stuck_either;
+  }

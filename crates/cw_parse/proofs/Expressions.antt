@@ -1,240 +1,361 @@
--- Expressions and arguments of the first grammar.
-use Rattle.std.proofs.Common.{◌≡◌, ℕ, zero, suc, ◌<◌, ◌≤◌, pos, Bool, true, false, cond, List, [], ◌∷◌, ◌++◌, length as len, Ok, Err, refl, sym, ap, subst, ◌∙◌, arith, inl, inr}
-use Rattle.std.specs.List.{list_all}
+-- Expressions.
+use Rattle.std.proofs.Common.{◌≡◌, ℕ, zero, suc, ◌<◌, ◌≤◌, pos, Bool, true, false, cond, List, [], ◌∷◌, ◌++◌, length as len, Option, Some, None, Ok, Err, refl, sym, ap, subst, ◌∙◌, arith, ◌⊎◌, inl, inr}
 use Rattle.std.specs.Prelude.{nat_le}
 use Rattle.std.proofs.lemmas.Bool.{leb-true, le-leb}
 use Rattle.cw_model.specs.declared.token.Token.{Token}
 use Rattle.cw_model.specs.declared.token.Kind.{Kind}
 use Rattle.cw_model.specs.declared.token.Kind.TheVariants as kind
+use Rattle.cw_model.specs.declared.syntax.Operator.{Operator}
+use Rattle.cw_model.specs.declared.syntax.Operator.TheVariants as operator
 use Rattle.cw_model.specs.Limits.{most_number}
 use Rattle.cw_model.specs.Syntax as tree
 use Rattle.cw_model.specs.Syntax.{Expr}
 use Rattle.cw_model.specs.Grammar as grammar
-use Rattle.cw_model.specs.Grammar.{name_of, level, chain, ReadsExpr, ReadsOperand, ReadsWhole, ReadsMoreArguments, ReadsArguments, ReadsCall}
-use Rattle.cw_model.specs.FirstGrammar.{is_first_expr}
-use Rattle.cw_parse.specs.Reading.{Read, Reader, ◌>>=◌, token, by_first, Step, turn, last}
-use Rattle.cw_parse.specs.Marks.{is_left_paren, is_right_paren, is_semicolon}
-use Rattle.cw_parse.specs.Parts.{operand, expr, add_front, next_argument, more_arguments, some_arguments, arguments, called}
-use Rattle.cw_parse.proofs.Reader.{IsUnique, SomeText, Seq, Tok, Done, ok_is}
-use Rattle.cw_parse.proofs.Exact.{Exact, Branch, First, Either, Alone, GoesOn, any, mark, done_exact, after_part, token_then, token_last, same_exact, fewer_exact, given, zero_exact, first_exact, either_exact, row_exact, behind_first, at_first, first_eats, both_true}
-use Rattle.cw_parse.proofs.Only.{left_paren_only, right_paren_only, semicolon_only}
+use Rattle.cw_model.specs.Grammar.{name_of, infix_of, level as at, chain as behind, ReadsExpr, ReadsOperand, ReadsWhole}
+use Rattle.cw_parse.specs.declared.marks.Mark.{Mark}
+use Rattle.cw_parse.specs.declared.marks.Mark.TheVariants as mark
+use Rattle.cw_parse.specs.Marks.{is_mark}
+use Rattle.cw_parse.specs.Reading.{Read, Reader, ◌>>=◌, by_first, if_next, unless_next}
+use Rattle.cw_parse.specs.Parts.{named, measured, atom, operand_after, at_level, beside, operator_at, chain_on, chain, level_over, operand, level, expr}
+use Rattle.cw_parse.proofs.Reader.{Stops, Front, IsUnique, SomeText, Seq, Tok, tok, Done, done, shorter, bind_ok, ok_is}
+use Rattle.cw_parse.proofs.Exact.{Exact, Halts, Passes, Against, Branch, First, any, mark as token_of, done_exact, done_rest, differ, seq_exact, after_part, narrow_exact, same_exact, same_reader, given, fewer_exact, zero_exact, one_way, guarded, guard_exact, guard_halts, perhaps_halts, map_halts, first_exact, at_first, if_next_exact}
+use Rattle.cw_parse.proofs.MarkKinds.{kind_of, passes}
+use Rattle.cw_parse.proofs.Pieces.{Marked, Piece, ◌>>>◌, expect, give, before, narrow, perhaps, guard}
+use Rattle.cw_parse.proofs.Operators.{stops, stops_below, operator_stops, operator_on, stops_above, level_of, is_level, operator_ok, Operated, operated}
+
+-- an index goes on behind a name
+no_index : Against (is_mark mark.LeftBracket) (stops 0)
+no_index = record { on = λ k e. ap (stops 0) ((passes mark.LeftBracket).only k e); off = off }
+  where
+    off : (k : Kind) → is_mark mark.LeftBracket k ≡ false → stops 0 k ≡ true
+    off kind.LeftBracket e = absurd cc
+    off kind.Star e = refl
+    off kind.Plus e = refl
+    off _ e = refl
+
+-- an operator of a level
+abbrev Goes : ℕ → Kind → Type 0
+Goes k x = (o : Operator) × (infix_of x ≡ Some (k, o))
+
+abbrev is_some : Option Operator → Bool
+is_some None = false
+is_some (Some o) = true
+
+abbrev or_plus : Option Operator → Operator
+or_plus None = operator.Plus
+or_plus (Some o) = o
+
+abbrev goes : ℕ → Kind → Bool
+goes k x = is_some (at_level k (infix_of x))
+
+going : (k : ℕ) → Passes (goes k) (Goes k)
+going k = record { only = λ x e. only x (at_level k (infix_of x)) refl e; is = λ x g. ap is_some (is_level k (infix_of x) g.0 g.1) }
+  where
+    only : (x : Kind) (v : Option Operator) → at_level k (infix_of x) ≡ v → is_some v ≡ true → Goes k x
+    only x None h e = absurd cc
+    only x (Some o) h e = (o, level_of k (infix_of x) o h)
 
 module _ (text : List ℕ) where
-  -- an expression of the first grammar
-  abbrev pub E : List Token → Expr → List Token → Type 0
-  E ts e rest = ReadsWhole text ts e rest × (is_first_expr e ≡ true)
+  abbrev pub At : ℕ → List Token → Expr → List Token → Type 0
+  At k = ReadsExpr text (at k)
 
-  abbrev pub OperandBy : Token → Kind → List Token → Expr → List Token → Type 0
-  OperandBy t (kind.Number n) = λ ts e rest. (n ≤ most_number) × Done (tree.Number (pos n)) ts e rest
-  OperandBy t kind.Name = Done (tree.Variable (name_of text t))
-  OperandBy t kind.LeftParen = Seq E (λ e. Alone is_right_paren e)
-  OperandBy t _ = λ ts e rest. ⊥
+  abbrev pub Behind : ℕ → Expr → List Token → Expr → List Token → Type 0
+  Behind k d = ReadsExpr text (behind k d)
 
-  whole : {t : Token} {us rest : List Token} {e : Expr} (k : Kind) → t.kind ≡ k → ReadsOperand text k t us e rest → ReadsWhole text (t ∷ us) e rest
-  whole k is r = grammar.operators (grammar.operators (grammar.operators (grammar.operators (grammar.operand is r) grammar.end) grammar.end) grammar.end) grammar.end
+  -- ---- the operators of a level
 
-  operand_into : (t : Token) (k : Kind) → t.kind ≡ k → (us : List Token) (e : Expr) (rest : List Token) → OperandBy t k us e rest → E (t ∷ us) e rest
-  operand_into t (kind.Number n) is us e rest d = rw (d.1.0, d.1.1) (whole (kind.Number n) is (grammar.number d.0), refl)
-  operand_into t kind.Name is us e rest d = rw (d.0, d.1) (whole kind.Name is grammar.variable, refl)
-  operand_into t kind.LeftParen is us e rest (d, vs, (r, first), (u, ws, (parts, closes), (same, value))) =
-      let inner : ReadsWhole text us d (u ∷ rest) = subst (λ w. ReadsWhole text us d w) (parts ∙ ap (λ w. u ∷ w) same) r in
-      rw value (whole kind.LeftParen is (grammar.parentheses inner (right_paren_only u.kind closes)), first)
-  operand_into t _ is us e rest d = absurd d
+  module _ (U : Type 0) (n k : ℕ) (small : k < 4) (one : U → (d : Expr) → IsUnique (Behind (suc k) d) (stops (suc k))) (next : Reader Expr) (lower : Exact U n (At k) (stops k) next) (halts : Halts n (stops k) next) where
+    -- what follows an operator
+    abbrev After : Expr → Token → List Token → Expr → List Token → Type 0
+    After d t = Seq (At k) (λ e. Behind (suc k) (tree.Binary (or_plus (at_level (suc k) (infix_of t.kind))) d e))
 
-  -- the number 0 is an expression
-  pub zero_read : (after : List Token) → ReadsWhole text (mark (kind.Number 0) ∷ after) (tree.Number (pos 0)) after
-  zero_read after = whole (kind.Number 0) refl (grammar.number (omega arith))
+    abbrev Chain : Expr → List Token → Expr → List Token → Type 0
+    Chain d ts e rest = Seq (Tok (Goes (suc k))) (After d) ts e rest ⊎ Done d ts e rest
 
-  chain_first : {k : ℕ} {us rest : List Token} {d e : Expr} → ReadsExpr text (chain k d) us e rest → is_first_expr e ≡ true → (us ≡ rest) × (d ≡ e)
-  chain_first grammar.end first = (refl, refl)
-  chain_first (grammar.infixed is r q) first =
-      let same = chain_first q first in
-      let clash : false ≡ true = ap is_first_expr same.1 ∙ first in
-      absurd cc
+    chain_into : (d : Expr) (ts : List Token) (e : Expr) (rest : List Token) → Chain d ts e rest → Behind (suc k) d ts e rest
+    chain_into d ts e rest (inr done) = grammar.end
+    chain_into d ts e rest (inl (t, us, tok (o, is), (b, vs, r, q))) =
+        let here = ap or_plus (is_level (suc k) (infix_of t.kind) o is) in
+        grammar.infixed is r (subst (λ o. Behind (suc k) (tree.Binary o d b) vs e rest) here q)
 
-  operand_of : {t : Token} {k : Kind} {us rest : List Token} {e : Expr} → ReadsOperand text k t us e rest → is_first_expr e ≡ true → OperandBy t k us e rest
-  operand_of (grammar.negative r) first = absurd cc
-  operand_of (grammar.negation r) first = absurd cc
-  operand_of (grammar.number le) first = (le, (refl, refl))
-  operand_of grammar.variable first = (refl, refl)
-  operand_of (grammar.element is r is') first = absurd cc
-  operand_of (grammar.length_of is is' is'') first = absurd cc
-  operand_of (grammar.parentheses {u = u} {rest = rest} {e = e} r is) first = (e, u ∷ rest, (r, first), (u, rest, (refl, ap is_right_paren is), (refl, refl)))
+    chain_out : {d : Expr} {ts : List Token} {e : Expr} {rest : List Token} → Behind (suc k) d ts e rest → Chain d ts e rest
+    chain_out grammar.end = inr done
+    chain_out {d} {e = f} {rest = rest} (grammar.infixed {t = t} {ts = ts} {us = us} {o = o} {e = e} is r q) =
+        let here = ap or_plus (is_level (suc k) (infix_of t.kind) o is) in
+        inl (t, ts, tok (o, is), (e, us, r, subst (λ o. Behind (suc k) (tree.Binary o d e) us f rest) (sym here) q))
 
-  expr_out : {k : ℕ} {ts rest : List Token} {e : Expr} → ReadsExpr text (level k) ts e rest → is_first_expr e ≡ true → First OperandBy ts e rest
-  expr_out (grammar.operand {k = k} {t = t} {ts = us} {rest = rest} {e = e} is r) first = at_first OperandBy t k is us e rest (operand_of r first)
-  expr_out (grammar.operators {ts = ts} {us = us} {rest = rest} {d = d} {e = e} r q) first =
-      let same = chain_first q first in
-      let x = expr_out r (ap is_first_expr same.1 ∙ first) in
-      subst (λ w. First OperandBy ts w rest) same.1 (subst (λ w. First OperandBy ts d w) same.0 x)
+    chain_follows : {d : Expr} {us : List Token} {e : Expr} {rest : List Token} → Behind (suc k) d us e rest → Stops (stops (suc k)) rest → Stops (stops k) us
+    chain_follows {us = us} grammar.end h = stops_below k us h
+    chain_follows (grammar.infixed {t = t} {o = o} is r q) h = operator_stops k t o is
 
-  some_operand : SomeText (First OperandBy)
-  some_operand = record { text = mark (kind.Number 0) ∷ []; value = tree.Number (pos 0); reads = λ after. (mark (kind.Number 0), after, refl, (omega arith, (refl, refl))) }
+    step : (m : ℕ) (d : Expr) (t : Token) (ts : List Token) (v : Option Operator)
+        → chain_on next (chain next (suc k) m) d (t ∷ ts) (beside ts v) ≡ cond (is_some v) (next ts >>= λ e. chain next (suc k) m (tree.Binary (or_plus v) d e.0) e.1) (Ok (d, t ∷ ts))
+    step m d t ts None = refl
+    step m d t ts (Some o) = refl
 
-  operand_branch : (U : Type 0) (n : ℕ) (inner : Reader Expr) → Exact U n E any inner → (t : Token) (k : Kind) → Branch U n (OperandBy t k) any t (operand text inner t k)
-  unfolding operand
-  operand_branch U n inner x t (kind.Number v) = go (nat_le v most_number) refl
-    where
-      go : (b : Bool) → nat_le v most_number ≡ b → Branch U n (OperandBy t (kind.Number v)) any t (λ ts. cond {A = Read Expr} b (Ok (tree.Number (pos v), ts)) (Err (len (t ∷ ts))))
-      go true e = inl (same_exact U n (Done (tree.Number (pos v))) (OperandBy t (kind.Number v)) any (λ ts. Ok (tree.Number (pos v), ts))
-          (λ ts a rest d. (leb-true v most_number e, d)) (λ ts a rest d. d.1) (done_exact U n (tree.Number (pos v))))
-      go false e = inr (record { stops = λ ts. refl; never = λ ts a rest d. let clash : true ≡ false = sym (le-leb v most_number d.0) ∙ e in cc })
-  operand_branch U n inner x t kind.Name = inl (done_exact U n (tree.Variable (name_of text t)))
-  operand_branch U n inner x t kind.LeftParen =
-      inl (after_part U n E inner (λ e. Alone is_right_paren e) any (λ e ts. token is_right_paren ts >>= λ y. Ok (e, y.1)) x (λ e. token_last U n is_right_paren kind.RightParen refl e))
-  operand_branch U n inner x t _ = inr (record { stops = λ ts. refl; never = λ ts a rest d. d })
+    abbrev after : ℕ → Expr → Token → Reader Expr
+    after m d t us = next us >>= λ e. chain next (suc k) m (tree.Binary (or_plus (at_level (suc k) (infix_of t.kind))) d e.0) e.1
 
-  expr_into : (ts : List Token) (e : Expr) (rest : List Token) → First OperandBy ts e rest → E ts e rest
-  expr_into ts e rest (t, us, parts, r) = rw parts (operand_into t t.kind refl us e rest r)
+    chain_read : (m : ℕ) (d : Expr) (ts : List Token) → chain next (suc k) (suc m) d ts ≡ if_next (goes (suc k)) (after m d) (λ us. Ok (d, us)) ts
+    unfolding chain
+    chain_read m d [] = refl
+    chain_read m d (t ∷ ts) = step m d t ts (at_level (suc k) (infix_of t.kind))
 
-  expr_long : (ts : List Token) (e : Expr) (rest : List Token) → E ts e rest → 0 < len ts
-  expr_long ts e rest r = let d = expr_out r.0 r.1 in let l = ap len d.2 in omega arith
+    apart : (d : Expr) (t : Token) (us : List Token) (b : Expr) (rest : List Token) → Goes (suc k) t.kind → Done d (t ∷ us) b rest → Stops (stops (suc k)) rest → ⊥
+    apart d t us b rest g done h = operator_on (suc k) t g.0 g.1 h
 
-  expr_some : SomeText E
-  expr_some = record { text = some_operand.text; value = some_operand.value; reads = λ after. expr_into (some_operand.text ++ after) some_operand.value after (some_operand.reads after) }
+    pub chain_by : (m : ℕ) → m ≤ n → (d : Expr) → Exact U m (Behind (suc k) d) (stops (suc k)) (chain next (suc k) m d)
+    unfolding chain
+    chain_by zero le d = record {
+      some = record { text = []; value = d; reads = λ after. grammar.end };
+      stable = λ ts e rest few r. nothing_stable few r;
+      sound = λ ts e rest h. subst (λ (y : Expr × List Token). Behind (suc k) d ts y.0 y.1) (ok_is (d, ts) (e, rest) h) grammar.end;
+      complete = λ ts e rest few r stop. nothing few r;
+      unique = λ u. one u d;
+      stuck = λ u ts m few h. absurd cc;
+    }
+      where
+        nothing : {ts : List Token} {e : Expr} {rest : List Token} → len ts ≤ 0 → Behind (suc k) d ts e rest → ◌≡◌ {A = Read Expr} (Ok (d, ts)) (Ok (e, rest))
+        nothing few grammar.end = refl
+        nothing few (grammar.infixed is r q) = absurd (omega arith)
+
+        nothing_stable : {ts : List Token} {e : Expr} {rest : List Token} → len ts ≤ 0 → Behind (suc k) d ts e rest → Front (Behind (suc k) d) ts e rest
+        nothing_stable few grammar.end = record { front = []; parts = refl; again = λ ws. grammar.end }
+        nothing_stable few (grammar.infixed is r q) = absurd (omega arith)
+    chain_by (suc m) le d =
+        same_reader U (suc m) (Behind (suc k) d) (stops (suc k)) (if_next (goes (suc k)) (after m d) (λ us. Ok (d, us))) (chain next (suc k) (suc m) d) (chain_read m d)
+        (same_exact U (suc m) (Chain d) (Behind (suc k) d) (stops (suc k)) (if_next (goes (suc k)) (after m d) (λ us. Ok (d, us))) (chain_into d) (λ ts e rest r. chain_out r)
+        (if_next_exact U m (suc m) (omega arith) (goes (suc k)) (Goes (suc k)) (going (suc k)) (After d) (Done d) (stops (suc k)) (after m d) (λ us. Ok (d, us))
+        (λ t. seq_exact U m m (At k) (λ e. Behind (suc k) (tree.Binary (or_plus (at_level (suc k) (infix_of t.kind))) d e)) (stops k) (stops (suc k)) next (λ e. chain next (suc k) m (tree.Binary (or_plus (at_level (suc k) (infix_of t.kind))) d e))
+        (fewer_exact U m n (At k) (stops k) next (omega arith) lower)
+        (λ ts e rest few h. halts ts e rest (omega arith) h)
+        (λ e. chain_by m (omega arith) (tree.Binary (or_plus (at_level (suc k) (infix_of t.kind))) d e))
+        (λ ts e rest few r. let y = shorter ts e rest (lower.stable ts e rest (omega arith) r) in omega arith)
+        (λ e us f rest r h. chain_follows r h))
+        (narrow_exact U (suc m) (Done d) (stops (suc k)) (λ us. Ok (d, us)) (done_exact U (suc m) d))
+        (apart d)))
+
+    eaten : {us ts : List Token} {o : Operator} → Operated (suc k) ts o us → len us < len ts
+    eaten (operated is) = omega arith
+
+    chain_halts : (m : ℕ) → m ≤ n → (d : Expr) (ts : List Token) (e : Expr) (rest : List Token) → len ts ≤ m → Stops (stops k) ts → chain next (suc k) m d ts ≡ Ok (e, rest) → Stops (stops (suc k)) rest
+    unfolding chain
+    chain_halts zero le d [] e rest few stop h = subst (λ (y : Expr × List Token). Stops (stops (suc k)) y.1) (ok_is (d, []) (e, rest) h) tt
+    chain_halts zero le d (t ∷ ts) e rest few stop h = absurd (omega arith)
+    chain_halts (suc m) le d ts e rest few stop h = go (chain_halts m (omega arith)) (operator_at (suc k) ts) refl h
+      where
+        go : ((d : Expr) (ts : List Token) (e : Expr) (rest : List Token) → len ts ≤ m → Stops (stops k) ts → chain next (suc k) m d ts ≡ Ok (e, rest) → Stops (stops (suc k)) rest)
+            → (v : Option (Operator × List Token)) → operator_at (suc k) ts ≡ v → chain_on next (chain next (suc k) m) d ts v ≡ Ok (e, rest) → Stops (stops (suc k)) rest
+        go ih None f h = subst (λ (y : Expr × List Token). Stops (stops (suc k)) y.1) (ok_is (d, ts) (e, rest) h) (stops_above k ts small stop f)
+        go ih (Some (o, us)) f h =
+            let less = eaten (operator_ok (suc k) ts o us f) in
+            let x = bind_ok (next us) _ (e, rest) h in
+            let r = lower.sound us x.0.0 x.0.1 x.1 in
+            let y = shorter us x.0.0 x.0.1 (lower.stable us x.0.0 x.0.1 (omega arith) r) in
+            ih (tree.Binary o d x.0.0) x.0.1 e rest (omega arith) (halts us x.0.0 x.0.1 (omega arith) x.1) x.2
+
+    level_into : (ts : List Token) (e : Expr) (rest : List Token) → Seq (At k) (λ d. Behind (suc k) d) ts e rest → At (suc k) ts e rest
+    level_into ts e rest (d, us, r, q) = grammar.operators r q
+
+    level_out : {ts : List Token} {e : Expr} {rest : List Token} → At (suc k) ts e rest → Seq (At k) (λ d. Behind (suc k) d) ts e rest
+    level_out (grammar.operators {us = us} {d = d} r q) = (d, us, r, q)
+
+    abbrev above : Reader Expr
+    above ts = next ts >>= λ x. chain next (suc k) n x.0 x.1
+
+    pub above_exact : Exact U n (At (suc k)) (stops (suc k)) above
+    above_exact =
+        same_exact U n (Seq (At k) (λ d. Behind (suc k) d)) (At (suc k)) (stops (suc k)) above level_into (λ ts e rest r. level_out r)
+        (seq_exact U n n (At k) (λ d. Behind (suc k) d) (stops k) (stops (suc k)) next (λ d. chain next (suc k) n d) lower halts (λ d. chain_by n (omega arith) d)
+        (λ ts e rest few r. let y = shorter ts e rest (lower.stable ts e rest few r) in omega arith) (λ e us f rest r h. chain_follows r h))
+
+    pub above_halts : Halts n (stops (suc k)) above
+    above_halts ts e rest few h =
+        let x = bind_ok (next ts) _ (e, rest) h in
+        let r = lower.sound ts x.0.0 x.0.1 x.1 in
+        let y = shorter ts x.0.0 x.0.1 (lower.stable ts x.0.0 x.0.1 few r) in
+        chain_halts n (omega arith) x.0.0 x.0.1 e rest (omega arith) (halts ts x.0.0 x.0.1 few x.1) x.2
+
+  -- ---- all levels
 
   abbrev OneWay : Type 0
-  OneWay = IsUnique E any
+  OneWay = IsUnique (At 0) (stops 0) × ((k : ℕ) → k < 4 → (d : Expr) → IsUnique (Behind (suc k) d) (stops (suc k)))
 
-  expr_by : (n : ℕ) → Exact OneWay n E any (expr text n)
-  unfolding expr
-  expr_by zero = zero_exact OneWay E any expr_some expr_long (λ u. u)
-  expr_by (suc n) =
-      same_exact OneWay (suc n) (First OperandBy) E any (by_first (operand text (expr text n))) expr_into (λ ts e rest r. expr_out r.0 r.1)
-      (first_exact OneWay n OperandBy any (operand text (expr text n)) some_operand (operand_branch OneWay n (expr text n) (expr_by n)))
+  -- a reader of a level that is exact, and where it halts
+  abbrev Level : Type 0 → ℕ → ℕ → Reader Expr → Type 0
+  Level U n k f = Exact U n (At k) (stops k) f × Halts n (stops k) f
 
-  pub expr_unique : IsUnique E any
-  expr_unique ts b c us vs r su q sv =
-      let x = (expr_by (len ts)).complete ts b us (omega arith) r su in
-      let y = (expr_by (len ts)).complete ts c vs (omega arith) q sv in
-      let same = ok_is (b, us) (c, vs) (sym x ∙ y) in
-      (ap (λ (z : Expr × List Token). z.0) same, ap (λ (z : Expr × List Token). z.1) same)
+  level_by : (n : ℕ) (base : Reader Expr) → Level OneWay n 0 base → (k : ℕ) → k < 5 → Level OneWay n k (level_over base n k)
+  unfolding level_over
+  level_by n base x zero small = x
+  level_by n base x (suc k) small =
+      let low = level_by n base x k (omega arith) in (
+        above_exact OneWay n k (omega arith) (λ u. u.1 k (omega arith)) (level_over base n k) low.0 low.1,
+        above_halts OneWay n k (omega arith) (λ u. u.1 k (omega arith)) (level_over base n k) low.0 low.1,
+      )
 
-  pub expr_exact : (U : Type 0) (n : ℕ) → Exact U n E any (expr text n)
-  expr_exact U n = given OneWay U n E any (expr text n) (λ _. expr_unique) (expr_by n)
+  -- ---- operands
 
-  -- no expression begins with a closing parenthesis
-  expr_not_closing : (t : Token) (us : List Token) (e : Expr) (rest : List Token) → is_right_paren t.kind ≡ true → E (t ∷ us) e rest → ⊥
-  expr_not_closing t us e rest is r =
-      let d = behind_first OperandBy t us e rest (expr_out r.0 r.1) in
-      let none : OperandBy t kind.RightParen us e rest = subst (λ k. OperandBy t k us e rest) (right_paren_only t.kind is) d in
-      none
+  abbrev OperandBy : Token → Kind → List Token → Expr → List Token → Type 0
+  OperandBy t kind.Minus = Seq (At 0) (λ e. Done (tree.Negative e))
+  OperandBy t kind.Not = Seq (At 0) (λ e. Done (tree.Not e))
+  OperandBy t (kind.Number n) = λ ts e rest. (n ≤ most_number) × Done (tree.Number (pos n)) ts e rest
+  OperandBy t kind.Name = λ ts e rest.
+      Seq (Marked mark.LeftBracket) (λ (_ : Token). Seq (At 4) (λ i. Seq (Marked mark.RightBracket) (λ (_ : Token). Done (tree.Element (name_of text t) i)))) ts e rest
+      ⊎ Done (tree.Variable (name_of text t)) ts e rest
+  OperandBy t kind.Len = Seq (Marked mark.LeftParen) (λ (_ : Token). Seq (Marked mark.Name) (λ a. Seq (Marked mark.RightParen) (λ (_ : Token). Done (tree.Length (name_of text a)))))
+  OperandBy t kind.LeftParen = Seq (At 4) (λ e. Seq (Marked mark.RightParen) (λ (_ : Token). Done e))
+  OperandBy t _ = λ ts e rest. ⊥
 
-  -- ---- arguments
+  operand_into : (t : Token) (k : Kind) → t.kind ≡ k → (us : List Token) (e : Expr) (rest : List Token) → OperandBy t k us e rest → At 0 (t ∷ us) e rest
+  operand_into t kind.Minus is us e rest (d, vs, r, done) = grammar.operand is (grammar.negative r)
+  operand_into t kind.Not is us e rest (d, vs, r, done) = grammar.operand is (grammar.negation r)
+  operand_into t (kind.Number n) is us e rest (le, done) = grammar.operand is (grammar.number le)
+  operand_into t kind.Name is us e rest (inr done) = grammar.operand is grammar.variable
+  operand_into t kind.Name is us e rest (inl (u, vs, tok is', (i, ws, r, (v, xs, tok is'', done)))) = grammar.operand is (grammar.element is' r is'')
+  operand_into t kind.Len is us e rest (u, vs, tok i, (a, ws, tok i', (w, xs, tok i'', done))) = grammar.operand is (grammar.length_of i i' i'')
+  operand_into t kind.LeftParen is us e rest (d, vs, r, (u, ws, tok is', done)) = grammar.operand is (grammar.parentheses r is')
+  operand_into t _ is us e rest d = absurd d
 
-  abbrev pub ArgumentBy : Token → Kind → List Token → Step Expr (Unit {0}) (List Expr) → List Token → Type 0
-  ArgumentBy t kind.RightParen = Done (last [])
-  ArgumentBy t kind.Comma = Seq E (λ e. Done (turn e tt))
-  ArgumentBy t _ = λ ts a rest. ⊥
+  operand_of : {t : Token} {k : Kind} {us rest : List Token} {e : Expr} → ReadsOperand text k t us e rest → OperandBy t k us e rest
+  operand_of (grammar.negative {rest = rest} {e = e} r) = (e, rest, r, done)
+  operand_of (grammar.negation {rest = rest} {e = e} r) = (e, rest, r, done)
+  operand_of (grammar.number le) = (le, done)
+  operand_of grammar.variable = inr done
+  operand_of (grammar.element {u = u} {v = v} {ts = ts} {rest = rest} {e = e} is r is') = inl (u, ts, tok is, (e, v ∷ rest, r, (v, rest, tok is', done)))
+  operand_of (grammar.length_of {u = u} {v = v} {w = w} {ts = ts} i i' i'') = (u, v ∷ w ∷ ts, tok i, (v, w ∷ ts, tok i', (w, ts, tok i'', done)))
+  operand_of (grammar.parentheses {u = u} {rest = rest} {e = e} r is) = (e, u ∷ rest, r, (u, rest, tok is, done))
 
-  abbrev pub More : Unit {0} → List Token → List Expr → List Token → Type 0
-  More s ts es rest = ReadsMoreArguments text ts es rest × (list_all is_first_expr es ≡ true)
+  operand_out : {ts rest : List Token} {e : Expr} → At 0 ts e rest → First OperandBy ts e rest
+  operand_out (grammar.operand {k = k} {t = t} {ts = us} {rest = rest} {e = e} is r) = at_first OperandBy t k is us e rest (operand_of r)
 
-  abbrev Next : Unit {0} → List Token → Step Expr (Unit {0}) (List Expr) → List Token → Type 0
-  Next s = First ArgumentBy
+  module _ (U : Type 0) (n : ℕ) (whole : Reader Expr) (x : Level U n 4 whole) (inner : Reader Expr) (y : Level U n 0 inner) where
+    abbrev w : Piece U n (stops 4) Expr
+    w = record { rel = At 4; read = whole; exact = x.0 }
 
-  abbrev On : Step Expr (Unit {0}) (List Expr) → List Token → List Expr → List Token → Type 0
-  On = GoesOn add_front (λ (n : ℕ) s. by_first (next_argument text n)) Next More
+    -- an operand behind a sign
+    signed : (h : Expr → Expr) → Exact U n (Seq (At 0) (λ e. Done (h e))) (stops 0) (λ ts. inner ts >>= λ x. Ok (h x.0, x.1))
+    signed h =
+        seq_exact U n n (At 0) (λ e. Done (h e)) (stops 0) (stops 0) inner (λ e ts. Ok (h e, ts)) y.0 y.1 (λ e. narrow_exact U n (Done (h e)) (stops 0) (λ ts. Ok (h e, ts)) (done_exact U n (h e)))
+        (λ ts e rest few r. let z = shorter ts e rest (y.0.stable ts e rest few r) in omega arith) (λ e us f rest d stop. done_rest (stops 0) us f rest d stop)
 
-  more_at : (t : Token) (k : Kind) → t.kind ≡ k → (vs : List Token) (a : Step Expr (Unit {0}) (List Expr)) (us : List Token) (es : List Expr) (rest : List Token)
-      → ArgumentBy t k vs a us → On a us es rest → More tt (t ∷ vs) es rest
-  more_at t kind.RightParen is vs a us es rest (same, value) g =
-      let h : Done [] us es rest = subst (λ a. On a us es rest) value g in
-      rw (same ∙ h.0, h.1) (grammar.ReadsMoreArguments.close is, refl)
-  more_at t kind.Comma is vs a us es rest (e, ws, (r, first), (same, value)) g =
-      let h : Seq (More tt) (λ bs. Done (add_front e bs)) us es rest = subst (λ a. On a us es rest) value g in
-      let q = h.2 in
-      let moved : ReadsMoreArguments text ws h.0 rest = subst (λ w. ReadsMoreArguments text ws h.0 w) h.3.0 (subst (λ w. ReadsMoreArguments text w h.0 h.1) (sym same) q.0) in
-      rw h.3.1 (grammar.ReadsMoreArguments.comma is r moved, rw (first, q.1) refl)
-  more_at t _ is vs a us es rest d g = absurd d
+    abbrev named_piece : Token → Piece U n (stops 0) Expr
+    named_piece t =
+        perhaps mark.LeftBracket no_index (λ _. guard mark.LeftBracket no_index (before w x.1 mark.RightBracket refl (λ e. give (tree.Element (name_of text t) e)))) (tree.Variable (name_of text t))
 
-  more_into : (s : Unit {0}) (ts : List Token) (es : List Expr) (rest : List Token) → Seq (Next s) On ts es rest → More s ts es rest
-  more_into s ts es rest (a, us, (t, vs, parts, r), g) = rw parts (more_at t t.kind refl vs a us es rest r g)
+    abbrev length_piece : Piece U n (stops 0) Expr
+    length_piece = guard mark.LeftBracket no_index (expect mark.LeftParen >>> λ _. expect mark.Name >>> λ a. expect mark.RightParen >>> λ _. give (tree.Length (name_of text a)))
 
-  more_from : {ts : List Token} {es : List Expr} {rest : List Token} → ReadsMoreArguments text ts es rest → list_all is_first_expr es ≡ true → Seq (Next tt) On ts es rest
-  more_from (grammar.ReadsMoreArguments.close {t = t} {ts = ts} is) first = (last [], ts, at_first ArgumentBy t kind.RightParen is ts (last []) ts (refl, refl), (refl, refl))
-  more_from (grammar.ReadsMoreArguments.comma {t = t} {ts = ts} {us = us} {rest = rest} {e = e} {es = es} is r q) first =
-      let all = both_true (is_first_expr e) (list_all is_first_expr es) first in
-      (turn e tt, us, at_first ArgumentBy t kind.Comma is ts (turn e tt) us (e, us, (r, all.0), (refl, refl)), (es, rest, (q, all.1), (refl, refl)))
+    abbrev closed_piece : Piece U n (stops 0) Expr
+    closed_piece = guard mark.LeftBracket no_index (before w x.1 mark.RightParen refl (λ e. give e))
 
-  more_out : (s : Unit {0}) (ts : List Token) (es : List Expr) (rest : List Token) → More s ts es rest → Seq (Next s) On ts es rest
-  more_out s ts es rest r = more_from r.0 r.1
+    branch : (t : Token) (k : Kind) → Branch U n (OperandBy t k) (stops 0) t (operand_after text whole inner t k)
+    unfolding operand_after named measured atom
+    branch t kind.Minus = inl (signed (λ e. tree.Negative e))
+    branch t kind.Not = inl (signed (λ e. tree.Not e))
+    branch t kind.Name = inl (named_piece t).exact
+    branch t kind.Len = inl length_piece.exact
+    branch t kind.LeftParen = inl closed_piece.exact
+    branch t (kind.Number v) = go (nat_le v most_number) refl
+      where
+        go : (b : Bool) → nat_le v most_number ≡ b
+            → Branch U n (OperandBy t (kind.Number v)) (stops 0) t (λ ts. (cond {A = Read Expr} b (Ok (tree.Number (pos v), ts)) (Err (len (t ∷ ts)))) >>= λ z. unless_next (is_mark mark.LeftBracket) z.0 z.1)
+        go true e = inl (same_exact U n (Done (tree.Number (pos v))) (OperandBy t (kind.Number v)) (stops 0) (λ ts. unless_next (is_mark mark.LeftBracket) (tree.Number (pos v)) ts)
+            (λ ts a rest d. (leb-true v most_number e, d)) (λ ts a rest d. d.1) (guard mark.LeftBracket no_index (give {U = U} {n = n} (tree.Number (pos v)))).exact)
+        go false e = inr (record { stops = λ ts. refl; never = λ ts a rest d. let clash : true ≡ false = sym (le-leb v most_number d.0) ∙ e in cc })
+    branch t _ = inr (record { stops = λ ts. refl; never = λ ts a rest d. d })
 
-  some_next : SomeText (First ArgumentBy)
-  some_next = record { text = mark kind.RightParen ∷ []; value = last []; reads = λ after. (mark kind.RightParen, after, refl, (refl, refl)) }
+    branch_halts : (t : Token) (k : Kind) → Halts n (stops 0) (operand_after text whole inner t k)
+    unfolding operand_after named
+    branch_halts t kind.Minus = map_halts n (stops 0) inner (λ e. tree.Negative e) y.1
+    branch_halts t kind.Not = map_halts n (stops 0) inner (λ e. tree.Not e) y.1
+    branch_halts t kind.Name =
+        perhaps_halts (is_mark mark.LeftBracket) (stops 0) no_index n (λ _. (guard mark.LeftBracket no_index (before w x.1 mark.RightBracket refl (λ e. give (tree.Element (name_of text t) e)))).read) (tree.Variable (name_of text t))
+        (λ _. guard_halts (is_mark mark.LeftBracket) (stops 0) no_index n (before w x.1 mark.RightBracket refl (λ e. give (tree.Element (name_of text t) e))).read)
+    branch_halts t k = guard_halts (is_mark mark.LeftBracket) (stops 0) no_index n (atom text whole t k)
 
-  some_more : (s : Unit {0}) → SomeText (More s)
-  some_more s = record { text = mark kind.RightParen ∷ []; value = []; reads = λ after. (grammar.ReadsMoreArguments.close refl, refl) }
+    some_operand : SomeText (First OperandBy)
+    some_operand = record { text = token_of (kind.Number 0) ∷ []; value = tree.Number (pos 0); reads = λ after. at_first OperandBy (token_of (kind.Number 0)) (kind.Number 0) refl after (tree.Number (pos 0)) after (omega arith, done) }
 
-  argument_branch : (n : ℕ) → (t : Token) (k : Kind) → Branch (Unit {0}) n (ArgumentBy t k) any t (next_argument text n t k)
-  unfolding next_argument
-  argument_branch n t kind.RightParen = inl (done_exact (Unit {0}) n (last []))
-  argument_branch n t kind.Comma =
-      inl (after_part (Unit {0}) n E (expr text n) (λ e. Done (turn e tt)) any (λ e ts. Ok (turn e tt, ts)) (expr_exact (Unit {0}) n) (λ e. done_exact (Unit {0}) n (turn e tt)))
-  argument_branch n t _ = inr (record { stops = λ ts. refl; never = λ ts a rest d. d })
+    operand_step : Level U (suc n) 0 (by_first (operand_after text whole inner))
+    operand_step = (
+      same_exact U (suc n) (First OperandBy) (At 0) (stops 0) (by_first (operand_after text whole inner)) (λ ts e rest d. rw d.2 (operand_into d.0 d.0.kind refl d.1 e rest d.3)) (λ ts e rest r. operand_out r)
+          (first_exact U n OperandBy (stops 0) (operand_after text whole inner) some_operand branch),
+      halts,
+    )
+      where
+        halts : Halts (suc n) (stops 0) (by_first (operand_after text whole inner))
+        halts [] e rest few h = absurd cc
+        halts (t ∷ ts) e rest few h = branch_halts t t.kind ts e rest (omega arith) h
 
-  next_exact : (n : ℕ) (s : Unit {0}) → Exact (Unit {0}) n (Next s) any (by_first (next_argument text n))
-  next_exact n s =
-      fewer_exact (Unit {0}) n (suc n) (Next s) any (by_first (next_argument text n)) (omega arith)
-      (first_exact (Unit {0}) n ArgumentBy any (next_argument text n) some_next (argument_branch n))
+  operand_long : {ts : List Token} {e : Expr} {rest : List Token} → At 0 ts e rest → 0 < len ts
+  operand_long (grammar.operand is r) = omega arith
 
-  next_eats : (s : Unit {0}) (ts : List Token) (a : Step Expr (Unit {0}) (List Expr)) (rest : List Token) → Next s ts a rest → len rest < len ts
-  next_eats s ts a rest r = first_eats (Unit {0}) (len ts) ArgumentBy any (next_argument text (len ts)) (argument_branch (len ts)) ts a rest (omega arith) r
+  some_at : SomeText (At 0)
+  some_at = record { text = token_of (kind.Number 0) ∷ []; value = tree.Number (pos 0); reads = λ after. grammar.operand refl (grammar.number (omega arith)) }
 
-  more_exact : (U : Type 0) (n : ℕ) → Exact U n (More tt) any (more_arguments text n)
-  more_exact U n = row_exact add_front (λ (n : ℕ) s. by_first (next_argument text n)) Next More more_into more_out some_more next_eats next_exact U n n (omega arith) tt
+  operand_by : (n : ℕ) → Level OneWay n 0 (operand text n)
+  unfolding operand
+  operand_by zero = (zero_exact OneWay (At 0) (stops 0) some_at (λ ts e rest r. operand_long r) (λ u. u.0), never)
+    where
+      never : Halts {A = Expr} 0 (stops 0) (λ ts. Err (len ts))
+      never ts e rest few h = absurd cc
+  operand_by (suc n) = operand_step OneWay n (level_over (operand text n) n 4) (level_by n (operand text n) (operand_by n) 4 (omega arith)) (operand text n) (operand_by n)
 
-  abbrev pub Some : List Token → List Expr → List Token → Type 0
-  Some = Seq E (λ e. Seq (More tt) (λ es. Done (add_front e es)))
+  levels : (n k : ℕ) → k < 5 → Level OneWay n k (level text n k)
+  levels n k small = level_by n (operand text n) (operand_by n) k small
 
-  some_exact : (U : Type 0) (n : ℕ) → Exact U n Some any (some_arguments text n)
-  some_exact U n =
-      after_part U n E (expr text n) (λ e. Seq (More tt) (λ es. Done (add_front e es))) any (λ e ts. more_arguments text n ts >>= λ y. Ok (e ∷ y.0, y.1)) (expr_exact U n)
-      (λ e. after_part U n (More tt) (more_arguments text n) (λ es. Done (add_front e es)) any (λ es ts. Ok (e ∷ es, ts)) (more_exact U n) (λ es. done_exact U n (add_front e es)))
+  pub one : OneWay
+  one = (
+    one_way (λ _. OneWay) (At 0) (stops 0) (operand text) (λ n. (operand_by n).0),
+    λ k small d. one_way (λ _. OneWay) (Behind (suc k) d) (stops (suc k)) (λ n. chain (level text n k) (suc k) n d)
+        (λ n. let low = levels n k (omega arith) in chain_by OneWay n k small (λ u. u.1 k small) (level text n k) low.0 low.1 n (omega arith) d),
+  )
 
-  abbrev pub Arguments : List Token → List Expr → List Token → Type 0
-  Arguments ts es rest = ReadsArguments text ts es rest × (list_all is_first_expr es ≡ true)
+  -- a whole expression
+  pub expr_exact : (U : Type 0) (n : ℕ) → Exact U n (ReadsWhole text) (stops 4) (expr text n)
+  expr_exact U n = given OneWay U n (At 4) (stops 4) (expr text n) (λ _. one) (levels n 4 (omega arith)).0
 
-  arguments_into : (ts : List Token) (es : List Expr) (rest : List Token) → Either is_right_paren [] Some ts es rest → Arguments ts es rest
-  arguments_into ts es rest (inl (t, us, (parts, is), (same, value))) = rw (parts, same, value) (grammar.ReadsArguments.none (right_paren_only t.kind is), refl)
-  arguments_into ts es rest (inr (e, us, (r, first), (bs, vs, (q, others), (same, value)))) =
-      let moved : ReadsMoreArguments text us bs rest = subst (λ w. ReadsMoreArguments text us bs w) same q in
-      rw value (grammar.ReadsArguments.some r moved, rw (first, others) refl)
+  pub expr_halts : (n : ℕ) → Halts n (stops 4) (expr text n)
+  expr_halts n = (levels n 4 (omega arith)).1
 
-  arguments_from : {ts : List Token} {es : List Expr} {rest : List Token} → ReadsArguments text ts es rest → list_all is_first_expr es ≡ true → Either is_right_paren [] Some ts es rest
-  arguments_from (grammar.ReadsArguments.none {t = t} {ts = ts} is) first = inl (t, ts, (refl, ap is_right_paren is), (refl, refl))
-  arguments_from (grammar.ReadsArguments.some {us = us} {rest = rest} {e = e} {es = es} r q) first =
-      let all = both_true (is_first_expr e) (list_all is_first_expr es) first in
-      inr (e, us, (r, all.0), (es, rest, (q, all.1), (refl, refl)))
+  abbrev pub expr_piece : {U : Type 0} {n : ℕ} → Piece U n (stops 4) Expr
+  expr_piece {U} {n} = record { rel = ReadsWhole text; read = expr text n; exact = expr_exact U n }
 
-  pub arguments_exact : (U : Type 0) (n : ℕ) → Exact U n Arguments any (arguments text n)
-  unfolding arguments
-  arguments_exact U n =
-      same_exact U n (Either is_right_paren [] Some) Arguments any (arguments text n) arguments_into (λ ts es rest r. arguments_from r.0 r.1)
-      (either_exact U n is_right_paren [] Some (some_arguments text n) (some_exact U n) (λ t us b after is d. expr_not_closing t us d.0 d.1 is d.2))
+  -- an expression and a token behind it
+  abbrev pub expr_before : {U : Type 0} {n : ℕ} {s : Kind → Bool} {B : Type 0} (m : Mark) → stops 4 (kind_of m) ≡ true → (Expr → Piece U n s B) → Piece U n s B
+  expr_before {U} {n} m stop g = before expr_piece (expr_halts n) m stop g
 
-  -- ---- calls
+  -- ---- what an expression begins with
 
-  abbrev pub Called : List Token → List Expr → List Token → Type 0
-  Called ts es rest = ReadsCall text ts es rest × (list_all is_first_expr es ≡ true)
+  -- a kind of token that an expression begins with
+  abbrev pub begins : Kind → Bool
+  begins kind.Minus = true
+  begins kind.Not = true
+  begins (kind.Number n) = true
+  begins kind.Name = true
+  begins kind.Len = true
+  begins kind.LeftParen = true
+  begins _ = false
 
-  abbrev CalledBy : List Token → List Expr → List Token → Type 0
-  CalledBy = Seq (Tok is_left_paren) (λ (_ : Token). Seq Arguments (λ es. Alone is_semicolon es))
+  operand_begins : {k : Kind} {t : Token} {ts rest : List Token} {e : Expr} → ReadsOperand text k t ts e rest → begins k ≡ true
+  operand_begins (grammar.negative r) = refl
+  operand_begins (grammar.negation r) = refl
+  operand_begins (grammar.number le) = refl
+  operand_begins grammar.variable = refl
+  operand_begins (grammar.element is r is') = refl
+  operand_begins (grammar.length_of i i' i'') = refl
+  operand_begins (grammar.parentheses r is) = refl
 
-  called_into : (ts : List Token) (es : List Expr) (rest : List Token) → CalledBy ts es rest → Called ts es rest
-  called_into ts es rest (t, us, (parts, is), (bs, vs, (r, first), (u, ws, (parts', is'), (same, value)))) =
-      let moved : ReadsArguments text us bs (u ∷ rest) = subst (λ w. ReadsArguments text us bs w) (parts' ∙ ap (λ w. u ∷ w) same) r in
-      rw (parts, value) (grammar.ReadsCall.called (left_paren_only t.kind is) moved (semicolon_only u.kind is'), first)
+  pub expr_begins : {k : ℕ} {t : Token} {ts rest : List Token} {e : Expr} → At k (t ∷ ts) e rest → begins t.kind ≡ true
+  expr_begins (grammar.operand is r) = ap begins is ∙ operand_begins r
+  expr_begins (grammar.operators r q) = expr_begins r
 
-  called_from : {ts : List Token} {es : List Expr} {rest : List Token} → ReadsCall text ts es rest → list_all is_first_expr es ≡ true → CalledBy ts es rest
-  called_from (grammar.ReadsCall.called {t = t} {u = u} {ts = ts} {rest = rest} {es = es} is r is') first =
-      (t, ts, (refl, ap is_left_paren is), (es, u ∷ rest, (r, first), (u, rest, (refl, ap is_semicolon is'), (refl, refl))))
+  -- no expression begins with such a token
+  pub begins_not : (m : Mark) → begins (kind_of m) ≡ false → {t : Token} {ts rest : List Token} {e : Expr} → t.kind ≡ kind_of m → ReadsWhole text (t ∷ ts) e rest → ⊥
+  begins_not m off is r = differ (expr_begins r) (ap begins is ∙ off)
 
-  pub called_exact : (U : Type 0) (n : ℕ) → Exact U n Called any (called text n)
-  unfolding called
-  called_exact U n =
-      same_exact U n CalledBy Called any (called text n) called_into (λ ts es rest r. called_from r.0 r.1)
-      (token_then U n is_left_paren kind.LeftParen refl (λ (_ : Token). Seq Arguments (λ es. Alone is_semicolon es)) any
-      (λ _ ts. arguments text n ts >>= λ y. token is_semicolon y.1 >>= λ z. Ok (y.0, z.1))
-      (λ _. after_part U n Arguments (arguments text n) (λ es. Alone is_semicolon es) any (λ es ts. token is_semicolon ts >>= λ z. Ok (es, z.1)) (arguments_exact U n)
-      (λ es. token_last U n is_semicolon kind.Semicolon refl es)))
+  -- an expression is not empty
+  pub expr_long : {k : ℕ} {ts rest : List Token} {e : Expr} → At k ts e rest → 0 < len ts
+  expr_long (grammar.operand is r) = omega arith
+  expr_long (grammar.operators r q) = expr_long r

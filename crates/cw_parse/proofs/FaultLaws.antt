@@ -2,19 +2,19 @@
 use Rattle.std.proofs.Common.{◌≡◌, ℕ, List, [], ◌∷◌, ◌++◌, refl, sym, subst, ◌∙◌, append_assoc}
 use Rattle.cw_model.specs.declared.token.Token.{Token}
 use Rattle.cw_model.specs.Syntax.{Program}
-use Rattle.cw_model.specs.Grammar.{first_line}
-use Rattle.cw_parse.specs.FirstFault.{DerivesFirst, CanBeginFirst, FaultsAreOne}
+use Rattle.cw_model.specs.Grammar.{Derives, CanBegin, first_line}
+use Rattle.cw_parse.specs.Parsed.{FaultsAreOne}
 
 module _ (text : List ℕ) where
   -- what can be completed can be so from each of its beginnings
-  shorter_begins : (front : List Token) (t : Token) (more : List Token) → CanBeginFirst text (front ++ t ∷ more) → CanBeginFirst text (front ++ t ∷ [])
+  shorter_begins : (front : List Token) (t : Token) (more : List Token) → CanBegin text (front ++ t ∷ more) → CanBegin text (front ++ t ∷ [])
   shorter_begins front t more g =
-      (more ++ g.0, g.1, subst (λ w. DerivesFirst text w g.1) (append_assoc front (t ∷ more) g.0 ∙ sym (append_assoc front (t ∷ []) (more ++ g.0))) g.2)
+      (more ++ g.0, g.1, subst (λ w. Derives text w g.1) (append_assoc front (t ∷ more) g.0 ∙ sym (append_assoc front (t ∷ []) (more ++ g.0))) g.2)
 
-  no_tree : (ts : List Token) (p : Program) (front rest : List Token) → ts ≡ front ++ rest → ((t : Token) (us : List Token) → rest ≡ t ∷ us → CanBeginFirst text (front ++ t ∷ []) → ⊥)
-      → (rest ≡ [] → DerivesFirst text ts p → ⊥) → DerivesFirst text ts p → ⊥
+  no_tree : (ts : List Token) (p : Program) (front rest : List Token) → ts ≡ front ++ rest → ((t : Token) (us : List Token) → rest ≡ t ∷ us → CanBegin text (front ++ t ∷ []) → ⊥)
+      → (rest ≡ [] → Derives text ts p → ⊥) → Derives text ts p → ⊥
   no_tree ts p front [] parts further end d = end refl d
-  no_tree ts p front (t ∷ us) parts further end d = further t us refl (us, p, subst (λ w. DerivesFirst text w p) (parts ∙ sym (append_assoc front (t ∷ []) us)) d)
+  no_tree ts p front (t ∷ us) parts further end d = further t us refl (us, p, subst (λ w. Derives text w p) (parts ∙ sym (append_assoc front (t ∷ []) us)) d)
 
   -- of two beginnings of the same tokens one begins with the other
   pub data Compared : List Token → List Token → List Token → List Token → Type 0 where
@@ -37,9 +37,9 @@ module _ (text : List ℕ) where
       subst (λ u. Compared (t ∷ front) rest (u ∷ front') rest') head (under t (compare front rest front' rest' tail))
 
   meet : {front rest front' rest' : List Token} → Compared front rest front' rest'
-      → CanBeginFirst text front → CanBeginFirst text front'
-      → ((t : Token) (us : List Token) → rest ≡ t ∷ us → CanBeginFirst text (front ++ t ∷ []) → ⊥)
-      → ((t : Token) (us : List Token) → rest' ≡ t ∷ us → CanBeginFirst text (front' ++ t ∷ []) → ⊥) → first_line text rest ≡ first_line text rest'
+      → CanBegin text front → CanBegin text front'
+      → ((t : Token) (us : List Token) → rest ≡ t ∷ us → CanBegin text (front ++ t ∷ []) → ⊥)
+      → ((t : Token) (us : List Token) → rest' ≡ t ∷ us → CanBegin text (front' ++ t ∷ []) → ⊥) → first_line text rest ≡ first_line text rest'
   meet same g g' d d' = refl
   meet (less {front = front} {rest = rest} t more) g g' d d' = absurd (d t (more ++ rest) refl (shorter_begins front t more g'))
   meet (greater {front = front} {rest = rest} t more) g g' d d' = absurd (d' t (more ++ rest) refl (shorter_begins front t more g))

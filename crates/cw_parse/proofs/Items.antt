@@ -1,79 +1,173 @@
--- Whole sources of the first grammar.
-use Rattle.std.proofs.Common.{◌≡◌, ◌≢◌, ℕ, zero, suc, ◌<◌, ◌≤◌, true, List, [], ◌∷◌, ◌++◌, length as len, drop, ◌-◌, Ok, Err, refl, sym, ap, subst, ◌∙◌, append_assoc, arith, inl, inr}
+-- Reducers, functions and whole sources.
+use Rattle.std.proofs.Common.{◌≡◌, ◌≢◌, ℕ, zero, suc, ◌<◌, ◌≤◌, Bool, true, false, List, [], ◌∷◌, ◌++◌, length as len, drop, ◌-◌, Ok, Err, Some, refl, sym, ap, subst, ◌∙◌, append_assoc, arith, inl, inr}
 use Rattle.std.proofs.lemmas.List.{append-nil, length-append}
-use Rattle.std.specs.List.{list_all}
 use Rattle.cw_model.specs.declared.token.Token.{Token}
-use Rattle.cw_model.specs.Syntax.{Reducer, Function, Program}
+use Rattle.cw_model.specs.declared.token.Kind.{Kind}
+use Rattle.cw_model.specs.declared.token.Kind.TheVariants as kind
+use Rattle.cw_model.specs.Syntax.{Block, Param, Reducer, Function, Program}
 use Rattle.cw_model.specs.Grammar as grammar
-use Rattle.cw_model.specs.Grammar.{ReadsItems, first_line}
-use Rattle.cw_model.specs.FirstGrammar.{is_first_function, is_first}
-use Rattle.cw_parse.specs.Reading.{Read}
-use Rattle.cw_parse.specs.Parts.{function, functions, whole}
-use Rattle.cw_parse.specs.FirstFault.{DerivesFirst, HasFirstFault, HasOneTree}
-use Rattle.cw_parse.proofs.Reader.{Front, Stuck, IsUnique, bind_ok, bind_err, ok_is}
-use Rattle.cw_parse.proofs.Exact.{any, any_stops, both_true}
-use Rattle.cw_parse.proofs.Functions.{One, one_exact}
-use Rattle.cw_parse.proofs.Rooms.{one_room}
+use Rattle.cw_model.specs.Grammar.{name_of, gives_int_of, ReadsParams, ReadsFunction, ReadsItems, Derives, HasSyntaxFault, CanBegin, first_line}
+use Rattle.cw_parse.specs.declared.marks.Mark.TheVariants as mark
+use Rattle.cw_parse.specs.Reading.{Read, Reader, ◌>>=◌, by_first}
+use Rattle.cw_parse.specs.Parsed.{HasOneTree}
+use Rattle.cw_parse.specs.Parts.{list, param, lines, reducer, function, Item, Sum, Code, item, Items, put_item, items, whole}
+use Rattle.cw_parse.proofs.Reader.{Front, Stuck, IsUnique, SomeText, Seq, tok, Done, done, shorter, bind_ok, bind_err, ok_is}
+use Rattle.cw_parse.proofs.Exact.{Exact, Branch, First, any, any_stops, mark as token_of, same_exact, fewer_exact, first_exact, at_first}
+use Rattle.cw_parse.proofs.Pieces.{Marked, Piece, ◌>>>◌, expect, give}
+use Rattle.cw_parse.proofs.Lists.{params_exact}
+use Rattle.cw_parse.proofs.Blocks.{Lines, lines_exact}
 
 module _ (text : List ℕ) where
-  -- functions of the first grammar up to the end, from this number of a call statement on
-  abbrev pub Items : ℕ → List Token → List Function → Type 0
-  Items site ts fs = ReadsItems text site ts [] fs × (list_all is_first_function fs ≡ true)
+  -- ---- one item
 
-  pub data Split (site : ℕ) : List Token → List Function → Type 0 where
-    nothing : Split site [] []
-    one_more : {ts : List Token} {fs : List Function} (y : Function × ℕ) (us : List Token) → One text site ts y us → Items y.1 us fs → Split site ts (y.0 ∷ fs)
+  abbrev params_piece : {U : Type 0} {n : ℕ} → Piece U n any (List Param)
+  params_piece {U} {n} = record { rel = ReadsParams text; read = list (param text) n; exact = params_exact text U n }
 
-  split : {site : ℕ} {ts : List Token} {fs : List Function} → ReadsItems text site ts [] fs → list_all is_first_function fs ≡ true → Split site ts fs
-  split grammar.no_item first = nothing
-  split (grammar.one_function {m = m} {us = us} {f = f} {fs = fs} r q) first =
-      let all = both_true (is_first_function f) (list_all is_first_function fs) first in
-      one_more (f, m) us (r, all.0) (q, all.1)
+  abbrev body_piece : {U : Type 0} {n : ℕ} → ℕ → Piece U n any (Block × ℕ)
+  body_piece {U} {n} site = record { rel = Lines text site; read = lines text n site; exact = lines_exact text U n site }
 
-  join : (site : ℕ) (ts : List Token) (y : Function × ℕ) (us : List Token) (fs : List Function) → One text site ts y us → Items y.1 us fs → Items site ts (y.0 ∷ fs)
-  join site ts y us fs r q = (grammar.one_function r.0 q.0, rw (r.1, q.1) refl)
+  abbrev made : Token → Bool → List Param → Block → Function
+  made f gives ps b = record { name = name_of text f; line = f.line; gives_int = gives; params = ps; body = b }
 
-  one_unique : (site : ℕ) → IsUnique (One text site) any
-  one_unique site = (one_exact text (Unit {0}) 0 site).unique tt
+  abbrev summed : Token → Token → Reducer
+  summed t s = record { name = name_of text s; line = t.line }
 
-  one_front : (site : ℕ) (ts : List Token) (y : Function × ℕ) (us : List Token) → One text site ts y us → Front (One text site) ts y us
-  one_front site ts y us r = (one_exact text (Unit {0}) (len ts) site).stable ts y us (omega arith) r
+  abbrev function_piece : {U : Type 0} {n : ℕ} → Bool → ℕ → Piece U n any (Function × ℕ)
+  function_piece gives site =
+      expect mark.Name >>> λ f. expect mark.LeftParen >>> λ _. params_piece >>> λ ps. expect mark.LeftBrace >>> λ _. body_piece site >>> λ b. give (made f gives ps b.0, b.1)
 
-  none_of_none : (site : ℕ) (y : Function × ℕ) (us : List Token) → One text site [] y us → ⊥
-  none_of_none site y us (r, first) = elim r [ ]
+  abbrev code_piece : {U : Type 0} {n : ℕ} → Bool → ℕ → Piece U n any (Item × ℕ)
+  code_piece gives site = function_piece gives site >>> λ f. give (Code f.0, f.1)
 
-  one_eats : (site : ℕ) (ts : List Token) (y : Function × ℕ) (us : List Token) → One text site ts y us → len us < len ts
-  one_eats site ts y us r = (one_room text site ts y us r).1
+  abbrev reducer_piece : {U : Type 0} {n : ℕ} → Token → Piece U n any Reducer
+  reducer_piece t = expect mark.Sum >>> λ _. expect mark.Name >>> λ s. expect mark.Semicolon >>> λ _. give (summed t s)
+
+  abbrev sum_piece : {U : Type 0} {n : ℕ} → Token → ℕ → Piece U n any (Item × ℕ)
+  sum_piece t site = reducer_piece t >>> λ r. give (Sum r, site)
+
+  abbrev ItemBy : ℕ → Token → Kind → List Token → Item × ℕ → List Token → Type 0
+  ItemBy site t kind.Reducer = (sum_piece {U = Unit {0}} {n = 0} t site).rel
+  ItemBy site t kind.Int = (code_piece {U = Unit {0}} {n = 0} true site).rel
+  ItemBy site t kind.Void = (code_piece {U = Unit {0}} {n = 0} false site).rel
+  ItemBy site t _ = λ ts y rest. ⊥
+
+  item_branch : (U : Type 0) (n : ℕ) (site : ℕ) (t : Token) (k : Kind) → Branch U n (ItemBy site t k) any t (item text n site t k)
+  unfolding item reducer function
+  item_branch U n site t kind.Reducer = inl (sum_piece {U = U} {n = n} t site).exact
+  item_branch U n site t kind.Int = inl (code_piece {U = U} {n = n} true site).exact
+  item_branch U n site t kind.Void = inl (code_piece {U = U} {n = n} false site).exact
+  item_branch U n site t _ = inr (record { stops = λ ts. refl; never = λ ts a rest d. d })
+
+  -- one item
+  pub data One (site : ℕ) : List Token → Item × ℕ → List Token → Type 0 where
+    sum : {t u s v : Token} {ts : List Token} → t.kind ≡ kind.Reducer → u.kind ≡ kind.Sum → s.kind ≡ kind.Name → v.kind ≡ kind.Semicolon →
+        One site (t ∷ u ∷ s ∷ v ∷ ts) (Sum (summed t s), site) ts
+    code : {m : ℕ} {ts rest : List Token} {f : Function} → ReadsFunction text site ts f m rest → One site ts (Code f, m) rest
+
+  code_into : {site : ℕ} {t : Token} (gives : Bool) → gives_int_of t.kind ≡ Some gives → {us : List Token} {y : Item × ℕ} {rest : List Token} → (code_piece {U = Unit {0}} {n = 0} gives site).rel us y rest → One site (t ∷ us) y rest
+  code_into gives g (f, us, (x, vs, tok i, (u, ws, tok i', (ps, xs, r, (o, zs, tok i'', (b, cs, q, done))))), done) = code (grammar.function g i i' r (grammar.braces i'' q))
+
+  item_into : (site : ℕ) (t : Token) (k : Kind) → t.kind ≡ k → (us : List Token) (y : Item × ℕ) (rest : List Token) → ItemBy site t k us y rest → One site (t ∷ us) y rest
+  item_into site t kind.Reducer is us y rest (r, vs, (u, ws, tok i, (s, xs, tok i', (v, zs, tok i'', done))), done) = sum is i i' i''
+  item_into site t kind.Int is us y rest d = code_into true (ap gives_int_of is) d
+  item_into site t kind.Void is us y rest d = code_into false (ap gives_int_of is) d
+  item_into site t _ is us y rest d = absurd d
+
+  code_out : (site : ℕ) (t : Token) (k : Kind) → t.kind ≡ k → (gives : Bool) → gives_int_of k ≡ Some gives → (us : List Token) (y : Item × ℕ) (rest : List Token)
+      → (code_piece {U = Unit {0}} {n = 0} gives site).rel us y rest → First (ItemBy site) (t ∷ us) y rest
+  code_out site t kind.Int is true e us y rest d = at_first (ItemBy site) t kind.Int is us y rest d
+  code_out site t kind.Int is false e us y rest d = absurd cc
+  code_out site t kind.Void is false e us y rest d = at_first (ItemBy site) t kind.Void is us y rest d
+  code_out site t kind.Void is true e us y rest d = absurd cc
+  code_out site t _ is gives e us y rest d = absurd cc
+
+  item_out : {site : ℕ} {ts : List Token} {y : Item × ℕ} {rest : List Token} → One site ts y rest → First (ItemBy site) ts y rest
+  item_out {site} (sum {t = t} {u = u} {s = s} {v = v} {ts = ts} is i i' i'') =
+      at_first (ItemBy site) t kind.Reducer is (u ∷ s ∷ v ∷ ts) (Sum (summed t s), site) ts (summed t s, ts, (u, s ∷ v ∷ ts, tok i, (s, v ∷ ts, tok i', (v, ts, tok i'', done))), done)
+  item_out {site} (code {m = m} {rest = rest} (grammar.function {t = t} {f = f} {u = u} {ts = ts} {us = us} {gives = gives} {ps = ps} {b = b} g i i' r (grammar.braces {t = o} {ts = vs} i'' q))) =
+      code_out site t t.kind refl gives g (f ∷ u ∷ ts) (Code (made f gives ps b), m) rest
+      ((made f gives ps b, m), rest, (f, u ∷ ts, tok i, (u, ts, tok i', (ps, o ∷ vs, r, (o, vs, tok i'', ((b, m), rest, q, done))))), done)
+
+  some_item : (site : ℕ) → SomeText (First (ItemBy site))
+  some_item site =
+      let x = (sum_piece {U = Unit {0}} {n = 0} (token_of kind.Reducer) site).exact.some in
+      record { text = token_of kind.Reducer ∷ x.text; value = x.value; reads = λ after. at_first (ItemBy site) (token_of kind.Reducer) kind.Reducer refl (x.text ++ after) x.value after (x.reads after) }
+
+  pub one_exact : (U : Type 0) (n : ℕ) (site : ℕ) → Exact U n (One site) any (by_first (item text n site))
+  one_exact U n site =
+      same_exact U n (First (ItemBy site)) (One site) any (by_first (item text n site)) (λ ts y rest d. rw d.2 (item_into site d.0 d.0.kind refl d.1 y rest d.3)) (λ ts y rest r. item_out r)
+      (fewer_exact U n (suc n) (First (ItemBy site)) any (by_first (item text n site)) (omega arith) (first_exact U n (ItemBy site) any (item text n site) (some_item site) (item_branch U n site)))
+
+  -- ---- items up to the end
+
+  abbrev pub Its : ℕ → List Token → Items → Type 0
+  Its site ts xs = ReadsItems text site ts xs.0 xs.1
+
+  pub data Split (site : ℕ) : List Token → Items → Type 0 where
+    nothing : Split site [] ([], [])
+    one_more : {ts : List Token} {xs : Items} (y : Item × ℕ) (us : List Token) → One site ts y us → Its y.1 us xs → Split site ts (put_item y.0 xs)
+
+  split : {site : ℕ} {ts : List Token} {rs : List Reducer} {fs : List Function} → ReadsItems text site ts rs fs → Split site ts (rs, fs)
+  split grammar.no_item = nothing
+  split {site} (grammar.one_reducer {t = t} {s = s} {ts = ts} {rs = rs} {fs = fs} i i' i'' i''' q) = one_more {xs = (rs, fs)} (Sum (summed t s), site) ts (sum i i' i'' i''') q
+  split (grammar.one_function {m = m} {us = us} {f = f} {rs = rs} {fs = fs} r q) = one_more {xs = (rs, fs)} (Code f, m) us (code r) q
+
+  join : {site : ℕ} {ts : List Token} {y : Item × ℕ} {us : List Token} (xs : Items) → One site ts y us → Its y.1 us xs → Its site ts (put_item y.0 xs)
+  join xs (sum i i' i'' i''') q = grammar.one_reducer i i' i'' i''' q
+  join xs (code r) q = grammar.one_function r q
+
+  one_unique : (site : ℕ) → IsUnique (One site) any
+  one_unique site = (one_exact (Unit {0}) 0 site).unique tt
+
+  one_front : (site : ℕ) (ts : List Token) (y : Item × ℕ) (us : List Token) → One site ts y us → Front (One site) ts y us
+  one_front site ts y us r = (one_exact (Unit {0}) (len ts) site).stable ts y us (omega arith) r
+
+  none_of_none : {site : ℕ} {ts : List Token} {y : Item × ℕ} {us : List Token} → One site ts y us → ts ≡ [] → ⊥
+  none_of_none (sum i i' i'' i''') e = cc
+  none_of_none (code (grammar.function g i i' r q)) e = cc
+
+  one_eats : (site : ℕ) (ts : List Token) (y : Item × ℕ) (us : List Token) → One site ts y us → len us < len ts
+  one_eats site ts y us r = go (one_front site ts y us r)
+    where
+      go : Front (One site) ts y us → len us < len ts
+      go x = more x.front x.parts (x.again [])
+        where
+          more : (front : List Token) → ts ≡ front ++ us → One site (front ++ []) y [] → len us < len ts
+          more [] e d = absurd (none_of_none d refl)
+          more (t ∷ front) e d = let l = ap len e ∙ length-append (t ∷ front) us in omega arith
 
   -- ---- what reading gives is derived, and what is derived is read
 
   module _ (m : ℕ) where
-    functions_sound : (n site : ℕ) (ts : List Token) (fs : List Function) (rest : List Token) → functions (function text m) n site ts ≡ Ok (fs, rest) → Items site ts fs × (rest ≡ [])
-    unfolding functions
-    functions_sound zero site [] fs rest e = let q = ok_is ([], []) (fs, rest) e in
-        (subst (λ fs. Items site [] fs) (ap (λ (x : List Function × List Token). x.0) q) (grammar.no_item, refl), sym (ap (λ (x : List Function × List Token). x.1) q))
-    functions_sound (suc n) site [] fs rest e = let q = ok_is ([], []) (fs, rest) e in
-        (subst (λ fs. Items site [] fs) (ap (λ (x : List Function × List Token). x.0) q) (grammar.no_item, refl), sym (ap (λ (x : List Function × List Token). x.1) q))
-    functions_sound zero site (t ∷ ts) fs rest e = absurd cc
-    functions_sound (suc n) site (t ∷ ts) fs rest e =
-        let x = bind_ok (function text m site (t ∷ ts)) _ (fs, rest) e in
-        let y = bind_ok (functions (function text m) n x.0.0.1 x.0.1) _ (fs, rest) x.2 in
-        let q = ok_is (x.0.0.0 ∷ y.0.0, y.0.1) (fs, rest) y.2 in
-        let ih = functions_sound n x.0.0.1 x.0.1 y.0.0 y.0.1 y.1 in
-        let r = (one_exact text (Unit {0}) m site).sound (t ∷ ts) x.0.0 x.0.1 x.1 in (
-          subst (λ fs. Items site (t ∷ ts) fs) (ap (λ (x : List Function × List Token). x.0) q) (join site (t ∷ ts) x.0.0 x.0.1 y.0.0 r ih.0),
-          sym (ap (λ (x : List Function × List Token). x.1) q) ∙ ih.1,
+    abbrev next : ℕ → Reader (Item × ℕ)
+    next site = by_first (item text m site)
+
+    items_sound : (n site : ℕ) (ts : List Token) (xs : Items) (rest : List Token) → items next n site ts ≡ Ok (xs, rest) → Its site ts xs × (rest ≡ [])
+    unfolding items
+    items_sound zero site [] xs rest e = let q = ok_is (([], []), []) (xs, rest) e in
+        (subst (λ xs. Its site [] xs) (ap (λ (x : Items × List Token). x.0) q) grammar.no_item, sym (ap (λ (x : Items × List Token). x.1) q))
+    items_sound (suc n) site [] xs rest e = let q = ok_is (([], []), []) (xs, rest) e in
+        (subst (λ xs. Its site [] xs) (ap (λ (x : Items × List Token). x.0) q) grammar.no_item, sym (ap (λ (x : Items × List Token). x.1) q))
+    items_sound zero site (t ∷ ts) xs rest e = absurd cc
+    items_sound (suc n) site (t ∷ ts) xs rest e =
+        let x = bind_ok (next site (t ∷ ts)) _ (xs, rest) e in
+        let y = bind_ok (items next n x.0.0.1 x.0.1) _ (xs, rest) x.2 in
+        let q = ok_is (put_item x.0.0.0 y.0.0, y.0.1) (xs, rest) y.2 in
+        let ih = items_sound n x.0.0.1 x.0.1 y.0.0 y.0.1 y.1 in
+        let r = (one_exact (Unit {0}) m site).sound (t ∷ ts) x.0.0 x.0.1 x.1 in (
+          subst (λ xs. Its site (t ∷ ts) xs) (ap (λ (x : Items × List Token). x.0) q) (join y.0.0 r ih.0),
+          sym (ap (λ (x : Items × List Token). x.1) q) ∙ ih.1,
         )
 
-    functions_complete : (n site : ℕ) (ts : List Token) (fs : List Function) → len ts ≤ n → len ts ≤ m → Split site ts fs → functions (function text m) n site ts ≡ Ok (fs, [])
-    unfolding functions
-    functions_complete zero site ts fs le few nothing = refl
-    functions_complete (suc n) site ts fs le few nothing = refl
-    functions_complete n site [] fs le few (one_more y us r q) = absurd (none_of_none site y us r)
-    functions_complete zero site (t ∷ ts) fs le few (one_more y us r q) = absurd (omega arith)
-    functions_complete (suc n) site (t ∷ ts) fs le few (one_more {fs = gs} y us r q) =
+    items_complete : (n site : ℕ) (ts : List Token) (xs : Items) → len ts ≤ n → len ts ≤ m → Split site ts xs → items next n site ts ≡ Ok (xs, [])
+    unfolding items
+    items_complete zero site ts xs le few nothing = refl
+    items_complete (suc n) site ts xs le few nothing = refl
+    items_complete n site [] xs le few (one_more y us r q) = absurd (none_of_none r refl)
+    items_complete zero site (t ∷ ts) xs le few (one_more y us r q) = absurd (omega arith)
+    items_complete (suc n) site (t ∷ ts) xs le few (one_more {xs = zs} y us r q) =
         let fewer = one_eats site (t ∷ ts) y us r in
-        rw ((one_exact text (Unit {0}) m site).complete (t ∷ ts) y us few r (any_stops us), functions_complete n y.1 us gs (omega arith) (omega arith) (split q.0 q.1)) refl
+        rw ((one_exact (Unit {0}) m site).complete (t ∷ ts) y us few r (any_stops us), items_complete n y.1 us zs (omega arith) (omega arith) (split q)) refl
 
     -- ---- where reading stops
 
@@ -83,109 +177,89 @@ module _ (text : List ℕ) where
       pub parts : ts ≡ front ++ rest
       pub left : e ≡ len rest
       pub more : List Token
-      pub value : List Function
+      pub value : Items
       pub some : front ++ more ≢ []
-      pub completes : Items site (front ++ more) value
-      pub dead : (t : Token) (us : List Token) → rest ≡ t ∷ us → (vs : List Token) (fs : List Function) → Items site (front ++ t ∷ vs) fs → ⊥
-
-    has_some : (site : ℕ) (ts : List Token) (y : Function × ℕ) (us : List Token) → One text site ts y us → ts ≢ []
-    has_some site ts y us r none = none_of_none site y us (subst (λ w. One text site w y us) none r)
+      pub completes : Its site (front ++ more) value
+      pub dead : (t : Token) (us : List Token) → rest ≡ t ∷ us → (vs : List Token) (xs : Items) → Its site (front ++ t ∷ vs) xs → ⊥
 
     not_empty : (front : List Token) (t : Token) (vs : List Token) → front ++ t ∷ vs ≡ [] → ⊥
     not_empty [] t vs e = cc
     not_empty (x ∷ front) t vs e = cc
 
-    first_stuck : (site : ℕ) (ts : List Token) (e : ℕ) → Stuck (One text site) any ts e → StuckItems site ts e
+    first_stuck : (site : ℕ) (ts : List Token) (e : ℕ) → Stuck (One site) any ts e → StuckItems site ts e
     first_stuck site ts e d = record {
       front = d.front;
       rest = d.rest;
       parts = d.parts;
       left = d.left;
       more = d.more;
-      value = d.value.0 ∷ [];
-      some = has_some site (d.front ++ d.more) d.value [] one;
-      completes = join site (d.front ++ d.more) d.value [] [] one (grammar.no_item, refl);
-      dead = λ t us is vs fs r. dead t us is vs (d.front ++ t ∷ vs) refl fs (split r.0 r.1);
+      value = put_item d.value.0 ([], []);
+      some = λ none. none_of_none one none;
+      completes = join ([], []) one grammar.no_item;
+      dead = λ t us is vs xs r. dead t us is vs (d.front ++ t ∷ vs) refl xs (split r);
     }
       where
-        one : One text site (d.front ++ d.more) d.value []
-        one = subst (λ w. One text site (d.front ++ w) d.value []) (append-nil d.more) (d.completes [])
+        one : One site (d.front ++ d.more) d.value []
+        one = subst (λ w. One site (d.front ++ w) d.value []) (append-nil d.more) (d.completes [])
 
-        dead : (t : Token) (us : List Token) → d.rest ≡ t ∷ us → (vs ws : List Token) → d.front ++ t ∷ vs ≡ ws → (fs : List Function) → Split site ws fs → ⊥
-        dead t us is vs ws e fs nothing = not_empty d.front t vs e
-        dead t us is vs ws e fs (one_more y zs r q) = d.dead t us is vs y zs (subst (λ w. One text site w y zs) (sym e) r) (any_stops zs)
+        dead : (t : Token) (us : List Token) → d.rest ≡ t ∷ us → (vs ws : List Token) → d.front ++ t ∷ vs ≡ ws → (xs : Items) → Split site ws xs → ⊥
+        dead t us is vs ws e xs nothing = not_empty d.front t vs e
+        dead t us is vs ws e xs (one_more y zs r q) = d.dead t us is vs y zs (subst (λ w. One site w y zs) (sym e) r) (any_stops zs)
 
-    then_stuck : (site : ℕ) (ts : List Token) (y : Function × ℕ) (us : List Token) (e : ℕ) → One text site ts y us → StuckItems y.1 us e → StuckItems site ts e
+    then_stuck : (site : ℕ) (ts : List Token) (y : Item × ℕ) (us : List Token) (e : ℕ) → One site ts y us → StuckItems y.1 us e → StuckItems site ts e
     then_stuck site ts y us e r d = record {
       front = x.front ++ d.front;
       rest = d.rest;
       parts = x.parts ∙ ap (λ w. x.front ++ w) d.parts ∙ sym (append_assoc x.front d.front d.rest);
       left = d.left;
       more = d.more;
-      value = y.0 ∷ d.value;
-      some = has_some site ((x.front ++ d.front) ++ d.more) y (d.front ++ d.more) one;
-      completes = join site ((x.front ++ d.front) ++ d.more) y (d.front ++ d.more) d.value one d.completes;
-      dead = λ t us is vs fs r. dead t us is vs ((x.front ++ d.front) ++ t ∷ vs) refl fs (split r.0 r.1);
+      value = put_item y.0 d.value;
+      some = λ none. none_of_none one none;
+      completes = join d.value one d.completes;
+      dead = λ t us is vs xs r. dead t us is vs ((x.front ++ d.front) ++ t ∷ vs) refl xs (split r);
     }
       where
-        x : Front (One text site) ts y us
+        x : Front (One site) ts y us
         x = one_front site ts y us r
 
-        one : One text site ((x.front ++ d.front) ++ d.more) y (d.front ++ d.more)
+        one : One site ((x.front ++ d.front) ++ d.more) y (d.front ++ d.more)
         one = rw (append_assoc x.front d.front d.more) (x.again (d.front ++ d.more))
 
-        dead : (t : Token) (ws : List Token) → d.rest ≡ t ∷ ws → (vs zs : List Token) → (x.front ++ d.front) ++ t ∷ vs ≡ zs → (fs : List Function) → Split site zs fs → ⊥
-        dead t ws is vs zs e fs nothing = not_empty (x.front ++ d.front) t vs e
-        dead t ws is vs zs e fs (one_more {fs = gs} z xs q p) =
-            let q' : One text site (x.front ++ (d.front ++ t ∷ vs)) z xs = subst (λ w. One text site w z xs) (sym e ∙ append_assoc x.front d.front (t ∷ vs)) q in
-            let same = one_unique site (x.front ++ (d.front ++ t ∷ vs)) z y xs (d.front ++ t ∷ vs) q' (any_stops xs) (x.again (d.front ++ t ∷ vs)) (any_stops (d.front ++ t ∷ vs)) in
-            d.dead t ws is vs gs (subst (λ w. Items y.1 w gs) same.1 (subst (λ (w : Function × ℕ). Items w.1 xs gs) same.0 p))
+        dead : (t : Token) (ws : List Token) → d.rest ≡ t ∷ ws → (vs zs : List Token) → (x.front ++ d.front) ++ t ∷ vs ≡ zs → (xs : Items) → Split site zs xs → ⊥
+        dead t ws is vs zs e xs nothing = not_empty (x.front ++ d.front) t vs e
+        dead t ws is vs zs e xs (one_more {xs = cs} z bs q p) =
+            let q' : One site (x.front ++ (d.front ++ t ∷ vs)) z bs = subst (λ w. One site w z bs) (sym e ∙ append_assoc x.front d.front (t ∷ vs)) q in
+            let same = one_unique site (x.front ++ (d.front ++ t ∷ vs)) z y bs (d.front ++ t ∷ vs) q' (any_stops bs) (x.again (d.front ++ t ∷ vs)) (any_stops (d.front ++ t ∷ vs)) in
+            d.dead t ws is vs cs (subst (λ w. Its y.1 w cs) same.1 (subst (λ (w : Item × ℕ). Its w.1 bs cs) same.0 p))
 
-    functions_stuck : (n site : ℕ) (ts : List Token) (e : ℕ) → len ts ≤ n → len ts ≤ m → functions (function text m) n site ts ≡ Err e → StuckItems site ts e
-    unfolding functions
-    functions_stuck zero site [] e le few h = absurd cc
-    functions_stuck (suc n) site [] e le few h = absurd cc
-    functions_stuck zero site (t ∷ ts) e le few h = absurd (omega arith)
-    functions_stuck (suc n) site (t ∷ ts) e le few h = elim (bind_err (function text m site (t ∷ ts)) _ e h) [
-      | inl w ↦ first_stuck site (t ∷ ts) e ((one_exact text (Unit {0}) m site).stuck tt (t ∷ ts) e few w)
+    items_stuck : (n site : ℕ) (ts : List Token) (e : ℕ) → len ts ≤ n → len ts ≤ m → items next n site ts ≡ Err e → StuckItems site ts e
+    unfolding items
+    items_stuck zero site [] e le few h = absurd cc
+    items_stuck (suc n) site [] e le few h = absurd cc
+    items_stuck zero site (t ∷ ts) e le few h = absurd (omega arith)
+    items_stuck (suc n) site (t ∷ ts) e le few h = elim (bind_err (next site (t ∷ ts)) _ e h) [
+      | inl w ↦ first_stuck site (t ∷ ts) e ((one_exact (Unit {0}) m site).stuck tt (t ∷ ts) e few w)
       | inr (x, w, w') ↦
-          let r = (one_exact text (Unit {0}) m site).sound (t ∷ ts) x.0 x.1 w in
+          let r = (one_exact (Unit {0}) m site).sound (t ∷ ts) x.0 x.1 w in
           let fewer = one_eats site (t ∷ ts) x.0 x.1 r in
-          elim (bind_err (functions (function text m) n x.0.1 x.1) _ e w') [
-            | inl v ↦ then_stuck site (t ∷ ts) x.0 x.1 e r (functions_stuck n x.0.1 x.1 e (omega arith) (omega arith) v)
+          elim (bind_err (items next n x.0.1 x.1) _ e w') [
+            | inl v ↦ then_stuck site (t ∷ ts) x.0 x.1 e r (items_stuck n x.0.1 x.1 e (omega arith) (omega arith) v)
             | inr (y, v, v') ↦ absurd cc
           ]
     ]
 
   -- ---- whole sources
 
-  abbrev pub program : List Function → Program
-  program fs = record { reducers = []; functions = fs }
+  abbrev pub program : Items → Program
+  program xs = record { reducers = xs.0; functions = xs.1 }
 
-  derived : (ts : List Token) (fs : List Function) → ts ≢ [] → Items 1 ts fs → DerivesFirst text ts (program fs)
-  derived ts fs some r = (record { some = some; items = r.0 }, r.1)
-
-  no_reducers : (rs : List Reducer) (fs : List Function) → is_first (record { reducers = rs; functions = fs }) ≡ true → (rs ≡ []) × (list_all is_first_function fs ≡ true)
-  no_reducers [] fs e = (refl, e)
-  no_reducers (r ∷ rs) fs e = absurd cc
-
-  items_of : (ts : List Token) (p : Program) → DerivesFirst text ts p → Items 1 ts p.functions
-  items_of ts p (d, first) =
-      let none = no_reducers p.reducers p.functions first in
-      (subst (λ rs. ReadsItems text 1 ts rs p.functions) none.0 d.items, none.1)
-
-  same_program : (rs rs' : List Reducer) (fs fs' : List Function) → rs ≡ rs' → fs ≡ fs' → ◌≡◌ {A = Program} (record { reducers = rs; functions = fs }) (record { reducers = rs'; functions = fs' })
-  same_program rs rs' fs fs' e f = rw (e, f) refl
-
-  read_of : (ts : List Token) (p : Program) → DerivesFirst text ts p → functions (function text (len ts)) (len ts) 1 ts ≡ Ok (p.functions, [])
-  read_of ts p d = let r = items_of ts p d in functions_complete (len ts) (len ts) 1 ts p.functions (omega arith) (omega arith) (split r.0 r.1)
+  read_of : (ts : List Token) (p : Program) → Derives text ts p → items (next (len ts)) (len ts) 1 ts ≡ Ok ((p.reducers, p.functions), [])
+  read_of ts p d = items_complete (len ts) (len ts) 1 ts (p.reducers, p.functions) (omega arith) (omega arith) (split d.items)
 
   pub one_tree : (ts : List Token) → HasOneTree text ts
   one_tree ts p q d e =
-      let same = ok_is (p.functions, []) (q.functions, []) (sym (read_of ts p d) ∙ read_of ts q e) in
-      let none = (no_reducers p.reducers p.functions d.1).0 in
-      let none' = (no_reducers q.reducers q.functions e.1).0 in
-      same_program p.reducers q.reducers p.functions q.functions (none ∙ sym none') (ap (λ (x : List Function × List Token). x.0) same)
+      let same = ok_is ((p.reducers, p.functions), []) ((q.reducers, q.functions), []) (sym (read_of ts p d) ∙ read_of ts q e) in
+      ap (λ (x : Items × List Token). program x.0) same
 
   drop_front : (front rest : List Token) → drop (len front) (front ++ rest) ≡ rest
   drop_front [] rest = refl
@@ -198,42 +272,42 @@ module _ (text : List ℕ) where
       rw n (ap (drop (len front)) parts ∙ drop_front front rest)
 
   -- what reading a whole source answers
-  abbrev pub Answer : List Token → Read (List Function) → Type 0
-  Answer ts (Ok x) = DerivesFirst text ts (program x.0)
-  Answer ts (Err e) = HasFirstFault text ts (first_line text (drop (len ts - e) ts))
+  abbrev pub Answer : List Token → Read Items → Type 0
+  Answer ts (Ok x) = Derives text ts (program x.0)
+  Answer ts (Err e) = HasSyntaxFault text ts (first_line text (drop (len ts - e) ts))
 
-  fault : (m : ℕ) (ts : List Token) (e : ℕ) → ts ≢ [] → ((p : Program) → DerivesFirst text ts p → ⊥) → StuckItems m 1 ts e → Answer ts (Err e)
-  fault m ts e some not d = record {
+  fault : (m : ℕ) (ts : List Token) (e : ℕ) → ((p : Program) → Derives text ts p → ⊥) → StuckItems m 1 ts e → Answer ts (Err e)
+  fault m ts e none d = record {
     before = d.front;
     rest = d.rest;
     parts = d.parts;
-    goes_on = (d.more, program d.value, derived (d.front ++ d.more) d.value d.some d.completes);
+    goes_on = (d.more, program d.value, record { some = d.some; items = d.completes });
     no_further = λ t us is g. further t us is g.0 g.1 g.2;
-    no_end = λ none p r. not p r;
+    no_end = λ _ p r. none p r;
     same_line = ap (first_line text) (rest_is ts d.front d.rest e d.parts d.left);
   }
     where
-      further : (t : Token) (us : List Token) → d.rest ≡ t ∷ us → (more : List Token) (p : Program) → DerivesFirst text ((d.front ++ t ∷ []) ++ more) p → ⊥
-      further t us is more p r = d.dead t us is more p.functions (subst (λ w. Items 1 w p.functions) (append_assoc d.front (t ∷ []) more) (items_of ((d.front ++ t ∷ []) ++ more) p r))
+      further : (t : Token) (us : List Token) → d.rest ≡ t ∷ us → (more : List Token) (p : Program) → Derives text ((d.front ++ t ∷ []) ++ more) p → ⊥
+      further t us is more p r = d.dead t us is more (p.reducers, p.functions) (subst (λ w. Its 1 w (p.reducers, p.functions)) (append_assoc d.front (t ∷ []) more) r.items)
 
   none_at_all : Answer [] (Err 0)
   none_at_all =
-      let x = (one_exact text (Unit {0}) 0 1).some in
-      let one = subst (λ w. One text 1 w x.value []) (append-nil x.text) (x.reads []) in
+      let x = (one_exact (Unit {0}) 0 1).some in
+      let one = subst (λ w. One 1 w x.value []) (append-nil x.text) (x.reads []) in
       record {
         before = [];
         rest = [];
         parts = refl;
-        goes_on = (x.text, program (x.value.0 ∷ []), derived x.text (x.value.0 ∷ []) (has_some 0 1 x.text x.value [] one) (join 1 x.text x.value [] [] one (grammar.no_item, refl)));
+        goes_on = (x.text, program (put_item x.value.0 ([], [])), record { some = λ none. none_of_none one none; items = join ([], []) one grammar.no_item });
         no_further = λ t us is g. absurd cc;
-        no_end = λ none p d. d.0.some refl;
+        no_end = λ none p d. d.some refl;
         same_line = refl;
       }
 
   pub whole_answers : (ts : List Token) → Answer ts (whole text (len ts) ts)
-  unfolding whole functions function
+  unfolding whole
   whole_answers [] = none_at_all
-  whole_answers (t ∷ ts) = go (functions (function text (len (t ∷ ts))) (suc (len (t ∷ ts))) 1 (t ∷ ts)) refl
+  whole_answers (t ∷ ts) = go (items (next (len (t ∷ ts))) (len (t ∷ ts)) 1 (t ∷ ts)) refl
     where
       n : ℕ
       n = len (t ∷ ts)
@@ -241,9 +315,9 @@ module _ (text : List ℕ) where
       some : t ∷ ts ≢ []
       some e = cc
 
-      go : (r : Read (List Function)) → functions (function text (len (t ∷ ts))) (suc (len (t ∷ ts))) 1 (t ∷ ts) ≡ r → Answer (t ∷ ts) r
-      go (Ok x) e = derived (t ∷ ts) x.0 some (functions_sound n (suc n) 1 (t ∷ ts) x.0 x.1 e).0
-      go (Err d) e = fault n (t ∷ ts) d some never (functions_stuck n (suc n) 1 (t ∷ ts) d (omega arith) (omega arith) e)
+      go : (r : Read Items) → items (next (len (t ∷ ts))) (len (t ∷ ts)) 1 (t ∷ ts) ≡ r → Answer (t ∷ ts) r
+      go (Ok x) e = record { some = some; items = (items_sound n n 1 (t ∷ ts) x.0 x.1 e).0 }
+      go (Err d) e = fault n (t ∷ ts) d never (items_stuck n n 1 (t ∷ ts) d (omega arith) (omega arith) e)
         where
-          never : (p : Program) → DerivesFirst text (t ∷ ts) p → ⊥
-          never p r = let q = items_of (t ∷ ts) p r in let ok = functions_complete n (suc n) 1 (t ∷ ts) p.functions (omega arith) (omega arith) (split q.0 q.1) in let clash = sym e ∙ ok in cc
+          never : (p : Program) → Derives text (t ∷ ts) p → ⊥
+          never p r = let ok = read_of (t ∷ ts) p r in let clash = sym e ∙ ok in cc

@@ -1,9 +1,9 @@
 -- Relations that read a part of a list from its front, and where reading stops.
-use Rattle.std.proofs.Common.{◌≡◌, ℕ, ◌≤◌, Bool, true, false, cond, List, [], ◌∷◌, ◌++◌, length, Ok, Err, refl, sym, ap, subst, ◌∙◌, append_assoc, arith, ◌⊎◌, inl, inr}
+use Rattle.std.proofs.Common.{◌≡◌, ℕ, ◌≤◌, Bool, true, List, [], ◌∷◌, ◌++◌, length, Ok, Err, refl, sym, ap, subst, ◌∙◌, append_assoc, arith, ◌⊎◌, inl, inr}
 use Rattle.std.proofs.lemmas.List.{length-append}
 use Rattle.cw_model.specs.declared.token.Token.{Token}
 use Rattle.cw_model.specs.declared.token.Kind.{Kind}
-use Rattle.cw_parse.specs.Reading.{Read, ◌>>=◌, token}
+use Rattle.cw_parse.specs.Reading.{Read, ◌>>=◌}
 
 -- the tokens begin with none that goes on
 abbrev pub Stops : (Kind → Bool) → List Token → Type 0
@@ -35,12 +35,12 @@ abbrev pub Seq : {A B : Type 0} → (List Token → A → List Token → Type 0)
 Seq {A} R G ts b rest = (a : A) × (us : List Token) × R ts a us × G a us b rest
 
 -- one token of a kind that passes
-abbrev pub Tok : (Kind → Bool) → List Token → Token → List Token → Type 0
-Tok p ts t rest = (ts ≡ t ∷ rest) × (p t.kind ≡ true)
+pub data Tok (K : Kind → Type 0) : List Token → Token → List Token → Type 0 where
+  tok : {t : Token} {ts : List Token} → K t.kind → Tok K (t ∷ ts) t ts
 
 -- no token
-abbrev pub Done : {A : Type 0} → A → List Token → A → List Token → Type 0
-Done a ts b rest = (ts ≡ rest) × (b ≡ a)
+pub data Done {A : Type 0} (a : A) : List Token → A → List Token → Type 0 where
+  done : {ts : List Token} → Done a ts a ts
 
 -- Reading stops where m tokens are left: what stands before can be completed, and no token more can follow.
 pub record Stuck {A : Type 0} (R : List Token → A → List Token → Type 0) (s : Kind → Bool) (ts : List Token) (m : ℕ) : Type 0 where
@@ -114,69 +114,16 @@ pub bind_err : {A B : Type 0} (r : Read A) (f : A × List Token → Read B) (m :
 bind_err (Ok x) f m e = inr (x, refl, e)
 bind_err (Err d) f m e = inl cc
 
-abbrev done : {A : Type 0} → A × List Token → Read A
-done x = Ok x
+abbrev read : {A : Type 0} → A × List Token → Read A
+read x = Ok x
 
-pub ok_is : {A : Type 0} (x y : A × List Token) → done x ≡ done y → x ≡ y
+pub ok_is : {A : Type 0} (x y : A × List Token) → read x ≡ read y → x ≡ y
 ok_is x y e = cc
-
--- ---- tokens
-
-pub token_stable : (p : Kind → Bool) → IsStable (Tok p)
-token_stable p ts t rest d = record { front = t ∷ []; parts = d.0; again = λ ws. (refl, d.1) }
-
-pub token_unique : (p s : Kind → Bool) → IsUnique (Tok p) s
-token_unique p s ts a b us vs d _ e _ = let same : a ∷ us ≡ b ∷ vs = sym d.0 ∙ e.0 in (cc, cc)
-
-token_on : (t : Token) (ts : List Token) (u : Token) (rest : List Token) (b : Bool) → cond b (done (t, ts)) (Err (length (t ∷ ts))) ≡ done (u, rest) → (b ≡ true) × (t ∷ ts ≡ u ∷ rest)
-token_on t ts u rest true e = let same = ok_is (t, ts) (u, rest) e in (refl, ap (λ (x : Token × List Token). x.0 ∷ x.1) same)
-token_on t ts u rest false e = absurd cc
-
-pub token_ok : (p : Kind → Bool) (ts : List Token) (u : Token) (rest : List Token) → token p ts ≡ Ok (u, rest) → Tok p ts u rest
-token_ok p [] u rest e = absurd cc
-token_ok p (t ∷ ts) u rest e =
-    let both = token_on t ts u rest (p t.kind) e in
-    let first : t ≡ u = cc in
-    (both.1, ap (λ (w : Token). p w.kind) (sym first) ∙ both.0)
-
-token_off : (t : Token) (ts : List Token) (m : ℕ) (b : Bool) → cond b (done (t, ts)) (Err (length (t ∷ ts))) ≡ Err m → (b ≡ false) × (m ≡ length (t ∷ ts))
-token_off t ts m true e = absurd cc
-token_off t ts m false e = (refl, cc)
-
-pub token_stuck : (p s : Kind → Bool) (u : Token) → p u.kind ≡ true → (ts : List Token) (m : ℕ) → token p ts ≡ Err m → Stuck (Tok p) s ts m
-token_stuck p s u is [] m e = record {
-  front = [];
-  rest = [];
-  parts = refl;
-  left = cc;
-  more = u ∷ [];
-  value = u;
-  completes = λ after. (refl, is);
-  dead = λ t us h vs b after r stop. absurd cc;
-}
-token_stuck p s u is (t ∷ ts) m e =
-    let off = token_off t ts m (p t.kind) e in
-    record {
-      front = [];
-      rest = t ∷ ts;
-      parts = refl;
-      left = off.1;
-      more = u ∷ [];
-      value = u;
-      completes = λ after. (refl, is);
-      dead = λ x us h vs b after r stop. let same : x ∷ vs ≡ b ∷ after = r.0 in let xb : x ≡ b = cc in let tx : t ≡ x = cc in let clash : true ≡ false = sym r.1 ∙ ap (λ (w : Token). p w.kind) (sym xb ∙ sym tx) ∙ off.0 in cc;
-    }
-
-pub done_text : {A : Type 0} (a : A) → SomeText (Done a)
-done_text a = record { text = []; value = a; reads = λ after. (refl, refl) }
 
 pub seq_text : {A B : Type 0} (R : List Token → A → List Token → Type 0) (G : A → List Token → B → List Token → Type 0) → SomeText R → ((a : A) → SomeText (G a)) → SomeText (Seq R G)
 seq_text R G r g =
     let e = g r.value in
     record { text = r.text ++ e.text; value = e.value; reads = λ after. (r.value, e.text ++ after, rw (append_assoc r.text e.text after) (r.reads (e.text ++ after)), e.reads after) }
-
-pub token_text : (p : Kind → Bool) (u : Token) → p u.kind ≡ true → SomeText (Tok p)
-token_text p u is = record { text = u ∷ []; value = u; reads = λ after. (refl, is) }
 
 -- ---- a part behind tokens that are known
 

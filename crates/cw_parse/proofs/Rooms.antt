@@ -1,108 +1,142 @@
 -- What was read leaves room for the numbers of the call statements that follow.
-use Rattle.std.proofs.Common.{◌≡◌, ℕ, zero, suc, ◌+◌, ◌<◌, ◌≤◌, Bool, List, length as len, Ok, refl, sym, ap, ◌∙◌, arith}
+use Rattle.std.proofs.Common.{◌≡◌, ℕ, suc, ◌+◌, ◌<◌, ◌≤◌, Bool, true, false, cond, List, [], ◌∷◌, length as len, Option, Some, None, Ok, Err, refl, sym, ap, ◌∙◌, arith, inl, inr}
 use Rattle.cw_model.specs.declared.token.Token.{Token}
 use Rattle.cw_model.specs.declared.token.Kind.{Kind}
-use Rattle.cw_model.specs.declared.token.Kind.TheVariants as kind
-use Rattle.cw_model.specs.Syntax.{Stmt, Block, Param, Function}
-use Rattle.cw_model.specs.Grammar.{name_of}
-use Rattle.cw_parse.specs.Reading.{Reader, token, by_first, Step, turn, last, go_on, row}
-use Rattle.cw_parse.specs.Parts.{next_line, Line, put_before, params, function}
-use Rattle.cw_parse.proofs.Reader.{bind_ok, ok_is, shorter, token_ok}
-use Rattle.cw_parse.proofs.Exact.{any_stops}
-use Rattle.cw_parse.proofs.Statements.{AssignedBy, LineStep, LineBy, NextLine, further, line_exact, line_eats, Lines, lines_exact, body_from}
-use Rattle.cw_parse.proofs.Functions.{Params, params_exact, FunctionBy, One, one_from, one_exact}
+use Rattle.cw_model.specs.Syntax.{Name, Expr, Stmt, Block, Param}
+use Rattle.cw_model.specs.Grammar as grammar
+use Rattle.cw_model.specs.Grammar.{ReadsWhole, ReadsArguments, ReadsCall, ReadsParams, ReadsMoreNames, ReadsGrain, ReadsOver, ReadsHead, Head, ReadsAssigned, ReadsNamed, ReadsDeclared, ReadsReturned, ReadsStmt, ReadsStmtBy, ReadsBlock, ReadsStmts}
+use Rattle.cw_parse.specs.declared.marks.Mark.{Mark}
+use Rattle.cw_parse.specs.Marks.{is_mark, past}
+use Rattle.cw_parse.specs.Reading.{token, by_first}
+use Rattle.cw_parse.specs.Parts.{list, param, Opening, opening, Line, line, lines, Item, item}
+use Rattle.cw_parse.proofs.Reader.{tok, shorter}
+use Rattle.cw_parse.proofs.Exact.{Exact, Branch, any}
+use Rattle.cw_parse.proofs.Pieces.{Marked, expect}
+use Rattle.cw_parse.proofs.Expressions.{expr_exact}
+use Rattle.cw_parse.proofs.Lists.{arguments_exact, params_exact}
+use Rattle.cw_parse.proofs.Openings.{OpeningBy, opening_branch}
+use Rattle.cw_parse.proofs.Items.{One, sum, code, one_exact}
+use Rattle.cw_parse.proofs.Blocks.{Lined, lined, lines_exact, line_exact}
 
--- the number after a step
-abbrev site_after : LineStep → ℕ
-site_after (turn a s) = s
-site_after (last b) = b.1
+marked_less : (m : Mark) {ts : List Token} {t : Token} {us : List Token} → Marked m ts t us → len us < len ts
+marked_less m (tok is) = omega arith
 
-pub token_shorter : (p : Kind → Bool) (ts : List Token) (t : Token) (rest : List Token) → token p ts ≡ Ok (t, rest) → len rest < len ts
-token_shorter p ts t rest e = let l = ap len (token_ok p ts t rest e).0 in omega arith
+-- a token that was read
+pub token_less : (m : Mark) (ts : List Token) (t : Token) (us : List Token) → token (is_mark m) ts ≡ Ok (t, us) → len us < len ts
+token_less m ts t us e = marked_less m ((expect {U = Unit {0}} {n = 0} m).exact.sound ts t us e)
 
--- ---- rows
+pub past_less : (m : Mark) (ts : List Token) (t : Token) (us : List Token) → past m ts ≡ Some (t, us) → len us < len ts
+past_less m [] t us e = absurd cc
+past_less m (v ∷ vs) t us e = go (is_mark m v.kind) e
+  where
+    same : (x y : Token × List Token) → Some x ≡ Some y → x ≡ y
+    same x y e = cc
 
-module _ {A S B : Type 0} (join : A → B → B) (step : S → Reader (Step A S B)) (before : S → ℕ) (after : B → ℕ)
-    (keeps : (a : A) (b : B) → after (join a b) ≡ after b)
-    (turns : (s : S) (ts : List Token) (a : A) (s' : S) (us : List Token) → step s ts ≡ Ok (turn a s', us) → before s' + len us ≤ before s + len ts)
-    (lasts : (s : S) (ts : List Token) (b : B) (us : List Token) → step s ts ≡ Ok (last b, us) → after b + len us ≤ before s + len ts) where
-  pub row_room : (n : ℕ) (s : S) (ts : List Token) (b : B) (rest : List Token) → row join step n s ts ≡ Ok (b, rest) → after b + len rest ≤ before s + len ts
-  unfolding row
-  row_room zero s ts b rest e = absurd cc
-  row_room (suc n) s ts b rest e =
-      let x = bind_ok (step s ts) (λ x. go_on join (row join step n) x.0 x.1) (b, rest) e in
-      go (row_room n) x.0.0 x.0.1 x.1 x.2
-    where
-      go : ((s' : S) (us : List Token) (c : B) (vs : List Token) → row join step n s' us ≡ Ok (c, vs) → after c + len vs ≤ before s' + len us)
-          → (a : Step A S B) (us : List Token) → step s ts ≡ Ok (a, us) → go_on join (row join step n) a us ≡ Ok (b, rest) → after b + len rest ≤ before s + len ts
-      go ih (turn a s') us e h =
-          let y = bind_ok (row join step n s' us) _ (b, rest) h in
-          let q = ok_is (join a y.0.0, y.0.1) (b, rest) y.2 in
-          let same = sym (keeps a y.0.0) ∙ ap (λ (z : B × List Token). after z.0) q in
-          let long = ap (λ (z : B × List Token). len z.1) q in
-          let first = turns s ts a s' us e in
-          let others = ih s' us y.0.0 y.0.1 y.1 in
-          omega arith
-      go ih (last c) us e h =
-          let q = ok_is (c, us) (b, rest) h in
-          let same = ap (λ (z : B × List Token). after z.0) q in
-          let long = ap (λ (z : B × List Token). len z.1) q in
-          let first = lasts s ts c us e in
-          omega arith
+    go : (b : Bool) → cond {A = Option (Token × List Token)} b (Some (v, vs)) None ≡ Some (t, us) → len us < len (v ∷ vs)
+    go true e = let l = ap (λ (x : Token × List Token). len x.1) (same (v, vs) (t, us) e) in omega arith
+    go false e = absurd cc
 
 module _ (text : List ℕ) where
-  assigned_site : (site : ℕ) (x : List ℕ) (t : Token) (k : Kind) (ts : List Token) (y : Stmt × ℕ) (us : List Token) → AssignedBy text site x t k ts y us → y.1 ≡ site + 1
-  assigned_site site x t kind.Name ts y us (es, vs, r, (same, value)) = ap (λ (z : Stmt × ℕ). z.1) value
-  assigned_site site x t kind.Spawn ts y us (f, ws, tok, (es, vs, r, (same, value))) = ap (λ (z : Stmt × ℕ). z.1) value
-  assigned_site site x t _ ts y us d = absurd d
+  expr_less : {ts us : List Token} {e : Expr} → ReadsWhole text ts e us → len us ≤ len ts
+  expr_less {ts} {us} {e} r = shorter ts e us ((expr_exact text (Unit {0}) (len ts)).stable ts e us (omega arith) r)
 
-  one_site : (site : ℕ) (t : Token) (k : Kind) (ts : List Token) (a : LineStep) (us : List Token) → LineBy text site t k ts a us → site_after a ≤ site + 1
-  one_site site t kind.Return ts a us (e, ws, r, (same, value)) = let n = ap site_after value in omega arith
-  one_site site t kind.Int ts a us (y, ws, (c, xs, d, (same, value)), (same', value')) = let n = ap site_after (value' ∙ ap (further t) value) in omega arith
-  one_site site t kind.Name ts a us (y, ws, (u, xs, tok, (v, zs, parts, d)), (same', value')) =
-      let n = ap site_after value' in let m = assigned_site site (name_of text t) v v.kind zs y ws d in omega arith
-  one_site site t kind.Sync ts a us (y, ws, (u, xs, tok, (same, value)), (same', value')) = let n = ap site_after (value' ∙ ap (further t) value) in omega arith
-  one_site site t _ ts a us d = absurd d
+  arguments_less : {ts us : List Token} {es : List Expr} → ReadsArguments text ts es us → len us ≤ len ts
+  arguments_less {ts} {us} {es} r = shorter ts es us ((arguments_exact text (Unit {0}) (len ts)).stable ts es us (omega arith) r)
 
-  line_site : (site : ℕ) (ts : List Token) (a : LineStep) (us : List Token) → NextLine text site ts a us → site_after a + len us ≤ site + len ts
-  line_site site ts a us (t, vs, parts, r) = let n = one_site site t t.kind vs a us r in let l = line_eats text site ts a us (t, vs, parts, r) in omega arith
+  call_less : {ts us : List Token} {es : List Expr} → ReadsCall text ts es us → len us < len ts
+  call_less (grammar.called i r i') = let l = arguments_less r in omega arith
 
-  -- a step of a body
-  pub next_room : (n site : ℕ) (ts : List Token) (a : LineStep) (us : List Token) → by_first (next_line text n site) ts ≡ Ok (a, us) → site_after a + len us ≤ site + len ts
-  next_room n site ts a us e = line_site site ts a us ((line_exact text n site).sound ts a us e)
+  names_less : {ts us : List Token} {xs : List Name} → ReadsMoreNames text ts xs us → len us ≤ len ts
+  names_less (grammar.ReadsMoreNames.close i) = omega arith
+  names_less (grammar.ReadsMoreNames.comma i i' q) = let l = names_less q in omega arith
 
-  -- a step of a body that is not the last one
-  pub turn_room : (n site : ℕ) (ts : List Token) (a : Line) (s : ℕ) (us : List Token) → by_first (next_line text n site) ts ≡ Ok (turn a s, us) → s + len us ≤ site + len ts
-  turn_room n site ts a s us e = next_room n site ts (turn a s) us e
+  over_less : {ts us : List Token} {xs : List Name} → ReadsOver text ts xs us → len us ≤ len ts
+  over_less grammar.nothing = omega arith
+  over_less (grammar.over i i' i'' q) = let l = names_less q in omega arith
 
-  lines_room : (site : ℕ) (ts : List Token) (y : Block × ℕ) (rest : List Token) → Lines text site ts y rest → y.1 + len rest ≤ site + len ts
-  lines_room site ts y rest r =
-      let e = (lines_exact text (Unit {0}) (len ts) site).complete ts y rest (omega arith) r (any_stops rest) in
-      row_room put_before (λ s. by_first (next_line text (len ts) s)) (λ s. s) (λ b. b.1) (λ a b. refl)
-      (λ s us a s' vs h. turn_room (len ts) s us a s' vs h) (λ s us b vs h. next_room (len ts) s us (last b) vs h) (len ts) site ts y rest e
+  grain_less : {ts us : List Token} {n : ℕ} → ReadsGrain ts n us → len us ≤ len ts
+  grain_less grammar.usual = omega arith
+  grain_less (grammar.grain i i') = omega arith
 
-  params_shorter : (ts : List Token) (ps : List Param) (rest : List Token) → Params text ts ps rest → len rest ≤ len ts
-  params_shorter ts ps rest r = shorter ts ps rest ((params_exact text (Unit {0}) (len ts)).stable ts ps rest (omega arith) r)
+  head_less : {ts us : List Token} {h : Head} → ReadsHead text ts h us → len us ≤ len ts
+  head_less (grammar.head i1 i2 i3 i4 r1 i5 i6 i7 r2 i8 i9 i10 i11 g o) =
+      let a = expr_less r1 in let b = expr_less r2 in let c = grain_less g in let d = over_less o in omega arith
 
-  pub params_room : (n : ℕ) (ts : List Token) (ps : List Param) (rest : List Token) → by_first (params text n) ts ≡ Ok (ps, rest) → len rest ≤ len ts
-  params_room n ts ps rest e = params_shorter ts ps rest ((params_exact text (Unit {0}) n).sound ts ps rest e)
+  assigned_room : {n m : ℕ} {x : Name} {ts rest : List Token} {s : Stmt} → ReadsAssigned text n x ts s m rest → m + len rest ≤ n + len ts
+  assigned_room (grammar.ReadsAssigned.value r i) = let l = expr_less r in omega arith
+  assigned_room (grammar.ReadsAssigned.call i r) = let l = call_less r in omega arith
+  assigned_room (grammar.ReadsAssigned.spawn i i' r) = let l = call_less r in omega arith
 
-  pub one_room : (site : ℕ) (ts : List Token) (y : Function × ℕ) (rest : List Token) → One text site ts y rest → (y.1 + len rest ≤ site + len ts) × (len rest < len ts)
-  one_room site ts y rest r = go (one_from text r.0 r.1)
+  named_room : {n m : ℕ} {k : Kind} {t : Token} {ts rest : List Token} {s : Stmt} → ReadsNamed text n k t ts s m rest → m + len rest ≤ n + len ts
+  named_room (grammar.ReadsNamed.assign r) = assigned_room r
+  named_room (grammar.ReadsNamed.assign_element r i i' r' i'') = let l = expr_less r in let l' = expr_less r' in omega arith
+  named_room (grammar.ReadsNamed.add r i) = let l = expr_less r in omega arith
+  named_room (grammar.ReadsNamed.call r i) = let l = arguments_less r in omega arith
+
+  declared_less : {x : Name} {ts rest : List Token} {s : Stmt} → ReadsDeclared text x ts s rest → len rest ≤ len ts
+  declared_less (grammar.ReadsDeclared.integer i r i') = let l = expr_less r in omega arith
+  declared_less (grammar.ReadsDeclared.array i r i' i'') = let l = expr_less r in omega arith
+
+  returned_less : {ts rest : List Token} {e : Option Expr} → ReadsReturned text ts e rest → len rest ≤ len ts
+  returned_less (grammar.ReadsReturned.nothing i) = omega arith
+  returned_less (grammar.ReadsReturned.value r i) = let l = expr_less r in omega arith
+
+  mutual
+    stmt_room : {n m : ℕ} {k : Kind} {t : Token} {ts rest : List Token} {s : Stmt} → ReadsStmtBy text n k t ts s m rest → m + len rest ≤ n + suc (len ts)
+    stmt_room (grammar.declare i r) = let l = declared_less r in omega arith
+    stmt_room (grammar.named i r) = let l = named_room r in omega arith
+    stmt_room (grammar.spawn i r) = let l = call_less r in omega arith
+    stmt_room (grammar.sync i) = omega arith
+    stmt_room (grammar.when i r i' q) = let l = expr_less r in let h = block_room q in omega arith
+    stmt_room (grammar.choose i r i' q i'' q') = let l = expr_less r in let h = block_room q in let h' = block_room q' in omega arith
+    stmt_room (grammar.repeat i r i' q) = let l = expr_less r in let h = block_room q in omega arith
+    stmt_room (grammar.loop r q) = let l = head_less r in let h = block_room q in omega arith
+    stmt_room (grammar.scope q) = let h = block_room q in omega arith
+    stmt_room (grammar.cut i1 i2 r i3 i4 i5 i6 q) = let l = expr_less r in let h = block_room q in omega arith
+    stmt_room (grammar.region i q) = let h = block_room q in omega arith
+    stmt_room (grammar.print i r i' i'') = let l = expr_less r in omega arith
+    stmt_room (grammar.give r) = let l = returned_less r in omega arith
+
+    block_room : {n m : ℕ} {ts rest : List Token} {b : Block} → ReadsBlock text n ts b m rest → m + len rest ≤ n + len ts
+    block_room (grammar.braces i q) = let h = stmts_room q in omega arith
+
+    pub stmts_room : {n m : ℕ} {ts rest : List Token} {b : Block} → ReadsStmts text n ts b m rest → m + len rest ≤ n + len ts
+    stmts_room (grammar.ReadsStmts.close i) = omega arith
+    stmts_room (grammar.one_more (grammar.begins i r) q) = let l = stmt_room r in let h = stmts_room q in omega arith
+
+  lined_room : {n : ℕ} {ts : List Token} {x : Line × ℕ} {rest : List Token} → Lined text n ts x rest → x.1 + len rest ≤ n + len ts
+  lined_room (lined (grammar.begins i r)) = stmt_room r
+
+  -- a statement that was read
+  pub line_room : (n site : ℕ) (ts : List Token) (l : Line) (next : ℕ) (us : List Token) → line text n site ts ≡ Ok ((l, next), us) → next + len us ≤ site + len ts
+  line_room n site ts l next us e = lined_room ((line_exact text (Unit {0}) n site).sound ts (l, next) us e)
+
+  -- a block that was read
+  pub lines_room : (n site : ℕ) (ts : List Token) (b : Block) (next : ℕ) (us : List Token) → lines text n site ts ≡ Ok ((b, next), us) → next + len us ≤ site + len ts
+  lines_room n site ts b next us e = stmts_room ((lines_exact text (Unit {0}) n site).sound ts (b, next) us e)
+
+  -- parameters that were read
+  pub params_less : (n : ℕ) (ts : List Token) (ps : List Param) (us : List Token) → list (param text) n ts ≡ Ok (ps, us) → len us ≤ len ts
+  params_less n ts ps us e =
+      let r = (params_exact text (Unit {0}) n).sound ts ps us e in
+      shorter ts ps us ((params_exact text (Unit {0}) (len ts)).stable ts ps us (omega arith) r)
+
+  -- what stands in front of a block, which was read
+  pub opening_less : (n : ℕ) (t : Token) (k : Kind) (ts : List Token) (o : Opening) (us : List Token) → opening text n t k ts ≡ Ok (o, us) → len us ≤ len ts
+  opening_less n t k ts o us e = go (opening_branch text (Unit {0}) n t k) (opening_branch text (Unit {0}) (len ts) t k)
     where
-      go : FunctionBy text site ts y rest → (y.1 + len rest ≤ site + len ts) × (len rest < len ts)
-      go (t, us, (p, i), (f, vs, (p', i'), (u, ws, (p'', i''), (ps, xs, q, (b, zs, d, (same, value)))))) =
-          let l = ap len p in
-          let l' = ap len p' in
-          let l'' = ap len p'' in
-          let few = params_shorter ws ps xs q in
-          let inner = body_from text d.0 d.1 in
-          let open_brace = ap len inner.2.0 in
-          let room = lines_room site inner.1 b zs inner.3 in
-          let small = shorter inner.1 b zs ((lines_exact text (Unit {0}) (len inner.1) site).stable inner.1 b zs (omega arith) inner.3) in
-          let n = ap (λ (z : Function × ℕ). z.1) value in
-          let end = ap len same in
-          (omega arith, omega arith)
+      go : Branch (Unit {0}) n (OpeningBy text t k) any t (opening text n t k) → Branch (Unit {0}) (len ts) (OpeningBy text t k) any t (opening text (len ts) t k) → len us ≤ len ts
+      go (inl x) (inl y) = shorter ts o us (y.stable ts o us (omega arith) (x.sound ts o us e))
+      go (inl x) (inr y) = absurd (y.never ts o us (x.sound ts o us e))
+      go (inr x) y = absurd (let clash = sym (x.stops ts) ∙ e in cc)
 
-  pub function_room : (n site : ℕ) (ts : List Token) (f : Function) (s : ℕ) (rest : List Token) → function text n site ts ≡ Ok ((f, s), rest) → (s + len rest ≤ site + len ts) × (len rest < len ts)
-  function_room n site ts f s rest e = one_room site ts (f, s) rest ((one_exact text (Unit {0}) n site).sound ts (f, s) rest e)
+  parameters_less : {ts us : List Token} {ps : List Param} → ReadsParams text ts ps us → len us ≤ len ts
+  parameters_less {ts} {us} {ps} r = shorter ts ps us ((params_exact text (Unit {0}) (len ts)).stable ts ps us (omega arith) r)
+
+  one_room : {site : ℕ} {ts : List Token} {y : Item × ℕ} {us : List Token} → One text site ts y us → y.1 + len us ≤ site + len ts
+  one_room (sum i1 i2 i3 i4) = omega arith
+  one_room (code (grammar.function g i i' r q)) = let l = parameters_less r in let h = block_room q in omega arith
+
+  -- an item that was read
+  pub item_room : (n site : ℕ) (ts : List Token) (x : Item) (next : ℕ) (us : List Token) → by_first (item text n site) ts ≡ Ok ((x, next), us) → next + len us ≤ site + len ts
+  item_room n site ts x next us e = one_room ((one_exact text (Unit {0}) n site).sound ts (x, next) us e)

@@ -1,6 +1,5 @@
--- Statements and bodies of the first grammar.
-use Rattle.std.proofs.Common.{◌≡◌, ℕ, suc, ◌+◌, ◌<◌, pos, true, List, [], ◌∷◌, ◌++◌, length as len, Some, Ok, refl, ap, subst, ◌∙◌, arith, add-one, inl, inr}
-use Rattle.std.specs.List.{list_all}
+-- Statements without a block, and what stands in front of a block.
+use Rattle.std.proofs.Common.{◌≡◌, ℕ, suc, ◌+◌, ◌<◌, ◌≤◌, pos, Bool, true, false, cond, List, [], ◌∷◌, ◌++◌, length as len, Option, Some, None, Ok, Err, refl, sym, ap, subst, ◌∙◌, arith, add-one, ◌⊎◌, inl, inr}
 use Rattle.cw_model.specs.declared.token.Token.{Token}
 use Rattle.cw_model.specs.declared.token.Kind.{Kind}
 use Rattle.cw_model.specs.declared.token.Kind.TheVariants as kind
@@ -9,292 +8,258 @@ use Rattle.cw_model.specs.declared.syntax.CallKind.{CallKind}
 use Rattle.cw_model.specs.declared.syntax.CallKind.TheVariants.{Plain, Spawned}
 use Rattle.cw_model.specs.Syntax.{Name, Expr, Stmt, Block}
 use Rattle.cw_model.specs.Grammar as grammar
-use Rattle.cw_model.specs.Grammar.{name_of, ReadsWhole, ReadsCall, ReadsAssigned, ReadsNamed, ReadsDeclared, ReadsReturned, ReadsStmt, ReadsStmtBy, ReadsBlock, ReadsStmts}
-use Rattle.cw_model.specs.FirstGrammar.{is_first_expr, is_first_stmt, is_first_body}
-use Rattle.cw_parse.specs.Reading.{Reader, ◌>>=◌, token, by_first, Step, turn, last}
-use Rattle.cw_parse.specs.Marks.{is_name, is_assign, is_semicolon, is_left_brace, is_right_brace}
-use Rattle.cw_parse.specs.Parts.{expr, called, call_into, assigned, named, declared, stmt, returned, next_line, Line, put_before, lines, body}
-use Rattle.cw_parse.proofs.Reader.{SomeText, Seq, Tok, Done}
-use Rattle.cw_parse.proofs.Exact.{Exact, Branch, First, Alone, GoesOn, any, mark, done_exact, after_part, token_then, token_last, same_exact, fewer_exact, first_exact, row_exact, at_first, first_eats, both_true}
-use Rattle.cw_parse.proofs.Only.{name_only, assign_only, semicolon_only, left_brace_only, right_brace_only}
-use Rattle.cw_parse.proofs.Expressions.{E, zero_read, expr_exact, Called, called_exact}
+use Rattle.cw_model.specs.Grammar.{name_of, ReadsWhole, ReadsArguments, ReadsMoreNames, ReadsCall, ReadsGrain, ReadsOver, ReadsHead, ReadsAssigned, ReadsNamed, ReadsDeclared, ReadsReturned, ReadsStmtBy, Head}
+use Rattle.cw_parse.specs.declared.marks.Mark.{Mark}
+use Rattle.cw_parse.specs.declared.marks.Mark.TheVariants as mark
+use Rattle.cw_parse.specs.Marks.{is_mark}
+use Rattle.cw_parse.specs.Reading.{Read, Reader, ◌>>=◌, token, by_first, if_next}
+use Rattle.cw_parse.specs.Parts.{marked, expr, list, some_of, name, called, call, ended, is_call, assigned, element_assigned, named_stmt, declared_as, declared, returned, printed, simple, Opening, If, While, For, Scope, Cut, Region, condition, turns, grain, over, range_from, range_to, range_step, head, cut, region, opening}
+use Rattle.cw_parse.proofs.Reader.{Stops, SomeText, Seq, tok, Done, done, shorter}
+use Rattle.cw_parse.proofs.Exact.{Exact, Branch, First, Refuses, any, mark as token_of, done_exact, same_exact, same_reader, fewer_exact, first_exact, at_first}
+use Rattle.cw_parse.proofs.MarkKinds.{kind_of, passes}
+use Rattle.cw_parse.proofs.Pieces.{Marked, Piece, ◌>>>◌, expect, give, choose}
+use Rattle.cw_parse.proofs.Operators.{stops}
+use Rattle.cw_parse.proofs.Expressions.{expr_exact, expr_before, begins, begins_not, expr_begins, expr_long}
+use Rattle.cw_parse.proofs.Lists.{arguments_exact, ReadsName, names_exact}
+use Rattle.cw_parse.proofs.Calls.{Opens, opens, call_or_exact}
 
-abbrev pub LineStep : Type 0
-LineStep = Step Line ℕ (Block × ℕ)
+-- the number after that of a call
+pub done_next : {s : Stmt} {n : ℕ} {ts : List Token} → Done {A = Stmt × ℕ} (s, n + 1) ts (s, suc n) ts
+done_next = rw add-one done
 
-abbrev pub ending : ℕ → Token → Expr → LineStep
-ending site t e = last (tree.Then t.line (tree.Return (Some e)) tree.End, site)
-
-abbrev pub further : Token → Stmt × ℕ → LineStep
-further t y = turn (t.line, y.0) y.1
+-- reading goes on behind either part of a choice
+pub spread : {A B : Type 0} (p : Kind → Bool) (f : Token → Reader A) (g : Reader A) (k : A × List Token → Read B) (ts : List Token)
+    → (if_next p f g ts >>= k) ≡ if_next p (λ t us. f t us >>= k) (λ us. g us >>= k) ts
+spread p f g k [] = refl
+spread {A} {B} p f g k (t ∷ ts) = go (p t.kind)
+  where
+    go : (b : Bool) → ((cond {A = Read A} b (f t ts) (g (t ∷ ts))) >>= k) ≡ cond {A = Read B} b (f t ts >>= k) (g (t ∷ ts) >>= k)
+    go true = refl
+    go false = refl
 
 module _ (text : List ℕ) where
-  -- ---- calls into a name
+  -- ---- statements without a block
 
-  abbrev pub CallInto : CallKind → ℕ → Name → Token → List Token → Stmt × ℕ → List Token → Type 0
-  CallInto k site x f = Seq (Called text) (λ es. Done (tree.Call k site (Some x) (name_of text f) es, site + 1))
+  abbrev arguments_piece : {U : Type 0} {n : ℕ} → Piece U n any (List Expr)
+  arguments_piece {U} {n} = record { rel = ReadsArguments text; read = list (expr text n) n; exact = arguments_exact text U n }
 
-  into_exact : (U : Type 0) (n : ℕ) (k : CallKind) (site : ℕ) (x : Name) (f : Token) → Exact U n (CallInto k site x f) any (call_into text n k site x f)
-  unfolding call_into
-  into_exact U n k site x f =
-      after_part U n (Called text) (called text n) (λ es. Done (tree.Call k site (Some x) (name_of text f) es, site + 1)) any (λ es ts. Ok ((tree.Call k site (Some x) (name_of text f) es, site + 1), ts))
-      (called_exact text U n) (λ es. done_exact U n (tree.Call k site (Some x) (name_of text f) es, site + 1))
+  abbrev called_piece : {U : Type 0} {n : ℕ} (how : CallKind) (site : ℕ) (target : Option Name) (f : Token) → Piece U n any (Stmt × ℕ)
+  called_piece how site target f = arguments_piece >>> λ es. expect mark.Semicolon >>> λ _. give (tree.Call how site target (name_of text f) es, site + 1)
 
-  abbrev pub AssignedBy : ℕ → Name → Token → Kind → List Token → Stmt × ℕ → List Token → Type 0
-  AssignedBy site x t kind.Name = CallInto Plain site x t
-  AssignedBy site x t kind.Spawn = Seq (Tok is_name) (λ f. CallInto Spawned site x f)
-  AssignedBy site x t _ = λ ts a rest. ⊥
+  abbrev call_piece : {U : Type 0} {n : ℕ} (how : CallKind) (site : ℕ) (target : Option Name) → Piece U n any (Stmt × ℕ)
+  call_piece how site target = expect mark.Name >>> λ f. expect mark.LeftParen >>> λ _. called_piece how site target f
 
-  some_call : (k : CallKind) (site : ℕ) (x : Name) (f : Token) → SomeText (CallInto k site x f)
-  some_call k site x f = (into_exact (Unit {0}) 0 k site x f).some
+  abbrev ended_piece : {U : Type 0} {n : ℕ} (site : ℕ) (make : Expr → Stmt) → Piece U n any (Stmt × ℕ)
+  ended_piece site make = expr_before text mark.Semicolon refl (λ e. give (make e, site))
 
-  some_assigned : (site : ℕ) (x : Name) → SomeText (First (AssignedBy site x))
-  some_assigned site x =
-      let c = some_call Plain site x (mark kind.Name) in
-      record { text = mark kind.Name ∷ c.text; value = c.value; reads = λ after. (mark kind.Name, c.text ++ after, refl, c.reads after) }
+  pub called_exact : (U : Type 0) (n : ℕ) (how : CallKind) (site : ℕ) (target : Option Name) (f : Token) → Exact U n (called_piece {U = Unit {0}} {n = 0} how site target f).rel any (called text n how site target f)
+  unfolding called
+  called_exact U n how site target f = (called_piece {U = U} {n = n} how site target f).exact
 
-  assigned_branch : (U : Type 0) (n : ℕ) (site : ℕ) (x : Name) (t : Token) (k : Kind) → Branch U n (AssignedBy site x t k) any t (assigned text n site x t k)
-  unfolding assigned
-  assigned_branch U n site x t kind.Name = inl (into_exact U n Plain site x t)
-  assigned_branch U n site x t kind.Spawn =
-      inl (token_then U n is_name kind.Name refl (λ f. CallInto Spawned site x f) any (λ f ts. call_into text n Spawned site x f ts) (λ f. into_exact U n Spawned site x f))
-  assigned_branch U n site x t _ = inr (record { stops = λ ts. refl; never = λ ts a rest d. d })
+  pub call_exact : (U : Type 0) (n : ℕ) (how : CallKind) (site : ℕ) (target : Option Name) → Exact U n (call_piece {U = Unit {0}} {n = 0} how site target).rel any (call text n how site target)
+  unfolding call called
+  call_exact U n how site target = (call_piece {U = U} {n = n} how site target).exact
 
-  -- ---- statements
+  abbrev call_as : {U : Type 0} {n : ℕ} (how : CallKind) (site : ℕ) (target : Option Name) → Piece U n any (Stmt × ℕ)
+  call_as {U} {n} how site target = record { rel = (call_piece {U = Unit {0}} {n = 0} how site target).rel; read = call text n how site target; exact = call_exact U n how site target }
 
-  abbrev pub Named : ℕ → Token → List Token → Stmt × ℕ → List Token → Type 0
-  Named site t = Seq (Tok is_assign) (λ (_ : Token). First (AssignedBy site (name_of text t)))
+  abbrev Value : (site : ℕ) (x : Name) → List Token → Stmt × ℕ → List Token → Type 0
+  Value site x = (ended_piece {U = Unit {0}} {n = 0} site (λ e. tree.Assign x e)).rel
 
-  named_exact : (U : Type 0) (n : ℕ) (site : ℕ) (t : Token) → Exact U n (Named site t) any (named text n site t)
-  unfolding named
+  name_read : {t : Token} {ts : List Token} → t.kind ≡ kind.Name → ReadsWhole text (t ∷ ts) (tree.Variable (name_of text t)) ts
+  name_read is = grammar.operators (grammar.operators (grammar.operators (grammar.operators (grammar.operand is grammar.variable) grammar.end) grammar.end) grammar.end) grammar.end
+
+  pub no_value : (site : ℕ) (x : Name) {ts : List Token} {y : Stmt × ℕ} {rest : List Token} → Opens ts → Value site x ts y rest → ⊥
+  no_value site x (opens {t = t} {u = u} {ts = ts} is is') (e, us, r, (v, vs, tok i, d)) =
+      let same = (expr_exact text (Unit {0}) 0).unique tt (t ∷ u ∷ ts) (tree.Variable (name_of text t)) e (u ∷ ts) (v ∷ vs) (name_read is) (ap (stops 4) is') r (ap (stops 4) i) in
+      let one : u ≡ v = cc in
+      let clash : kind.LeftParen ≡ kind.Semicolon = sym is' ∙ ap (λ (w : Token). w.kind) one ∙ i in
+      cc
+
+  pub value_text : (site : ℕ) (x : Name) (t : Token) → t.kind ≡ kind.Name → SomeText (λ ts. Value site x (t ∷ ts))
+  value_text site x t is = record {
+    text = token_of kind.Semicolon ∷ [];
+    value = (tree.Assign x (tree.Variable (name_of text t)), site);
+    reads = λ after. (tree.Variable (name_of text t), token_of kind.Semicolon ∷ after, name_read is, (token_of kind.Semicolon, after, tok refl, done));
+  }
+
+  abbrev value_or_call : {U : Type 0} {n : ℕ} (site : ℕ) (x : Name) → Piece U n any (Stmt × ℕ)
+  value_or_call {U} {n} site x = record {
+    rel = λ ts y rest. (call_piece {U = Unit {0}} {n = 0} Plain site (Some x)).rel ts y rest ⊎ Value site x ts y rest;
+    read = λ us. cond (is_call us) (call text n Plain site (Some x) us) (ended text n site (λ e. tree.Assign x e) us);
+    exact = call_or_exact U n (λ f. (called_piece {U = Unit {0}} {n = 0} Plain site (Some x) f).rel) (Value site x) (call text n Plain site (Some x)) (ended text n site (λ e. tree.Assign x e))
+        (λ f. (called_exact (Unit {0}) 0 Plain site (Some x) f).some) (value_text site x) (λ ts y rest o q. no_value site x o q) (call_exact U n Plain site (Some x)) (ended_piece {U = U} {n = n} site (λ e. tree.Assign x e)).exact;
+  }
+
+  pub no_spawn : (site : ℕ) (x : Name) {t : Token} {us : List Token} {y : Stmt × ℕ} {rest : List Token} → t.kind ≡ kind.Spawn → (value_or_call {U = Unit {0}} {n = 0} site x).rel (t ∷ us) y rest → ⊥
+  no_spawn site x is (inl (f, vs, tok i, d)) = let clash : kind.Spawn ≡ kind.Name = sym is ∙ i in cc
+  no_spawn site x is (inr (e, vs, r, d)) = begins_not text mark.Spawn refl is r
+
+  abbrev assigned_piece : {U : Type 0} {n : ℕ} (site : ℕ) (x : Name) → Piece U n any (Stmt × ℕ)
+  assigned_piece site x = choose mark.Spawn (λ _. call_as Spawned site (Some x)) (value_or_call site x) (λ t us b rest is d h. no_spawn site x is d)
+
+  abbrev element_piece : {U : Type 0} {n : ℕ} (site : ℕ) (x : Name) → Piece U n any (Stmt × ℕ)
+  element_piece site x = expr_before text mark.RightBracket refl (λ i. expect mark.Assign >>> λ _. ended_piece site (λ e. tree.AssignElement x i e))
+
+  abbrev NamedBy : (site : ℕ) (t u : Token) → Kind → List Token → Stmt × ℕ → List Token → Type 0
+  NamedBy site t u kind.Assign = (assigned_piece {U = Unit {0}} {n = 0} site (name_of text t)).rel
+  NamedBy site t u kind.LeftBracket = (element_piece {U = Unit {0}} {n = 0} site (name_of text t)).rel
+  NamedBy site t u kind.AddAssign = (ended_piece {U = Unit {0}} {n = 0} site (λ e. tree.AddTo (name_of text t) e)).rel
+  NamedBy site t u kind.LeftParen = (called_piece {U = Unit {0}} {n = 0} Plain site None t).rel
+  NamedBy site t u _ = λ ts y rest. ⊥
+
+  named_branch : (U : Type 0) (n : ℕ) (site : ℕ) (t u : Token) (k : Kind) → Branch U n (NamedBy site t u k) any u (named_stmt text n site t u k)
+  unfolding named_stmt assigned element_assigned
+  named_branch U n site t u kind.Assign = inl (assigned_piece {U = U} {n = n} site (name_of text t)).exact
+  named_branch U n site t u kind.LeftBracket = inl (element_piece {U = U} {n = n} site (name_of text t)).exact
+  named_branch U n site t u kind.AddAssign = inl (ended_piece {U = U} {n = n} site (λ e. tree.AddTo (name_of text t) e)).exact
+  named_branch U n site t u kind.LeftParen = inl (called_exact U n Plain site None t)
+  named_branch U n site t u _ = inr (record { stops = λ ts. refl; never = λ ts a rest d. d })
+
+  zero_read : (after : List Token) → ReadsWhole text (token_of (kind.Number 0) ∷ after) (tree.Number (pos 0)) after
+  zero_read after = grammar.operators (grammar.operators (grammar.operators (grammar.operators (grammar.operand refl (grammar.number (omega arith))) grammar.end) grammar.end) grammar.end) grammar.end
+
+  -- some text of an expression and a semicolon behind a first token
+  some_ended : (site : ℕ) (make : Expr → Stmt) → SomeText (ended_piece {U = Unit {0}} {n = 0} site make).rel
+  some_ended site make = (ended_piece {U = Unit {0}} {n = 0} site make).exact.some
+
+  some_named : (site : ℕ) (t : Token) → SomeText (First (NamedBy site t))
+  some_named site t =
+      let x = some_ended site (λ e. tree.AddTo (name_of text t) e) in
+      record { text = token_of kind.AddAssign ∷ x.text; value = x.value; reads = λ after. at_first (NamedBy site t) (token_of kind.AddAssign) kind.AddAssign refl (x.text ++ after) x.value after (x.reads after) }
+
+  pub named_exact : (U : Type 0) (n : ℕ) (site : ℕ) (t : Token) → Exact U n (First (NamedBy site t)) any (by_first (named_stmt text n site t))
   named_exact U n site t =
-      token_then U n is_assign kind.Assign refl (λ (_ : Token). First (AssignedBy site (name_of text t))) any (λ _ ts. by_first (assigned text n site (name_of text t)) ts)
-      (λ _. fewer_exact U n (suc n) (First (AssignedBy site (name_of text t))) any (by_first (assigned text n site (name_of text t))) (omega arith)
-      (first_exact U n (AssignedBy site (name_of text t)) any (assigned text n site (name_of text t)) (some_assigned site (name_of text t)) (assigned_branch U n site (name_of text t))))
+      fewer_exact U n (suc n) (First (NamedBy site t)) any (by_first (named_stmt text n site t)) (omega arith)
+      (first_exact U n (NamedBy site t) any (named_stmt text n site t) (some_named site t) (named_branch U n site t))
 
-  abbrev pub Declared : List Token → Stmt → List Token → Type 0
-  Declared = Seq (Tok is_name) (λ x. Seq (Tok is_assign) (λ (_ : Token). Seq (E text) (λ e. Alone is_semicolon (tree.Declare (name_of text x) e))))
+  abbrev array_piece : {U : Type 0} {n : ℕ} (site : ℕ) (x : Name) → Piece U n any (Stmt × ℕ)
+  array_piece site x = expr_before text mark.RightBracket refl (λ e. expect mark.Semicolon >>> λ _. give (tree.DeclareArray x e, site))
 
-  declared_exact : (U : Type 0) (n : ℕ) → Exact U n Declared any (declared text n)
-  unfolding declared
-  declared_exact U n =
-      token_then U n is_name kind.Name refl (λ x. Seq (Tok is_assign) (λ (_ : Token). Seq (E text) (λ e. Alone is_semicolon (tree.Declare (name_of text x) e)))) any
-      (λ x ts. token is_assign ts >>= λ y. expr text n y.1 >>= λ z. token is_semicolon z.1 >>= λ w. Ok (tree.Declare (name_of text x) z.0, w.1))
-      (λ x. token_then U n is_assign kind.Assign refl (λ (_ : Token). Seq (E text) (λ e. Alone is_semicolon (tree.Declare (name_of text x) e))) any
-      (λ _ ts. expr text n ts >>= λ z. token is_semicolon z.1 >>= λ w. Ok (tree.Declare (name_of text x) z.0, w.1))
-      (λ _. after_part U n (E text) (expr text n) (λ e. Alone is_semicolon (tree.Declare (name_of text x) e)) any (λ e ts. token is_semicolon ts >>= λ w. Ok (tree.Declare (name_of text x) e, w.1)) (expr_exact text U n)
-      (λ e. token_last U n is_semicolon kind.Semicolon refl (tree.Declare (name_of text x) e))))
+  abbrev DeclaredBy : (site : ℕ) (x : Name) → Token → Kind → List Token → Stmt × ℕ → List Token → Type 0
+  DeclaredBy site x u kind.Assign = (ended_piece {U = Unit {0}} {n = 0} site (λ e. tree.Declare x e)).rel
+  DeclaredBy site x u kind.LeftBracket = (array_piece {U = Unit {0}} {n = 0} site x).rel
+  DeclaredBy site x u _ = λ ts y rest. ⊥
 
-  abbrev pub StmtBy : ℕ → Token → Kind → List Token → Stmt × ℕ → List Token → Type 0
-  StmtBy site t kind.Int = Seq Declared (λ s. Done (s, site))
-  StmtBy site t kind.Name = Named site t
-  StmtBy site t kind.Sync = Alone is_semicolon (tree.Sync, site)
-  StmtBy site t _ = λ ts a rest. ⊥
+  pub declared_branch : (U : Type 0) (n : ℕ) (site : ℕ) (x : Name) (u : Token) (k : Kind) → Branch U n (DeclaredBy site x u k) any u (declared_as text n site x u k)
+  unfolding declared_as
+  declared_branch U n site x u kind.Assign = inl (ended_piece {U = U} {n = n} site (λ e. tree.Declare x e)).exact
+  declared_branch U n site x u kind.LeftBracket = inl (array_piece {U = U} {n = n} site x).exact
+  declared_branch U n site x u _ = inr (record { stops = λ ts. refl; never = λ ts a rest d. d })
 
-  abbrev pub Returned : List Token → Expr → List Token → Type 0
-  Returned = Seq (E text) (λ e. Seq (Tok is_semicolon) (λ (_ : Token). Alone is_right_brace e))
+  pub some_declared : (site : ℕ) (x : Name) → SomeText (First (DeclaredBy site x))
+  some_declared site x =
+      let y = some_ended site (λ e. tree.Declare x e) in
+      record { text = token_of kind.Assign ∷ y.text; value = y.value; reads = λ after. at_first (DeclaredBy site x) (token_of kind.Assign) kind.Assign refl (y.text ++ after) y.value after (y.reads after) }
 
-  returned_exact : (U : Type 0) (n : ℕ) → Exact U n Returned any (returned text n)
-  unfolding returned
-  returned_exact U n =
-      after_part U n (E text) (expr text n) (λ e. Seq (Tok is_semicolon) (λ (_ : Token). Alone is_right_brace e)) any
-      (λ e ts. token is_semicolon ts >>= λ y. token is_right_brace y.1 >>= λ z. Ok (e, z.1)) (expr_exact text U n)
-      (λ e. token_then U n is_semicolon kind.Semicolon refl (λ (_ : Token). Alone is_right_brace e) any (λ _ ts. token is_right_brace ts >>= λ z. Ok (e, z.1))
-      (λ _. token_last U n is_right_brace kind.RightBrace refl e))
-
-  abbrev pub LineBy : ℕ → Token → Kind → List Token → LineStep → List Token → Type 0
-  LineBy site t kind.Return = Seq Returned (λ e. Done (ending site t e))
-  LineBy site t kind.Int = Seq (StmtBy site t kind.Int) (λ y. Done (further t y))
-  LineBy site t kind.Name = Seq (StmtBy site t kind.Name) (λ y. Done (further t y))
-  LineBy site t kind.Sync = Seq (StmtBy site t kind.Sync) (λ y. Done (further t y))
-  LineBy site t _ = λ ts a rest. ⊥
-
-  line_branch : (U : Type 0) (n : ℕ) (site : ℕ) (t : Token) (k : Kind) → Branch U n (LineBy site t k) any t (next_line text n site t k)
-  unfolding next_line stmt
-  line_branch U n site t kind.Return =
-      inl (after_part U n Returned (returned text n) (λ e. Done (ending site t e)) any (λ e ts. Ok (ending site t e, ts)) (returned_exact U n) (λ e. done_exact U n (ending site t e)))
-  line_branch U n site t kind.Int =
-      inl (after_part U n (StmtBy site t kind.Int) (stmt text n site t kind.Int) (λ y. Done (further t y)) any (λ y ts. Ok (further t y, ts))
-      (after_part U n Declared (declared text n) (λ s. Done (s, site)) any (λ s ts. Ok ((s, site), ts)) (declared_exact U n) (λ s. done_exact U n (s, site)))
-      (λ y. done_exact U n (further t y)))
-  line_branch U n site t kind.Name =
-      inl (after_part U n (StmtBy site t kind.Name) (stmt text n site t kind.Name) (λ y. Done (further t y)) any (λ y ts. Ok (further t y, ts))
-      (named_exact U n site t) (λ y. done_exact U n (further t y)))
-  line_branch U n site t kind.Sync =
-      inl (after_part U n (StmtBy site t kind.Sync) (stmt text n site t kind.Sync) (λ y. Done (further t y)) any (λ y ts. Ok (further t y, ts))
-      (token_last U n is_semicolon kind.Semicolon refl (tree.Sync, site)) (λ y. done_exact U n (further t y)))
-  line_branch U n site t _ = inr (record { stops = λ ts. refl; never = λ ts a rest d. d })
-
-  -- ---- bodies
-
-  abbrev pub Lines : ℕ → List Token → Block × ℕ → List Token → Type 0
-  Lines site ts y rest = ReadsStmts text site ts y.0 y.1 rest × (is_first_body y.0 ≡ true)
-
-  abbrev pub NextLine : ℕ → List Token → LineStep → List Token → Type 0
-  NextLine site = First (LineBy site)
-
-  abbrev step : ℕ → ℕ → Reader LineStep
-  step n site = by_first (next_line text n site)
-
-  abbrev On : LineStep → List Token → Block × ℕ → List Token → Type 0
-  On = GoesOn put_before step NextLine Lines
-
-  -- a statement, and the lines after it
-  one_line : (t : Token) (vs : List Token) (s : Stmt) (site m : ℕ) (us : List Token) (y : Block × ℕ) (rest : List Token)
-      → ReadsStmt text site (t ∷ vs) s m us → is_first_stmt s ≡ true → Seq (Lines m) (λ b. Done (put_before (t.line, s) b)) us y rest
-      → ((b : Block) → is_first_body b ≡ true → is_first_body (tree.Then t.line s b) ≡ true) → Lines site (t ∷ vs) y rest
-  one_line t vs s site m us y rest r first (b, ws, (q, others), (same, value)) all =
-      let moved : ReadsStmts text m us b.0 b.1 rest = subst (λ w. ReadsStmts text m us b.0 b.1 w) same q in
-      rw value (grammar.one_more r moved, all b.0 others)
-
-  first_declare : (line : ℕ) (x : Name) (e : Expr) → is_first_expr e ≡ true → (b : Block) → is_first_body b ≡ true → is_first_body (tree.Then line (tree.Declare x e) b) ≡ true
-  first_declare line x e h b g = rw (h, g) refl
-
-  first_call : (line : ℕ) (k : CallKind) (site : ℕ) (x f : Name) (es : List Expr) → list_all is_first_expr es ≡ true → (b : Block) → is_first_body b ≡ true → is_first_body (tree.Then line (tree.Call k site (Some x) f es) b) ≡ true
-  first_call line k site x f es h b g = rw (h, g) refl
-
-  -- the call that a name takes
-  call_at : (site : ℕ) (x : Name) (t u : Token) (k : Kind) → u.kind ≡ k → (vs : List Token) (y : Stmt × ℕ) (us : List Token) → AssignedBy site x u k vs y us
-      → ReadsAssigned text site x (u ∷ vs) y.0 y.1 us × ((line : ℕ) (b : Block) → is_first_body b ≡ true → is_first_body (tree.Then line y.0 b) ≡ true) × (is_first_stmt y.0 ≡ true)
-  call_at site x t u kind.Name is vs y us (es, ws, (r, first), (same, value)) =
-      let moved : ReadsCall text vs es us = subst (λ w. ReadsCall text vs es w) same r in
-      rw (value, add-one) (grammar.ReadsAssigned.call is moved, (λ line b g. first_call line Plain site x (name_of text u) es first b g), first)
-  call_at site x t u kind.Spawn is vs y us (f, xs, (parts, is'), (es, ws, (r, first), (same, value))) =
-      let moved : ReadsCall text xs es us = subst (λ w. ReadsCall text xs es w) same r in
-      rw (parts, value, add-one) (grammar.ReadsAssigned.spawn is (name_only f.kind is') moved, (λ line b g. first_call line Spawned site x (name_of text f) es first b g), first)
-  call_at site x t u _ is vs y us d = absurd d
-
-  lines_at : (site : ℕ) (t : Token) (k : Kind) → t.kind ≡ k → (vs : List Token) (a : LineStep) (us : List Token) (y : Block × ℕ) (rest : List Token) → LineBy site t k vs a us → On a us y rest → Lines site (t ∷ vs) y rest
-  lines_at site t kind.Return is vs a us y rest (e, ws, (d, xs, (r, first), (u, zs, (parts, is'), (v, cs, (parts', is''), (same, value)))), (same', value')) g =
-      let h : Done (tree.Then t.line (tree.Return (Some e)) tree.End, site) us y rest = subst (λ a. On a us y rest) value' g in
-      let moved : ReadsWhole text vs d (u ∷ v ∷ rest) = subst (λ w. ReadsWhole text vs d w) (parts ∙ ap (λ w. u ∷ w) (parts' ∙ ap (λ w. v ∷ w) (same ∙ same' ∙ h.0))) r in
-      rw (h.1, value)
-      (grammar.one_more {us = v ∷ rest} (grammar.begins is (grammar.give (grammar.ReadsReturned.value moved (semicolon_only u.kind is')))) (grammar.ReadsStmts.close (right_brace_only v.kind is'')), first)
-  lines_at site t kind.Int is vs a us y rest (s, ws, (c, xs, (x, zs, (p, i), (q, cs, (p', i'), (e, ds, (r, first), (w, es, (p'', i''), (same'', value''))))), (same, value)), (same', value')) g =
-      let one : Name = name_of text x in
-      let h : On (further t (tree.Declare one e, site)) us y rest = subst (λ a. On a us y rest) (value' ∙ ap (further t) (value ∙ ap (λ (c : Stmt). (c, site)) value'')) g in
-      let moved : ReadsWhole text cs e (w ∷ us) = subst (λ v. ReadsWhole text cs e v) (p'' ∙ ap (λ v. w ∷ v) (same'' ∙ same ∙ same')) r in
-      let reads : ReadsStmt text site (t ∷ vs) (tree.Declare one e) site us =
-      rw (p ∙ ap (λ v. x ∷ v) p') (grammar.begins is (grammar.declare (name_only x.kind i) (grammar.ReadsDeclared.integer (assign_only q.kind i') moved (semicolon_only w.kind i'')))) in
-      one_line t vs (tree.Declare one e) site site us y rest reads first h (λ b g. first_declare t.line one e first b g)
-  lines_at site t kind.Name is vs a us y rest (s, ws, (u, xs, (parts, is'), (v, zs, parts', d)), (same', value')) g =
-      let c = call_at site (name_of text t) t v v.kind refl zs s ws d in
-      let h : On (further t s) us y rest = subst (λ a. On a us y rest) value' g in
-      let moved : ReadsAssigned text site (name_of text t) (v ∷ zs) s.0 s.1 us = subst (λ w. ReadsAssigned text site (name_of text t) (v ∷ zs) s.0 s.1 w) same' c.0 in
-      let reads : ReadsStmt text site (t ∷ vs) s.0 s.1 us =
-      rw (parts ∙ ap (λ w. u ∷ w) parts') (grammar.begins is (grammar.named (assign_only u.kind is') (grammar.ReadsNamed.assign moved))) in
-      one_line t vs s.0 site s.1 us y rest reads c.2 h (λ b g. c.1 t.line b g)
-  lines_at site t kind.Sync is vs a us y rest (s, ws, (u, xs, (parts, is'), (same, value)), (same', value')) g =
-      let h : On (further t (tree.Sync, site)) us y rest = subst (λ a. On a us y rest) (value' ∙ ap (further t) value) g in
-      let reads : ReadsStmt text site (t ∷ vs) tree.Sync site us = rw (parts ∙ ap (λ w. u ∷ w) (same ∙ same')) (grammar.begins is (grammar.sync (semicolon_only u.kind is'))) in
-      one_line t vs tree.Sync site site us y rest reads refl h (λ b g. rw g refl)
-  lines_at site t _ is vs a us y rest d g = absurd d
-
-  lines_into : (site : ℕ) (ts : List Token) (y : Block × ℕ) (rest : List Token) → Seq (NextLine site) On ts y rest → Lines site ts y rest
-  lines_into site ts y rest (a, us, (t, vs, parts, r), g) = rw parts (lines_at site t t.kind refl vs a us y rest r g)
-
-  -- a statement that is no end, and the lines after it
-  line_before : (site : ℕ) (t : Token) (k : Kind) → t.kind ≡ k → (ts us rest : List Token) (y : Stmt × ℕ) (b : Block) (o : ℕ) → LineBy site t k ts (further t y) us → ReadsStmts text y.1 us b o rest → is_first_body b ≡ true
-      → Seq (NextLine site) On (t ∷ ts) (tree.Then t.line y.0 b, o) rest
-  line_before site t k is ts us rest y b o d q first = (further t y, us, at_first (LineBy site) t k is ts (further t y) us d, ((b, o), rest, (q, first), (refl, refl)))
-
-  last_line : (site : ℕ) (t : Token) → t.kind ≡ kind.Return → {ts us rest : List Token} {e : Expr} {b : Block} {o : ℕ} → ReadsReturned text ts (Some e) us → ReadsStmts text site us b o rest
-      → is_first_body (tree.Then t.line (tree.Return (Some e)) b) ≡ true → Seq (NextLine site) On (t ∷ ts) (tree.Then t.line (tree.Return (Some e)) b, o) rest
-  last_line site t is {ts} {e = e} (grammar.ReadsReturned.value {t = u} r is') (grammar.ReadsStmts.close {t = v} {ts = rest} is'') first = (
-    ending site t e,
-    rest,
-    at_first (LineBy site) t kind.Return is ts (ending site t e) rest
-        (e, rest, (e, u ∷ v ∷ rest, (r, first), (u, v ∷ rest, (refl, ap is_semicolon is'), (v, rest, (refl, ap is_right_brace is''), (refl, refl)))), (refl, refl)),
-    (refl, refl),
-  )
-  last_line site t is r (grammar.one_more q q') first = absurd cc
-
-  line_out : (site : ℕ) (t : Token) {k : Kind} → t.kind ≡ k → {ts us rest : List Token} {s : Stmt} {b : Block} {m o : ℕ} → ReadsStmtBy text site k t ts s m us → ReadsStmts text m us b o rest
-      → is_first_body (tree.Then t.line s b) ≡ true → Seq (NextLine site) On (t ∷ ts) (tree.Then t.line s b, o) rest
-  line_out site t is {us = us} {rest = rest} {b = b} {o = o} (grammar.declare {x = x} {ts = ts} i (grammar.ReadsDeclared.integer {t = u} {u = v} {ts = vs} {e = e} i' r i'')) q first =
-      let all = both_true (is_first_expr e) (is_first_body b) first in
-      let s : Stmt = tree.Declare (name_of text x) e in
-      line_before site t kind.Int is (x ∷ ts) us rest (s, site) b o
-      ((s, site), us, (s, us, (x, ts, (refl, ap is_name i), (u, vs, (refl, ap is_assign i'), (e, v ∷ us, (r, all.0), (v, us, (refl, ap is_semicolon i''), (refl, refl))))), (refl, refl)), (refl, refl)) q all.1
-  line_out site t is (grammar.declare i (grammar.ReadsDeclared.array i1 r i2 i3)) q first = absurd cc
-  line_out site t is (grammar.named i (grammar.ReadsNamed.assign (grammar.ReadsAssigned.value r i'))) q first = absurd cc
-  line_out site t is {us = us} {rest = rest} {b = b} {o = o} (grammar.named {u = u} i (grammar.ReadsNamed.assign (grammar.ReadsAssigned.call {f = f} {ts = ts} {es = es} i' r))) q first =
-      let all = both_true (list_all is_first_expr es) (is_first_body b) first in
-      let y : Stmt × ℕ = (tree.Call Plain site (Some (name_of text t)) (name_of text f) es, site + 1) in
-      let q' : ReadsStmts text (site + 1) us b o rest = rw add-one q in
-      line_before site t kind.Name is (u ∷ f ∷ ts) us rest y b o
-      (y, us, (u, f ∷ ts, (refl, ap is_assign i), at_first (AssignedBy site (name_of text t)) f kind.Name i' ts y us (es, us, (r, all.0), (refl, refl))), (refl, refl)) q' all.1
-  line_out site t is {us = us} {rest = rest} {b = b} {o = o} (grammar.named {u = u} i (grammar.ReadsNamed.assign (grammar.ReadsAssigned.spawn {t = v} {f = f} {ts = ts} {es = es} i' i'' r))) q first =
-      let all = both_true (list_all is_first_expr es) (is_first_body b) first in
-      let y : Stmt × ℕ = (tree.Call Spawned site (Some (name_of text t)) (name_of text f) es, site + 1) in
-      let q' : ReadsStmts text (site + 1) us b o rest = rw add-one q in
-      line_before site t kind.Name is (u ∷ v ∷ f ∷ ts) us rest y b o
-      (y, us, (u, v ∷ f ∷ ts, (refl, ap is_assign i), at_first (AssignedBy site (name_of text t)) v kind.Spawn i' (f ∷ ts) y us (f, ts, (refl, ap is_name i''), (es, us, (r, all.0), (refl, refl)))), (refl, refl)) q' all.1
-  line_out site t is (grammar.named i (grammar.ReadsNamed.assign_element r i1 i2 r' i3)) q first = absurd cc
-  line_out site t is (grammar.named i (grammar.ReadsNamed.add r i')) q first = absurd cc
-  line_out site t is (grammar.named i (grammar.ReadsNamed.call r i')) q first = absurd cc
-  line_out site t is (grammar.spawn i r) q first = absurd cc
-  line_out site t is {us = us} {rest = rest} {b = b} {o = o} (grammar.sync {u = u} i) q first =
-      line_before site t kind.Sync is (u ∷ us) us rest (tree.Sync, site) b o ((tree.Sync, site), us, (u, us, (refl, ap is_semicolon i), (refl, refl)), (refl, refl)) q first
-  line_out site t is (grammar.when i r i' q') q first = absurd cc
-  line_out site t is (grammar.choose i r i' q' i'' q'') q first = absurd cc
-  line_out site t is (grammar.repeat i r i' q') q first = absurd cc
-  line_out site t is (grammar.loop r q') q first = absurd cc
-  line_out site t is (grammar.scope q') q first = absurd cc
-  line_out site t is (grammar.cut i1 i2 r i3 i4 i5 i6 q') q first = absurd cc
-  line_out site t is (grammar.region i q') q first = absurd cc
-  line_out site t is (grammar.print i r i1 i2) q first = absurd cc
-  line_out site t is (grammar.give (grammar.ReadsReturned.nothing i)) q first = absurd cc
-  line_out site t is (grammar.give (grammar.ReadsReturned.value {t = u} {e = e} r i)) q first = last_line site t is (grammar.ReadsReturned.value {t = u} r i) q first
-
-  lines_from : {site m : ℕ} {ts rest : List Token} {b : Block} → ReadsStmts text site ts b m rest → is_first_body b ≡ true → Seq (NextLine site) On ts (b, m) rest
-  lines_from (grammar.ReadsStmts.close is) first = absurd cc
-  lines_from {site} (grammar.one_more {t = t} (grammar.begins is r) q) first = line_out site t is r q first
-
-  lines_out : (site : ℕ) (ts : List Token) (y : Block × ℕ) (rest : List Token) → Lines site ts y rest → Seq (NextLine site) On ts y rest
-  lines_out site ts y rest r = lines_from r.0 r.1
-
-  some_line : (site : ℕ) → SomeText (NextLine site)
-  some_line site = record {
-    text = mark kind.Sync ∷ mark kind.Semicolon ∷ [];
-    value = further (mark kind.Sync) (tree.Sync, site);
-    reads = λ after. (mark kind.Sync, mark kind.Semicolon ∷ after, refl, ((tree.Sync, site), after, (mark kind.Semicolon, after, (refl, refl), (refl, refl)), (refl, refl)));
+  abbrev declared_piece : {U : Type 0} {n : ℕ} (site : ℕ) → Piece U n any (Stmt × ℕ)
+  declared_piece {U} {n} site = expect mark.Name >>> λ x. record {
+    rel = First (DeclaredBy site (name_of text x));
+    read = by_first (declared_as text n site (name_of text x));
+    exact = fewer_exact U n (suc n) (First (DeclaredBy site (name_of text x))) any (by_first (declared_as text n site (name_of text x))) (omega arith)
+        (first_exact U n (DeclaredBy site (name_of text x)) any (declared_as text n site (name_of text x)) (some_declared site (name_of text x)) (declared_branch U n site (name_of text x)));
   }
 
-  some_lines : (site : ℕ) → SomeText (Lines site)
-  some_lines site = record {
-    text = mark kind.Return ∷ mark (kind.Number 0) ∷ mark kind.Semicolon ∷ mark kind.RightBrace ∷ [];
-    value = (tree.Then 0 (tree.Return (Some (tree.Number (pos 0)))) tree.End, site);
-    reads = λ after. (
-      grammar.one_more {us = mark kind.RightBrace ∷ after} (grammar.begins refl (grammar.give (grammar.ReadsReturned.value (zero_read text (mark kind.Semicolon ∷ mark kind.RightBrace ∷ after)) refl))) (grammar.ReadsStmts.close refl),
-      refl,
-    );
-  }
+  abbrev returned_piece : {U : Type 0} {n : ℕ} (site : ℕ) → Piece U n any (Stmt × ℕ)
+  returned_piece site = choose mark.Semicolon (λ _. give (tree.Return None, site)) (ended_piece site (λ e. tree.Return (Some e))) (λ t us b rest is d h. begins_not text mark.Semicolon refl is d.2)
 
-  pub line_exact : (n : ℕ) (site : ℕ) → Exact (Unit {0}) n (NextLine site) any (step n site)
-  line_exact n site =
-      fewer_exact (Unit {0}) n (suc n) (NextLine site) any (step n site) (omega arith)
-      (first_exact (Unit {0}) n (LineBy site) any (next_line text n site) (some_line site) (line_branch (Unit {0}) n site))
+  abbrev printed_piece : {U : Type 0} {n : ℕ} (site : ℕ) → Piece U n any (Stmt × ℕ)
+  printed_piece site = expect mark.LeftParen >>> λ _. expr_before text mark.RightParen refl (λ e. expect mark.Semicolon >>> λ _. give (tree.Print e, site))
 
-  pub line_eats : (site : ℕ) (ts : List Token) (a : LineStep) (rest : List Token) → NextLine site ts a rest → len rest < len ts
-  line_eats site ts a rest r =
-      first_eats (Unit {0}) (len ts) (LineBy site) any (next_line text (len ts) site) (line_branch (Unit {0}) (len ts) site) ts a rest (omega arith) r
+  abbrev synced_piece : {U : Type 0} {n : ℕ} (site : ℕ) → Piece U n any (Stmt × ℕ)
+  synced_piece site = expect mark.Semicolon >>> λ _. give (tree.Sync, site)
 
-  pub lines_exact : (U : Type 0) (n : ℕ) (site : ℕ) → Exact U n (Lines site) any (lines text n site)
-  lines_exact U n site = row_exact put_before step NextLine Lines lines_into lines_out some_lines line_eats line_exact U n n (omega arith) site
+  abbrev pub SimpleBy : (site : ℕ) → Token → Kind → List Token → Stmt × ℕ → List Token → Type 0
+  SimpleBy site t kind.Int = (declared_piece {U = Unit {0}} {n = 0} site).rel
+  SimpleBy site t kind.Name = First (NamedBy site t)
+  SimpleBy site t kind.Spawn = (call_piece {U = Unit {0}} {n = 0} Spawned site None).rel
+  SimpleBy site t kind.Sync = (synced_piece {U = Unit {0}} {n = 0} site).rel
+  SimpleBy site t kind.Print = (printed_piece {U = Unit {0}} {n = 0} site).rel
+  SimpleBy site t kind.Return = (returned_piece {U = Unit {0}} {n = 0} site).rel
+  SimpleBy site t _ = λ ts y rest. ⊥
 
-  -- a body of the first grammar
-  abbrev pub Body : ℕ → List Token → Block × ℕ → List Token → Type 0
-  Body site ts y rest = ReadsBlock text site ts y.0 y.1 rest × (is_first_body y.0 ≡ true)
+  pub simple_branch : (U : Type 0) (n : ℕ) (site : ℕ) (t : Token) (k : Kind) → Branch U n (SimpleBy site t k) any t (simple text n site t k)
+  unfolding simple declared returned printed
+  simple_branch U n site t kind.Int = inl (declared_piece {U = U} {n = n} site).exact
+  simple_branch U n site t kind.Name = inl (named_exact U n site t)
+  simple_branch U n site t kind.Spawn = inl (call_exact U n Spawned site None)
+  simple_branch U n site t kind.Sync = inl (synced_piece {U = U} {n = n} site).exact
+  simple_branch U n site t kind.Print = inl (printed_piece {U = U} {n = n} site).exact
+  simple_branch U n site t kind.Return = inl (returned_piece {U = U} {n = n} site).exact
+  simple_branch U n site t _ = inr (record { stops = λ ts. refl; never = λ ts a rest d. d })
 
-  body_into : (site : ℕ) (ts : List Token) (y : Block × ℕ) (rest : List Token) → Seq (Tok is_left_brace) (λ (_ : Token). Lines site) ts y rest → Body site ts y rest
-  body_into site ts y rest (t, us, (parts, is), (r, first)) = rw parts (grammar.braces (left_brace_only t.kind is) r, first)
+  -- ---- simple statements in the grammar
 
-  pub body_from : {site m : ℕ} {ts rest : List Token} {b : Block} → ReadsBlock text site ts b m rest → is_first_body b ≡ true → Seq (Tok is_left_brace) (λ (_ : Token). Lines site) ts (b, m) rest
-  body_from (grammar.braces {t = t} {ts = ts} is r) first = (t, ts, (refl, ap is_left_brace is), (r, first))
+  assigned_into : (site : ℕ) (x : Name) (ts : List Token) (y : Stmt × ℕ) (rest : List Token) → (assigned_piece {U = Unit {0}} {n = 0} site x).rel ts y rest → ReadsAssigned text site x ts y.0 y.1 rest
+  assigned_into site x ts y rest (inr (inr (e, us, r, (t, vs, tok is, done)))) = grammar.ReadsAssigned.value r is
+  assigned_into site x ts y rest (inr (inl (f, us, tok is, (t, vs, tok i, (es, ws, r, (u, zs, tok i', done)))))) = rw add-one (grammar.ReadsAssigned.call is (grammar.called i r i'))
+  assigned_into site x ts y rest (inl (s, xs, tok is', (f, us, tok is, (t, vs, tok i, (es, ws, r, (u, zs, tok i', done)))))) = rw add-one (grammar.ReadsAssigned.spawn is' is (grammar.called i r i'))
 
-  pub body_exact : (U : Type 0) (n : ℕ) (site : ℕ) → Exact U n (Body site) any (body text n site)
-  unfolding body
-  body_exact U n site =
-      same_exact U n (Seq (Tok is_left_brace) (λ (_ : Token). Lines site)) (Body site) any (body text n site) (body_into site) (λ ts y rest r. body_from r.0 r.1)
-      (token_then U n is_left_brace kind.LeftBrace refl (λ (_ : Token). Lines site) any (λ _ ts. lines text n site ts) (λ _. lines_exact U n site))
+  assigned_out : {site m : ℕ} {x : Name} {ts rest : List Token} {s : Stmt} → ReadsAssigned text site x ts s m rest → (assigned_piece {U = Unit {0}} {n = 0} site x).rel ts (s, m) rest
+  assigned_out (grammar.ReadsAssigned.value {u = u} {rest = rest} {e = e} r is) = inr (inr (e, u ∷ rest, r, (u, rest, tok is, done)))
+  assigned_out (grammar.ReadsAssigned.call {f = f} {rest = rest} {es = es} is (grammar.called {t = t} {u = u} {ts = ts} i r i')) =
+      inr (inl (f, t ∷ ts, tok is, (t, ts, tok i, (es, u ∷ rest, r, (u, rest, tok i', done_next)))))
+  assigned_out (grammar.ReadsAssigned.spawn {t = s} {f = f} {rest = rest} {es = es} is' is (grammar.called {t = t} {u = u} {ts = ts} i r i')) =
+      inl (s, f ∷ t ∷ ts, tok is', (f, t ∷ ts, tok is, (t, ts, tok i, (es, u ∷ rest, r, (u, rest, tok i', done_next)))))
+
+  named_into : (site : ℕ) (t u : Token) (k : Kind) → (ts : List Token) (y : Stmt × ℕ) (rest : List Token) → NamedBy site t u k ts y rest → ReadsNamed text site k t ts y.0 y.1 rest
+  named_into site t u kind.Assign ts y rest d = grammar.ReadsNamed.assign (assigned_into site (name_of text t) ts y rest d)
+  named_into site t u kind.LeftBracket ts y rest (i, us, r, (v, vs, tok is, (w, ws, tok is', (e, xs, r', (z, zs, tok is'', done))))) = grammar.ReadsNamed.assign_element r is is' r' is''
+  named_into site t u kind.AddAssign ts y rest (e, us, r, (v, vs, tok is, done)) = grammar.ReadsNamed.add r is
+  named_into site t u kind.LeftParen ts y rest (es, ws, r, (v, zs, tok is, done)) = rw add-one (grammar.ReadsNamed.call r is)
+  named_into site t u _ ts y rest d = absurd d
+
+  named_out : {site m : ℕ} {k : Kind} {t : Token} {ts rest : List Token} {s : Stmt} (u : Token) → ReadsNamed text site k t ts s m rest → NamedBy site t u k ts (s, m) rest
+  named_out u (grammar.ReadsNamed.assign r) = assigned_out r
+  named_out u (grammar.ReadsNamed.assign_element {u = v} {v = w} {w = z} {us = us} {rest = rest} {i = i} {e = e} r is is' r' is'') =
+      (i, v ∷ w ∷ us, r, (v, w ∷ us, tok is, (w, us, tok is', (e, z ∷ rest, r', (z, rest, tok is'', done)))))
+  named_out u (grammar.ReadsNamed.add {u = v} {rest = rest} {e = e} r is) = (e, v ∷ rest, r, (v, rest, tok is, done))
+  named_out u (grammar.ReadsNamed.call {u = v} {rest = rest} {es = es} r is) = (es, v ∷ rest, r, (v, rest, tok is, done_next))
+
+  declared_into : (site : ℕ) (x : Name) (u : Token) (k : Kind) → u.kind ≡ k → (ts : List Token) (y : Stmt × ℕ) (rest : List Token) → DeclaredBy site x u k ts y rest → ReadsDeclared text x (u ∷ ts) y.0 rest × (y.1 ≡ site)
+  declared_into site x u kind.Assign i ts y rest (e, us, r, (v, vs, tok is, done)) = (grammar.ReadsDeclared.integer i r is, refl)
+  declared_into site x u kind.LeftBracket i ts y rest (e, us, r, (v, vs, tok is, (w, ws, tok is', done))) = (grammar.ReadsDeclared.array i r is is', refl)
+  declared_into site x u _ i ts y rest d = absurd d
+
+  declared_out : {x : Name} {ts rest : List Token} {s : Stmt} (site : ℕ) → ReadsDeclared text x ts s rest → First (DeclaredBy site x) ts (s, site) rest
+  declared_out {x} site (grammar.ReadsDeclared.integer {t = t} {u = u} {ts = ts} {rest = rest} {e = e} i r is) = at_first (DeclaredBy site x) t kind.Assign i ts (tree.Declare x e, site) rest (e, u ∷ rest, r, (u, rest, tok is, done))
+  declared_out {x} site (grammar.ReadsDeclared.array {t = t} {u = u} {v = v} {ts = ts} {rest = rest} {e = e} i r is is') =
+      at_first (DeclaredBy site x) t kind.LeftBracket i ts (tree.DeclareArray x e, site) rest (e, u ∷ v ∷ rest, r, (u, v ∷ rest, tok is, (v, rest, tok is', done)))
+
+  pub simple_into : (site : ℕ) (t : Token) (k : Kind) → (ts : List Token) (y : Stmt × ℕ) (rest : List Token) → SimpleBy site t k ts y rest → ReadsStmtBy text site k t ts y.0 y.1 rest
+  simple_into site t kind.Int ts y rest (x, us, tok is, (u, vs, parts, d)) =
+      let z = declared_into site (name_of text x) u u.kind refl vs y rest d in
+      rw (parts, z.1) (grammar.declare is z.0)
+  simple_into site t kind.Name ts y rest (u, vs, parts, d) = rw parts (grammar.named refl (named_into site t u u.kind vs y rest d))
+  simple_into site t kind.Spawn ts y rest (f, us, tok is, (u, vs, tok i, (es, ws, r, (v, zs, tok i', done)))) = rw add-one (grammar.spawn is (grammar.called i r i'))
+  simple_into site t kind.Sync ts y rest (u, us, tok is, done) = grammar.sync is
+  simple_into site t kind.Print ts y rest (u, us, tok is, (e, vs, r, (v, ws, tok i, (w, xs, tok i', done)))) = grammar.print is r i i'
+  simple_into site t kind.Return ts y rest (inl (u, us, tok is, done)) = grammar.give (grammar.ReadsReturned.nothing is)
+  simple_into site t kind.Return ts y rest (inr (e, us, r, (u, vs, tok is, done))) = grammar.give (grammar.ReadsReturned.value r is)
+  simple_into site t _ ts y rest d = absurd d
+
+  -- a kind that a statement without a block begins with
+  abbrev pub IsSimple : Kind → Type 0
+  IsSimple kind.Int = Unit {0}
+  IsSimple kind.Name = Unit {0}
+  IsSimple kind.Spawn = Unit {0}
+  IsSimple kind.Sync = Unit {0}
+  IsSimple kind.Print = Unit {0}
+  IsSimple kind.Return = Unit {0}
+  IsSimple _ = ⊥
+
+  pub simple_out : {site m : ℕ} {k : Kind} (t : Token) {ts rest : List Token} {s : Stmt} → ReadsStmtBy text site k t ts s m rest → IsSimple k → SimpleBy site t k ts (s, m) rest
+  simple_out {site} t (grammar.declare {x = x} {ts = ts} {rest = rest} is r) h = (x, ts, tok is, declared_out site r)
+  simple_out {site} {m} t {rest = rest} {s = s} (grammar.named {k = k} {u = u} {ts = ts} is r) h = at_first (NamedBy site t) u k is ts (s, m) rest (named_out u r)
+  simple_out {site} t (grammar.spawn {f = f} {rest = rest} {es = es} is (grammar.called {t = t'} {u = u} {ts = ts} i r i')) h = (f, t' ∷ ts, tok is, (t', ts, tok i, (es, u ∷ rest, r, (u, rest, tok i', done_next))))
+  simple_out {site} t (grammar.sync {u = u} {ts = ts} is) h = (u, ts, tok is, done)
+  simple_out {site} t (grammar.print {u = u} {v = v} {w = w} {ts = ts} {rest = rest} {e = e} is r i i') h = (u, ts, tok is, (e, v ∷ w ∷ rest, r, (v, w ∷ rest, tok i, (w, rest, tok i', done))))
+  simple_out {site} t (grammar.give (grammar.ReadsReturned.nothing {t = u} {ts = ts} is)) h = inl (u, ts, tok is, done)
+  simple_out {site} t (grammar.give (grammar.ReadsReturned.value {t = u} {rest = rest} {e = e} r is)) h = inr (e, u ∷ rest, r, (u, rest, tok is, done))
+  simple_out t (grammar.when i r i' q) h = absurd h
+  simple_out t (grammar.choose i r i' q i'' q') h = absurd h
+  simple_out t (grammar.repeat i r i' q) h = absurd h
+  simple_out t (grammar.loop r q) h = absurd h
+  simple_out t (grammar.scope q) h = absurd h
+  simple_out t (grammar.cut i1 i2 r i3 i4 i5 i6 q) h = absurd h
+  simple_out t (grammar.region i q) h = absurd h

@@ -1,12 +1,38 @@
 -- The turns of a loop that reads a row of parts.
-use Rattle.std.proofs.Common.{◌≡◌, ℕ, zero, suc, ◌+◌, ◌-◌, ◌<◌, ◌≤◌, List, [], ◌∷◌, ◌++◌, length, Ok, Err, refl, sym, ap, ◌∙◌, arith}
+use Rattle.std.proofs.Common.{◌≡◌, ℕ, zero, suc, ◌+◌, ◌-◌, ◌<◌, ◌≤◌, Bool, true, false, cond, List, [], ◌∷◌, ◌++◌, length, Option, Some, None, Ok, Err, refl, sym, ap, ◌∙◌, append_assoc, arith}
 use Rattle.cw_model.specs.declared.token.Token.{Token}
 use Rattle.cw_parse.specs.declared.stop.Stop.{Stop}
 use Rattle.cw_parse.specs.declared.stop.Stop.TheVariants as stop
-use Rattle.cw_model.specs.Syntax.{Function}
-use Rattle.cw_parse.specs.Parts.{add_front, functions}
-use Rattle.cw_parse.proofs.Depths.{pile_all}
-use Rattle.cw_parse.specs.Reading.{Read, Reader, ◌>>=◌, Fails, Step, turn, last, go_on, row, pile, with_front}
+use Rattle.cw_parse.specs.declared.marks.Mark.{Mark}
+use Rattle.cw_parse.specs.Marks.{is_mark, past}
+use Rattle.cw_model.specs.Syntax.{Name, Param, End}
+use Rattle.cw_parse.specs.declared.marks.Mark.TheVariants as mark
+use Rattle.cw_parse.specs.View.{block_from}
+use Rattle.cw_parse.specs.Parts.{add_front, Line, put_before, array, single, behind_name}
+use Rattle.cw_parse.specs.Reading.{Read, Reader, ◌>>=◌, Fails, if_next, row, pile, with_front}
+
+-- ---- a choice by the next token
+
+pub if_past : {A : Type 0} (m : Mark) (f : Token → Reader A) (g : Reader A) (ts : List Token) (t : Token) (us : List Token) → past m ts ≡ Some (t, us) → if_next (is_mark m) f g ts ≡ f t us
+if_past m f g [] t us e = absurd cc
+if_past {A} m f g (v ∷ vs) t us e = go (is_mark m v.kind) e
+  where
+    same : (x y : Token × List Token) → Some x ≡ Some y → x ≡ y
+    same x y e = cc
+
+    go : (b : Bool) → cond {A = Option (Token × List Token)} b (Some (v, vs)) None ≡ Some (t, us) → cond {A = Read A} b (f v vs) (g (v ∷ vs)) ≡ f t us
+    go true e = ap (λ (x : Token × List Token). f x.0 x.1) (same (v, vs) (t, us) e)
+    go false e = absurd cc
+
+pub if_not_past : {A : Type 0} (m : Mark) (f : Token → Reader A) (g : Reader A) (ts : List Token) → past m ts ≡ None → if_next (is_mark m) f g ts ≡ g ts
+if_not_past m f g [] e = refl
+if_not_past {A} m f g (v ∷ vs) e = go (is_mark m v.kind) e
+  where
+    go : (b : Bool) → cond {A = Option (Token × List Token)} b (Some (v, vs)) None ≡ None → cond {A = Read A} b (f v vs) (g (v ∷ vs)) ≡ g (v ∷ vs)
+    go true e = absurd cc
+    go false e = refl
+
+-- ---- rows
 
 pile_push : {A B : Type 0} (join : A → B → B) (front : List A) (a : A) (b : B) → pile join (front ++ a ∷ []) b ≡ pile join front (join a b)
 pile_push join [] a b = refl
@@ -21,68 +47,45 @@ pub with_nothing : {A B : Type 0} (join : A → B → B) (read : Read B) → wit
 with_nothing join (Ok y) = refl
 with_nothing join (Err m) = refl
 
-module _ {A S B : Type 0} (join : A → B → B) (step : S → Reader (Step A S B)) (n i : ℕ) (front : List A) (s : S) (ts : List Token) (total : Read B)
-    (so_far : with_front join front (row join step (n - i) s ts) ≡ total) where
+module _ {A S B : Type 0} (m : Mark) (end : S → B) (join : A → B → B) (part : S → Reader (A × S)) (n i : ℕ) (front : List A) (s : S) (ts : List Token) (total : Read B)
+    (so_far : with_front join front (row (is_mark m) end join part (n - i) s ts) ≡ total) where
+  abbrev onward : Reader B
+  onward us = part s us >>= λ x. row (is_mark m) end join part (n - (i + 1)) x.0.1 x.1 >>= λ y. Ok (join x.0.0 y.0, y.1)
+
   pub runs_out : n ≤ i → total ≡ Err (length ts)
   unfolding row
   runs_out le = let e : n - i ≡ 0 = omega arith in sym so_far ∙ (rw e refl)
 
-  one_turn : i < n → row join step (n - i) s ts ≡ (step s ts >>= λ x. go_on join (row join step (n - (i + 1))) x.0 x.1)
+  one_turn : i < n → row (is_mark m) end join part (n - i) s ts ≡ if_next (is_mark m) (λ _ us. Ok (end s, us)) onward ts
   unfolding row
   one_turn lt = let e : n - i ≡ suc (n - (i + 1)) = omega arith in rw e refl
 
-  then_so : i < n → with_front join front (step s ts >>= λ x. go_on join (row join step (n - (i + 1))) x.0 x.1) ≡ total
-  then_so lt = sym (ap (with_front join front) (one_turn lt)) ∙ so_far
+  pub closes : (t : Token) (us : List Token) → i < n → past m ts ≡ Some (t, us) → total ≡ Ok (pile join front (end s), us)
+  closes t us lt e = sym so_far ∙ ap (with_front join front) (one_turn lt ∙ if_past m (λ _ us. Ok (end s, us)) onward ts t us e)
 
-  pub ends : (b : B) (us : List Token) → i < n → step s ts ≡ Ok (last b, us) → total ≡ Ok (pile join front b, us)
-  ends b us lt e = sym (then_so lt) ∙ ap (λ r. with_front join front (r >>= λ x. go_on join (row join step (n - (i + 1))) x.0 x.1)) e
+  then_on : i < n → past m ts ≡ None → with_front join front (onward ts) ≡ total
+  then_on lt e = sym (ap (with_front join front) (one_turn lt ∙ if_not_past m (λ _ us. Ok (end s, us)) onward ts e)) ∙ so_far
 
-  pub goes_on : (a : A) (s' : S) (us : List Token) → i < n → step s ts ≡ Ok (turn a s', us) → with_front join (front ++ a ∷ []) (row join step (n - (i + 1)) s' us) ≡ total
-  goes_on a s' us lt e =
-      sym (regroup join front a (row join step (n - (i + 1)) s' us)) ∙ sym (ap (λ r. with_front join front (r >>= λ x. go_on join (row join step (n - (i + 1))) x.0 x.1)) e) ∙ then_so lt
+  pub goes_on : (a : A) (s' : S) (us : List Token) → i < n → past m ts ≡ None → part s ts ≡ Ok ((a, s'), us) → with_front join (front ++ a ∷ []) (row (is_mark m) end join part (n - (i + 1)) s' us) ≡ total
+  goes_on a s' us lt e h =
+      sym (regroup join front a (row (is_mark m) end join part (n - (i + 1)) s' us))
+      ∙ sym (ap (λ r. with_front join front (r >>= λ x. row (is_mark m) end join part (n - (i + 1)) x.0.1 x.1 >>= λ y. Ok (join x.0.0 y.0, y.1))) h) ∙ then_on lt e
 
-  pub fails : (d : Stop) → i < n → Fails d (step s ts) → Fails d total
-  fails stop.Memory lt f = tt
-  fails (stop.At m) lt f = sym (then_so lt) ∙ ap (λ r. with_front join front (r >>= λ x. go_on join (row join step (n - (i + 1))) x.0 x.1)) f
+  pub fails : (d : Stop) → i < n → past m ts ≡ None → Fails d (part s ts) → Fails d total
+  fails stop.Memory lt e f = tt
+  fails (stop.At k) lt e f = sym (then_on lt e) ∙ ap (λ r. with_front join front (r >>= λ x. row (is_mark m) end join part (n - (i + 1)) x.0.1 x.1 >>= λ y. Ok (join x.0.0 y.0, y.1))) f
 
--- ---- the turns of the loop over functions
+-- parts in front of none are those parts
+pub pile_all : {A : Type 0} (front : List A) → pile add_front front [] ≡ front
+pile_all [] = refl
+pile_all (a ∷ front) = ap (add_front a) (pile_all front)
 
-module _ (next : ℕ → Reader (Function × ℕ)) (n i : ℕ) (front : List Function) (s : ℕ) (ts : List Token) (total : Read (List Function))
-    (so_far : with_front add_front front (functions next (n - i) s ts) ≡ total) where
-  at_none : (k : ℕ) → functions next k s [] ≡ Ok ([], [])
-  unfolding functions
-  at_none zero = refl
-  at_none (suc k) = refl
+-- lines in front of the end of a block are a block
+pub block_all : (front : List Line) (n : ℕ) → pile put_before front (End, n) ≡ (block_from front, n)
+block_all [] n = refl
+block_all (x ∷ front) n = ap (put_before x) (block_all front n)
 
-  pub all_done : ts ≡ [] → total ≡ Ok (front, [])
-  all_done e = sym so_far ∙ ap (with_front add_front front) (ap (functions next (n - i) s) e ∙ at_none (n - i)) ∙ ap (λ fs. Ok (fs, [])) (pile_all front)
-
-  pub too_long : n ≤ i → (ts ≡ [] → ⊥) → total ≡ Err (length ts)
-  unfolding functions
-  too_long le some = sym so_far ∙ ap (with_front add_front front) (at_zero (n - i) ts (omega arith) some)
-    where
-      at_zero : (k : ℕ) (us : List Token) → k ≡ 0 → (us ≡ [] → ⊥) → functions next k s us ≡ Err (length us)
-      at_zero k [] e h = absurd (h refl)
-      at_zero k (u ∷ us) e h = rw e refl
-
-  abbrev onward : List Token → Read (List Function)
-  onward us = next s us >>= λ x. functions next (n - (i + 1)) x.0.1 x.1 >>= λ y. Ok (x.0.0 ∷ y.0, y.1)
-
-  one_function : i < n → (ts ≡ [] → ⊥) → functions next (n - i) s ts ≡ onward ts
-  unfolding functions
-  one_function lt some = at_more (n - i) ts (omega arith) some
-    where
-      at_more : (k : ℕ) (us : List Token) → k ≡ suc (n - (i + 1)) → (us ≡ [] → ⊥) → functions next k s us ≡ onward us
-      at_more k [] e h = absurd (h refl)
-      at_more k (u ∷ us) e h = rw e refl
-
-  then_on : i < n → (ts ≡ [] → ⊥) → with_front add_front front (onward ts) ≡ total
-  then_on lt some = sym (ap (with_front add_front front) (one_function lt some)) ∙ so_far
-
-  pub function_on : (f : Function) (s' : ℕ) (us : List Token) → i < n → (ts ≡ [] → ⊥) → next s ts ≡ Ok ((f, s'), us) → with_front add_front (front ++ f ∷ []) (functions next (n - (i + 1)) s' us) ≡ total
-  function_on f s' us lt some e =
-      sym (regroup add_front front f (functions next (n - (i + 1)) s' us)) ∙ sym (ap (λ r. with_front add_front front (r >>= λ x. functions next (n - (i + 1)) x.0.1 x.1 >>= λ y. Ok (x.0.0 ∷ y.0, y.1))) e) ∙ then_on lt some
-
-  pub function_fails : (d : Stop) → i < n → (ts ≡ [] → ⊥) → Fails d (next s ts) → Fails d total
-  function_fails stop.Memory lt some f = tt
-  function_fails (stop.At m) lt some f = sym (then_on lt some) ∙ ap (λ r. with_front add_front front (r >>= λ x. functions next (n - (i + 1)) x.0.1 x.1 >>= λ y. Ok (x.0.0 ∷ y.0, y.1))) f
+-- an array parameter, before a bracket behind it is tested for
+pub param_array : (x : Name) (ts : List Token) (u : Token) (us : List Token) (p : Param) (rest : List Token) → past mark.LeftBracket ts ≡ Some (u, us) → array x us ≡ Ok (p, rest) → behind_name x ts ≡ single p rest
+param_array x ts u us p rest on read =
+    if_past mark.LeftBracket (λ _ us. array x us >>= λ y. single y.0 y.1) (λ us. Ok (record { name = x; is_array = false }, us)) ts u us on ∙ ap (λ r. r >>= λ y. single y.0 y.1) read

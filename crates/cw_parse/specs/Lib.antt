@@ -2,8 +2,6 @@ pub mod View
 pub mod Reading
 pub mod Marks
 pub mod Parts
-pub mod Parentheses
 pub mod Seen
-pub mod FirstFault
 pub mod Nesting
 pub mod Parsed

@@ -4,23 +4,23 @@ use Rattle.cw_model.specs.declared.token.Token.{Token}
 use Rattle.cw_model.specs.Lines.{IsLeastLine}
 use Rattle.cw_model.specs.Sizes.{token_faults}
 use Rattle.cw_model.specs.Syntax.{Program}
+use Rattle.cw_model.specs.Grammar.{Derives, HasSyntaxFault}
 use Rattle.cw_text.specs.declared.fault.Fault.{Fault}
 use Rattle.cw_text.specs.declared.fault.Fault.TheVariants as fault
-use Rattle.cw_parse.specs.FirstFault.{DerivesFirst, HasFirstFault}
 
 -- no token passes a limit
 abbrev pub IsShort : List Token → Type 0
 IsShort ts = token_faults 0 0 ts ≡ []
 
--- no token passes a limit, and the tokens are a source of the first grammar, which has this tree
+-- no token passes a limit, and the tokens are a source, which has this tree
 pub record IsParsed (text : List ℕ) (ts : List Token) (program : Program) : Type 0 where
   pub short : IsShort ts
-  pub derived : DerivesFirst text ts program
+  pub derived : Derives text ts program
 
--- no token passes a limit, and the tokens are no source of the first grammar
+-- no token passes a limit, and the tokens are no source
 pub record IsUnderivable (text : List ℕ) (ts : List Token) (line : ℕ) : Type 0 where
   pub short : IsShort ts
-  pub fault : HasFirstFault text ts line
+  pub fault : HasSyntaxFault text ts line
 
 -- what must hold of a text's tokens where parsing answers this fault: the least line of a token that passes a limit,
 -- and only where none does, the first token that cannot go on
@@ -29,3 +29,18 @@ IsUnparsed text ts (fault.Size p) = IsLeastLine (token_faults 0 0 ts) p.line
 IsUnparsed text ts (fault.Syntax p) = IsUnderivable text ts p.line
 IsUnparsed text ts fault.Memory = Unit {0}
 IsUnparsed text ts _ = ⊥
+
+-- what must hold of a text's tokens where there is this fault in place of a tree
+abbrev pub HasNoTree : List ℕ → List Token → Fault → Type 0
+HasNoTree text ts (fault.Syntax p) = HasSyntaxFault text ts p.line
+HasNoTree text ts fault.Memory = Unit {0}
+HasNoTree text ts _ = ⊥
+
+-- tokens have at most one tree
+abbrev pub HasOneTree : List ℕ → List Token → Type 0
+HasOneTree text ts = (p q : Program) → Derives text ts p → Derives text ts q → p ≡ q
+
+-- tokens with a fault have no tree, and the fault is in one line
+pub record FaultsAreOne (text : List ℕ) (ts : List Token) : Type 0 where
+  pub no_tree : (line : ℕ) (program : Program) → HasSyntaxFault text ts line → Derives text ts program → ⊥
+  pub one_line : (line other : ℕ) → HasSyntaxFault text ts line → HasSyntaxFault text ts other → line ≡ other

@@ -1,145 +1,398 @@
 -- Reading the parts of a source, a definition for each function of the code.
-use Rattle.std.specs.Prelude.{ℕ, zero, suc, ◌+◌, pos, nat_le, true, false, if◌then◌else◌, List, [], ◌∷◌, length, Some, Ok, Err}
+use Rattle.std.specs.Prelude.{ℕ, zero, suc, ◌+◌, ◌==◌, pos, nat_le, Bool, true, false, if◌then◌else◌, List, [], ◌∷◌, ◌++◌, length, Option, None, Some, Ok, Err}
 use Rattle.cw_model.specs.declared.token.Token.{Token}
 use Rattle.cw_model.specs.declared.token.Kind.{Kind}
 use Rattle.cw_model.specs.declared.token.Kind.TheVariants as kind
 use Rattle.cw_model.specs.Limits.{most_number}
 use Rattle.cw_model.specs.Syntax as tree
+use Rattle.cw_model.specs.declared.syntax.Operator.{Operator}
 use Rattle.cw_model.specs.declared.syntax.CallKind.{CallKind}
 use Rattle.cw_model.specs.declared.syntax.CallKind.TheVariants.{Plain, Spawned}
-use Rattle.cw_model.specs.Syntax.{Name, Expr, Stmt, Block, Param, Function}
-use Rattle.cw_model.specs.Grammar.{name_of}
-use Rattle.cw_parse.specs.Reading.{Reader, ◌>>=◌, token, by_first, unless_token, Step, turn, last, row}
-use Rattle.cw_parse.specs.Marks.{is_name, is_int, is_left_paren, is_right_paren, is_left_brace, is_right_brace, is_assign, is_semicolon}
+use Rattle.cw_model.specs.Syntax.{Name, Expr, Stmt, Block, Param, Function, Reducer}
+use Rattle.cw_model.specs.Grammar.{name_of, infix_of, Head}
+use Rattle.cw_parse.specs.declared.marks.Mark.{Mark}
+use Rattle.cw_parse.specs.declared.marks.Mark.TheVariants as mark
+use Rattle.cw_parse.specs.Marks.{is_mark}
+use Rattle.cw_parse.specs.Reading.{Read, Reader, ◌>>=◌, token, by_first, if_next, unless_next, row}
+
+-- a token that a mark stands for
+abbrev pub marked : Mark → Reader Token
+marked m = token (is_mark m)
+
+-- ---- expressions
 
 -- a number that the tree can hold
 abbrev pub number : Token → ℕ → Reader Expr
 number t n ts = if nat_le n most_number then Ok (tree.Number (pos n), ts) else Err (length (t ∷ ts))
 
+-- an operand that was read: an index stands behind a name alone
+abbrev pub unindexed : Expr → Reader Expr
+unindexed e ts = unless_next (is_mark mark.LeftBracket) e ts
+
+-- an expression up to a closing token
+abbrev pub closed : {A : Type 0} → Mark → (Expr → A) → Reader Expr → Reader A
+closed m make whole ts = whole ts >>= λ x. marked m x.1 >>= λ y. Ok (make x.0, y.1)
+
+-- an operand that begins with a name
+unfoldable pub named : List ℕ → Reader Expr → Token → Reader Expr
+named text whole t ts =
+    if_next (is_mark mark.LeftBracket) (λ _ us. closed mark.RightBracket (λ e. tree.Element (name_of text t) e) whole us >>= λ x. unindexed x.0 x.1)
+    (λ us. Ok (tree.Variable (name_of text t), us)) ts
+
+-- a length after its word
+unfoldable pub measured : List ℕ → Reader Expr
+measured text ts = marked mark.LeftParen ts >>= λ x. marked mark.Name x.1 >>= λ y. marked mark.RightParen y.1 >>= λ z. Ok (tree.Length (name_of text y.0), z.1)
+
+-- an operand without a sign and without a name in front, after a first token of this kind
+unfoldable pub atom : List ℕ → Reader Expr → Token → Kind → Reader Expr
+atom text whole t (kind.Number n) ts = number t n ts
+atom text whole t kind.Len ts = measured text ts
+atom text whole t kind.LeftParen ts = closed mark.RightParen (λ e. e) whole ts
+atom text whole t _ ts = Err (length (t ∷ ts))
+
 -- an operand after a first token of this kind
-unfoldable pub operand : List ℕ → Reader Expr → Token → Kind → Reader Expr
-operand text inner t (kind.Number n) ts = number t n ts
-operand text inner t kind.Name ts = Ok (tree.Variable (name_of text t), ts)
-operand text inner t kind.LeftParen ts = inner ts >>= λ x. token is_right_paren x.1 >>= λ y. Ok (x.0, y.1)
-operand text inner t _ ts = Err (length (t ∷ ts))
+unfoldable pub operand_after : List ℕ → Reader Expr → Reader Expr → Token → Kind → Reader Expr
+operand_after text whole inner t kind.Minus ts = inner ts >>= λ x. Ok (tree.Negative x.0, x.1)
+operand_after text whole inner t kind.Not ts = inner ts >>= λ x. Ok (tree.Not x.0, x.1)
+operand_after text whole inner t kind.Name ts = named text whole t ts
+operand_after text whole inner t k ts = atom text whole t k ts >>= λ x. unindexed x.0 x.1
+
+-- an operator, if it is one of this level
+abbrev pub at_level : ℕ → Option (ℕ × Operator) → Option Operator
+at_level k None = None
+at_level k (Some x) = if x.0 == k then Some x.1 else None
+
+-- an operator and the tokens after it, if there is one
+abbrev pub beside : List Token → Option Operator → Option (Operator × List Token)
+beside ts None = None
+beside ts (Some o) = Some (o, ts)
+
+-- the operator of this level that the tokens begin with, and the tokens after it
+abbrev pub operator_at : ℕ → List Token → Option (Operator × List Token)
+operator_at k [] = None
+operator_at k (t ∷ ts) = beside ts (at_level k (infix_of t.kind))
+
+-- a left operand, and what follows an operator behind it
+abbrev pub chain_on : Reader Expr → (Expr → Reader Expr) → Expr → List Token → Option (Operator × List Token) → Read Expr
+chain_on next more d ts None = Ok (d, ts)
+chain_on next more d ts (Some x) = next x.1 >>= λ e. more (tree.Binary x.0 d e.0) e.1
+
+-- the operators of a level behind a left operand, in at most so many steps
+unfoldable pub chain : Reader Expr → ℕ → ℕ → Expr → Reader Expr
+chain next k zero d ts = Ok (d, ts)
+chain next k (suc n) d ts = chain_on next (chain next k n) d ts (operator_at k ts)
+
+-- an expression with operators of levels up to this one: each level is the one below and a chain behind it
+unfoldable pub level_over : Reader Expr → ℕ → ℕ → Reader Expr
+level_over operand n zero ts = operand ts
+level_over operand n (suc k) ts = level_over operand n k ts >>= λ x. chain (level_over operand n k) (suc k) n x.0 x.1
+
+-- an operand, in which operands lie in one another at most so deep
+unfoldable pub operand : List ℕ → ℕ → Reader Expr
+operand text zero ts = Err (length ts)
+operand text (suc n) ts = by_first (operand_after text (level_over (operand text n) n 4) (operand text n)) ts
+
+-- an expression with operators of levels up to this one, in which operands lie in one another at most so deep
+abbrev pub level : List ℕ → ℕ → ℕ → Reader Expr
+level text n k = level_over (operand text n) n k
 
 -- an expression, in which operands lie in one another at most so deep
-unfoldable pub expr : List ℕ → ℕ → Reader Expr
-expr text zero ts = Err (length ts)
-expr text (suc n) ts = by_first (operand text (expr text n)) ts
+abbrev pub expr : List ℕ → ℕ → Reader Expr
+expr text n = level text n 4
+
+-- ---- lists in commas
 
 -- one more in front
 abbrev pub add_front : {A : Type 0} → A → List A → List A
 add_front a rest = a ∷ rest
 
--- a further argument, or the end of the arguments, after a first token of this kind
-unfoldable pub next_argument : List ℕ → ℕ → Token → Kind → Reader (Step Expr (Unit {0}) (List Expr))
-next_argument text limit t kind.RightParen ts = Ok (last [], ts)
-next_argument text limit t kind.Comma ts = expr text limit ts >>= λ x. Ok (turn x.0 tt, x.1)
-next_argument text limit t _ ts = Err (length (t ∷ ts))
+-- a comma and a further part
+abbrev pub further : {A : Type 0} → Reader A → Unit {0} → Reader (A × Unit {0})
+further part s ts = marked mark.Comma ts >>= λ c. part c.1 >>= λ x. Ok ((x.0, tt), x.1)
 
--- the arguments after the first one, and the parenthesis that closes them
-abbrev pub more_arguments : List ℕ → ℕ → Reader (List Expr)
-more_arguments text limit ts = row add_front (λ _. by_first (next_argument text limit)) limit tt ts
+-- the further parts after one, and the parenthesis that closes them
+abbrev pub others : {A : Type 0} → Reader A → ℕ → Reader (List A)
+others part n ts = row (is_mark mark.RightParen) (λ _. []) add_front (further part) n tt ts
 
--- one argument or more, and the parenthesis that closes them
-abbrev pub some_arguments : List ℕ → ℕ → Reader (List Expr)
-some_arguments text limit ts = expr text limit ts >>= λ x. more_arguments text limit x.1 >>= λ y. Ok (x.0 ∷ y.0, y.1)
+-- one part or more, and the parenthesis that closes them
+abbrev pub some_of : {A : Type 0} → Reader A → ℕ → Reader (List A)
+some_of part n ts = part ts >>= λ x. others part n x.1 >>= λ y. Ok (x.0 ∷ y.0, y.1)
 
--- any number of arguments, and the parenthesis that closes them
-unfoldable pub arguments : List ℕ → ℕ → Reader (List Expr)
-arguments text limit ts = unless_token is_right_paren [] (some_arguments text limit) ts
+-- any number of parts, and the parenthesis that closes them
+unfoldable pub list : {A : Type 0} → Reader A → ℕ → Reader (List A)
+list part n ts = if_next (is_mark mark.RightParen) (λ _ us. Ok ([], us)) (some_of part n) ts
 
--- what follows the name of a callee
-unfoldable pub called : List ℕ → ℕ → Reader (List Expr)
-called text limit ts = token is_left_paren ts >>= λ x. arguments text limit x.1 >>= λ y. token is_semicolon y.1 >>= λ z. Ok (y.0, z.1)
+-- a name
+abbrev pub name : List ℕ → Reader Name
+name text ts = marked mark.Name ts >>= λ x. Ok (name_of text x.0, x.1)
 
--- a call whose result a name takes, after the name of its callee, and the number after its own
-unfoldable pub call_into : List ℕ → ℕ → CallKind → ℕ → Name → Token → Reader (Stmt × ℕ)
-call_into text limit kind site x f ts = called text limit ts >>= λ y. Ok ((tree.Call kind site (Some x) (name_of text f) y.0, site + 1), y.1)
+-- ---- statements without a block
 
--- what follows a name and "=", after a first token of this kind
-unfoldable pub assigned : List ℕ → ℕ → ℕ → Name → Token → Kind → Reader (Stmt × ℕ)
-assigned text limit site x t kind.Name ts = call_into text limit Plain site x t ts
-assigned text limit site x t kind.Spawn ts = token is_name ts >>= λ f. call_into text limit Spawned site x f.0 f.1
-assigned text limit site x t _ ts = Err (length (t ∷ ts))
+-- what follows the name of a callee, and the number after that of the call
+unfoldable pub called : List ℕ → ℕ → CallKind → ℕ → Option Name → Token → Reader (Stmt × ℕ)
+called text n how site target f ts =
+    list (expr text n) n ts >>= λ y. marked mark.Semicolon y.1 >>= λ z. Ok ((tree.Call how site target (name_of text f) y.0, site + 1), z.1)
 
--- what follows a name at the front of a statement
-unfoldable pub named : List ℕ → ℕ → ℕ → Token → Reader (Stmt × ℕ)
-named text limit site t ts = token is_assign ts >>= λ x. by_first (assigned text limit site (name_of text t)) x.1
+-- a call after what stands in front of the name of its callee
+unfoldable pub call : List ℕ → ℕ → CallKind → ℕ → Option Name → Reader (Stmt × ℕ)
+call text n how site target ts = marked mark.Name ts >>= λ f. marked mark.LeftParen f.1 >>= λ u. called text n how site target f.0 u.1
+
+-- an expression up to the semicolon of its statement
+abbrev pub ended : List ℕ → ℕ → ℕ → (Expr → Stmt) → Reader (Stmt × ℕ)
+ended text n site make ts = closed mark.Semicolon (λ e. (make e, site)) (expr text n) ts
+
+-- a name and an opening parenthesis
+abbrev pub is_call : List Token → Bool
+is_call [] = false
+is_call (t ∷ []) = false
+is_call (t ∷ u ∷ ts) = if is_mark mark.Name t.kind then is_mark mark.LeftParen u.kind else false
+
+-- what follows a name and "="
+unfoldable pub assigned : List ℕ → ℕ → ℕ → Name → Reader (Stmt × ℕ)
+assigned text n site x ts =
+    if_next (is_mark mark.Spawn) (λ _ us. call text n Spawned site (Some x) us)
+    (λ us. if is_call us then call text n Plain site (Some x) us else ended text n site (λ e. tree.Assign x e) us) ts
+
+-- what follows a name and "[" in a statement
+unfoldable pub element_assigned : List ℕ → ℕ → ℕ → Name → Reader (Stmt × ℕ)
+element_assigned text n site x ts =
+    expr text n ts >>= λ i. marked mark.RightBracket i.1 >>= λ u. marked mark.Assign u.1 >>= λ v. ended text n site (λ e. tree.AssignElement x i.0 e) v.1
+
+-- what follows the name at the front of a statement, after a second token of this kind
+unfoldable pub named_stmt : List ℕ → ℕ → ℕ → Token → Token → Kind → Reader (Stmt × ℕ)
+named_stmt text n site t u kind.Assign ts = assigned text n site (name_of text t) ts
+named_stmt text n site t u kind.LeftBracket ts = element_assigned text n site (name_of text t) ts
+named_stmt text n site t u kind.AddAssign ts = ended text n site (λ e. tree.AddTo (name_of text t) e) ts
+named_stmt text n site t u kind.LeftParen ts = called text n Plain site None t ts
+named_stmt text n site t u _ ts = Err (length (u ∷ ts))
+
+-- what follows "int" and a name in a statement, after a next token of this kind
+unfoldable pub declared_as : List ℕ → ℕ → ℕ → Name → Token → Kind → Reader (Stmt × ℕ)
+declared_as text n site x u kind.Assign ts = ended text n site (λ e. tree.Declare x e) ts
+declared_as text n site x u kind.LeftBracket ts =
+    expr text n ts >>= λ e. marked mark.RightBracket e.1 >>= λ v. marked mark.Semicolon v.1 >>= λ w. Ok ((tree.DeclareArray x e.0, site), w.1)
+declared_as text n site x u _ ts = Err (length (u ∷ ts))
 
 -- what follows "int" in a statement
-unfoldable pub declared : List ℕ → ℕ → Reader Stmt
-declared text limit ts =
-    token is_name ts >>= λ x. token is_assign x.1 >>= λ y. expr text limit y.1 >>= λ z. token is_semicolon z.1 >>= λ w.
-    Ok (tree.Declare (name_of text x.0) z.0, w.1)
+unfoldable pub declared : List ℕ → ℕ → ℕ → Reader (Stmt × ℕ)
+declared text n site ts = marked mark.Name ts >>= λ x. by_first (declared_as text n site (name_of text x.0)) x.1
 
--- a statement after a first token of this kind, and the number of the next call statement
-unfoldable pub stmt : List ℕ → ℕ → ℕ → Token → Kind → Reader (Stmt × ℕ)
-stmt text limit site t kind.Int ts = declared text limit ts >>= λ x. Ok ((x.0, site), x.1)
-stmt text limit site t kind.Name ts = named text limit site t ts
-stmt text limit site t kind.Sync ts = token is_semicolon ts >>= λ x. Ok ((tree.Sync, site), x.1)
-stmt text limit site t _ ts = Err (length (t ∷ ts))
+-- what follows "return"
+unfoldable pub returned : List ℕ → ℕ → ℕ → Reader (Stmt × ℕ)
+returned text n site ts =
+    if_next (is_mark mark.Semicolon) (λ _ us. Ok ((tree.Return None, site), us)) (ended text n site (λ e. tree.Return (Some e))) ts
 
--- the value that a body returns after its "return", and the end of the body
-unfoldable pub returned : List ℕ → ℕ → Reader Expr
-returned text limit ts = expr text limit ts >>= λ x. token is_semicolon x.1 >>= λ y. token is_right_brace y.1 >>= λ z. Ok (x.0, z.1)
+-- what follows "print"
+unfoldable pub printed : List ℕ → ℕ → ℕ → Reader (Stmt × ℕ)
+printed text n site ts =
+    marked mark.LeftParen ts >>= λ u. expr text n u.1 >>= λ e. marked mark.RightParen e.1 >>= λ v. marked mark.Semicolon v.1 >>= λ w.
+    Ok ((tree.Print e.0, site), w.1)
+
+-- a statement without a block after a first token of this kind, and the number of the next call statement
+unfoldable pub simple : List ℕ → ℕ → ℕ → Token → Kind → Reader (Stmt × ℕ)
+simple text n site t kind.Int ts = declared text n site ts
+simple text n site t kind.Name ts = by_first (named_stmt text n site t) ts
+simple text n site t kind.Spawn ts = call text n Spawned site None ts
+simple text n site t kind.Sync ts = marked mark.Semicolon ts >>= λ x. Ok ((tree.Sync, site), x.1)
+simple text n site t kind.Print ts = printed text n site ts
+simple text n site t kind.Return ts = returned text n site ts
+simple text n site t _ ts = Err (length (t ∷ ts))
+
+-- ---- statements with a block
+
+-- what stands in front of a block
+pub data Opening : Type 0 where
+  If : Expr → Opening
+  While : Expr → Opening
+  For : Head → Opening
+  Scope : Opening
+  Cut : (array : Name) (at : Expr) (left right : Name) → Opening
+  Region : Name → Opening
+
+-- a condition in parentheses and an opening brace
+unfoldable pub condition : List ℕ → ℕ → Reader Expr
+condition text n ts =
+    marked mark.LeftParen ts >>= λ u. expr text n u.1 >>= λ e. marked mark.RightParen e.1 >>= λ v. marked mark.LeftBrace v.1 >>= λ w. Ok (e.0, w.1)
+
+-- the most turns in a leaf of a loop, after a first token of this kind
+abbrev pub turns : Token → Kind → Reader ℕ
+turns t (kind.Number n) ts = Ok (n, ts)
+turns t _ ts = Err (length (t ∷ ts))
+
+-- the most turns in a leaf of a loop: 64 where no number stands
+unfoldable pub grain : Reader ℕ
+grain ts = if_next (is_mark mark.Grain) (λ _ us. by_first turns us) (λ us. Ok (64, us)) ts
+
+-- the arrays of a loop
+unfoldable pub over : List ℕ → ℕ → Reader (List Name)
+over text n ts =
+    if_next (is_mark mark.Over) (λ _ us. marked mark.LeftParen us >>= λ u. some_of (name text) n u.1) (λ us. Ok ([], us)) ts
+
+-- the range of a loop: its variable and first value
+unfoldable pub range_from : List ℕ → ℕ → Reader (Name × Expr)
+range_from text n ts =
+    marked mark.LeftParen ts >>= λ l. marked mark.Int l.1 >>= λ i. marked mark.Name i.1 >>= λ x. marked mark.Assign x.1 >>= λ a.
+    expr text n a.1 >>= λ e. marked mark.Semicolon e.1 >>= λ s. Ok ((name_of text x.0, e.0), s.1)
+
+-- the range of a loop: the name that is tested, and the upper bound
+unfoldable pub range_to : List ℕ → ℕ → Reader (Name × Expr)
+range_to text n ts =
+    marked mark.Name ts >>= λ y. marked mark.Less y.1 >>= λ l. expr text n l.1 >>= λ e. marked mark.Semicolon e.1 >>= λ s. Ok ((name_of text y.0, e.0), s.1)
+
+-- the range of a loop: the name that is stepped
+unfoldable pub range_step : List ℕ → Reader Name
+range_step text ts =
+    marked mark.Name ts >>= λ z. marked mark.Increment z.1 >>= λ i. marked mark.RightParen i.1 >>= λ r. Ok (name_of text z.0, r.1)
+
+-- the head of a loop and an opening brace
+unfoldable pub head : List ℕ → ℕ → Reader Head
+head text n ts =
+    range_from text n ts >>= λ f. range_to text n f.1 >>= λ t. range_step text t.1 >>= λ z. grain z.1 >>= λ g. over text n g.1 >>= λ o. marked mark.LeftBrace o.1 >>= λ b.
+    Ok (record { variable = f.0.0; tested = t.0.0; stepped = z.0; from = f.0.1; to = t.0.1; grain = g.0; over = o.0 }, b.1)
+
+-- what follows "cut", and an opening brace
+unfoldable pub cut : List ℕ → ℕ → Reader Opening
+cut text n ts =
+    marked mark.Name ts >>= λ a. marked mark.At a.1 >>= λ u. expr text n u.1 >>= λ e. marked mark.As e.1 >>= λ v.
+    marked mark.Name v.1 >>= λ l. marked mark.Comma l.1 >>= λ c. marked mark.Name c.1 >>= λ r. marked mark.LeftBrace r.1 >>= λ b.
+    Ok (Cut (name_of text a.0) e.0 (name_of text l.0) (name_of text r.0), b.1)
+
+-- what follows "region", and an opening brace
+unfoldable pub region : List ℕ → Reader Opening
+region text ts = marked mark.Name ts >>= λ x. marked mark.LeftBrace x.1 >>= λ b. Ok (Region (name_of text x.0), b.1)
+
+-- what stands in front of a block after a first token of this kind, and the block's brace
+unfoldable pub opening : List ℕ → ℕ → Token → Kind → Reader Opening
+opening text n t kind.If ts = condition text n ts >>= λ x. Ok (If x.0, x.1)
+opening text n t kind.While ts = condition text n ts >>= λ x. Ok (While x.0, x.1)
+opening text n t kind.For ts = head text n ts >>= λ x. Ok (For x.0, x.1)
+opening text n t kind.Scope ts = marked mark.LeftBrace ts >>= λ x. Ok (Scope, x.1)
+opening text n t kind.Cut ts = cut text n ts
+opening text n t kind.Region ts = region text ts
+opening text n t _ ts = Err (length (t ∷ ts))
+
+-- a statement that is one block
+abbrev pub around : Opening → Block → Stmt
+around (If e) b = tree.If e b
+around (While e) b = tree.While e b
+around (For h) b = tree.For h.variable h.tested h.stepped h.from h.to h.grain h.over b
+around Scope b = tree.Scope b
+around (Cut a e l r) b = tree.Cut a e l r b
+around (Region tag) b = tree.Region tag b
+
+-- a statement that was read whole: an "else" stands behind the block of an "if" alone
+abbrev pub unanswered : Stmt × ℕ → Reader (Stmt × ℕ)
+unanswered s ts = unless_next (is_mark mark.Else) s ts
+
+-- what may follow the block behind an opening
+unfoldable pub framed_by : (ℕ → Reader (Block × ℕ)) → Opening → Block → ℕ → Reader (Stmt × ℕ)
+framed_by lines (If e) b site ts =
+    if_next (is_mark mark.Else) (λ _ us. (marked mark.LeftBrace us >>= λ x. lines site x.1 >>= λ c. Ok ((tree.IfElse e b c.0.0, c.0.1), c.1)) >>= λ y. unanswered y.0 y.1)
+    (λ us. Ok ((tree.If e b, site), us)) ts
+framed_by lines o b site ts = unanswered (around o b, site) ts
+
+-- a statement with a block after a first token of this kind
+unfoldable pub framed : List ℕ → ℕ → (ℕ → Reader (Block × ℕ)) → ℕ → Token → Kind → Reader (Stmt × ℕ)
+framed text n lines site t k ts = opening text n t k ts >>= λ o. lines site o.1 >>= λ b. framed_by lines o.0 b.0.0 b.0.1 b.1
+
+-- a statement after a first token of this kind
+unfoldable pub stmt : List ℕ → ℕ → (ℕ → Reader (Block × ℕ)) → ℕ → Token → Kind → Reader (Stmt × ℕ)
+stmt text n lines site t kind.If ts = framed text n lines site t kind.If ts
+stmt text n lines site t kind.While ts = framed text n lines site t kind.While ts
+stmt text n lines site t kind.For ts = framed text n lines site t kind.For ts
+stmt text n lines site t kind.Scope ts = framed text n lines site t kind.Scope ts
+stmt text n lines site t kind.Cut ts = framed text n lines site t kind.Cut ts
+stmt text n lines site t kind.Region ts = framed text n lines site t kind.Region ts
+stmt text n lines site t k ts = simple text n site t k ts >>= λ x. unanswered x.0 x.1
 
 -- a statement and its line
 abbrev pub Line : Type 0
 Line = ℕ × Stmt
 
--- a statement of a body, or the last one and the body's end, after a first token of this kind
-unfoldable pub next_line : List ℕ → ℕ → ℕ → Token → Kind → Reader (Step Line ℕ (Block × ℕ))
-next_line text limit site t kind.Return ts =
-    returned text limit ts >>= λ x. Ok (last (tree.Then t.line (tree.Return (Some x.0)) tree.End, site), x.1)
-next_line text limit site t k ts = stmt text limit site t k ts >>= λ x. Ok (turn (t.line, x.0.0) x.0.1, x.1)
+-- a statement beside its line
+abbrev pub line_by : List ℕ → ℕ → (ℕ → Reader (Block × ℕ)) → ℕ → Token → Kind → Reader (Line × ℕ)
+line_by text n lines site t k ts = stmt text n lines site t k ts >>= λ x. Ok (((t.line, x.0.0), x.0.1), x.1)
 
--- a statement in front of the rest of its body, beside the number of the next call statement
+-- a statement in front of the rest of its block, beside the number of the next call statement
 abbrev pub put_before : Line → Block × ℕ → Block × ℕ
 put_before line rest = (tree.Then line.0 line.1 rest.0, rest.1)
 
--- the statements of a body and its end
+-- the statements of a block and its closing brace
+abbrev pub lines_of : (ℕ → Reader (Line × ℕ)) → ℕ → ℕ → Reader (Block × ℕ)
+lines_of line n site ts = row (is_mark mark.RightBrace) (λ m. (tree.End, m)) put_before line n site ts
+
+-- a statement beside its line, in which statements and operands lie in one another at most so deep
+unfoldable pub line : List ℕ → ℕ → ℕ → Reader (Line × ℕ)
+line text zero site ts = Err (length ts)
+line text (suc n) site ts = by_first (line_by text n (lines_of (line text n) n) site) ts
+
+-- the statements of a block, in which others lie at most so deep, and its closing brace
 abbrev pub lines : List ℕ → ℕ → ℕ → Reader (Block × ℕ)
-lines text limit site ts = row put_before (λ s. by_first (next_line text limit s)) limit site ts
+lines text n = lines_of (line text n) n
 
--- a body in its braces, and the number of the next call statement
-unfoldable pub body : List ℕ → ℕ → ℕ → Reader (Block × ℕ)
-body text limit site ts = token is_left_brace ts >>= λ x. lines text limit site x.1
+-- ---- items
 
--- a parameter after its "int"
+-- an array parameter that was read: one pair of brackets makes an array
+abbrev pub single : Param → Reader Param
+single p ts = unless_next (is_mark mark.LeftBracket) p ts
+
+-- an array parameter behind its opening bracket
+abbrev pub array : Name → Reader Param
+array x ts = marked mark.RightBracket ts >>= λ v. Ok (record { name = x; is_array = true }, v.1)
+
+-- a parameter behind its name
+abbrev pub behind_name : Name → Reader Param
+behind_name x ts =
+    if_next (is_mark mark.LeftBracket) (λ _ us. array x us >>= λ y. single y.0 y.1) (λ us. Ok (record { name = x; is_array = false }, us)) ts
+
+-- a parameter
 unfoldable pub param : List ℕ → Reader Param
-param text ts = token is_name ts >>= λ x. Ok (record { name = name_of text x.0; is_array = false }, x.1)
+param text ts = marked mark.Int ts >>= λ t. marked mark.Name t.1 >>= λ x. behind_name (name_of text x.0) x.1
 
--- a further parameter, or the end of the parameters, after a first token of this kind
-unfoldable pub next_param : List ℕ → Token → Kind → Reader (Step Param (Unit {0}) (List Param))
-next_param text t kind.RightParen ts = Ok (last [], ts)
-next_param text t kind.Comma ts = token is_int ts >>= λ x. param text x.1 >>= λ y. Ok (turn y.0 tt, y.1)
-next_param text t _ ts = Err (length (t ∷ ts))
+-- a reducer or a function
+pub data Item : Type 0 where
+  Sum : Reducer → Item
+  Code : Function → Item
 
--- the parameters after the first one, and the parenthesis that closes them
-abbrev pub more_params : List ℕ → ℕ → Reader (List Param)
-more_params text n ts = row add_front (λ _. by_first (next_param text)) n tt ts
+-- a reducer after its first token
+unfoldable pub reducer : List ℕ → Token → Reader Reducer
+reducer text t ts =
+    marked mark.Sum ts >>= λ u. marked mark.Name u.1 >>= λ s. marked mark.Semicolon s.1 >>= λ v. Ok (record { name = name_of text s.0; line = t.line }, v.1)
 
--- the parameters after a first token of this kind
-unfoldable pub params : List ℕ → ℕ → Token → Kind → Reader (List Param)
-params text n t kind.RightParen ts = Ok ([], ts)
-params text n t kind.Int ts = param text ts >>= λ x. more_params text n x.1 >>= λ y. Ok (x.0 ∷ y.0, y.1)
-params text n t _ ts = Err (length (t ∷ ts))
+-- a function after its first token, and the number of the next call statement
+unfoldable pub function : List ℕ → ℕ → Bool → ℕ → Reader (Function × ℕ)
+function text n gives site ts =
+    marked mark.Name ts >>= λ f. marked mark.LeftParen f.1 >>= λ u. list (param text) n u.1 >>= λ p. marked mark.LeftBrace p.1 >>= λ o. lines text n site o.1 >>= λ b.
+    Ok ((record { name = name_of text f.0; line = f.0.line; gives_int = gives; params = p.0; body = b.0.0 }, b.0.1), b.1)
 
--- a function that gives an integer
-unfoldable pub function : List ℕ → ℕ → ℕ → Reader (Function × ℕ)
-function text n site ts =
-    token is_int ts >>= λ t. token is_name t.1 >>= λ f. token is_left_paren f.1 >>= λ u. by_first (params text n) u.1 >>= λ p.
-    body text n site p.1 >>= λ b.
-    Ok ((record { name = name_of text f.0; line = f.0.line; gives_int = true; params = p.0; body = b.0.0 }, b.0.1), b.1)
+-- an item after a first token of this kind, and the number of the next call statement
+unfoldable pub item : List ℕ → ℕ → ℕ → Token → Kind → Reader (Item × ℕ)
+item text n site t kind.Reducer ts = reducer text t ts >>= λ x. Ok ((Sum x.0, site), x.1)
+item text n site t kind.Int ts = function text n true site ts >>= λ x. Ok ((Code x.0.0, x.0.1), x.1)
+item text n site t kind.Void ts = function text n false site ts >>= λ x. Ok ((Code x.0.0, x.0.1), x.1)
+item text n site t _ ts = Err (length (t ∷ ts))
 
--- further functions up to the end of the source, in at most so many steps
-unfoldable pub functions : (ℕ → Reader (Function × ℕ)) → ℕ → ℕ → Reader (List Function)
-functions function n site [] = Ok ([], [])
-functions function zero site (t ∷ ts) = Err (length (t ∷ ts))
-functions function (suc n) site (t ∷ ts) = function site (t ∷ ts) >>= λ x. functions function n x.0.1 x.1 >>= λ y. Ok (x.0.0 ∷ y.0, y.1)
+-- the reducers and the functions of a source, each in their order
+abbrev pub Items : Type 0
+Items = List Reducer × List Function
 
--- a whole source of functions
-unfoldable pub whole : List ℕ → ℕ → Reader (List Function)
-whole text n ts = function text n 1 ts >>= λ x. functions (function text n) n x.0.1 x.1 >>= λ y. Ok (x.0.0 ∷ y.0, y.1)
+-- one more item in front
+abbrev pub put_item : Item → Items → Items
+put_item (Sum r) xs = (r ∷ xs.0, xs.1)
+put_item (Code f) xs = (xs.0, f ∷ xs.1)
+
+-- one more item behind others
+abbrev pub push_item : Items → Item → Items
+push_item xs (Sum r) = (xs.0 ++ r ∷ [], xs.1)
+push_item xs (Code f) = (xs.0, xs.1 ++ f ∷ [])
+
+-- the items up to the end of the source, in at most so many steps
+unfoldable pub items : (ℕ → Reader (Item × ℕ)) → ℕ → ℕ → Reader Items
+items item n site [] = Ok (([], []), [])
+items item zero site (t ∷ ts) = Err (length (t ∷ ts))
+items item (suc n) site (t ∷ ts) = item site (t ∷ ts) >>= λ x. items item n x.0.1 x.1 >>= λ y. Ok (put_item x.0.0 y.0, y.1)
+
+-- a whole source of at least one item
+unfoldable pub whole : List ℕ → ℕ → Reader Items
+whole text n [] = Err 0
+whole text n (t ∷ ts) = items (λ site. by_first (item text n site)) n 1 (t ∷ ts)

@@ -39,25 +39,21 @@ abbrev pub by_first : {A : Type 0} → (Token → Kind → Reader A) → Reader 
 by_first f [] = Err 0
 by_first f (t ∷ ts) = f t t.kind ts
 
--- a token alone, or else what another reader takes
-abbrev pub unless_token : {A : Type 0} → (Kind → Bool) → A → Reader A → Reader A
-unless_token p a f [] = f []
-unless_token p a f (t ∷ ts) = if p t.kind then Ok (a, ts) else f (t ∷ ts)
+-- one reader behind a token of a kind that passes, and else another
+abbrev pub if_next : {A : Type 0} → (Kind → Bool) → (Token → Reader A) → Reader A → Reader A
+if_next p f g [] = g []
+if_next p f g (t ∷ ts) = if p t.kind then f t ts else g (t ∷ ts)
 
--- one step of a row: a part and the state after it, or the end with all that it gives
-pub data Step (A S B : Type 0) : Type 0 where
-  turn : A → S → Step A S B
-  last : B → Step A S B
+-- a value that was read, where no token of a kind that passes stands behind it
+abbrev pub unless_next : {A : Type 0} → (Kind → Bool) → A → Reader A
+unless_next p a [] = Ok (a, [])
+unless_next p a (t ∷ ts) = if p t.kind then Err (length (t ∷ ts)) else Ok (a, t ∷ ts)
 
--- reading the rest of a row after one of its steps
-abbrev pub go_on : {A S B : Type 0} → (A → B → B) → (S → Reader B) → Step A S B → Reader B
-go_on join more (turn a s) ts = more s ts >>= λ y. Ok (join a y.0, y.1)
-go_on join more (last b) ts = Ok (b, ts)
-
--- a row of parts and its end, in at most so many steps
-unfoldable pub row : {A S B : Type 0} → (A → B → B) → (S → Reader (Step A S B)) → ℕ → S → Reader B
-row join step zero s ts = Err (length ts)
-row join step (suc n) s ts = step s ts >>= λ x. go_on join (row join step n) x.0 x.1
+-- a row of parts up to a token that closes it, in at most so many steps: each part goes on from the state after the one before
+unfoldable pub row : {A S B : Type 0} → (Kind → Bool) → (S → B) → (A → B → B) → (S → Reader (A × S)) → ℕ → S → Reader B
+row close end join part zero s ts = Err (length ts)
+row close end join part (suc n) s ts =
+    if_next close (λ _ us. Ok (end s, us)) (λ us. part s us >>= λ x. row close end join part n x.0.1 x.1 >>= λ y. Ok (join x.0.0 y.0, y.1)) ts
 
 -- what parts before make of what a row gives
 abbrev pub pile : {A B : Type 0} → (A → B → B) → List A → B → B

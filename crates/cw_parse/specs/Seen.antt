@@ -1,24 +1,33 @@
 -- What the steps of the code stand for.
-use Rattle.std.specs.Prelude.{ℕ, List, [], Option, Some, None}
-use Rattle.cw_model.specs.Syntax as tree
-use Rattle.cw_parse.specs.declared.tree.Expr.{Expr}
-use Rattle.cw_parse.specs.declared.tree.Param.{Param}
-use Rattle.cw_parse.specs.declared.stmt.Next.{Next}
-use Rattle.cw_parse.specs.declared.stmt.Next.TheVariants as next
-use Rattle.cw_parse.specs.View.{expr_of, line_of, param_of}
-use Rattle.cw_parse.specs.Reading.{Step, turn, last}
+use Rattle.std.specs.Prelude.{List, map}
+use Rattle.cw_model.specs.Grammar.{Head}
+use Rattle.cw_parse.specs.declared.tree.Head as code
+use Rattle.cw_parse.specs.declared.tree.Ast.{Ast}
+use Rattle.cw_parse.specs.declared.opening.Opening.{Opening}
+use Rattle.cw_parse.specs.declared.opening.Opening.TheVariants as opening
+use Rattle.cw_parse.specs.declared.item.Item.{Item}
+use Rattle.cw_parse.specs.declared.item.Item.TheVariants as item
+use Rattle.cw_parse.specs.View.{expr_of, function_of, reducer_of}
+use Rattle.cw_parse.specs.Parts as part
 
--- what the code read of arguments: a further one, or their end
-abbrev pub argument_step : Option Expr → Step tree.Expr (Unit {0}) (List tree.Expr)
-argument_step (Some e) = turn (expr_of e) tt
-argument_step None = last []
+-- the head of a loop
+abbrev pub head_of : code.Head → Head
+head_of h = record { variable = h.variable; tested = h.tested; stepped = h.stepped; from = expr_of h.from; to = expr_of h.to; grain = h.grain; over = h.over.items }
 
--- what the code read of parameters: a further one, or their end
-abbrev pub param_step : Option Param → Step tree.Param (Unit {0}) (List tree.Param)
-param_step (Some p) = turn (param_of p) tt
-param_step None = last []
+-- what stands in front of a block
+abbrev pub opening_of : Opening → part.Opening
+opening_of (opening.If e) = part.If (expr_of e)
+opening_of (opening.While e) = part.While (expr_of e)
+opening_of (opening.For h) = part.For (head_of h)
+opening_of opening.Scope = part.Scope
+opening_of (opening.Cut c) = part.Cut c.array (expr_of c.at) c.left c.right
+opening_of (opening.Region tag) = part.Region tag
 
--- what the code read of a body: a further statement, or the last one with the end of the body
-abbrev pub next_of : Next → Step (ℕ × tree.Stmt) ℕ (tree.Block × ℕ)
-next_of (next.Line line site) = turn (line_of line) site
-next_of (next.End line site) = last (tree.Then (line_of line).0 (line_of line).1 tree.End, site)
+-- a reducer or a function
+abbrev pub item_of : Item → part.Item
+item_of (item.Sum r) = part.Sum (reducer_of r)
+item_of (item.Code f) = part.Code (function_of f)
+
+-- the items of a source
+abbrev pub items_of : Ast → part.Items
+items_of ast = (map reducer_of ast.reducers.items, map function_of ast.functions.items)

@@ -1,18 +1,23 @@
 //! Expressions.
 
-ghost use Rattle.std.specs.Prelude.{◌≡◌, ◌-◌, option_map, IfOk, Ok};
-ghost use Rattle.cw_model.specs.Grammar.{name_of};
+ghost use Rattle.std.specs.Prelude.{◌≡◌, ◌+◌, ◌-◌, ◌<◌, option_map, IfOk};
+ghost use Rattle.cw_model.specs.Grammar.{name_of, infix_of};
 ghost use Rattle.cw_parse.specs.View.{expr_of};
+ghost use Rattle.cw_model.specs.Syntax as model;
+ghost use Rattle.cw_parse.specs.declared.marks.Mark.TheVariants.{RightBracket};
 ghost use Rattle.cw_parse.specs.Reading.{Gives, by_first};
-ghost use Rattle.cw_parse.specs.Parts.{expr};
-ghost use Rattle.cw_parse.specs.Parentheses.{inside, opened, simple, innermost, closes};
+ghost use Rattle.cw_parse.specs.Parts.{unindexed, closed, named, measured, atom, operand_after, at_level, operator_at, chain, operand, level, expr};
 
 use crate::input::{Read, Reading};
-use crate::marks::right_paren;
+use crate::marks::{Mark, expect, past};
 use crate::stop::Stop;
 use crate::tree::{Expr, Name};
+use cw_model::syntax::Operator;
 use cw_model::token::{Kind, Token};
 use std::alloc::AllocError;
+
+/// The level of the operators that bind least.
+const HIGHEST: usize = 4;
 
 /// The name that a token spells.
 pub(crate) fn name_of(reading: Reading<'_>, token: Token) -> Result<Name, AllocError>
@@ -23,92 +28,225 @@ pub(crate) fn name_of(reading: Reading<'_>, token: Token) -> Result<Name, AllocE
     Name::new(reading.alloc, &reading.text[start..end])
 }
 
-// The tokens after an opening parenthesis.
-fn inside(tokens: &[Token]) -> Option<&[Token]>
-    ensures { option_map (λ r. r.now) result ≡ inside tokens.now }
+// The operator of a kind of token, and its level: 1 binds most tightly.
+fn infix_of(kind: Kind) -> Option<(usize, Operator)>
+    ensures { result ≡ infix_of kind }
 {
-    match tokens {
-        [first, rest @ ..] if matches!(first.kind, Kind::LeftParen) => Some(rest),
+    match kind {
+        Kind::Equal => Some((4, Operator::Equal)),
+        Kind::NotEqual => Some((4, Operator::Unequal)),
+        Kind::Less => Some((3, Operator::Less)),
+        Kind::LessEqual => Some((3, Operator::AtMost)),
+        Kind::Greater => Some((3, Operator::Greater)),
+        Kind::GreaterEqual => Some((3, Operator::AtLeast)),
+        Kind::Plus => Some((2, Operator::Plus)),
+        Kind::Minus => Some((2, Operator::Minus)),
+        Kind::Star => Some((1, Operator::Times)),
+        Kind::Slash => Some((1, Operator::Divide)),
+        Kind::Percent => Some((1, Operator::Modulo)),
         _ => None,
     }
 }
 
-// How many parentheses open first, at most `depth` of them, and the tokens after them.
-fn opened(depth: usize, tokens: &[Token]) -> (usize, &[Token])
-    ensures { (result.0, result.1.now) ≡ opened depth 0 tokens.now }
+// The operator of this level that the tokens begin with, and the tokens after it.
+fn operator_at(level: usize, tokens: &[Token]) -> Option<(Operator, &[Token])>
+    ensures { option_map (λ x. (x.0, x.1.now)) result ≡ operator_at level tokens.now }
 {
-    let mut rest = tokens;
-    for count in 0..depth {
-        let Some(after) = inside(rest) else {
-            return (count, rest);
-        };
-        rest = after;
+    match tokens {
+        [] => None,
+        [first, rest @ ..] => match infix_of(first.kind) {
+            Some((found, operator)) if found == level => Some((operator, rest)),
+            _ => None,
+        },
     }
-    (depth, rest)
 }
 
-// A number or a name, after its first token.
-#[tactic(auto, unfolding(crate::specs::Parentheses::simple))]
-fn simple<'a>(reading: Reading<'_>, first: Token, tokens: &'a [Token]) -> Read<'a, Expr>
+// An operand that was read: an index stands behind a name alone.
+fn unindexed<'a>(value: Expr, tokens: &'a [Token]) -> Read<'a, Expr>
+    ensures { Gives (λ x. (expr_of x.0, x.1.now)) result (unindexed (expr_of value) tokens.now) }
+{
+    match past(Mark::LeftBracket, tokens) {
+        Some(_) => Err(Stop::At(tokens.len())),
+        None => Ok((value, tokens)),
+    }
+}
+
+// An element of an array behind the opening bracket of its index.
+#[cycle(expr)]
+fn indexed<'a>(
+    reading: Reading<'_>,
+    depth: usize,
+    array: Name,
+    tokens: &'a [Token],
+) -> Read<'a, Expr>
     ensures { Gives (λ x. (expr_of x.0, x.1.now)) result
-        (simple reading.entry.text.now first first.kind tokens.now) }
+        (closed RightBracket (λ e. model.Element array e) (expr reading.entry.text.now depth) tokens.now) }
+{
+    let (index, rest) = level(reading, depth, HIGHEST, tokens)?;
+    let (_, rest) = expect(Mark::RightBracket, rest)?;
+    let index = Box::new(reading.alloc, index)?;
+    Ok((Expr::Element(array, index), rest))
+}
+
+// An operand that begins with a name.
+#[cycle(expr)]
+#[tactic(auto, unfolding(crate::specs::Parts::named))]
+fn named<'a>(
+    reading: Reading<'_>,
+    depth: usize,
+    first: Token,
+    tokens: &'a [Token],
+) -> Read<'a, Expr>
+    ensures { Gives (λ x. (expr_of x.0, x.1.now)) result
+        (named reading.entry.text.now (expr reading.entry.text.now depth) first tokens.now) }
+{
+    let name = name_of(reading, first)?;
+    match past(Mark::LeftBracket, tokens) {
+        None => Ok((Expr::Variable(name), tokens)),
+        Some((_, rest)) => {
+            let (element, rest) = indexed(reading, depth, name, rest)?;
+            unindexed(element, rest)
+        }
+    }
+}
+
+// A length after its word.
+#[tactic(auto, unfolding(crate::specs::Parts::measured))]
+fn measured<'a>(reading: Reading<'_>, tokens: &'a [Token]) -> Read<'a, Expr>
+    ensures { Gives (λ x. (expr_of x.0, x.1.now)) result (measured reading.entry.text.now tokens.now) }
+{
+    let (_, rest) = expect(Mark::LeftParen, tokens)?;
+    let (array, rest) = expect(Mark::Name, rest)?;
+    let (_, rest) = expect(Mark::RightParen, rest)?;
+    Ok((Expr::Length(name_of(reading, array)?), rest))
+}
+
+// An operand without a sign and without a name in front, after its first token.
+#[cycle(expr)]
+#[tactic(auto, unfolding(crate::specs::Parts::atom))]
+fn atom<'a>(reading: Reading<'_>, depth: usize, first: Token, tokens: &'a [Token]) -> Read<'a, Expr>
+    ensures { Gives (λ x. (expr_of x.0, x.1.now)) result
+        (atom reading.entry.text.now (expr reading.entry.text.now depth) first first.kind tokens.now) }
 {
     match first.kind {
         Kind::Number(value) => match i64::try_from(value) {
             Ok(value) => Ok((Expr::Number(value), tokens)),
             Err(_) => Err(Stop::At(tokens.len() + 1)),
         },
-        Kind::Name => Ok((Expr::Variable(name_of(reading, first)?), tokens)),
+        Kind::Len => measured(reading, tokens),
+        Kind::LeftParen => {
+            let (inner, rest) = level(reading, depth, HIGHEST, tokens)?;
+            let (_, rest) = expect(Mark::RightParen, rest)?;
+            Ok((inner, rest))
+        }
         _ => Err(Stop::At(tokens.len() + 1)),
     }
 }
 
-// A number or a name.
-fn simple_by<'a>(reading: Reading<'_>, tokens: &'a [Token]) -> Read<'a, Expr>
-    ensures { Gives (λ x. (expr_of x.0, x.1.now)) result
-        (by_first (simple reading.entry.text.now) tokens.now) }
-{
-    match tokens {
-        [] => Err(Stop::At(0)),
-        [first, rest @ ..] => simple(reading, *first, rest),
-    }
-}
-
-// A number or a name inside `count` parentheses, where at most `depth` operands lie in one another.
-fn innermost<'a>(
+// An operand after its first token.
+#[cycle(expr)]
+#[tactic(auto, unfolding(crate::specs::Parts::operand_after))]
+fn operand_after<'a>(
     reading: Reading<'_>,
     depth: usize,
-    count: usize,
+    first: Token,
     tokens: &'a [Token],
 ) -> Read<'a, Expr>
     ensures { Gives (λ x. (expr_of x.0, x.1.now)) result
-        (innermost reading.entry.text.now (depth - count) tokens.now) }
+        (operand_after reading.entry.text.now (expr reading.entry.text.now depth) (operand reading.entry.text.now depth) first first.kind tokens.now) }
 {
-    if depth <= count {
-        return Err(Stop::At(tokens.len()));
+    match first.kind {
+        Kind::Minus => {
+            let (inner, rest) = operand(reading, depth, tokens)?;
+            Ok((Expr::Negative(Box::new(reading.alloc, inner)?), rest))
+        }
+        Kind::Not => {
+            let (inner, rest) = operand(reading, depth, tokens)?;
+            Ok((Expr::Not(Box::new(reading.alloc, inner)?), rest))
+        }
+        Kind::Name => named(reading, depth, first, tokens),
+        _ => {
+            let (value, rest) = atom(reading, depth, first, tokens)?;
+            unindexed(value, rest)
+        }
     }
-    simple_by(reading, tokens)
 }
 
-// An expression that was read, and the `count` parentheses that close after it.
-fn closed<'a>(count: usize, value: Expr, tokens: &'a [Token]) -> Read<'a, Expr>
+// An operand.
+#[cycle(expr)]
+fn operand_by<'a>(reading: Reading<'_>, depth: usize, tokens: &'a [Token]) -> Read<'a, Expr>
     ensures { Gives (λ x. (expr_of x.0, x.1.now)) result
-        (closes count (Ok (expr_of value, tokens.now))) }
+        (by_first (operand_after reading.entry.text.now (expr reading.entry.text.now depth) (operand reading.entry.text.now depth)) tokens.now) }
 {
+    match tokens {
+        [] => Err(Stop::At(0)),
+        [first, rest @ ..] => operand_after(reading, depth, *first, rest),
+    }
+}
+
+// An operand, in which operands lie in one another at most so deep.
+#[cycle(expr)]
+fn operand<'a>(reading: Reading<'_>, depth: usize, tokens: &'a [Token]) -> Read<'a, Expr>
+    ensures { Gives (λ x. (expr_of x.0, x.1.now)) result (operand reading.entry.text.now depth tokens.now) }
+{
+    if depth == 0 {
+        return Err(Stop::At(tokens.len()));
+    }
+    operand_by(reading, depth - 1, tokens)
+}
+
+// The operators of the level above `below`, behind a left operand.
+#[cycle(expr)]
+fn chain<'a>(
+    reading: Reading<'_>,
+    depth: usize,
+    below: usize,
+    first: Expr,
+    tokens: &'a [Token],
+) -> Read<'a, Expr>
+    requires { below < 4 }
+    ensures { Gives (λ x. (expr_of x.0, x.1.now)) result
+        (chain (level reading.entry.text.now depth below) (below + 1) depth (expr_of first) tokens.now) }
+{
+    let mut left = first;
     let mut rest = tokens;
-    for _ in 0..count {
-        let (_, after) = right_paren(rest)?;
+    for _ in 0..depth {
+        let Some((operator, after)) = operator_at(below + 1, rest) else {
+            return Ok((left, rest));
+        };
+        let (right, after) = level(reading, depth, below, after)?;
+        left = Expr::Binary(
+            operator,
+            Box::new(reading.alloc, left)?,
+            Box::new(reading.alloc, right)?,
+        );
         rest = after;
+    }
+    Ok((left, rest))
+}
+
+// An expression with operators of levels up to this one.
+#[cycle(expr)]
+fn level<'a>(
+    reading: Reading<'_>,
+    depth: usize,
+    highest: usize,
+    tokens: &'a [Token],
+) -> Read<'a, Expr>
+    requires { highest < 5 }
+    ensures { Gives (λ x. (expr_of x.0, x.1.now)) result
+        (level reading.entry.text.now depth highest tokens.now) }
+{
+    let (mut value, mut rest) = operand(reading, depth, tokens)?;
+    for below in 0..highest {
+        (value, rest) = chain(reading, depth, below, value, rest)?;
     }
     Ok((value, rest))
 }
 
-/// An expression, in which at most `depth` operands lie in one another.
+/// An expression, in which operands lie in one another at most `depth` deep.
 pub(crate) fn expr<'a>(reading: Reading<'_>, depth: usize, tokens: &'a [Token]) -> Read<'a, Expr>
-    ensures { Gives (λ x. (expr_of x.0, x.1.now)) result
-        (expr reading.entry.text.now depth tokens.now) }
+    ensures { Gives (λ x. (expr_of x.0, x.1.now)) result (expr reading.entry.text.now depth tokens.now) }
 {
-    let (count, rest) = opened(depth, tokens);
-    let (value, rest) = innermost(reading, depth, count, rest)?;
-    closed(count, value, rest)
+    level(reading, depth, HIGHEST, tokens)
 }

@@ -1,172 +1,208 @@
-//! Parameters and functions.
+//! Reducers, functions and whole sources.
 
-ghost use Rattle.std.specs.Prelude.{◌+◌, ◌<◌, ◌^◌, [], ◌∷◌, length, map};
-ghost use Rattle.cw_parse.specs.View.{param_of, function_of};
-ghost use Rattle.cw_parse.specs.Seen.{param_step};
-ghost use Rattle.cw_parse.specs.Reading.{Gives, by_first, with_front};
-ghost use Rattle.cw_parse.specs.Parts.{add_front, param, next_param, more_params, params, function, functions, whole};
+ghost use Rattle.std.specs.Prelude.{◌≡◌, ◌+◌, ◌<◌, ◌^◌, [], length, MatchResult};
+ghost use Rattle.cw_parse.specs.declared.stop.Stop.TheVariants.{Memory};
+ghost use Rattle.cw_model.specs.Syntax as model;
+ghost use Rattle.cw_parse.specs.View.{param_of, function_of, reducer_of};
+ghost use Rattle.cw_parse.specs.Seen.{item_of, items_of};
+ghost use Rattle.cw_parse.specs.Reading.{Gives, by_first};
+ghost use Rattle.cw_parse.specs.Parts.{array, single, behind_name, param, reducer, function, push_item, item, whole};
 
 use crate::expr::name_of;
 use crate::input::{Read, Reading};
-use crate::marks::{int, left_paren, name};
-use crate::stmt::body;
+use crate::list::{Part, list};
+use crate::marks::{Mark, expect, past};
+use crate::stmt::lines;
 use crate::stop::Stop;
-use crate::tree::{Function, Param};
+use crate::tree::{Ast, Function, Name, Param, Reducer};
 use cw_model::token::{Kind, Token};
 
-// A parameter after its "int".
-#[tactic(auto, unfolding(crate::specs::Parts::param))]
-fn param<'a>(reading: Reading<'_>, tokens: &'a [Token]) -> Read<'a, Param>
-    ensures { Gives (λ x. (param_of x.0, x.1.now)) result
-        (param reading.entry.text.now tokens.now) }
+// An array parameter behind its opening bracket.
+fn array<'a>(name: Name, tokens: &'a [Token]) -> Read<'a, Param>
+    ensures { Gives (λ x. (param_of x.0, x.1.now)) result (array name tokens.now) }
 {
-    let (found, rest) = name(tokens)?;
-    let name = name_of(reading, found)?;
-    Ok((
-        Param {
-            name,
-            is_array: false,
-        },
-        rest,
-    ))
+    let (_, rest) = expect(Mark::RightBracket, tokens)?;
+    let array = Param {
+        name,
+        is_array: true,
+    };
+    Ok((array, rest))
 }
 
-// A further parameter after its first token, or none at the end of the parameters.
-#[tactic(auto, unfolding(crate::specs::Parts::next_param))]
-fn param_after<'a>(
-    reading: Reading<'_>,
-    first: Token,
-    tokens: &'a [Token],
-) -> Read<'a, Option<Param>>
-    ensures { Gives (λ x. (param_step x.0, x.1.now)) result
-        (next_param reading.entry.text.now first first.kind tokens.now) }
+// An array parameter that was read: one pair of brackets makes an array.
+fn single<'a>(param: Param, tokens: &'a [Token]) -> Read<'a, Param>
+    ensures { Gives (λ x. (param_of x.0, x.1.now)) result (single (param_of param) tokens.now) }
 {
-    match first.kind {
-        Kind::RightParen => Ok((None, tokens)),
-        Kind::Comma => {
-            let (_, rest) = int(tokens)?;
-            let (found, rest) = param(reading, rest)?;
-            Ok((Some(found), rest))
+    match past(Mark::LeftBracket, tokens) {
+        Some(_) => Err(Stop::At(tokens.len())),
+        None => Ok((param, tokens)),
+    }
+}
+
+// A parameter behind its name.
+fn kind_of_param<'a>(name: Name, tokens: &'a [Token]) -> Read<'a, Param>
+    ensures { Gives (λ x. (param_of x.0, x.1.now)) result (behind_name name tokens.now) }
+{
+    match past(Mark::LeftBracket, tokens) {
+        None => Ok((
+            Param {
+                name,
+                is_array: false,
+            },
+            tokens,
+        )),
+        Some((_, rest)) => {
+            let (param, rest) = array(name, rest)?;
+            single(param, rest)
         }
-        _ => Err(Stop::At(tokens.len() + 1)),
     }
 }
 
-// A further parameter, or none at the end of the parameters.
-fn next_param<'a>(reading: Reading<'_>, tokens: &'a [Token]) -> Read<'a, Option<Param>>
-    ensures { Gives (λ x. (param_step x.0, x.1.now)) result
-        (by_first (next_param reading.entry.text.now) tokens.now) }
+impl Part for Param {
+    ghost Seen = { model.Param };
+
+    ghost seen = { param_of };
+
+    ghost part = { λ text n. param text };
+
+    #[tactic(auto, unfolding(crate::specs::Parts::param))]
+    fn read<'a>(reading: Reading<'_>, _depth: usize, tokens: &'a [Token]) -> Read<'a, Param> {
+        let (_, rest) = expect(Mark::Int, tokens)?;
+        let (found, rest) = expect(Mark::Name, rest)?;
+        let name = name_of(reading, found)?;
+        let (param, rest) = kind_of_param(name, rest)?;
+        Ok((param, rest))
+    }
+}
+
+// A reducer after its first token.
+#[tactic(auto, unfolding(crate::specs::Parts::reducer))]
+fn reducer<'a>(reading: Reading<'_>, first: Token, tokens: &'a [Token]) -> Read<'a, Reducer>
+    ensures { Gives (λ x. (reducer_of x.0, x.1.now)) result (reducer reading.entry.text.now first tokens.now) }
 {
-    match tokens {
-        [] => Err(Stop::At(0)),
-        [first, rest @ ..] => param_after(reading, *first, rest),
-    }
+    let (_, rest) = expect(Mark::Sum, tokens)?;
+    let (found, rest) = expect(Mark::Name, rest)?;
+    let (_, rest) = expect(Mark::Semicolon, rest)?;
+    let reducer = Reducer {
+        name: name_of(reading, found)?,
+        line: first.line,
+    };
+    Ok((reducer, rest))
 }
 
-// The parameters after the first one.
-fn more_params<'a>(reading: Reading<'_>, first: Param, tokens: &'a [Token]) -> Read<'a, Vec<Param>>
-    ensures { Gives (λ x. (map param_of x.0.items, x.1.now)) result
-        (with_front add_front (param_of first ∷ []) (more_params reading.entry.text.now reading.entry.limit tokens.now)) }
-{
-    let mut done = vec![in reading.alloc; first]?;
-    let mut rest = tokens;
-    for _ in 0..reading.limit {
-        let (found, after) = next_param(reading, rest)?;
-        let Some(found) = found else {
-            return Ok((done, after));
-        };
-        done.push(found)?;
-        rest = after;
-    }
-    Err(Stop::At(rest.len()))
-}
-
-// The parameters after the first token behind the opening parenthesis.
-#[tactic(auto, unfolding(crate::specs::Parts::params))]
-fn params_after<'a>(reading: Reading<'_>, first: Token, tokens: &'a [Token]) -> Read<'a, Vec<Param>>
-    ensures { Gives (λ x. (map param_of x.0.items, x.1.now)) result
-        (params reading.entry.text.now reading.entry.limit first first.kind tokens.now) }
-{
-    match first.kind {
-        Kind::RightParen => Ok((Vec::new(reading.alloc), tokens)),
-        Kind::Int => {
-            let (found, rest) = param(reading, tokens)?;
-            more_params(reading, found, rest)
-        }
-        _ => Err(Stop::At(tokens.len() + 1)),
-    }
-}
-
-// The parameters behind the opening parenthesis, and the closing one.
-fn params<'a>(reading: Reading<'_>, tokens: &'a [Token]) -> Read<'a, Vec<Param>>
-    ensures { Gives (λ x. (map param_of x.0.items, x.1.now)) result
-        (by_first (params reading.entry.text.now reading.entry.limit) tokens.now) }
-{
-    match tokens {
-        [] => Err(Stop::At(0)),
-        [first, rest @ ..] => params_after(reading, *first, rest),
-    }
-}
-
-// A function that gives an integer, and the number of the next call statement.
+// A function after its first token, and the number of the next call statement.
 #[tactic(auto, unfolding(crate::specs::Parts::function))]
-fn function<'a>(reading: Reading<'_>, site: u32, tokens: &'a [Token]) -> Read<'a, (Function, u32)>
+fn function<'a>(
+    reading: Reading<'_>,
+    gives_int: bool,
+    site: u32,
+    tokens: &'a [Token],
+) -> Read<'a, (Function, u32)>
     requires { site + length tokens.now < 2 ^ 32 }
     ensures { Gives (λ x. ((function_of x.0.0, x.0.1), x.1.now)) result
-        (function reading.entry.text.now reading.entry.limit site tokens.now) }
+        (function reading.entry.text.now reading.entry.limit gives_int site tokens.now) }
 {
-    let (_, rest) = int(tokens)?;
-    let (found, rest) = name(rest)?;
-    let (_, rest) = left_paren(rest)?;
-    let (params, rest) = params(reading, rest)?;
-    let ((body, site), rest) = body(reading, site, rest)?;
-    let name = name_of(reading, found)?;
+    let (found, rest) = expect(Mark::Name, tokens)?;
+    let (_, rest) = expect(Mark::LeftParen, rest)?;
+    let (params, rest) = list(reading, reading.limit, rest)?;
+    let (_, rest) = expect(Mark::LeftBrace, rest)?;
+    let ((body, site), rest) = lines(reading, reading.limit, site, rest)?;
     let function = Function {
-        name,
+        name: name_of(reading, found)?,
         line: found.line,
-        gives_int: true,
+        gives_int,
         params,
         body,
     };
     Ok(((function, site), rest))
 }
 
-// The functions after the first one, up to the end of the source.
-fn functions(
+// A reducer or a function.
+#[derive(Drop)]
+enum Item {
+    Sum(Reducer),
+    Code(Function),
+}
+
+// An item after its first token, and the number of the next call statement.
+#[tactic(auto, unfolding(crate::specs::Parts::item))]
+fn next_item<'a>(
     reading: Reading<'_>,
     site: u32,
-    first: Function,
-    tokens: &[Token],
-) -> Result<Vec<Function>, Stop>
+    first: Token,
+    tokens: &'a [Token],
+) -> Read<'a, (Item, u32)>
     requires { site + length tokens.now < 2 ^ 32 }
-    ensures { Gives (λ x. (map function_of x.items, [])) result
-        (with_front add_front (function_of first ∷ []) (functions (function reading.entry.text.now reading.entry.limit) reading.entry.limit site tokens.now)) }
+    ensures { Gives (λ x. ((item_of x.0.0, x.0.1), x.1.now)) result
+        (item reading.entry.text.now reading.entry.limit site first first.kind tokens.now) }
 {
-    let mut done = vec![in reading.alloc; first]?;
-    let mut site = site;
+    match first.kind {
+        Kind::Reducer => {
+            let (found, rest) = reducer(reading, first, tokens)?;
+            Ok(((Item::Sum(found), site), rest))
+        }
+        Kind::Int => {
+            let ((found, site), rest) = function(reading, true, site, tokens)?;
+            Ok(((Item::Code(found), site), rest))
+        }
+        Kind::Void => {
+            let ((found, site), rest) = function(reading, false, site, tokens)?;
+            Ok(((Item::Code(found), site), rest))
+        }
+        _ => Err(Stop::At(tokens.len() + 1)),
+    }
+}
+
+// An item, and the number of the next call statement.
+fn item_by<'a>(reading: Reading<'_>, site: u32, tokens: &'a [Token]) -> Read<'a, (Item, u32)>
+    requires { site + length tokens.now < 2 ^ 32 }
+    ensures { Gives (λ x. ((item_of x.0.0, x.0.1), x.1.now)) result
+        (by_first (item reading.entry.text.now reading.entry.limit site) tokens.now) }
+{
+    match tokens {
+        [] => Err(Stop::At(0)),
+        [first, rest @ ..] => next_item(reading, site, *first, rest),
+    }
+}
+
+// The items before, and one more behind them.
+fn push(mut ast: Ast, found: Item) -> Result<Ast, Stop>
+    ensures { MatchResult result (λ after. items_of after ≡ push_item (items_of ast) (item_of found))
+        (λ e. e ≡ Memory) }
+{
+    match found {
+        Item::Sum(reducer) => ast.reducers.push(reducer)?,
+        Item::Code(function) => ast.functions.push(function)?,
+    }
+    Ok(ast)
+}
+
+/// The items of a whole source.
+pub(crate) fn whole(reading: Reading<'_>, tokens: &[Token]) -> Result<Ast, Stop>
+    requires { 1 + length tokens.now < 2 ^ 32 }
+    ensures { Gives (λ x. (items_of x, [])) result
+        (whole reading.entry.text.now reading.entry.limit tokens.now) }
+{
+    if tokens.is_empty() {
+        return Err(Stop::At(0));
+    }
+    let mut ast = Ast {
+        reducers: Vec::new(reading.alloc),
+        functions: Vec::new(reading.alloc),
+    };
+    let mut site = 1;
     let mut rest = tokens;
     for _ in 0..reading.limit {
         if rest.is_empty() {
-            return Ok(done);
+            return Ok(ast);
         }
-        let ((found, next), after) = function(reading, site, rest)?;
-        done.push(found)?;
+        let ((found, next), after) = item_by(reading, site, rest)?;
+        ast = push(ast, found)?;
         site = next;
         rest = after;
     }
     if rest.is_empty() {
-        return Ok(done);
+        return Ok(ast);
     }
     Err(Stop::At(rest.len()))
-}
-
-/// The functions of a whole source.
-#[tactic(auto, unfolding(crate::specs::Parts::whole))]
-pub(crate) fn whole(reading: Reading<'_>, tokens: &[Token]) -> Result<Vec<Function>, Stop>
-    requires { 1 + length tokens.now < 2 ^ 32 }
-    ensures { Gives (λ x. (map function_of x.items, [])) result
-        (whole reading.entry.text.now reading.entry.limit tokens.now) }
-{
-    let ((first, site), rest) = function(reading, 1, tokens)?;
-    functions(reading, site, first, rest)
 }

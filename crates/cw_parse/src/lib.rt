@@ -1,19 +1,23 @@
 //! Reads the tree of a source from its tokens.
 #![tactic(auto)]
 
-mod call;
 mod expr;
 mod input;
 mod item;
 pub mod laws;
+mod list;
 mod marks;
 mod nesting;
+mod opening;
 mod parser;
+mod simple;
 mod stmt;
 mod stop;
 pub mod tree;
 
 pub use parser::parse;
 
+#[cfg(test)]
+mod productions;
 #[cfg(test)]
 mod tests;

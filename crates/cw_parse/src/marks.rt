@@ -1,81 +1,85 @@
-//! Single tokens of one kind: each function gives the first token, if it is of its kind, and the
-//! tokens after it, and else stops there.
+//! Single tokens of one kind.
 
+ghost use Rattle.std.specs.Prelude.{◌≡◌, option_map};
+ghost use Rattle.cw_parse.specs.Marks.{is_mark, past};
 ghost use Rattle.cw_parse.specs.Reading.{Gives, token};
-ghost use Rattle.cw_parse.specs.Marks.{is_name, is_int, is_left_paren, is_right_paren, is_left_brace, is_right_brace, is_assign, is_semicolon};
 
 use crate::input::Read;
 use crate::stop::Stop;
 use cw_model::token::{Kind, Token};
 
-pub(crate) fn name<'a>(tokens: &'a [Token]) -> Read<'a, Token>
-    ensures { Gives (λ x. (x.0, x.1.now)) result (token is_name tokens.now) }
-{
-    match tokens {
-        [first, rest @ ..] if matches!(first.kind, Kind::Name) => Ok((*first, rest)),
-        _ => Err(Stop::At(tokens.len())),
+/// A kind of token that the grammar names.
+#[derive(Clone, Copy)]
+pub enum Mark {
+    Name,
+    Int,
+    Else,
+    At,
+    As,
+    Sum,
+    Grain,
+    Over,
+    Spawn,
+    LeftParen,
+    RightParen,
+    LeftBracket,
+    RightBracket,
+    LeftBrace,
+    RightBrace,
+    Comma,
+    Semicolon,
+    Assign,
+    Increment,
+    Less,
+}
+
+impl Mark {
+    /// Whether a token of this kind is one that the mark stands for.
+    pub(crate) fn is(self, kind: Kind) -> bool
+        ensures { result ≡ is_mark self kind }
+    {
+        match self {
+            Mark::Name => matches!(kind, Kind::Name),
+            Mark::Int => matches!(kind, Kind::Int),
+            Mark::Else => matches!(kind, Kind::Else),
+            Mark::At => matches!(kind, Kind::At),
+            Mark::As => matches!(kind, Kind::As),
+            Mark::Sum => matches!(kind, Kind::Sum),
+            Mark::Grain => matches!(kind, Kind::Grain),
+            Mark::Over => matches!(kind, Kind::Over),
+            Mark::Spawn => matches!(kind, Kind::Spawn),
+            Mark::LeftParen => matches!(kind, Kind::LeftParen),
+            Mark::RightParen => matches!(kind, Kind::RightParen),
+            Mark::LeftBracket => matches!(kind, Kind::LeftBracket),
+            Mark::RightBracket => matches!(kind, Kind::RightBracket),
+            Mark::LeftBrace => matches!(kind, Kind::LeftBrace),
+            Mark::RightBrace => matches!(kind, Kind::RightBrace),
+            Mark::Comma => matches!(kind, Kind::Comma),
+            Mark::Semicolon => matches!(kind, Kind::Semicolon),
+            Mark::Assign => matches!(kind, Kind::Assign),
+            Mark::Increment => matches!(kind, Kind::Increment),
+            Mark::Less => matches!(kind, Kind::Less),
+        }
     }
 }
 
-pub(crate) fn left_paren<'a>(tokens: &'a [Token]) -> Read<'a, Token>
-    ensures { Gives (λ x. (x.0, x.1.now)) result (token is_left_paren tokens.now) }
+/// The first token and those after it, if it is one that the mark stands for.
+pub(crate) fn past(mark: Mark, tokens: &[Token]) -> Option<(Token, &[Token])>
+    ensures { option_map (λ x. (x.0, x.1.now)) result ≡ past mark tokens.now }
 {
     match tokens {
-        [first, rest @ ..] if matches!(first.kind, Kind::LeftParen) => Ok((*first, rest)),
-        _ => Err(Stop::At(tokens.len())),
+        [first, rest @ ..] if mark.is(first.kind) => Some((*first, rest)),
+        _ => None,
     }
 }
 
-pub(crate) fn right_paren<'a>(tokens: &'a [Token]) -> Read<'a, Token>
-    ensures { Gives (λ x. (x.0, x.1.now)) result (token is_right_paren tokens.now) }
+/// The first token, which is one that the mark stands for, and those after it; it stops there if
+/// it is not.
+pub(crate) fn expect(mark: Mark, tokens: &[Token]) -> Read<'_, Token>
+    ensures { Gives (λ x. (x.0, x.1.now)) result (token (is_mark mark) tokens.now) }
 {
     match tokens {
-        [first, rest @ ..] if matches!(first.kind, Kind::RightParen) => Ok((*first, rest)),
-        _ => Err(Stop::At(tokens.len())),
-    }
-}
-
-pub(crate) fn left_brace<'a>(tokens: &'a [Token]) -> Read<'a, Token>
-    ensures { Gives (λ x. (x.0, x.1.now)) result (token is_left_brace tokens.now) }
-{
-    match tokens {
-        [first, rest @ ..] if matches!(first.kind, Kind::LeftBrace) => Ok((*first, rest)),
-        _ => Err(Stop::At(tokens.len())),
-    }
-}
-
-pub(crate) fn right_brace<'a>(tokens: &'a [Token]) -> Read<'a, Token>
-    ensures { Gives (λ x. (x.0, x.1.now)) result (token is_right_brace tokens.now) }
-{
-    match tokens {
-        [first, rest @ ..] if matches!(first.kind, Kind::RightBrace) => Ok((*first, rest)),
-        _ => Err(Stop::At(tokens.len())),
-    }
-}
-
-pub(crate) fn assign<'a>(tokens: &'a [Token]) -> Read<'a, Token>
-    ensures { Gives (λ x. (x.0, x.1.now)) result (token is_assign tokens.now) }
-{
-    match tokens {
-        [first, rest @ ..] if matches!(first.kind, Kind::Assign) => Ok((*first, rest)),
-        _ => Err(Stop::At(tokens.len())),
-    }
-}
-
-pub(crate) fn semicolon<'a>(tokens: &'a [Token]) -> Read<'a, Token>
-    ensures { Gives (λ x. (x.0, x.1.now)) result (token is_semicolon tokens.now) }
-{
-    match tokens {
-        [first, rest @ ..] if matches!(first.kind, Kind::Semicolon) => Ok((*first, rest)),
-        _ => Err(Stop::At(tokens.len())),
-    }
-}
-
-pub(crate) fn int<'a>(tokens: &'a [Token]) -> Read<'a, Token>
-    ensures { Gives (λ x. (x.0, x.1.now)) result (token is_int tokens.now) }
-{
-    match tokens {
-        [first, rest @ ..] if matches!(first.kind, Kind::Int) => Ok((*first, rest)),
+        [first, rest @ ..] if mark.is(first.kind) => Ok((*first, rest)),
         _ => Err(Stop::At(tokens.len())),
     }
 }

@@ -4,10 +4,9 @@ ghost use Rattle.std.specs.Prelude.{◌≡◌, ◌-◌, ◌≤◌, length, drop,
 ghost use Rattle.cw_model.specs.Limits.{most_source_bytes};
 ghost use Rattle.cw_model.specs.Text.{end_line};
 ghost use Rattle.cw_model.specs.Tokens.{IsTokenCut};
-ghost use Rattle.cw_model.specs.Grammar.{first_line};
+ghost use Rattle.cw_model.specs.Grammar.{Derives, first_line};
 ghost use Rattle.cw_parse.specs.View.{program_of};
-ghost use Rattle.cw_parse.specs.FirstFault.{DerivesFirst, HasNoTree};
-ghost use Rattle.cw_parse.specs.Parsed.{IsParsed, IsUnparsed};
+ghost use Rattle.cw_parse.specs.Parsed.{HasNoTree, IsParsed, IsUnparsed};
 
 use crate::input::Reading;
 use crate::item::whole;
@@ -43,15 +42,13 @@ fn line_of(text: &[u8], tokens: &[Token], left: usize) -> u32
     }
 }
 
-/// The tree of a source, from its tokens, if it is one of the first grammar: functions with integer
-/// parameters, declarations, `cilk_sync`, calls and spawns into a name, and one `return` at the end
-/// of each body. Call statements are numbered from 1 in the order of the source; each statement has
-/// the line of its first token, and each function that of its name.
+/// The tree of a source, from its tokens. Call statements are numbered from 1 in the order of the
+/// source; each statement has the line of its first token, and each function that of its name.
 ///
 /// The errors, in this order: `Size` at the least line of a token at which more than 64 brackets of
 /// any kind are open, or which is the 257th or a later one in a row without a semicolon or a brace;
-/// `Syntax` at the line of the first token that can continue no such source, or at the line of the
-/// text's end where the source ends too early. `Memory` where there is none for the tree.
+/// `Syntax` at the line of the first token that can continue no source, or at the line of the text's
+/// end where the source ends too early. `Memory` where there is none for the tree.
 pub fn parse(alloc: Global, source: &Source, tokens: &[Token]) -> Result<Ast, Fault>
     requires { IsTokenCut source.now tokens.now }
     ensures { MatchResult result (λ ast. IsParsed source.now tokens.now (program_of ast))
@@ -64,7 +61,7 @@ pub fn parse(alloc: Global, source: &Source, tokens: &[Token]) -> Result<Ast, Fa
 // The tree of a source, from its tokens alone.
 fn tree_of(alloc: Global, source: &Source, tokens: &[Token]) -> Result<Ast, Fault>
     requires { IsTokenCut source.now tokens.now }
-    ensures { MatchResult result (λ ast. DerivesFirst source.now tokens.now (program_of ast))
+    ensures { MatchResult result (λ ast. Derives source.now tokens.now (program_of ast))
         (HasNoTree source.now tokens.now) }
 {
     let text = source.bytes();
@@ -74,10 +71,7 @@ fn tree_of(alloc: Global, source: &Source, tokens: &[Token]) -> Result<Ast, Faul
         limit: tokens.len(),
     };
     match whole(reading, tokens) {
-        Ok(functions) => Ok(Ast {
-            reducers: Vec::new(alloc),
-            functions,
-        }),
+        Ok(ast) => Ok(ast),
         Err(Stop::Memory) => Err(Fault::Memory),
         Err(Stop::At(left)) => {
             let line = line_of(text, tokens, left);

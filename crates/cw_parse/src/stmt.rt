@@ -1,237 +1,169 @@
-//! Statements and bodies.
+//! Statements and blocks.
 
 ghost use Rattle.std.specs.Prelude.{◌+◌, ◌<◌, ◌^◌, length};
-ghost use Rattle.cw_parse.specs.View.{expr_of, stmt_of, block_of};
-ghost use Rattle.cw_parse.specs.Seen.{next_of};
+ghost use Rattle.cw_parse.specs.View.{stmt_of, line_of, block_of};
+ghost use Rattle.cw_parse.specs.Seen.{opening_of};
 ghost use Rattle.cw_parse.specs.Reading.{Gives, by_first};
-ghost use Rattle.cw_parse.specs.Parts.{call_into, assigned, named, declared, stmt, returned, next_line, lines, body};
+ghost use Rattle.cw_parse.specs.Parts.{unanswered, framed_by, framed, stmt, line_by, line, lines};
 
-use crate::call::called;
-use crate::expr::{expr, name_of};
 use crate::input::{Read, Reading};
-use crate::marks::{assign, left_brace, name, right_brace, semicolon};
+use crate::marks::{Mark, expect, past};
+use crate::opening::{Opening, opened};
+use crate::simple::simple;
 use crate::stop::Stop;
-use crate::tree::{Call, Expr, Line, Name, Stmt};
-use cw_model::syntax::CallKind;
+use crate::tree::{Line, Stmt};
 use cw_model::token::{Kind, Token};
 
-// A call into a name, after the name of its callee, and the number after its own.
-#[tactic(auto, unfolding(crate::specs::Parts::call_into))]
-fn call_into<'a>(
+// A statement that was read whole: an "else" stands behind the block of an "if" alone.
+fn unanswered<'a>(stmt: Stmt, site: u32, tokens: &'a [Token]) -> Read<'a, (Stmt, u32)>
+    ensures { Gives (λ x. ((stmt_of x.0.0, x.0.1), x.1.now)) result (unanswered (stmt_of stmt, site) tokens.now) }
+{
+    match past(Mark::Else, tokens) {
+        Some(_) => Err(Stop::At(tokens.len())),
+        None => Ok(((stmt, site), tokens)),
+    }
+}
+
+// A statement with a block, after that block.
+#[cycle(stmt)]
+#[tactic(auto, unfolding(crate::specs::Parts::framed_by))]
+fn framed_by<'a>(
     reading: Reading<'_>,
-    kind: CallKind,
+    depth: usize,
+    opening: Opening,
+    block: Vec<Line>,
     site: u32,
-    target: Name,
-    callee: Token,
     tokens: &'a [Token],
 ) -> Read<'a, (Stmt, u32)>
-    requires { site + 1 < 2 ^ 32 }
+    requires { site + length tokens.now < 2 ^ 32 }
     ensures { Gives (λ x. ((stmt_of x.0.0, x.0.1), x.1.now)) result
-        (call_into reading.entry.text.now reading.entry.limit kind site target callee tokens.now) }
+        (framed_by (lines reading.entry.text.now depth) (opening_of opening) (block_of block.items) site tokens.now) }
 {
-    let (arguments, rest) = called(reading, tokens)?;
-    let call = Call {
-        kind,
-        site,
-        target: Some(target),
-        callee: name_of(reading, callee)?,
-        arguments,
+    let stmt = match opening {
+        Opening::If(test) => match past(Mark::Else, tokens) {
+            None => return Ok(((Stmt::If(test, block), site), tokens)),
+            Some((_, rest)) => {
+                let (_, rest) = expect(Mark::LeftBrace, rest)?;
+                let ((other, site), rest) = lines(reading, depth, site, rest)?;
+                return unanswered(Stmt::IfElse(test, block, other), site, rest);
+            }
+        },
+        Opening::While(test) => Stmt::While(test, block),
+        Opening::For(head) => Stmt::For(head, block),
+        Opening::Scope => Stmt::Scope(block),
+        Opening::Cut(cut) => Stmt::Cut(cut, block),
+        Opening::Region(tag) => Stmt::Region(tag, block),
     };
-    Ok(((Stmt::Call(call), site + 1), rest))
+    unanswered(stmt, site, tokens)
 }
 
-// What follows a name and "=", after its first token.
-#[tactic(auto, unfolding(crate::specs::Parts::assigned))]
-fn assigned_after<'a>(
+// A statement with a block, after its first token.
+#[cycle(stmt)]
+#[tactic(auto, unfolding(crate::specs::Parts::framed))]
+fn framed<'a>(
     reading: Reading<'_>,
-    site: u32,
-    target: Name,
-    first: Token,
-    tokens: &'a [Token],
-) -> Read<'a, (Stmt, u32)>
-    requires { site + 1 < 2 ^ 32 }
-    ensures { Gives (λ x. ((stmt_of x.0.0, x.0.1), x.1.now)) result
-        (assigned reading.entry.text.now reading.entry.limit site target first first.kind tokens.now) }
-{
-    match first.kind {
-        Kind::Name => call_into(reading, CallKind::Plain, site, target, first, tokens),
-        Kind::Spawn => {
-            let (callee, rest) = name(tokens)?;
-            call_into(reading, CallKind::Spawned, site, target, callee, rest)
-        }
-        _ => Err(Stop::At(tokens.len() + 1)),
-    }
-}
-
-// What follows a name and "=".
-fn assigned<'a>(
-    reading: Reading<'_>,
-    site: u32,
-    target: Name,
-    tokens: &'a [Token],
-) -> Read<'a, (Stmt, u32)>
-    requires { site + length tokens.now < 2 ^ 32 }
-    ensures { Gives (λ x. ((stmt_of x.0.0, x.0.1), x.1.now)) result
-        (by_first (assigned reading.entry.text.now reading.entry.limit site target) tokens.now) }
-{
-    match tokens {
-        [] => Err(Stop::At(0)),
-        [first, rest @ ..] => assigned_after(reading, site, target, *first, rest),
-    }
-}
-
-// What follows a name at the front of a statement.
-#[tactic(auto, unfolding(crate::specs::Parts::named))]
-fn named<'a>(
-    reading: Reading<'_>,
+    depth: usize,
     site: u32,
     first: Token,
     tokens: &'a [Token],
 ) -> Read<'a, (Stmt, u32)>
     requires { site + length tokens.now < 2 ^ 32 }
     ensures { Gives (λ x. ((stmt_of x.0.0, x.0.1), x.1.now)) result
-        (named reading.entry.text.now reading.entry.limit site first tokens.now) }
+        (framed reading.entry.text.now depth (lines reading.entry.text.now depth) site first first.kind tokens.now) }
 {
-    let (_, rest) = assign(tokens)?;
-    let target = name_of(reading, first)?;
-    assigned(reading, site, target, rest)
-}
-
-// What follows "int" in a statement.
-#[tactic(auto, unfolding(crate::specs::Parts::declared))]
-fn declared<'a>(reading: Reading<'_>, tokens: &'a [Token]) -> Read<'a, Stmt>
-    ensures { Gives (λ x. (stmt_of x.0, x.1.now)) result
-        (declared reading.entry.text.now reading.entry.limit tokens.now) }
-{
-    let (target, rest) = name(tokens)?;
-    let (_, rest) = assign(rest)?;
-    let (value, rest) = expr(reading, reading.limit, rest)?;
-    let (_, rest) = semicolon(rest)?;
-    Ok((Stmt::Declare(name_of(reading, target)?, value), rest))
+    let (opening, rest) = opened(reading, depth, first, tokens)?;
+    let ((block, site), rest) = lines(reading, depth, site, rest)?;
+    framed_by(reading, depth, opening, block, site, rest)
 }
 
 // A statement after its first token, and the number of the next call statement.
+#[cycle(stmt)]
 #[tactic(auto, unfolding(crate::specs::Parts::stmt))]
 fn stmt<'a>(
     reading: Reading<'_>,
+    depth: usize,
     site: u32,
     first: Token,
     tokens: &'a [Token],
 ) -> Read<'a, (Stmt, u32)>
-    requires { site + length tokens.now < 2 ^ 32 }
+    requires { site + length tokens.now + 1 < 2 ^ 32 }
     ensures { Gives (λ x. ((stmt_of x.0.0, x.0.1), x.1.now)) result
-        (stmt reading.entry.text.now reading.entry.limit site first first.kind tokens.now) }
+        (stmt reading.entry.text.now depth (lines reading.entry.text.now depth) site first first.kind tokens.now) }
 {
     match first.kind {
-        Kind::Int => {
-            let (stmt, rest) = declared(reading, tokens)?;
-            Ok(((stmt, site), rest))
-        }
-        Kind::Name => named(reading, site, first, tokens),
-        Kind::Sync => {
-            let (_, rest) = semicolon(tokens)?;
-            Ok(((Stmt::Sync, site), rest))
-        }
-        _ => Err(Stop::At(tokens.len() + 1)),
-    }
-}
-
-// The value that a body returns, after its "return", and the end of the body.
-#[tactic(auto, unfolding(crate::specs::Parts::returned))]
-fn returned<'a>(reading: Reading<'_>, tokens: &'a [Token]) -> Read<'a, Expr>
-    ensures { Gives (λ x. (expr_of x.0, x.1.now)) result
-        (returned reading.entry.text.now reading.entry.limit tokens.now) }
-{
-    let (value, rest) = expr(reading, reading.limit, tokens)?;
-    let (_, rest) = semicolon(rest)?;
-    let (_, rest) = right_brace(rest)?;
-    Ok((value, rest))
-}
-
-// What stands next in a body, and the number of the next call statement.
-#[derive(Drop)]
-enum Next {
-    // A statement before the last one.
-    Line(Line, u32),
-    // The last statement, and the end of the body.
-    End(Line, u32),
-}
-
-// What stands next in a body, after its first token.
-#[tactic(auto, unfolding(crate::specs::Parts::next_line))]
-fn line_after<'a>(
-    reading: Reading<'_>,
-    site: u32,
-    first: Token,
-    tokens: &'a [Token],
-) -> Read<'a, Next>
-    requires { site + length tokens.now < 2 ^ 32 }
-    ensures { Gives (λ x. (next_of x.0, x.1.now)) result
-        (next_line reading.entry.text.now reading.entry.limit site first first.kind tokens.now) }
-{
-    let line = first.line;
-    match first.kind {
-        Kind::Return => {
-            let (value, rest) = returned(reading, tokens)?;
-            let stmt = Stmt::Return(Some(value));
-            Ok((Next::End(Line { line, stmt }, site), rest))
+        Kind::If | Kind::While | Kind::For | Kind::Scope | Kind::Cut | Kind::Region => {
+            framed(reading, depth, site, first, tokens)
         }
         _ => {
-            let ((stmt, next), rest) = stmt(reading, site, first, tokens)?;
-            Ok((Next::Line(Line { line, stmt }, next), rest))
+            let ((stmt, site), rest) = simple(reading, depth, site, first, tokens)?;
+            unanswered(stmt, site, rest)
         }
     }
 }
 
-// What stands next in a body.
-fn next_line<'a>(reading: Reading<'_>, site: u32, tokens: &'a [Token]) -> Read<'a, Next>
+// A statement with its line.
+#[cycle(stmt)]
+fn line_by<'a>(
+    reading: Reading<'_>,
+    depth: usize,
+    site: u32,
+    tokens: &'a [Token],
+) -> Read<'a, (Line, u32)>
     requires { site + length tokens.now < 2 ^ 32 }
-    ensures { Gives (λ x. (next_of x.0, x.1.now)) result
-        (by_first (next_line reading.entry.text.now reading.entry.limit site) tokens.now) }
+    ensures { Gives (λ x. ((line_of x.0.0, x.0.1), x.1.now)) result
+        (by_first (line_by reading.entry.text.now depth (lines reading.entry.text.now depth) site) tokens.now) }
 {
     match tokens {
         [] => Err(Stop::At(0)),
-        [first, rest @ ..] => line_after(reading, site, *first, rest),
-    }
-}
-
-// The statements of a body, and its end.
-fn lines<'a>(reading: Reading<'_>, site: u32, tokens: &'a [Token]) -> Read<'a, (Vec<Line>, u32)>
-    requires { site + length tokens.now < 2 ^ 32 }
-    ensures { Gives (λ x. ((block_of x.0.0.items, x.0.1), x.1.now)) result
-        (lines reading.entry.text.now reading.entry.limit site tokens.now) }
-{
-    let mut done = Vec::new(reading.alloc);
-    let mut site = site;
-    let mut rest = tokens;
-    for _ in 0..reading.limit {
-        let (next, after) = next_line(reading, site, rest)?;
-        match next {
-            Next::Line(line, next) => {
-                done.push(line)?;
-                site = next;
-            }
-            Next::End(line, next) => {
-                done.push(line)?;
-                return Ok(((done, next), after));
-            }
+        [first, rest @ ..] => {
+            let ((stmt, site), rest) = stmt(reading, depth, site, *first, rest)?;
+            let line = first.line;
+            Ok(((Line { line, stmt }, site), rest))
         }
-        rest = after;
     }
-    Err(Stop::At(rest.len()))
 }
 
-/// A body in its braces, and the number of the next call statement.
-#[tactic(auto, unfolding(crate::specs::Parts::body))]
-pub(crate) fn body<'a>(
+// A statement with its line, where statements lie in one another at most so deep.
+#[cycle(stmt)]
+fn line<'a>(
     reading: Reading<'_>,
+    depth: usize,
+    site: u32,
+    tokens: &'a [Token],
+) -> Read<'a, (Line, u32)>
+    requires { site + length tokens.now < 2 ^ 32 }
+    ensures { Gives (λ x. ((line_of x.0.0, x.0.1), x.1.now)) result
+        (line reading.entry.text.now depth site tokens.now) }
+{
+    if depth == 0 {
+        return Err(Stop::At(tokens.len()));
+    }
+    line_by(reading, depth - 1, site, tokens)
+}
+
+/// The statements of a block, in which others lie at most `depth` deep, and its closing brace.
+#[cycle(stmt)]
+pub(crate) fn lines<'a>(
+    reading: Reading<'_>,
+    depth: usize,
     site: u32,
     tokens: &'a [Token],
 ) -> Read<'a, (Vec<Line>, u32)>
     requires { site + length tokens.now < 2 ^ 32 }
     ensures { Gives (λ x. ((block_of x.0.0.items, x.0.1), x.1.now)) result
-        (body reading.entry.text.now reading.entry.limit site tokens.now) }
+        (lines reading.entry.text.now depth site tokens.now) }
 {
-    let (_, rest) = left_brace(tokens)?;
-    lines(reading, site, rest)
+    let mut done = Vec::new(reading.alloc);
+    let mut site = site;
+    let mut rest = tokens;
+    for _ in 0..depth {
+        if let Some((_, after)) = past(Mark::RightBrace, rest) {
+            return Ok(((done, site), after));
+        }
+        let ((line, next), after) = line(reading, depth, site, rest)?;
+        done.push(line)?;
+        site = next;
+        rest = after;
+    }
+    Err(Stop::At(rest.len()))
 }

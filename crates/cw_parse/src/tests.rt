@@ -1,9 +1,9 @@
-//! Sources with their trees, and sources that are refused, by the rules of the first grammar.
+//! Sources with their trees, and sources that are refused at their limits and at their ends.
 
 use crate::parse;
-use crate::tree::{Ast, Expr, Function, Name, Stmt};
+use crate::tree::{Ast, Call, Expr, Head, Line, Name, Stmt};
 use cw_lex::lex;
-use cw_model::syntax::CallKind;
+use cw_model::syntax::{CallKind, Operator};
 use cw_text::{Fault, Place, Source};
 use std::alloc::{AllocError, Global};
 use std::test::Fail;
@@ -30,6 +30,234 @@ fn too_large(line: u32) -> Option<Fault> {
     Some(Fault::Size(Place { line }))
 }
 
+// A part of a tree that is still to be shown.
+#[derive(Clone, Copy)]
+enum Part<'t> {
+    Word(&'static str),
+    Number(u64),
+    Name(&'t Name),
+    Expr(&'t Expr),
+    Stmt(&'t Stmt),
+    Block(&'t [Line]),
+    Lines(&'t [Line]),
+}
+
+// Parts to be shown next, in this order.
+fn next<'t>(todo: &mut Vec<Part<'t>>, parts: &[Part<'t>]) -> Result<(), AllocError> {
+    for part in parts.iter().rev() {
+        todo.push(*part)?;
+    }
+    Ok(())
+}
+
+fn sign(operator: Operator) -> &'static str {
+    match operator {
+        Operator::Equal => "==",
+        Operator::Unequal => "!=",
+        Operator::Less => "<",
+        Operator::AtMost => "<=",
+        Operator::Greater => ">",
+        Operator::AtLeast => ">=",
+        Operator::Plus => "+",
+        Operator::Minus => "-",
+        Operator::Times => "*",
+        Operator::Divide => "/",
+        Operator::Modulo => "%",
+    }
+}
+
+// An expression, with a pair of parentheses for each operator.
+fn parts_of_expr<'t>(todo: &mut Vec<Part<'t>>, expr: &'t Expr) -> Result<(), AllocError> {
+    match expr {
+        Expr::Number(value) => next(todo, &[Part::Number(value.unsigned_abs())]),
+        Expr::Variable(name) => next(todo, &[Part::Name(name)]),
+        Expr::Element(array, index) => next(
+            todo,
+            &[
+                Part::Name(array),
+                Part::Word("["),
+                Part::Expr(index),
+                Part::Word("]"),
+            ],
+        ),
+        Expr::Length(array) => next(todo, &[Part::Word("len "), Part::Name(array)]),
+        Expr::Negative(inner) => next(
+            todo,
+            &[Part::Word("(-"), Part::Expr(inner), Part::Word(")")],
+        ),
+        Expr::Not(inner) => next(
+            todo,
+            &[Part::Word("(!"), Part::Expr(inner), Part::Word(")")],
+        ),
+        Expr::Binary(operator, left, right) => next(
+            todo,
+            &[
+                Part::Word("("),
+                Part::Expr(left),
+                Part::Word(sign(*operator)),
+                Part::Expr(right),
+                Part::Word(")"),
+            ],
+        ),
+    }
+}
+
+fn parts_of_call<'t>(todo: &mut Vec<Part<'t>>, call: &'t Call) -> Result<(), AllocError> {
+    for argument in call.arguments.iter().rev() {
+        next(todo, &[Part::Word(" "), Part::Expr(argument)])?;
+    }
+    next(
+        todo,
+        &[
+            Part::Name(&call.callee),
+            Part::Word("#"),
+            Part::Number(u64::from(call.site)),
+        ],
+    )?;
+    if matches!(call.kind, CallKind::Spawned) {
+        next(todo, &[Part::Word("spawn ")])?;
+    }
+    if let Some(target) = &call.target {
+        next(todo, &[Part::Name(target), Part::Word(" = ")])?;
+    }
+    Ok(())
+}
+
+fn parts_of_loop<'t>(
+    todo: &mut Vec<Part<'t>>,
+    head: &'t Head,
+    body: &'t [Line],
+) -> Result<(), AllocError> {
+    next(todo, &[Part::Block(body)])?;
+    for array in head.over.iter().rev() {
+        next(todo, &[Part::Word(" "), Part::Name(array)])?;
+    }
+    next(
+        todo,
+        &[
+            Part::Word(" "),
+            Part::Name(&head.stepped),
+            Part::Word("++ "),
+            Part::Number(head.grain),
+        ],
+    )?;
+    next(
+        todo,
+        &[
+            Part::Word(" "),
+            Part::Name(&head.tested),
+            Part::Word(" < "),
+            Part::Expr(&head.to),
+        ],
+    )?;
+    next(
+        todo,
+        &[
+            Part::Word("for "),
+            Part::Name(&head.variable),
+            Part::Word(" = "),
+            Part::Expr(&head.from),
+        ],
+    )
+}
+
+// A statement without its line; a call with its number behind the name of its callee.
+fn parts_of_stmt<'t>(todo: &mut Vec<Part<'t>>, stmt: &'t Stmt) -> Result<(), AllocError> {
+    match stmt {
+        Stmt::Declare(name, value) => next(
+            todo,
+            &[
+                Part::Word("int "),
+                Part::Name(name),
+                Part::Word(" = "),
+                Part::Expr(value),
+            ],
+        ),
+        Stmt::DeclareArray(name, length) => next(
+            todo,
+            &[
+                Part::Word("int[] "),
+                Part::Name(name),
+                Part::Word(" = "),
+                Part::Expr(length),
+            ],
+        ),
+        Stmt::Assign(name, value) => next(
+            todo,
+            &[Part::Name(name), Part::Word(" = "), Part::Expr(value)],
+        ),
+        Stmt::AssignElement(array, index, value) => next(
+            todo,
+            &[
+                Part::Name(array),
+                Part::Word(" at "),
+                Part::Expr(index),
+                Part::Word(" = "),
+                Part::Expr(value),
+            ],
+        ),
+        Stmt::AddTo(name, value) => next(
+            todo,
+            &[Part::Name(name), Part::Word(" += "), Part::Expr(value)],
+        ),
+        Stmt::Call(call) => parts_of_call(todo, call),
+        Stmt::Sync => next(todo, &[Part::Word("sync")]),
+        Stmt::If(test, then) => next(
+            todo,
+            &[
+                Part::Word("if "),
+                Part::Expr(test),
+                Part::Block(then.as_slice()),
+            ],
+        ),
+        Stmt::IfElse(test, then, other) => next(
+            todo,
+            &[
+                Part::Word("if "),
+                Part::Expr(test),
+                Part::Block(then.as_slice()),
+                Part::Word("else"),
+                Part::Block(other.as_slice()),
+            ],
+        ),
+        Stmt::While(test, body) => next(
+            todo,
+            &[
+                Part::Word("while "),
+                Part::Expr(test),
+                Part::Block(body.as_slice()),
+            ],
+        ),
+        Stmt::For(head, body) => parts_of_loop(todo, head, body.as_slice()),
+        Stmt::Scope(body) => next(todo, &[Part::Word("scope"), Part::Block(body.as_slice())]),
+        Stmt::Cut(cut, body) => next(
+            todo,
+            &[
+                Part::Word("cut "),
+                Part::Name(&cut.array),
+                Part::Word(" at "),
+                Part::Expr(&cut.at),
+                Part::Word(" "),
+                Part::Name(&cut.left),
+                Part::Word(" "),
+                Part::Name(&cut.right),
+                Part::Block(body.as_slice()),
+            ],
+        ),
+        Stmt::Region(tag, body) => next(
+            todo,
+            &[
+                Part::Word("region "),
+                Part::Name(tag),
+                Part::Block(body.as_slice()),
+            ],
+        ),
+        Stmt::Print(value) => next(todo, &[Part::Word("print "), Part::Expr(value)]),
+        Stmt::Return(None) => next(todo, &[Part::Word("return")]),
+        Stmt::Return(Some(value)) => next(todo, &[Part::Word("return "), Part::Expr(value)]),
+    }
+}
+
 fn show_name(out: &mut String, name: &Name) -> Result<(), AllocError> {
     for byte in name.as_bytes() {
         out.push(char::from(*byte))?;
@@ -37,73 +265,66 @@ fn show_name(out: &mut String, name: &Name) -> Result<(), AllocError> {
     Ok(())
 }
 
-fn show_expr(alloc: Global, out: &mut String, expr: &Expr) -> Result<(), AllocError> {
-    match expr {
-        Expr::Number(value) => out.push_str(value.to_string(alloc)?.as_str()),
-        Expr::Variable(name) => show_name(out, name),
-        _ => out.push_str("?"),
+// "LINE STATEMENT; .." in braces.
+fn show_block(alloc: Global, out: &mut String, block: &[Line]) -> Result<(), AllocError> {
+    let mut todo = Vec::new(alloc);
+    todo.push(Part::Block(block))?;
+    for _ in 0..10_000 {
+        let Some(part) = todo.pop() else {
+            return Ok(());
+        };
+        match part {
+            Part::Word(word) => out.push_str(word)?,
+            Part::Number(number) => out.push_str(number.to_string(alloc)?.as_str())?,
+            Part::Name(name) => show_name(out, name)?,
+            Part::Expr(expr) => parts_of_expr(&mut todo, expr)?,
+            Part::Stmt(stmt) => parts_of_stmt(&mut todo, stmt)?,
+            Part::Block(lines) => next(
+                &mut todo,
+                &[Part::Word("{"), Part::Lines(lines), Part::Word("}")],
+            )?,
+            Part::Lines(lines) => {
+                if let [first, rest @ ..] = lines {
+                    next(
+                        &mut todo,
+                        &[
+                            Part::Number(u64::from(first.line)),
+                            Part::Word(" "),
+                            Part::Stmt(&first.stmt),
+                            Part::Word(";"),
+                            Part::Lines(rest),
+                        ],
+                    )?;
+                }
+            }
+        }
     }
+    Ok(())
 }
 
-// A statement without its line; a call with its number behind the name of its callee.
-fn show_stmt(alloc: Global, out: &mut String, stmt: &Stmt) -> Result<(), AllocError> {
-    match stmt {
-        Stmt::Declare(name, value) => {
-            out.push_str("int ")?;
-            show_name(out, name)?;
-            out.push_str(" = ")?;
-            show_expr(alloc, out, value)
-        }
-        Stmt::Call(call) => {
-            if let Some(target) = &call.target {
-                show_name(out, target)?;
-                out.push_str(" = ")?;
-            }
-            if matches!(call.kind, CallKind::Spawned) {
-                out.push_str("spawn ")?;
-            }
-            show_name(out, &call.callee)?;
-            out.push_str("#")?;
-            out.push_str(call.site.to_string(alloc)?.as_str())?;
-            for argument in &call.arguments {
-                out.push_str(" ")?;
-                show_expr(alloc, out, argument)?;
-            }
-            Ok(())
-        }
-        Stmt::Sync => out.push_str("sync"),
-        Stmt::Return(Some(value)) => {
-            out.push_str("return ")?;
-            show_expr(alloc, out, value)
-        }
-        _ => out.push_str("?"),
-    }
-}
-
-// "LINE NAME PARAMETERS: LINE STATEMENT; .."
-fn show_function(alloc: Global, out: &mut String, function: &Function) -> Result<(), AllocError> {
-    out.push_str(function.line.to_string(alloc)?.as_str())?;
-    out.push_str(" ")?;
-    show_name(out, &function.name)?;
-    for param in &function.params {
-        out.push_str(" ")?;
-        show_name(out, &param.name)?;
-    }
-    out.push_str(":")?;
-    for line in &function.body {
-        out.push_str(" ")?;
-        out.push_str(line.line.to_string(alloc)?.as_str())?;
-        out.push_str(" ")?;
-        show_stmt(alloc, out, &line.stmt)?;
-        out.push_str(";")?;
-    }
-    out.push_str("\n")
-}
-
+// "LINE sum NAME", and "LINE int NAME PARAMETERS {..}" or "LINE void ..", a line each.
 fn shown(alloc: Global, ast: &Ast) -> Result<String, AllocError> {
     let mut out = String::new(alloc);
+    for reducer in &ast.reducers {
+        out.push_str(reducer.line.to_string(alloc)?.as_str())?;
+        out.push_str(" sum ")?;
+        show_name(&mut out, &reducer.name)?;
+        out.push_str("\n")?;
+    }
     for function in &ast.functions {
-        show_function(alloc, &mut out, function)?;
+        out.push_str(function.line.to_string(alloc)?.as_str())?;
+        out.push_str(if function.gives_int {
+            " int "
+        } else {
+            " void "
+        })?;
+        show_name(&mut out, &function.name)?;
+        for param in &function.params {
+            out.push_str(if param.is_array { " []" } else { " " })?;
+            show_name(&mut out, &param.name)?;
+        }
+        show_block(alloc, &mut out, function.body.as_slice())?;
+        out.push_str("\n")?;
     }
     Ok(out)
 }
@@ -112,31 +333,73 @@ fn shown(alloc: Global, ast: &Ast) -> Result<String, AllocError> {
 fn sources_have_their_trees(rt: HostRuntime) -> Result<(), Fail> {
     let alloc = rt.alloc();
     for (text, tree) in [
-        ("int main() { return 0; }", "1 main: 1 return 0;\n"),
+        ("int main() { return 0; }", "1 int main{1 return 0;}\n"),
+        // items in their order, reducers beside functions
         (
-            "int f(int v) { return v; }\nint main() {\n  int x = 0;\n  x = cilk_spawn f(1);\n  cilk_sync;\n  return x;\n}\n",
-            "1 f v: 1 return v;\n2 main: 3 int x = 0; 4 x = spawn f#1 1; 5 sync; 6 return x;\n",
+            "reducer sum s;\nvoid f(int v, int a[]) { }\nreducer sum t; int g() { return 1; }",
+            "1 sum s\n3 sum t\n2 void f v []a{}\n3 int g{3 return 1;}\n",
         ),
-        // call statements are numbered through the source, plain ones and spawns alike
+        // call statements are numbered through the source, in all their forms
         (
-            "int f(int a, int b, int c)\n{\n  int x = a;\n  x = f(x, b, 3);\n  x = cilk_spawn g();\n  cilk_sync;\n  return x;\n}\nint g() { int y = 1; y = f(y, 2, y); return y; }",
-            "1 f a b c: 3 int x = a; 4 x = f#1 x b 3; 5 x = spawn g#2; 6 sync; 7 return x;\n9 g: 9 int y = 1; 9 y = f#3 y 2 y; 9 return y;\n",
+            "void f() { g(1, x); x = g(); if (x) { x = cilk_spawn g(2); } else { cilk_spawn g(); } }\nvoid g() { g(); }",
+            "1 void f{1 g#1 1 x;1 x = g#2;1 if x{1 x = spawn g#3 2;}else{1 spawn g#4;};}\n2 void g{2 g#5;}\n",
         ),
-        // parentheses leave no node
+        // every statement without a block
         (
-            "int main() { int x = (7); x = f((1), ((x)), 2); return (((x))); }",
-            "1 main: 1 int x = 7; 1 x = f#1 1 x 2; 1 return x;\n",
+            "void f() { int x = 1; int a[x]; x = 2; a[0] = x; s += x; cilk_sync; print(x); return; }",
+            "1 void f{1 int x = 1;1 int[] a = x;1 x = 2;1 a at 0 = x;1 s += x;1 sync;1 print x;1 return;}\n",
         ),
-        // a head has the line of its name, a statement that of its first token
+        // every statement with a block, each with the line of its first token
         (
-            "int\nf\n(\n)\n{\nx\n=\nf\n(\n)\n;\nreturn\n9223372036854775807\n;\n}\n",
-            "2 f: 6 x = f#1; 12 return 9223372036854775807;\n",
+            "void f() {\nwhile\n(x) { }\ncilk_scope { cilk_sync; }\ncut a at 1 as l, r {\n}\nregion t { } }",
+            "1 void f{2 while x{};4 scope{4 sync;};5 cut a at 1 l r{};7 region t{};}\n",
         ),
+        // the grain is 64 and no array stands there where the head says nothing of them
+        (
+            "void f() { cilk_for (int i = 0; j < n; k++) { } cilk_for (int i = 0; i < n; i++) grain 7 over (a, b) { } }",
+            "1 void f{1 for i = 0 j < n k++ 64{};1 for i = 0 i < n i++ 7 a b{};}\n",
+        ),
+        // an else is that of the innermost if
+        (
+            "void f() { if (1) { if (2) { } else { } } if (3) { if (4) { } } else { } }",
+            "1 void f{1 if 1{1 if 2{}else{};};1 if 3{1 if 4{};}else{};}\n",
+        ),
+        // a head has the line of its name
+        ("int\nf\n(\n)\n{ return 1; }", "2 int f{5 return 1;}\n"),
     ] {
         let ast = tree_of(alloc, text.as_bytes())?;
-        assert_eq!(rt; ast.reducers.len(), 0);
         let shown = shown(alloc, &ast)?;
         assert_eq!(rt; shown.as_str(), tree);
+    }
+    Ok(())
+}
+
+#[test]
+fn operators_bind_by_their_levels_and_to_the_left(rt: HostRuntime) -> Result<(), Fail> {
+    let alloc = rt.alloc();
+    for (text, tree) in [
+        ("1 - 2 - 3", "((1-2)-3)"),
+        ("1 - (2 - 3)", "(1-(2-3))"),
+        ("8 / 4 * 2 % 3", "(((8/4)*2)%3)"),
+        ("1 + 2 * 3", "(1+(2*3))"),
+        ("(1 + 2) * 3", "((1+2)*3)"),
+        ("1 * 2 + 3 * 4", "((1*2)+(3*4))"),
+        ("a < b == c < d", "((a<b)==(c<d))"),
+        ("a == b != c", "((a==b)!=c)"),
+        ("a <= b > c >= d", "(((a<=b)>c)>=d)"),
+        ("a + b < c * d", "((a+b)<(c*d))"),
+        ("- - x", "(-(-x))"),
+        ("! - x * y", "((!(-x))*y)"),
+        ("-a[i + 1]", "(-a[(i+1)])"),
+        ("len(a) - 1", "(len a-1)"),
+        ("((x))", "x"),
+        ("a[b[0]]", "a[b[0]]"),
+    ] {
+        let source = format!(in alloc; "void f() {{ print({text}); }}")?;
+        let ast = tree_of(alloc, source.as_bytes())?;
+        let shown = shown(alloc, &ast)?;
+        let wanted = format!(in alloc; "1 void f{{1 print {tree};}}\n")?;
+        assert_eq!(rt; shown.as_str(), wanted.as_str());
     }
     Ok(())
 }
@@ -151,174 +414,59 @@ fn a_source_that_ends_too_early_is_refused_in_its_last_line(rt: HostRuntime) -> 
         ("int main() {\n  return 0;\n", 3),
         ("int main() {\n  return 0;", 2),
         ("int f() { return 0; }\nint", 2),
+        ("int f() { if (x) { } else", 1),
     ] {
         assert_eq!(rt; fault_of(alloc, text.as_bytes()), misplaced(line), "{text}");
     }
+    // a comment at the end needs no line of its own
+    let ends = tree_of(alloc, b"int main() { return 0; }\n// end")?;
+    assert_eq!(rt; ends.functions.len(), 1);
     Ok(())
 }
 
 #[test]
-fn nothing_stands_between_functions_or_behind_them(rt: HostRuntime) -> Result<(), Fail> {
+fn tokens_that_cannot_go_on_are_refused_where_they_stand(rt: HostRuntime) -> Result<(), Fail> {
     let alloc = rt.alloc();
     for (text, line) in [
+        // nothing stands between functions or behind them
         ("int f() { return 0; }\n;\nint main() { return 0; }", 2),
         ("int main() { return 0; }\n}\n", 2),
-    ] {
-        assert_eq!(rt; fault_of(alloc, text.as_bytes()), misplaced(line), "{text}");
-    }
-    Ok(())
-}
-
-#[test]
-fn a_head_has_integer_parameters_and_gives_an_integer(rt: HostRuntime) -> Result<(), Fail> {
-    let alloc = rt.alloc();
-    for (text, line) in [
-        ("void f() { return; }", 1),
-        ("\nreducer sum s;\nint main() { return 0; }", 2),
-        ("int f(int a\n[\n]) { return 0; }", 2),
-        ("int f(int a,\n) { return 0; }", 2),
-        ("int f(int a\nint b) { return 0; }", 2),
-        ("int f(\n,\nint a) { return 0; }", 2),
-    ] {
-        assert_eq!(rt; fault_of(alloc, text.as_bytes()), misplaced(line), "{text}");
-    }
-    Ok(())
-}
-
-#[test]
-fn a_body_has_one_return_at_its_end(rt: HostRuntime) -> Result<(), Fail> {
-    let alloc = rt.alloc();
-    for (text, line) in [
-        ("int main() {\n  cilk_sync;\n}", 3),
-        ("int main() {\n}", 2),
-        ("int main() {\n  return 0;\n  cilk_sync;\n}", 3),
-        ("int main() {\n  return\n  ;\n}", 3),
-    ] {
-        assert_eq!(rt; fault_of(alloc, text.as_bytes()), misplaced(line), "{text}");
-    }
-    Ok(())
-}
-
-#[test]
-fn other_statements_of_the_grammar_are_not_taken_yet(rt: HostRuntime) -> Result<(), Fail> {
-    let alloc = rt.alloc();
-    for (text, line) in [
+        // 007 is three numbers
+        ("int main() { return 0\n07; }", 2),
+        // an index stands behind a name alone
+        ("void f() { print(a[0]\n[1]); }", 2),
+        ("void f() { print((a)\n[1]); }", 2),
+        ("void f() { print(1\n[1]); }", 2),
+        ("void f() { print(-a\n[1]\n[2]); }", 3),
+        // a call is no expression
+        ("void f() { x = 1 + f\n(); }", 2),
+        ("void f() { x = (f\n()); }", 2),
+        // an else stands behind the block of an if
+        ("void f() { x = 1;\nelse { } }", 2),
+        ("void f() { if (x) { } else { }\nelse { } }", 2),
+        ("void f() { while (x) { }\nelse { } }", 2),
+        // a grain is a number, and stands before the arrays
         (
-            "int main() {\n  int x = 0;\n  x\n  =\n  1\n  ;\n  return x; }",
-            5,
+            "void f() { cilk_for (int i = 0; i < n; i++) grain\nx { } }",
+            2,
         ),
-        ("int main() {\n  f\n  (\n  );\n  return 0; }", 3),
-        ("int main() {\n  cilk_spawn\n f();\n  return 0; }", 2),
-        ("int main() {\n  int a\n[3];\n  return 0; }", 3),
-        ("int main() {\n  if (1) { }\n  return 0; }", 2),
+        (
+            "void f() { cilk_for (int i = 0; i < n; i++) over (a)\ngrain 2 { } }",
+            2,
+        ),
+        (
+            "void f() { cilk_for (int i = 0; i < n; i++) over (\n) { } }",
+            2,
+        ),
+        // a parameter has one pair of brackets
+        ("void f(int a[]\n[]) { }", 2),
+        ("void f(int a[\n3]) { }", 2),
+        ("void f(int a,\n) { }", 2),
+        // no statement stands among the items, and no item among the statements
+        ("int main() {\nreducer sum s; }", 2),
+        ("cilk_sync;\n", 1),
     ] {
         assert_eq!(rt; fault_of(alloc, text.as_bytes()), misplaced(line), "{text}");
-    }
-    Ok(())
-}
-
-#[test]
-fn an_expression_is_a_number_or_a_name_in_parentheses(rt: HostRuntime) -> Result<(), Fail> {
-    let alloc = rt.alloc();
-    for (text, line) in [
-        ("int main() { return 1\n+\n1; }", 2),
-        ("int main() { return a\n[\n0]; }", 2),
-        ("int main() { return\n-\n1; }", 2),
-        ("int main() { return (\n)\n; }", 2),
-        ("int main() { return (1\n;\n}", 2),
-        ("int main() { return (1))\n; }", 1),
-        ("int main() { return 0\n0; }", 2),
-    ] {
-        assert_eq!(rt; fault_of(alloc, text.as_bytes()), misplaced(line), "{text}");
-    }
-    Ok(())
-}
-
-#[test]
-fn a_call_has_its_parentheses_commas_and_semicolon(rt: HostRuntime) -> Result<(), Fail> {
-    let alloc = rt.alloc();
-    for (text, line) in [
-        ("int main() { int x = 0; x = f(1\n;\n return x; }", 2),
-        ("int main() { int x = 0; x = f(1,\n)\n; return x; }", 2),
-        ("int main() { int x = 0; x = f(\n,\n1); return x; }", 2),
-        ("int main() { int x = 0; x = f(1\n2); return x; }", 2),
-        ("int main() { int x = 0; x = f\n; return x; }", 2),
-        ("int main() { int x = 0; x = cilk_spawn\n1; return x; }", 2),
-    ] {
-        assert_eq!(rt; fault_of(alloc, text.as_bytes()), misplaced(line), "{text}");
-    }
-    Ok(())
-}
-
-// The tokens of a program, and for each the line of the fault where it is left out: none where the
-// rest is still a source.
-const FIRST_PROGRAM: [(&str, Option<u32>); 35] = [
-    ("int", Some(2)),
-    ("f", Some(3)),
-    ("(", Some(4)),
-    ("int", Some(5)),
-    ("v", Some(6)),
-    (")", Some(7)),
-    ("{", Some(8)),
-    // "{ v" can go on to "{ v = .."
-    ("return", Some(10)),
-    ("v", Some(10)),
-    (";", Some(11)),
-    ("}", Some(12)),
-    ("int", Some(13)),
-    ("main", Some(14)),
-    ("(", Some(15)),
-    (")", Some(16)),
-    ("{", Some(17)),
-    // "{ x =" goes on to a call
-    ("int", Some(20)),
-    ("x", Some(19)),
-    ("=", Some(20)),
-    ("0", Some(21)),
-    (";", Some(22)),
-    ("x", Some(23)),
-    ("=", Some(24)),
-    // a plain call
-    ("cilk_spawn", None),
-    ("f", Some(26)),
-    ("(", Some(27)),
-    // a call without arguments
-    ("1", None),
-    (")", Some(29)),
-    (";", Some(30)),
-    ("cilk_sync", Some(31)),
-    (";", Some(32)),
-    // "x" can go on to "x = .."
-    ("return", Some(34)),
-    ("x", Some(34)),
-    (";", Some(35)),
-    ("}", Some(36)),
-];
-
-// The program without one of its tokens: each token has a line of its own, and the line of the one
-// that is left out is empty.
-fn without(alloc: Global, place: usize) -> Result<String, AllocError> {
-    let mut text = String::new(alloc);
-    for (at, (token, _)) in FIRST_PROGRAM.iter().enumerate() {
-        if at != place {
-            text.push_str(token)?;
-        }
-        text.push_str("\n")?;
-    }
-    Ok(text)
-}
-
-#[test]
-fn a_token_left_out_is_missed_where_it_stood(rt: HostRuntime) -> Result<(), Fail> {
-    let alloc = rt.alloc();
-    for (place, (_, line)) in FIRST_PROGRAM.iter().enumerate() {
-        let text = without(alloc, place)?;
-        let fault = line.map(|line| Fault::Syntax(Place { line }));
-        assert_eq!(rt;
-            fault_of(alloc, text.as_bytes()),
-            fault,
-            "without token {place}"
-        );
     }
     Ok(())
 }
@@ -336,10 +484,10 @@ fn a_thousand_functions_are_read(rt: HostRuntime) -> Result<(), Fail> {
         return Ok(());
     };
     let mut out = String::new(alloc);
-    show_function(alloc, &mut out, function)?;
+    show_block(alloc, &mut out, function.body.as_slice())?;
     assert_eq!(rt;
         out.as_str(),
-        "1000 f v: 1000 int x = v; 1000 x = f#1000 x; 1000 return x;\n"
+        "{1000 int x = v;1000 x = f#1000 x;1000 return x;}"
     );
     Ok(())
 }
@@ -360,7 +508,7 @@ fn at_most_64_brackets_are_open(rt: HostRuntime) -> Result<(), Fail> {
     let deepest = nested(alloc, 63, 63, "; }")?;
     let ast = tree_of(alloc, deepest.as_bytes())?;
     let shown = shown(alloc, &ast)?;
-    assert_eq!(rt; shown.as_str(), "1 main: 1 return 7;\n");
+    assert_eq!(rt; shown.as_str(), "1 int main{1 return 7;}\n");
     let deeper = nested(alloc, 64, 64, "; }")?;
     assert_eq!(rt; fault_of(alloc, deeper.as_bytes()), too_large(1));
     // one parenthesis too many, or too few, is missed where it stands
@@ -369,28 +517,49 @@ fn at_most_64_brackets_are_open(rt: HostRuntime) -> Result<(), Fail> {
     let few = nested(alloc, 63, 62, "\n; }")?;
     assert_eq!(rt; fault_of(alloc, few.as_bytes()), misplaced(2));
     // a limit comes before the grammar, at whatever line
-    let endless = nested(alloc, 100_000, 0, "")?;
-    assert_eq!(rt; fault_of(alloc, endless.as_bytes()), too_large(1));
     let faulty = nested(alloc, 64, 0, "\n; }")?;
     assert_eq!(rt; fault_of(alloc, faulty.as_bytes()), too_large(1));
     Ok(())
 }
 
-// "int main() { x = f(", so many ones, and the rest; the last one stands in a line of its own
-fn long_call(alloc: Global, ones: usize) -> Result<String, AllocError> {
-    let before = "1, ".repeat(alloc, ones.saturating_sub(1))?;
-    format!(in alloc; "int main() {{ x = f({before}\n1); return 0; }}")
+#[test]
+fn at_most_64_blocks_lie_in_one_another(rt: HostRuntime) -> Result<(), Fail> {
+    let alloc = rt.alloc();
+    for (blocks, fault) in [(63usize, None), (64, too_large(1))] {
+        let opening = "cilk_scope { ".repeat(alloc, blocks)?;
+        let closing = "} ".repeat(alloc, blocks)?;
+        let text = format!(in alloc; "void f() {{ {opening}{closing}}}")?;
+        assert_eq!(rt; fault_of(alloc, text.as_bytes()), fault);
+    }
+    Ok(())
+}
+
+#[test]
+fn a_limit_comes_at_once(rt: HostRuntime) -> Result<(), Fail> {
+    let alloc = rt.alloc();
+    for part in ["(", "-", "{", "a[", "cilk_scope {"] {
+        let many = part.repeat(alloc, 20_000)?;
+        let text = format!(in alloc; "int main() {{ return {many}")?;
+        assert_eq!(rt; fault_of(alloc, text.as_bytes()), too_large(1), "{part}");
+    }
+    Ok(())
 }
 
 #[test]
 fn at_most_256_tokens_stand_in_a_row(rt: HostRuntime) -> Result<(), Fail> {
     let alloc = rt.alloc();
-    // "x = f(" are 4 tokens, 126 arguments 251 with their commas, and ")" is the last one
-    let longest = long_call(alloc, 126)?;
-    let ast = tree_of(alloc, longest.as_bytes())?;
-    assert_eq!(rt; ast.functions.len(), 1);
-    // the 127th argument is the 257th token
-    let longer = long_call(alloc, 127)?;
-    assert_eq!(rt; fault_of(alloc, longer.as_bytes()), too_large(2));
+    // "return", the signs and a number
+    for (signs, fault) in [(254usize, None), (255, too_large(1))] {
+        let signs = "-".repeat(alloc, signs)?;
+        let text = format!(in alloc; "int main() {{ return {signs}7; }}")?;
+        assert_eq!(rt; fault_of(alloc, text.as_bytes()), fault);
+    }
+    // "x = f(" are 4 tokens, 126 arguments 251 with their commas, and ")" is the last one; the 127th
+    // argument is the 257th token
+    for (ones, fault) in [(126usize, None), (127, too_large(2))] {
+        let before = "1, ".repeat(alloc, ones.saturating_sub(1))?;
+        let text = format!(in alloc; "int main() {{ x = f({before}\n1); return 0; }}")?;
+        assert_eq!(rt; fault_of(alloc, text.as_bytes()), fault);
+    }
     Ok(())
 }

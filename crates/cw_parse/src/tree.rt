@@ -1,7 +1,5 @@
 //! The tree of a source: parentheses leave no node, each statement carries the line of its
 //! first token, and each call statement its number. Lines are counted from 1.
-//!
-//! It has a place for each form of the language; `parse` fills those of the first grammar.
 
 ghost use Rattle.std.specs.Prelude.{◌≡◌, IfOk};
 

@@ -1,0 +1,42 @@
+"""Writes sources of about 1 MiB, one for each kind of statement that is dear to read, into a folder."""
+
+import pathlib
+import sys
+
+SIZE = 1 << 20
+
+# Each source repeats one statement in the body of `main`; none passes a limit on brackets or tokens in a row.
+STATEMENTS = {
+    "declarations": "int x=1;",
+    "assignments": "x=y;",
+    "signs": "x=" + "-" * 250 + "y;",
+    "parentheses": "x=" + "(" * 60 + "1" + ")" * 60 + ";",
+    "right_operands": "x=" + "1==(" * 40 + "1" + ")" * 40 + ";",
+    "sums": "x=" + "+".join(["1"] * 120) + ";",
+    "levels": "x=" + "a==b<c+d*e-" * 12 + "f;",
+    "elements": "x=" + "a[" * 60 + "0" + "]" * 60 + ";",
+    "calls": "x=cilk_spawn f(" + ",".join(["1"] * 120) + ");",
+    "short_calls": "f();",
+    "syncs": "cilk_sync;",
+    "blocks": "cilk_scope{" * 60 + "}" * 60,
+    "choices": "if(x){x=1;}else{x=2;}",
+    "loops": "cilk_for(int i=0;i<n;i++)grain 8 over(" + ",".join(["a"] * 100) + "){}",
+    "cuts": "cut a at 1 as l,r{}",
+    "regions": "region t{}",
+}
+
+
+def source(statement):
+    before, behind = "int main(){", "return 0;}"
+    return before + statement * ((SIZE - len(before + behind)) // len(statement)) + behind
+
+
+def main():
+    folder = pathlib.Path(sys.argv[1])
+    folder.mkdir(parents=True, exist_ok=True)
+    for name, statement in STATEMENTS.items():
+        text = source(statement)
+        (folder / f"{name}.cilk").write_text(text)
+
+
+main()

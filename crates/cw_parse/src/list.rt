@@ -1,0 +1,117 @@
+//! Lists in commas, up to the parenthesis that closes them.
+
+ghost use Rattle.std.specs.Prelude.{ℕ, List, map};
+ghost use Rattle.cw_parse.specs.Reading.{Gives, Reader, with_front};
+ghost use Rattle.cw_parse.specs.Parts.{add_front, further, others, some_of, list, name, expr};
+ghost use Rattle.cw_parse.specs.View.{expr_of};
+ghost use Rattle.cw_model.specs.Syntax as model;
+
+use crate::expr::{expr, name_of};
+use crate::input::{Read, Reading};
+use crate::marks::{Mark, expect, past};
+use crate::stop::Stop;
+use crate::tree::{Expr, Name};
+use cw_model::token::Token;
+
+/// What stands between commas.
+pub(crate) trait Part: Drop + Sized {
+    ghost Seen: { Type 0 };
+
+    // What it stands for.
+    ghost seen: { Self → Seen };
+
+    // Reading it from a text, where operands lie in one another at most so deep.
+    ghost part: { List ℕ → ℕ → Reader Seen };
+
+    /// One part.
+    fn read<'a>(reading: Reading<'_>, depth: usize, tokens: &'a [Token]) -> Read<'a, Self>
+        ensures { Gives (λ x. (seen x.0, x.1.now)) result (part reading.entry.text.now depth tokens.now) };
+}
+
+impl Part for Expr {
+    ghost Seen = { model.Expr };
+
+    ghost seen = { expr_of };
+
+    ghost part = { λ text n. expr text n };
+
+    fn read<'a>(reading: Reading<'_>, depth: usize, tokens: &'a [Token]) -> Read<'a, Expr> {
+        expr(reading, depth, tokens)
+    }
+}
+
+impl Part for Name {
+    ghost Seen = { model.Name };
+
+    ghost seen = { λ x. x };
+
+    ghost part = { λ text n. name text };
+
+    fn read<'a>(reading: Reading<'_>, _depth: usize, tokens: &'a [Token]) -> Read<'a, Name> {
+        let (found, rest) = expect(Mark::Name, tokens)?;
+        Ok((name_of(reading, found)?, rest))
+    }
+}
+
+// A comma and a further part.
+fn further<'a, T: Part>(reading: Reading<'_>, depth: usize, tokens: &'a [Token]) -> Read<'a, T>
+    ensures { Gives (λ x. ((T.seen x.0, tt), x.1.now)) result
+        (further (T.part reading.entry.text.now depth) tt tokens.now) }
+{
+    let (_, rest) = expect(Mark::Comma, tokens)?;
+    let (part, rest) = T::read(reading, depth, rest)?;
+    Ok((part, rest))
+}
+
+// The parts behind those that were read, and the closing parenthesis.
+fn others<'a, T: Part>(
+    reading: Reading<'_>,
+    depth: usize,
+    mut done: Vec<T>,
+    tokens: &'a [Token],
+) -> Read<'a, Vec<T>>
+    ensures { Gives (λ x. (map T.seen x.0.items, x.1.now)) result
+        (with_front add_front (map T.seen done.items) (others (T.part reading.entry.text.now depth) depth tokens.now)) }
+{
+    let mut rest = tokens;
+    for _ in 0..depth {
+        if let Some((_, after)) = past(Mark::RightParen, rest) {
+            return Ok((done, after));
+        }
+        let (next, after) = further(reading, depth, rest)?;
+        done.push(next)?;
+        rest = after;
+    }
+    Err(Stop::At(rest.len()))
+}
+
+/// One part or more, and the closing parenthesis.
+pub(crate) fn some_of<'a, T: Part>(
+    reading: Reading<'_>,
+    depth: usize,
+    tokens: &'a [Token],
+) -> Read<'a, Vec<T>>
+    ensures { Gives (λ x. (map T.seen x.0.items, x.1.now)) result
+        (some_of (T.part reading.entry.text.now depth) depth tokens.now) }
+{
+    let (first, rest) = T::read(reading, depth, tokens)?;
+    let mut done = Vec::new(reading.alloc);
+    done.push(first)?;
+    others(reading, depth, done, rest)
+}
+
+/// Any number of parts, and the closing parenthesis.
+#[tactic(auto, unfolding(crate::specs::Parts::list))]
+pub(crate) fn list<'a, T: Part>(
+    reading: Reading<'_>,
+    depth: usize,
+    tokens: &'a [Token],
+) -> Read<'a, Vec<T>>
+    ensures { Gives (λ x. (map T.seen x.0.items, x.1.now)) result
+        (list (T.part reading.entry.text.now depth) depth tokens.now) }
+{
+    match past(Mark::RightParen, tokens) {
+        Some((_, rest)) => Ok((Vec::new(reading.alloc), rest)),
+        None => some_of(reading, depth, tokens),
+    }
+}
