@@ -7,6 +7,5 @@ mod Taken
 mod Told
 mod Refusals
 mod Stages
-mod First
 mod Runs
 mod Tools

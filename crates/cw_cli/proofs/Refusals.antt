@@ -16,7 +16,7 @@ use Rattle.cw_gen.specs.Generates as gen
 use Rattle.cw_code.specs.Code.{Code}
 use Rattle.cw_model.specs.Lines.{lowest}
 use Rattle.cw_model.proofs.Lowest.{least_line, no_lines}
-use Rattle.cw_cli.specs.Later.{later_lines}
+use Rattle.cw_gen.specs.Later.{later_lines}
 use Rattle.cw_cli.specs.Sources
 use Rattle.cw_cli.specs.Compiled.{IsCompiled}
 

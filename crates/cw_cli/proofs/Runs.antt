@@ -1,6 +1,6 @@
 -- From what a run of code answers to what its program means.
 use Rattle.std.proofs.Common.{◌≡◌, ℕ, ℤ, Bool, true, false, ◌&&◌, ◌≤◌, List, [], ◌∷◌, ◌++◌, length, Some, Result, Ok, Err, MatchResult, IsErrAnd, flat_map, refl, sym, ap, ◌∙◌, subst, arith}
-use Rattle.std.specs.Prelude.{nat_eq, nat_le}
+use Rattle.std.specs.Prelude.{nat_eq, nat_le, map, codes}
 use Rattle.std.proofs.lemmas.Bool.Decides.{nat_tests}
 use Rattle.cw_model.specs.Syntax.{Program, Reducer}
 use Rattle.cw_model.specs.Limits.{most_limit, most_burden}
@@ -11,7 +11,7 @@ use Rattle.cw_model.specs.Report.{check_text, value_line, run_text, sum_lines, r
 use Rattle.cw_code.specs.Code.{Code}
 use Rattle.cw_code.specs.Run.{code_serial}
 use Rattle.cw_code.specs.Fits.{main_params}
-use Rattle.cw_machine.specs.Runs.{Runs, Why, is_request}
+use Rattle.cw_machine.specs.Runs.{Runs, RunsAsCode, Why, is_request}
 use Rattle.cw_machine.specs.declared.alone.Ended as run
 use Rattle.cw_text.specs.declared.fault.Fault.{Fault}
 use Rattle.cw_text.specs.declared.fault.Fault.TheVariants as fault
@@ -47,13 +47,18 @@ true_both true true p q = refl
 true_both true false p q = q
 true_both false b p q = p
 
-no_sums : (reducers : List Reducer) → sum_lines reducers [] ≡ []
-no_sums [] = refl
-no_sums (r ∷ rs) = refl
+no_reducers : (reducers : List Reducer) → map (λ r. r.line) reducers ≡ [] → reducers ≡ []
+no_reducers [] h = refl
+no_reducers (r ∷ rs) h = cc
 
--- the report of a run that printed nothing and has no sums
-ended_report : (program : Program) (v : ℤ) (tree : Tree) → run_text program (Ended v [] [] tree) ≡ ended_text v
-ended_report program v tree = ap (λ text. text ++ ended_text v) (no_sums program.reducers)
+front : (xs ys : List ℕ) → xs ++ ys ≡ [] → xs ≡ []
+front [] ys h = refl
+front (x ∷ xs) ys h = cc
+
+-- the report of a run of a program without reducers
+ended_report : (program : Program) (v : ℤ) (lines sums : List ℤ) (tree : Tree) → program.reducers ≡ [] → run_text program (Ended v lines sums tree) ≡ ended_text lines v
+ended_report program v lines sums tree none =
+    ap (λ rs. flat_map value_line lines ++ (sum_lines rs sums ++ (codes "return " ++ value_line v))) none
 
 some_is : {A : Type 0} (a b : A) → Some a ≡ Some b → a ≡ b
 some_is a b e = cc
@@ -68,9 +73,9 @@ trap_not_over : {trap : Trap} {line : ℕ} {lines : List ℤ} → TrappedAt trap
 trap_not_over e = cc
 
 -- the report that is asked for
-report_is : (m : Mode) (program : Program) (burden : ℕ) (v : ℤ) (tree : Tree) → m ≡ mode.Run → report_text (analyses.mode_of m) program burden (Ended v [] [] tree) ≡ ended_text v
-report_is mode.Check program burden v tree is = cc
-report_is mode.Run program burden v tree is = ended_report program v tree
+report_is : (m : Mode) (program : Program) (burden : ℕ) (v : ℤ) (lines sums : List ℤ) (tree : Tree) → m ≡ mode.Run → program.reducers ≡ [] → report_text (analyses.mode_of m) program burden (Ended v lines sums tree) ≡ ended_text lines v
+report_is mode.Check program burden v lines sums tree is none = cc
+report_is mode.Run program burden v lines sums tree is none = ended_report program v lines sums tree none
 
 printed_is : (m : Mode) (program : Program) (burden : ℕ) (trap : Trap) (line : ℕ) (lines : List ℤ) → m ≡ mode.Run → report_text (analyses.mode_of m) program burden (TrappedAt trap line lines) ≡ flat_map value_line lines
 printed_is mode.Check program burden trap line lines is = cc
@@ -103,12 +108,15 @@ module _ (bytes : List ℕ) (args : List ℤ) (options : Options) (is_run : opti
   answer_is : analyses.MayRun compiled.program args options → (a : Answer) → code_serial code args options.limit ≡ Some a → analyses.answer_to compiled.program args options ≡ a
   answer_is m a e = some_is _ _ (sym (compiled.generates.serial args m.count options.limit) ∙ e)
 
-  ended_is : (v : ℤ) (r : Runs code args options.limit options.burden v) → analyses.answer_to compiled.program args options ≡ Ended v [] [] r.tree
-  ended_is v r = answer_is (may r.asked) (Ended v [] [] r.tree) r.answer
+  none : compiled.program.reducers ≡ []
+  none = no_reducers compiled.program.reducers (front (map (λ (r : Reducer). r.line) compiled.program.reducers) _ compiled.compiles.taken)
 
-  ended_text_is : (v : ℤ) (r : Runs code args options.limit options.burden v) → ended_text v ≡ analyses.text_of compiled.program args options
-  ended_text_is v r =
-      sym (ap (λ a. report_text (analyses.mode_of options.mode) compiled.program options.burden a) (ended_is v r) ∙ report_is options.mode compiled.program options.burden v r.tree is_run)
+  ended_is : (v : ℤ) (lines : List ℤ) (r : Runs code args options.limit options.burden v lines) → analyses.answer_to compiled.program args options ≡ Ended v lines r.sums r.tree
+  ended_is v lines r = answer_is (may r.asked) (Ended v lines r.sums r.tree) r.answer
+
+  ended_text_is : (v : ℤ) (lines : List ℤ) (r : Runs code args options.limit options.burden v lines) → ended_text lines v ≡ analyses.text_of compiled.program args options
+  ended_text_is v lines r =
+      sym (ap (λ a. report_text (analyses.mode_of options.mode) compiled.program options.burden a) (ended_is v lines r) ∙ report_is options.mode compiled.program options.burden v lines r.sums r.tree is_run none)
 
   printed_text_is : (trap : Trap) (line : ℕ) (lines : List ℤ) → analyses.answer_to compiled.program args options ≡ TrappedAt trap line lines → flat_map value_line lines ≡ analyses.text_of compiled.program args options
   printed_text_is trap line lines e =
@@ -116,12 +124,12 @@ module _ (bytes : List ℕ) (args : List ℤ) (options : Options) (is_run : opti
 
   module _ {W : Type 0} (seen : W → Seen) (old new : W) where
     -- a run that ended, and its text was written
-    reported : (v : ℤ) → Runs code args options.limit options.burden v → WritesAll (seen old) (seen new) (ended_text v) → analyses.IsReported seen old new bytes args options
-    reported v r took = record {
+    reported : (v : ℤ) (lines : List ℤ) → Runs code args options.limit options.burden v lines → WritesAll (seen old) (seen new) (ended_text lines v) → analyses.IsReported seen old new bytes args options
+    reported v lines r took = record {
       program = compiled.program;
       run = run_of (may r.asked);
-      ended = subst analyses.HasEnded (sym (ended_is v r)) tt;
-      took = subst (λ text. WritesAll (seen old) (seen new) text) (ended_text_is v r) took;
+      ended = subst analyses.HasEnded (sym (ended_is v lines r)) tt;
+      took = subst (λ text. WritesAll (seen old) (seen new) text) (ended_text_is v lines r) took;
     }
 
     -- a run that did not end, and what it printed was written
@@ -141,22 +149,22 @@ module _ (bytes : List ℕ) (args : List ℤ) (options : Options) (is_run : opti
         record { program = compiled.program; compiles = compiled.compiles; misused = λ m. false_true (sym h ∙ must m); untouched = idle refl }
     unreported _ h took idle = absurd h
 
-    finished_itself : (ended : Result run.Ended Fault) → MatchResult ended (λ e. Runs code args options.limit options.burden e.value) (Why code args options.limit options.burden) → WritesAll (seen old) (seen new) (handed_text ended) → (handed_text ended ≡ [] → new ≡ old) → MatchResult ended (λ _. analyses.IsReported seen old new bytes args options) (analyses.IsUnreported seen old new bytes args options)
-    finished_itself (Ok e) r took idle = reported e.value r took
+    finished_itself : (ended : Result run.Ended Fault) → RunsAsCode code args options.limit options.burden ended → WritesAll (seen old) (seen new) (handed_text ended) → (handed_text ended ≡ [] → new ≡ old) → MatchResult ended (λ _. analyses.IsReported seen old new bytes args options) (analyses.IsUnreported seen old new bytes args options)
+    finished_itself (Ok e) r took idle = reported e.value e.lines.items r took
     finished_itself (Err f) h took idle = unreported f h took idle
 
     -- a run whose text was written
-    pub finished : (ended other : Result run.Ended Fault) → ended ≡ other → MatchResult ended (λ e. Runs code args options.limit options.burden e.value) (Why code args options.limit options.burden) → WritesAll (seen old) (seen new) (handed_text ended) → (handed_text ended ≡ [] → new ≡ old) → MatchResult other (λ _. analyses.IsReported seen old new bytes args options) (analyses.IsUnreported seen old new bytes args options)
+    pub finished : (ended other : Result run.Ended Fault) → ended ≡ other → RunsAsCode code args options.limit options.burden ended → WritesAll (seen old) (seen new) (handed_text ended) → (handed_text ended ≡ [] → new ≡ old) → MatchResult other (λ _. analyses.IsReported seen old new bytes args options) (analyses.IsUnreported seen old new bytes args options)
     finished ended other same h took idle =
         subst (λ r. MatchResult r (λ _. analyses.IsReported seen old new bytes args options) (analyses.IsUnreported seen old new bytes args options)) same (finished_itself ended h took idle)
 
     -- a write that failed
-    cut_short : (ended : Result run.Ended Fault) → MatchResult ended (λ e. Runs code args options.limit options.burden e.value) (Why code args options.limit options.burden) → WritesPart (seen old) (seen new) (handed_text ended) → (handed_text ended ≡ [] → new ≡ old) → analyses.IsCutShort seen old new bytes args options
+    cut_short : (ended : Result run.Ended Fault) → RunsAsCode code args options.limit options.burden ended → WritesPart (seen old) (seen new) (handed_text ended) → (handed_text ended ≡ [] → new ≡ old) → analyses.IsCutShort seen old new bytes args options
     cut_short (Ok e) r part idle = record {
       program = compiled.program;
       run = run_of (may r.asked);
-      within = λ over. not_over (sym (ended_is e.value r) ∙ over);
-      took = subst (λ text. WritesPart (seen old) (seen new) text) (ended_text_is e.value r) part;
+      within = λ over. not_over (sym (ended_is e.value e.lines.items r) ∙ over);
+      took = subst (λ text. WritesPart (seen old) (seen new) text) (ended_text_is e.value e.lines.items r) part;
     }
     cut_short (Err (fault.Trap trap line lines)) h part idle =
         let e = answer_is (may h.0) (TrappedAt trap line lines.items) h.1 in
@@ -169,7 +177,7 @@ module _ (bytes : List ℕ) (args : List ℤ) (options : Options) (is_run : opti
     cut_short (Err _) h part idle = absurd (no_part seen old new [] (idle refl) part)
 
     -- a text that was not written
-    pub unwritten : (ended : Result run.Ended Fault) → MatchResult ended (λ e. Runs code args options.limit options.burden e.value) (Why code args options.limit options.burden) → (handed_text ended ≡ [] → new ≡ old) → (f : Fault) → AnswersLess seen old new (handed_text ended) f → analyses.IsUnreported seen old new bytes args options f
+    pub unwritten : (ended : Result run.Ended Fault) → RunsAsCode code args options.limit options.burden ended → (handed_text ended ≡ [] → new ≡ old) → (f : Fault) → AnswersLess seen old new (handed_text ended) f → analyses.IsUnreported seen old new bytes args options f
     unwritten ended r idle fault.Memory h = h
     unwritten ended r idle fault.Write h = cut_short ended r h idle
     unwritten ended r idle _ h = absurd h

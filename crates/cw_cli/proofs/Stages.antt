@@ -11,9 +11,10 @@ use Rattle.cw_model.specs.Ownership.{ownership_faults}
 use Rattle.cw_model.specs.Sizes.{token_faults, limit_faults, program_faults}
 use Rattle.cw_model.proofs.Lowest.{no_least, one_least}
 use Rattle.cw_lex.specs.Laws.{HasOneCut, FaultsExcludeCuts, FaultsExcludeOneAnother, LexicalFaultHasOneLine, NameFaultHasOneLine}
-use Rattle.cw_parse.specs.FirstFault.{DerivesFirst, HasFirstFault, HasOneTree, FaultsAreOne}
-use Rattle.cw_types.specs.Faults.{typing_lines}
-use Rattle.cw_cli.specs.Later.{later_lines}
+use Rattle.cw_model.specs.Grammar.{Derives, HasSyntaxFault}
+use Rattle.cw_model.specs.Typing.{type_faults}
+use Rattle.cw_parse.specs.Parsed.{HasOneTree, FaultsAreOne}
+use Rattle.cw_gen.specs.Later.{later_lines}
 use Rattle.cw_text.specs.declared.fault.Place.{Place}
 use Rattle.cw_text.specs.declared.fault.Fault.{Fault}
 use Rattle.cw_text.specs.declared.fault.Fault.TheVariants as fault
@@ -62,10 +63,10 @@ AfterOwnership p = Keeps (later_lines p) (λ at. fault.Size at) (Keeps (program_
 abbrev AfterTree : Program → Result Program Fault → Type 0
 AfterTree p =
     Keeps (limit_faults p) (λ at. fault.Size at)
-    (Keeps (typing_lines p) (λ at. fault.Types at) (Keeps (ownership_faults p) (λ at. fault.Ownership at) (AfterOwnership p)))
+    (Keeps (type_faults p) (λ at. fault.Types at) (Keeps (ownership_faults p) (λ at. fault.Ownership at) (AfterOwnership p)))
 
 abbrev AfterCut : List ℕ → List Token → Result Program Fault → Type 0
-AfterCut bytes ts = Keeps (token_faults 0 0 ts) (λ at. fault.Size at) (Stage (DerivesFirst bytes ts) (HasFirstFault bytes ts) (λ at. fault.Syntax at) AfterTree)
+AfterCut bytes ts = Keeps (token_faults 0 0 ts) (λ at. fault.Size at) (Stage (Derives bytes ts) (HasSyntaxFault bytes ts) (λ at. fault.Syntax at) AfterTree)
 
 abbrev AfterText : List ℕ → Result Program Fault → Type 0
 AfterText bytes =
@@ -110,9 +111,9 @@ failed f = Err f
 module _ (one_cut : HasOneCut) (no_cut : FaultsExcludeCuts) (one_kind : FaultsExcludeOneAnother) (one_lexical : LexicalFaultHasOneLine) (one_name : NameFaultHasOneLine) (one_tree : (text : List ℕ) (ts : List Token) → HasOneTree text ts) (no_tree : (text : List ℕ) (ts : List Token) → FaultsAreOne text ts) (bytes : List ℕ) where
   after_tree_one : (p : Program) → IsOne (AfterTree p)
   after_tree_one p =
-      keeps_one (limit_faults p) _ _ (keeps_one (typing_lines p) _ _ (keeps_one (ownership_faults p) _ _ (keeps_one (later_lines p) _ _ (keeps_one (program_faults p) _ _ (λ r s h k. h ∙ sym k)))))
+      keeps_one (limit_faults p) _ _ (keeps_one (type_faults p) _ _ (keeps_one (ownership_faults p) _ _ (keeps_one (later_lines p) _ _ (keeps_one (program_faults p) _ _ (λ r s h k. h ∙ sym k)))))
 
-  tree_choice : (ts : List Token) → IsChoice (DerivesFirst bytes ts) (HasFirstFault bytes ts)
+  tree_choice : (ts : List Token) → IsChoice (Derives bytes ts) (HasSyntaxFault bytes ts)
   tree_choice ts = record { one_value = one_tree bytes ts; apart = λ p line h k. (no_tree bytes ts).no_tree line p k h; one_line = (no_tree bytes ts).one_line }
 
   after_cut_one : (ts : List Token) → IsOne (AfterCut bytes ts)

@@ -1,11 +1,8 @@
 -- What holds of all bytes.
-use Rattle.std.specs.Prelude.{◌≡◌, ℕ, List, [], true, ◌⊎◌}
+use Rattle.std.specs.Prelude.{◌≡◌, ℕ, List, ◌⊎◌}
 use Rattle.cw_model.specs.Syntax.{Program}
-use Rattle.cw_model.specs.FirstGrammar.{is_first}
-use Rattle.cw_model.specs.Typing.{IsWellTyped}
 use Rattle.cw_text.specs.declared.fault.Fault.{Fault}
 use Rattle.cw_text.specs.declared.fault.Fault.TheVariants as fault
-use Rattle.cw_cli.specs.Later.{later_lines}
 use Rattle.cw_cli.specs.Sources.{IsSourceOf, Compiles, IsRefused}
 
 -- bytes are a source of at most one program
@@ -19,7 +16,3 @@ CompiledAreNotRefused = (bytes : List ℕ) (p : Program) (f : Fault) → Compile
 -- bytes are refused for one reason in one line, or for want of memory
 abbrev pub HaveOneRefusal : Type 0
 HaveOneRefusal = (bytes : List ℕ) (f g : Fault) → IsRefused bytes f → IsRefused bytes g → (f ≡ g) ⊎ (f ≡ fault.Memory) ⊎ (g ≡ fault.Memory)
-
--- a program that keeps the rules of names and types, and holds nothing that is not compiled so far, is one of the first grammar
-abbrev pub TakenAreFirst : Type 0
-TakenAreFirst = (program : Program) → later_lines program ≡ [] → IsWellTyped program → is_first program ≡ true

@@ -2,7 +2,6 @@ pub mod Numbers
 pub mod Command
 pub mod Requests
 pub mod Rows
-pub mod Later
 pub mod Sources
 pub mod Compiled
 pub mod Analyses

@@ -8,8 +8,9 @@ use Rattle.cw_model.specs.Syntax.{Program}
 use Rattle.cw_model.specs.Ownership.{KeepsOwnership, ownership_faults}
 use Rattle.cw_model.specs.Sizes.{token_faults, limit_faults, program_faults}
 use Rattle.cw_parse.specs.Parsed.{IsParsed, IsUnderivable}
-use Rattle.cw_cli.specs.Later.{later_lines}
-use Rattle.cw_types.specs.Faults.{IsFirstTypeFault, typing_lines}
+use Rattle.cw_gen.specs.Later.{later_lines}
+use Rattle.cw_model.specs.Typing.{type_faults}
+use Rattle.cw_types.specs.Faults.{IsFirstTypeFault}
 use Rattle.cw_text.specs.declared.fault.Fault.{Fault}
 use Rattle.cw_text.specs.declared.fault.Fault.TheVariants as fault
 
@@ -28,7 +29,7 @@ pub record IsSourceOf (bytes : List ℕ) (program : Program) : Type 0 where
 pub record IsAccepted (bytes : List ℕ) (program : Program) : Type 0 where
   pub source : IsSourceOf bytes program
   pub within : limit_faults program ≡ []
-  pub typed : typing_lines program ≡ []
+  pub typed : type_faults program ≡ []
   pub owned : KeepsOwnership program
 
 -- such a program holds nothing that is not compiled so far, and is small enough
@@ -59,7 +60,7 @@ pub record IsDisowned (bytes : List ℕ) (line : ℕ) : Type 0 where
   pub program : Program
   pub source : IsSourceOf bytes program
   pub within : limit_faults program ≡ []
-  pub typed : typing_lines program ≡ []
+  pub typed : type_faults program ≡ []
   pub least : IsLeastLine (ownership_faults program) line
 
 -- the first limit that is passed, stage by stage: bytes, a name, tokens, the program's parts, what is compiled so far, and its code

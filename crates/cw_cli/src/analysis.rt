@@ -9,9 +9,9 @@ ghost use Rattle.cw_cli.specs.Analyses.{IsAnalysed, IsRun};
 use crate::asked::{Mode, Options};
 use crate::compiling::compile;
 use cw_machine::alone::run_alone;
-use cw_machine::verified::Verified;
 use cw_report::{Sink, answer, ok};
 use cw_text::Fault;
+use cw_verify::verified::Verified;
 use std::alloc::Global;
 use std::sync::Arc;
 

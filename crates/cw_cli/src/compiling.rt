@@ -8,11 +8,13 @@ ghost use Rattle.cw_cli.specs.Sources.{IsRefused};
 use crate::later::later_line;
 use cw_gen::generate;
 use cw_lex::lex;
-use cw_machine::verified::Verified;
+use cw_model::laws::derived_sites_are_numbered;
 use cw_own::own;
 use cw_parse::parse;
 use cw_text::{Fault, Place, Source};
 use cw_types::check;
+use cw_verify::verified::Verified;
+use cw_verify::verify::verify;
 use std::alloc::Global;
 
 /// The code of the program that these bytes are the source of: on all arguments and within all
@@ -27,15 +29,16 @@ pub fn compile(alloc: Global, bytes: &[u8]) -> Result<Verified, Fault>
     ensures { MatchResult result
         (λ made. IsCompiled bytes.now (code_view made.code)) (IsRefused bytes.now) }
 {
+    derived_sites_are_numbered();
     let source = Source::read(alloc, bytes)?;
     let tokens = lex(alloc, &source)?;
     let ast = parse(alloc, &source, tokens.as_slice())?;
     let later = later_line(&ast);
     let typed = check(alloc, ast)?;
-    let owned = own(typed)?;
+    let owned = own(alloc, typed)?;
     if let Some(line) = later {
         return Err(Fault::Size(Place { line }));
     }
     let code = generate(alloc, &owned)?;
-    Ok(Verified { code })
+    verify(alloc, code)
 }

@@ -13,7 +13,7 @@ ghost use Rattle.cw_parse.specs.View.{
   reducer_of,
   stmt_of,
 };
-ghost use Rattle.cw_cli.specs.Later.{
+ghost use Rattle.cw_gen.specs.Later.{
   has_array,
   holds_later,
   is_later_expr,
@@ -31,7 +31,8 @@ ghost use Rattle.cw_cli.specs.Later.{
 use cw_parse::tree::{Ast, Expr, Function, Line, Param, Reducer, Stmt};
 use cw_text::LeastLine;
 
-/// The least line of a statement or an item that the generator does not take so far, if there is one.
+/// The least line of a statement or an item that the stages after ownership do not take so far, if
+/// there is one.
 pub fn later_line(ast: &Ast) -> Option<u32>
     ensures { result ≡ lowest None (later_lines (program_of ast.now)) }
 {
@@ -64,8 +65,7 @@ fn note_functions(functions: &[Function], least: &mut LeastLine)
 fn note_function(function: &Function, least: &mut LeastLine)
     ensures { least.new.line ≡ lowest least.old.line (later_in_function (function_of function.now)) }
 {
-    let taken = function.gives_int && !has_array(&function.params);
-    least.note(taken, function.line);
+    least.note(!has_array(&function.params), function.line);
     note_block(&function.body, least);
 }
 
@@ -125,19 +125,10 @@ fn is_later_form(stmt: &Stmt) -> bool
 {
     match stmt {
         Stmt::DeclareArray(_, _) => true,
-        Stmt::Assign(_, _) => true,
         Stmt::AssignElement(_, _, _) => true,
         Stmt::AddTo(_, _) => true,
-        Stmt::Call(call) => call.target.is_none(),
-        Stmt::If(_, _) => true,
-        Stmt::IfElse(_, _, _) => true,
-        Stmt::While(_, _) => true,
         Stmt::For(_, _) => true,
-        Stmt::Scope(_) => true,
         Stmt::Cut(_, _) => true,
-        Stmt::Region(_, _) => true,
-        Stmt::Print(_) => true,
-        Stmt::Return(e) => e.is_none(),
         _ => false,
     }
 }
@@ -202,9 +193,6 @@ fn is_later_expr(e: &Expr) -> bool
     match e {
         Expr::Element(_, _) => true,
         Expr::Length(_) => true,
-        Expr::Negative(_) => true,
-        Expr::Not(_) => true,
-        Expr::Binary(_, _, _) => true,
         _ => false,
     }
 }

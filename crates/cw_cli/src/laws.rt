@@ -1,11 +1,6 @@
 //! What holds of all bytes, and of all words.
 
-ghost use Rattle.cw_cli.specs.Laws.{
-  CompiledAreNotRefused,
-  HaveOneProgram,
-  HaveOneRefusal,
-  TakenAreFirst,
-};
+ghost use Rattle.cw_cli.specs.Laws.{CompiledAreNotRefused, HaveOneProgram, HaveOneRefusal};
 ghost use Rattle.cw_cli.specs.WordLaws.{
   BurdenIsRead,
   CheckIsRead,
@@ -40,12 +35,6 @@ pub fn one_answer()
     cw_parse::laws::one_tree();
     cw_parse::laws::no_tree_beside_a_fault();
 }
-
-/// A program that keeps the rules of names and types, and holds nothing that is not compiled so far,
-/// is one of those that the generator takes.
-pub fn taken_programs()
-    ensures { TakenAreFirst }
-{}
 
 /// A word after `check` that starts with no hyphen is the source. Such words after `run` are the
 /// source and the arguments, and `--limit` or `--burden` with a word before them is that number.

@@ -1,63 +1,107 @@
--- The code of a program has as many instructions as its static size.
-use Rattle.std.proofs.Common.{◌≡◌, ℕ, ◌+◌, List, [], ◌∷◌, length, if◌then◌else◌, Some, None, refl, sym, ap, ◌∙◌, arith, length-append}
-use Rattle.std.specs.Prelude.{sum_by}
+-- Code has as many instructions as the static size of its program.
+use Rattle.std.proofs.Common.{◌≡◌, ℕ, ◌+◌, List, [], ◌∷◌, ◌++◌, length, Bool, true, false, if◌then◌else◌, Some, None, refl, sym, ap, ◌∙◌, arith, length-append}
+use Rattle.std.specs.Prelude.{sum_by, map}
 use Rattle.std.proofs.lemmas.List.Sums.{sum_by-cons}
-use Rattle.cw_model.specs.Syntax.{Name, Expr, Number, Variable, Stmt, Declare, Assign, Call, Sync, Return, Block, End, Then, Param, Function, Program}
+use Rattle.cw_model.specs.Syntax.{Expr, Number, Variable, Negative, Not, Binary, Stmt, Declare, Assign, AddTo, Call, Sync, If, IfElse, While, Scope, Region, Print, Return, Block, End, Then, Param, Function, Program}
 use Rattle.cw_model.specs.Meaning.{function_of}
+use Rattle.cw_model.specs.Typing.{Returns, Nowhere, WithInt, Alone}
 use Rattle.cw_model.specs.Ownership.{Taken, taken_after}
 use Rattle.cw_model.specs.Sizes.{size_of, arguments_size, stmt_size, block_size, function_size, static_size}
-use Rattle.cw_types.specs.Resolved.{slot_of, names_after}
+use Rattle.cw_types.specs.Resolved.{Lists, Locals, locals_after, locals_of, lists_of, resolved_argument, resolved_block, plain_block, resolved_function}
+use Rattle.cw_model.specs.Typing as typing
+use Rattle.cw_code.specs.declared.code.Instr.{Instr}
 use Rattle.cw_code.specs.declared.code.Instr.TheVariants as instr
-use Rattle.cw_gen.specs.Emit.{call_instr}
-use Rattle.cw_gen.proofs.Gen.{expr_code, args_code, callee_of, stmt_code, block_code, params_of, function_code, codes_of}
-use Rattle.cw_gen.proofs.Fine.{ExprFine, ArgsFine, StmtFine, BlockFine, FunctionFine, FunctionsFine, ProgramFine}
+use Rattle.cw_gen.specs.Emit.{distance, past, emitted_arg, emitted_end, emitted_instrs, emitted_over}
+use Rattle.cw_gen.proofs.Fine.{ExprFine, ArgsFine, ReturnFine, StmtFine, BlockFine, FunctionFine, FunctionsFine, ProgramFine}
+use Rattle.cw_gen.proofs.Laws.{expr_code, args_code, stmt_code, block_code, function_code, arg_code}
+use Rattle.cw_gen.proofs.Program.{code_of}
 
-expr_count : (names : List Name) (taken : Taken) (e : Expr) → ExprFine names taken e → length (expr_code names e) ≡ size_of [] e
-expr_count names taken (Number n) fine = refl
-expr_count names taken (Variable x) fine = refl
-expr_count names taken _ fine = absurd fine
+one_more : (is : List Instr) (i : Instr) → length (is ++ i ∷ []) ≡ length is + 1
+one_more is i = length-append is (i ∷ [])
 
-args_count : (names : List Name) (taken : Taken) (ps : List Param) (es : List Expr) → ArgsFine names taken ps es → length (args_code names es) ≡ arguments_size [] ps es
-args_count names taken [] [] fine = refl
-args_count names taken [] (e ∷ es) fine = absurd fine
-args_count names taken (p ∷ ps) [] fine = absurd fine
-args_count names taken (p ∷ ps) (e ∷ es) fine =
-    length-append (expr_code names e) (args_code names es)
-    ∙ ap (λ k. k + length (args_code names es)) (expr_count names taken e fine.1)
-    ∙ ap (λ k. size_of [] e + k) (args_count names taken ps es fine.2)
+expr_count : (locals : Locals) (taken : Taken) (line : ℕ) (e : Expr) → ExprFine locals taken e → length (expr_code locals line e) ≡ size_of [] e
+expr_count locals taken line (Number n) fine = refl
+expr_count locals taken line (Variable x) fine = refl
+expr_count locals taken line (Negative e) fine = one_more (expr_code locals line e) _ ∙ ap (λ k. k + 1) (expr_count locals taken line e fine)
+expr_count locals taken line (Not e) fine = one_more (expr_code locals line e) _ ∙ ap (λ k. k + 1) (expr_count locals taken line e fine)
+expr_count locals taken line (Binary operator d e) fine =
+    let cd = expr_code locals line d in
+    let ce = expr_code locals line e in
+    let i = instr.Binary operator line in
+    omega (arith, length-append cd (ce ++ i ∷ []), one_more ce i, expr_count locals taken line d fine.0, expr_count locals taken line e fine.1)
+expr_count locals taken line _ fine = absurd fine
+
+args_count : (locals : Locals) (taken : Taken) (line : ℕ) (ps : List Param) (es : List Expr) → ArgsFine locals taken ps es → length (args_code locals line es) ≡ arguments_size [] ps es
+args_count locals taken line [] [] fine = refl
+args_count locals taken line [] (e ∷ es) fine = absurd fine
+args_count locals taken line (p ∷ ps) [] fine = absurd fine
+args_count locals taken line (p ∷ ps) (e ∷ es) fine =
+    length-append (emitted_arg line (resolved_argument locals e)) (args_code locals line es)
+    ∙ ap (λ k. k + length (args_code locals line es)) (ap length (arg_code locals line e fine.1.1) ∙ expr_count locals taken line e fine.1.0)
+    ∙ ap (λ k. size_of [] e + k) (args_count locals taken line ps es fine.2)
     ∙ ap (λ b. (if b then 0 else size_of [] e) + arguments_size [] ps es) (sym fine.0)
 
-module _ (fs : List Function) where
-  stmt_count : (names : List Name) (taken : Taken) (line : ℕ) (s : Stmt) → StmtFine fs names taken s → length (stmt_code fs names line s) ≡ stmt_size fs [] s
-  stmt_count names taken line (Declare x e) fine = length-append (expr_code names e) (instr.Store (length names) ∷ []) ∙ ap (λ k. k + 1) (expr_count names taken e fine)
-  stmt_count names taken line (Assign x e) fine = length-append (expr_code names e) (instr.Store (slot_of x names) ∷ []) ∙ ap (λ k. k + 1) (expr_count names taken e fine.1)
-  stmt_count names taken line (Call kind site target f es) fine =
-      length-append (args_code names es) (call_instr kind (callee_of fs names line site target f) ∷ [])
-      ∙ ap (λ k. k + 1) (args_count names taken (function_of f fs).params es fine.2)
-  stmt_count names taken line Sync fine = refl
-  stmt_count names taken line (Return None) fine = absurd fine
-  stmt_count names taken line (Return (Some e)) fine = length-append (expr_code names e) (instr.Return ∷ []) ∙ ap (λ k. k + 1) (expr_count names taken e fine)
-  stmt_count names taken line _ fine = absurd fine
+end_count : (b : Bool) → length (emitted_end b) ≡ (if b then 0 else 1)
+end_count true = refl
+end_count false = refl
 
-  block_count : (names : List Name) (taken : Taken) (b : Block) → BlockFine fs names taken b → length (block_code fs names b) ≡ block_size fs [] b
-  block_count names taken End fine = refl
-  block_count names taken (Then line s b) fine =
-      length-append (stmt_code fs names line s) (block_code fs (names_after names s) b)
-      ∙ ap (λ k. k + length (block_code fs (names_after names s) b)) (stmt_count names taken line s fine.0)
-      ∙ ap (λ k. stmt_size fs [] s + k) (block_count (names_after names s) (taken_after fs 1 s taken) b fine.1)
+module _ (fs : List Function) (lists : Lists) where
+  returned_count : (returns : Returns) (locals : Locals) (taken : Taken) (e : Expr) → ReturnFine returns locals taken (Some e) → ExprFine locals taken e
+  returned_count Nowhere locals taken e fine = absurd fine
+  returned_count WithInt locals taken e fine = fine
+  returned_count Alone locals taken e fine = absurd fine
 
-  function_count : (f : Function) → FunctionFine fs f → length (function_code fs f) ≡ function_size fs f
+  mutual
+    stmt_count : (size : ℕ) (returns : Returns) (level : ℕ) (locals : Locals) (taken : Taken) (line : ℕ) (s : Stmt) → StmtFine fs lists size returns level locals taken s → length (stmt_code lists locals line s) ≡ stmt_size fs [] s
+    stmt_count size returns level locals taken line (Declare x e) fine = one_more (expr_code locals line e) _ ∙ ap (λ k. k + 1) (expr_count locals taken line e fine.1)
+    stmt_count size returns level locals taken line (Assign x e) fine = one_more (expr_code locals line e) _ ∙ ap (λ k. k + 1) (expr_count locals taken line e fine.1)
+    stmt_count size returns level locals taken line (AddTo s e) fine = one_more (expr_code locals line e) _ ∙ ap (λ k. k + 1) (expr_count locals taken line e fine.1)
+    stmt_count size returns level locals taken line (Print e) fine = one_more (expr_code locals line e) _ ∙ ap (λ k. k + 1) (expr_count locals taken line e fine)
+    stmt_count size returns level locals taken line (Call kind site target f es) fine =
+        one_more (args_code locals line es) _ ∙ ap (λ k. k + 1) (args_count locals taken line (function_of f fs).params es fine.2)
+    stmt_count size returns level locals taken line Sync fine = refl
+    stmt_count size returns level locals taken line (If e b) fine =
+        let ce = expr_code locals line e in
+        let cb = block_code lists locals b in
+        omega (arith, length-append ce (emitted_over cb), expr_count locals taken line e fine.0, block_count size returns level locals taken b fine.1)
+    stmt_count size returns level locals taken line (IfElse e b c) fine =
+        let ce = expr_code locals line e in
+        let cb = block_code lists locals b in
+        let other = block_code lists locals c in
+        let j = instr.Skip (past (typing.block_returns (plain_block (resolved_block lists locals b))) (length other)) in
+        omega (arith, length-append ce (emitted_over (cb ++ j ∷ []) ++ other), length-append (emitted_over (cb ++ j ∷ [])) other, one_more cb j, expr_count locals taken line e fine.0, block_count size returns level locals taken b fine.1.0, block_count size returns level locals taken c fine.2.0)
+    stmt_count size returns level locals taken line (While e b) fine =
+        let all = taken_after fs level (While e b) taken in
+        let ce = expr_code locals line e in
+        let cb = block_code lists locals b in
+        let j = instr.GoBack (distance (length ce + 1 + length cb)) in
+        omega (arith, length-append ce (emitted_over (cb ++ j ∷ [])), one_more cb j, expr_count locals all line e fine.0, block_count size returns level locals all b fine.1)
+    stmt_count size returns level locals taken line (Scope b) fine =
+        let cb = block_code lists locals b in
+        omega (arith, one_more cb instr.Close, block_count size Nowhere (level + 1) locals taken b fine.0)
+    stmt_count size returns level locals taken line (Region tag b) fine =
+        let cb = block_code lists locals b in
+        omega (arith, one_more cb instr.Close, block_count size Nowhere (level + 1) locals taken b fine.1)
+    stmt_count size returns level locals taken line (Return None) fine = refl
+    stmt_count size returns level locals taken line (Return (Some e)) fine = one_more (expr_code locals line e) _ ∙ ap (λ k. k + 1) (expr_count locals taken line e (returned_count returns locals taken e fine))
+    stmt_count size returns level locals taken line _ fine = absurd fine
+
+    block_count : (size : ℕ) (returns : Returns) (level : ℕ) (locals : Locals) (taken : Taken) (b : Block) → BlockFine fs lists size returns level locals taken b → length (block_code lists locals b) ≡ block_size fs [] b
+    block_count size returns level locals taken End fine = refl
+    block_count size returns level locals taken (Then line s b) fine =
+        omega (arith, length-append (stmt_code lists locals line s) (block_code lists (locals_after locals s) b), stmt_count size returns level locals taken line s fine.0, block_count size returns level (locals_after locals s) (taken_after fs level s taken) b fine.1)
+
+  function_count : (f : Function) → FunctionFine fs lists f → length (function_code lists f) ≡ function_size fs f
   function_count f fine =
-      let zero_more : block_size fs [] f.body ≡ block_size fs [] f.body + 0 = omega arith in
-      block_count (params_of f) [] f.body fine.body ∙ zero_more ∙ ap (λ b. block_size fs [] f.body + (if b then 0 else 1)) (sym fine.gives)
+      omega (arith, length-append (block_code lists (locals_of f.params) f.body) (emitted_end f.gives_int), end_count f.gives_int, block_count (resolved_function lists f).ints (if f.gives_int then WithInt else Alone) 1 (locals_of f.params) [] f.body fine.body)
 
-  functions_count : (gs : List Function) → FunctionsFine fs gs → length (codes_of fs gs) ≡ sum_by (function_size fs) gs
+  functions_count : (gs : List Function) → FunctionsFine fs lists gs → length (emitted_instrs (map (resolved_function lists) gs)) ≡ sum_by (function_size fs) gs
   functions_count [] fine = refl
   functions_count (g ∷ gs) fine =
-      length-append (function_code fs g) (codes_of fs gs)
-      ∙ ap (λ k. k + length (codes_of fs gs)) (function_count g fine.0)
+      length-append (function_code lists g) (emitted_instrs (map (resolved_function lists) gs))
+      ∙ ap (λ k. k + length (emitted_instrs (map (resolved_function lists) gs))) (function_count g fine.0)
       ∙ ap (λ k. function_size fs g + k) (functions_count gs fine.1)
       ∙ sym (sum_by-cons (function_size fs) g gs)
 
-pub code_count : (program : Program) → ProgramFine program → length (codes_of program.functions program.functions) ≡ static_size program
-code_count program fine = functions_count program.functions program.functions fine.functions
+pub code_count : (program : Program) → ProgramFine program → length (code_of program).instrs ≡ static_size program
+code_count program fine = functions_count program.functions (lists_of program) program.functions fine.functions

@@ -1,8 +1,8 @@
 -- Where instructions stand.
-use Rattle.std.proofs.Common.{◌≡◌, ℕ, ◌+◌, ◌<◌, List, [], ◌∷◌, ◌++◌, length, Some, ap, ◌∙◌, subst, arith, append_assoc, length-append}
+use Rattle.std.proofs.Common.{◌≡◌, ℕ, ◌+◌, ◌<◌, ◌≤◌, List, [], ◌∷◌, ◌++◌, length, Some, ap, ◌∙◌, subst, arith, append_assoc, length-append}
 use Rattle.std.specs.Prelude.{slice_get}
 use Rattle.std.proofs.Math.Seq.{get_or-append_seam}
-use Rattle.std.proofs.lemmas.Option.{slice_get-get_or}
+use Rattle.std.proofs.lemmas.Option.{slice_get-get_or, slice_get_within}
 use Rattle.cw_code.specs.declared.code.Instr.{Instr}
 
 -- the instructions stand in the code at this place
@@ -29,3 +29,12 @@ has_all pre (i ∷ is) post =
     let rest = has_all (pre ++ i ∷ []) is post in
     let rest' = subst (λ l. HasAt l (length (pre ++ i ∷ [])) is) (append_assoc pre (i ∷ []) (is ++ post)) rest in
     (at, subst (λ m. HasAt (pre ++ i ∷ (is ++ post)) m is) n rest')
+
+within_from : (code : List Instr) (pc : ℕ) (is : List Instr) → pc ≤ length code → HasAt code pc is → pc + length is ≤ length code
+within_from code pc [] le h = omega (arith, le)
+within_from code pc (i ∷ is) le h = omega (arith, within_from code (pc + 1) is (omega (arith, slice_get_within code pc i h.0)) h.1)
+
+-- what stands in the code is no longer than the code
+pub length_within : (code : List Instr) (pc : ℕ) (is : List Instr) → HasAt code pc is → length is ≤ length code
+length_within code pc [] h = omega arith
+length_within code pc (i ∷ is) h = omega (arith, within_from code pc (i ∷ is) (omega (arith, slice_get_within code pc i h.0)) h)

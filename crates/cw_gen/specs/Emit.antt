@@ -1,81 +1,153 @@
--- The instructions of a program whose names are looked up.
-use Rattle.std.specs.Prelude.{ℕ, ◌+◌, List, [], ◌∷◌, ◌++◌, length, Option, Some, None}
+-- The code of a program whose names are looked up.
+use Rattle.std.specs.Prelude.{ℕ, ◌+◌, ◌-◌, ◌^◌, Bool, if◌then◌else◌, List, [], ◌∷◌, ◌++◌, length, min, Option, Some, None}
 use Rattle.cw_model.specs.declared.syntax.CallKind.{CallKind}
-use Rattle.cw_model.specs.declared.syntax.CallKind.TheVariants.{Plain, Spawned}
-use Rattle.cw_model.specs.Report.{CallSite, kind_text}
-use Rattle.cw_types.specs.Resolved.{Use, Expr, Number, Variable, Stmt, Declare, Call, Sync, Return, Block, End, Then, Function, Resolved}
+use Rattle.cw_model.specs.Sites.{Of}
+use Rattle.cw_model.specs.Typing as typing
+use Rattle.cw_types.specs.Resolved.{Use, Listed, Expr, Number, Variable, Negative, Not, Binary, Argument, Int, Array, Stmt, Declare, Assign, AddTo, Call, Sync, If, IfElse, While, Scope, Region, Print, Return, Block, End, Then, Function, Resolved, reducer_names, plain_block}
+use Rattle.cw_code.specs.declared.code.UnaryOperator.TheVariants as unary
+use Rattle.cw_code.specs.declared.code.BlockKind.{BlockKind}
+use Rattle.cw_code.specs.declared.code.BlockKind.TheVariants as block
 use Rattle.cw_code.specs.declared.code.Callee.{Callee}
 use Rattle.cw_code.specs.declared.code.Func.{Func}
 use Rattle.cw_code.specs.declared.code.Instr.{Instr}
 use Rattle.cw_code.specs.declared.code.Instr.TheVariants as instr
-use Rattle.cw_code.specs.Code.{Code}
+use Rattle.cw_code.specs.Code.{CodeSite, Code}
 
--- the one instruction that gives the value of an expression
-abbrev pub emitted_expr : Expr → Instr
-emitted_expr (Number n) = instr.Push n
-emitted_expr (Variable u) = instr.Load u.slot
+-- the greatest distance of a jump
+abbrev pub most_jump : ℕ
+most_jump = 2 ^ 32 - 1
 
--- the instruction of a call of either kind
-abbrev pub call_instr : CallKind → Callee → Instr
-call_instr Plain c = instr.Call c
-call_instr Spawned c = instr.Spawn c
+-- a distance as an instruction tells it; no program within the limits has a greater one
+abbrev pub distance : ℕ → ℕ
+distance n = min n most_jump
+
+-- the instructions of an expression in a line, operands from left to right
+abbrev pub emitted_expr : (line : ℕ) → Expr → List Instr
+emitted_expr line (Number n) = instr.Push n ∷ []
+emitted_expr line (Variable u) = instr.Load u.slot ∷ []
+emitted_expr line (Negative e) = emitted_expr line e ++ instr.Unary unary.Negative line ∷ []
+emitted_expr line (Not e) = emitted_expr line e ++ instr.Unary unary.Not line ∷ []
+emitted_expr line (Binary operator d e) = emitted_expr line d ++ (emitted_expr line e ++ instr.Binary operator line ∷ [])
+emitted_expr line _ = []
+
+-- the instructions of an argument
+abbrev pub emitted_arg : (line : ℕ) → Argument → List Instr
+emitted_arg line (Int e) = emitted_expr line e
+emitted_arg line (Array u) = []
 
 -- arguments from left to right
-abbrev pub emitted_args : List Expr → List Instr
-emitted_args [] = []
-emitted_args (e ∷ es) = emitted_expr e ∷ emitted_args es
+abbrev pub emitted_args : (line : ℕ) → List Argument → List Instr
+emitted_args line [] = []
+emitted_args line (e ∷ es) = emitted_arg line e ++ emitted_args line es
 
 -- the slot that takes a result, if one does
 abbrev pub slot_in : Option Use → Option ℕ
 slot_in None = None
 slot_in (Some u) = Some u.slot
 
--- the instructions of a call statement: its arguments, and then the call
-abbrev pub emitted_call : (line : ℕ) → CallKind → (site : ℕ) → Option Use → (index : ℕ) → List Expr → List Instr
-emitted_call line kind site target index es =
-    emitted_args es ++ call_instr kind (record { function = index; site = site; line = line; target = slot_in target }) ∷ []
+-- what the instruction of a call carries
+abbrev pub callee_of : (line site : ℕ) → Option Use → Listed → Callee
+callee_of line site target f = record { function = f.index; site = site; line = line; target = slot_in target }
 
--- the instructions of a statement of a line
-abbrev pub emitted_stmt : (line : ℕ) → Stmt → List Instr
-emitted_stmt line (Declare u e) = emitted_expr e ∷ instr.Store u.slot ∷ []
-emitted_stmt line (Call kind site target f index es) = emitted_call line kind site target index es
-emitted_stmt line Sync = instr.Sync ∷ []
-emitted_stmt line (Return (Some e)) = emitted_expr e ∷ instr.Return ∷ []
-emitted_stmt line (Return None) = []
+-- code that is passed over where the last operand is 0
+abbrev pub emitted_over : List Instr → List Instr
+emitted_over body = instr.SkipIfZero (distance (length body)) ∷ body
 
--- the instructions of a block, statement by statement
-abbrev pub emitted_block : Block → List Instr
-emitted_block End = []
-emitted_block (Then line s b) = emitted_stmt line s ++ emitted_block b
+-- the jump over the second branch; where the first surely returns no run comes to it
+abbrev pub past : Bool → ℕ → ℕ
+past returns n = distance (if returns then 0 else n)
+
+-- the code of one branch with a jump over the other, and that of the other
+abbrev pub emitted_branches : Bool → (one other : List Instr) → List Instr
+emitted_branches returns one other = emitted_over (one ++ instr.Skip (past returns (length other)) ∷ []) ++ other
+
+-- code after a test of so many instructions, to which it goes back
+abbrev pub emitted_turn : (test : ℕ) → (body : List Instr) → List Instr
+emitted_turn test body = emitted_over (body ++ instr.GoBack (distance (test + 1 + length body)) ∷ [])
+
+-- a sync block
+abbrev pub emitted_inside : BlockKind → List Instr → List Instr
+emitted_inside kind body = instr.Open kind ∷ (body ++ instr.Close ∷ [])
+
+-- the instructions of a statement of a line with no block in it and no return
+abbrev pub emitted_alone : (line : ℕ) → Stmt → List Instr
+emitted_alone line (Declare u e) = emitted_expr line e ++ instr.Store u.slot ∷ []
+emitted_alone line (Assign u e) = emitted_expr line e ++ instr.Store u.slot ∷ []
+emitted_alone line (AddTo s e) = emitted_expr line e ++ instr.AddTo s.index ∷ []
+emitted_alone line (Print e) = emitted_expr line e ++ instr.Print ∷ []
+emitted_alone line (Call kind site target f es) = emitted_args line es ++ instr.Call kind (callee_of line site target f) ∷ []
+emitted_alone line Sync = instr.Sync ∷ []
+emitted_alone line _ = []
+
+-- a return
+abbrev pub emitted_return : (line : ℕ) → Option Expr → List Instr
+emitted_return line None = instr.Return ∷ []
+emitted_return line (Some e) = emitted_expr line e ++ instr.ReturnValue ∷ []
+
+abbrev mutual
+  -- the instructions of a statement of a line
+  pub emitted_stmt : (line : ℕ) → Stmt → List Instr
+  emitted_stmt line (If e b) = emitted_expr line e ++ emitted_over (emitted_block b)
+  emitted_stmt line (IfElse e b c) =
+      emitted_expr line e ++ emitted_branches (typing.block_returns (plain_block b)) (emitted_block b) (emitted_block c)
+  emitted_stmt line (While e b) = emitted_expr line e ++ emitted_turn (length (emitted_expr line e)) (emitted_block b)
+  emitted_stmt line (Scope b) = emitted_inside block.Scope (emitted_block b)
+  emitted_stmt line (Region tag b) = emitted_inside (block.Region tag.index) (emitted_block b)
+  emitted_stmt line (Return e) = emitted_return line e
+  emitted_stmt line s = emitted_alone line s
+
+  -- the instructions of a block, statement by statement
+  pub emitted_block : Block → List Instr
+  emitted_block End = []
+  emitted_block (Then line s b) = emitted_stmt line s ++ emitted_block b
+
+-- a function that gives no integer ends with a return
+abbrev pub emitted_end : (gives_int : Bool) → List Instr
+emitted_end gives_int = if gives_int then [] else instr.Return ∷ []
+
+-- the instructions of a function
+abbrev pub emitted_function : Function → List Instr
+emitted_function f = emitted_block f.body ++ emitted_end f.gives_int
 
 -- the instructions of all functions in a row
 abbrev pub emitted_instrs : List Function → List Instr
 emitted_instrs [] = []
-emitted_instrs (f ∷ fs) = emitted_block f.body ++ emitted_instrs fs
+emitted_instrs (f ∷ fs) = emitted_function f ++ emitted_instrs fs
 
--- what the code keeps of a function: its first place, and how many parameters and slots it has
+-- what the code keeps of a function that begins at a place
 abbrev pub emitted_func : (start : ℕ) → Function → Func
-emitted_func start f = record { start = start; params = length f.params; slots = f.slots }
+emitted_func start f =
+    record { start = start; end = start + length (emitted_function f); gives_int = f.gives_int; params = length f.params; slots = f.ints }
 
 -- functions one after another, from a place on
 abbrev pub emitted_funcs : (start : ℕ) → List Function → List Func
 emitted_funcs start [] = []
-emitted_funcs start (f ∷ fs) = emitted_func start f ∷ emitted_funcs (start + length (emitted_block f.body)) fs
+emitted_funcs start (f ∷ fs) = emitted_func start f ∷ emitted_funcs (start + length (emitted_function f)) fs
 
--- the call site that a statement of a line is, if it is a call
-abbrev pub emitted_site : (line : ℕ) → Stmt → List CallSite
-emitted_site line (Call kind site target f index es) = record { number = site; kind = kind_text kind; line = line; callee = f } ∷ []
-emitted_site line _ = []
+-- the call site of a call of a line
+abbrev pub site_of : (line : ℕ) → CallKind → (site : ℕ) → Listed → CodeSite
+site_of line kind site f = record { told = record { number = site; kind = Of kind; line = line; callee = f.name }; function = f.index }
 
--- the call sites of a block, in source order
-abbrev pub emitted_sites_in : Block → List CallSite
-emitted_sites_in End = []
-emitted_sites_in (Then line s b) = emitted_site line s ++ emitted_sites_in b
+abbrev mutual
+  -- the call sites in a statement of a line, by place
+  pub emitted_sites : (line : ℕ) → Stmt → List CodeSite
+  emitted_sites line (Call kind site target f es) = site_of line kind site f ∷ []
+  emitted_sites line (If e b) = emitted_sites_in b
+  emitted_sites line (IfElse e b c) = emitted_sites_in b ++ emitted_sites_in c
+  emitted_sites line (While e b) = emitted_sites_in b
+  emitted_sites line (Scope b) = emitted_sites_in b
+  emitted_sites line (Region tag b) = emitted_sites_in b
+  emitted_sites line _ = []
 
--- the call sites of all functions, in source order
-abbrev pub emitted_sites : List Function → List CallSite
-emitted_sites [] = []
-emitted_sites (f ∷ fs) = emitted_sites_in f.body ++ emitted_sites fs
+  -- the same of a block
+  pub emitted_sites_in : Block → List CodeSite
+  emitted_sites_in End = []
+  emitted_sites_in (Then line s b) = emitted_sites line s ++ emitted_sites_in b
+
+-- the call sites of functions
+abbrev pub emitted_sites_of : List Function → List CodeSite
+emitted_sites_of [] = []
+emitted_sites_of (f ∷ fs) = emitted_sites_in f.body ++ emitted_sites_of fs
 
 -- the whole code of a program
 abbrev pub emitted : Resolved → Code
@@ -83,5 +155,7 @@ emitted tree = record {
   instrs = emitted_instrs tree.functions;
   funcs = emitted_funcs 0 tree.functions;
   main = tree.main;
-  sites = emitted_sites tree.functions;
+  sites = emitted_sites_of tree.functions;
+  reducers = reducer_names tree.reducers;
+  tags = tree.tags;
 }

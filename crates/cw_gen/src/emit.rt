@@ -1,34 +1,18 @@
 //! From the resolved tree to instructions.
 
-ghost use Rattle.std.specs.Prelude.{◌≡◌, [], ◌++◌, ◌∷◌, map, IfOk, OnOk};
-ghost use Rattle.cw_code.specs.Code as code;
+ghost use Rattle.std.specs.Prelude.{◌≡◌, [], ◌++◌, ◌∷◌, ◌&&◌, ◌-◌, ◌≤◌, length, map, option_map, IfOk, OnOk};
 ghost use Rattle.cw_gen.specs.Emit as spec;
+ghost use Rattle.cw_model.specs.Typing as typing;
+ghost use Rattle.cw_types.specs.Resolved.{plain_block, plain_stmt};
 ghost use Rattle.cw_types.specs.View as view;
 
-use cw_code::code::{Callee, Code, Func, Instr, Site};
-use cw_model::syntax::CallKind;
-use cw_types::tree::{Call, Expr, Function, Line, Stmt, Tree};
-use std::alloc::{AllocError, Global};
+use crate::jumps::{distance, hole, land, land_past, put};
+use cw_code::code::{BlockKind, Callee, Func, Instr, UnaryOperator};
+use cw_types::tree::{Argument, Call, Expr, Function, Line, Stmt, Use};
+use std::alloc::AllocError;
 
-/// The code of a tree: each use of a name by its slot, and each call by its function's index.
-pub(crate) fn emit(alloc: Global, tree: &Tree) -> Result<Code, AllocError>
-    ensures { IfOk result (λ made. code.code_view made ≡ spec.emitted (view.resolved_of tree.now)) }
-{
-    let mut instrs = Vec::new(alloc);
-    let mut funcs = Vec::new(alloc);
-    let mut sites = Vec::new(alloc);
-    functions(&mut instrs, &mut funcs, &tree.functions)?;
-    sites_of(alloc, &mut sites, &tree.functions)?;
-    Ok(Code {
-        instrs,
-        funcs,
-        main: tree.main,
-        sites,
-    })
-}
-
-// The code of functions, one after another.
-fn functions(
+/// The code of functions, one after another.
+pub(crate) fn functions(
     instrs: &mut Vec<Instr>,
     funcs: &mut Vec<Func>,
     functions: &[Function],
@@ -40,122 +24,238 @@ fn functions(
 {
     for f in functions {
         let start = instrs.len();
-        block(instrs, &f.body)?;
+        function(instrs, f)?;
         funcs.push(Func {
             start,
+            end: instrs.len(),
+            gives_int: f.gives_int,
             params: f.params.len(),
-            slots: f.slots as usize,
+            slots: f.ints as usize,
         })?;
     }
     Ok(())
 }
 
-// The code of statements in order.
-fn block(instrs: &mut Vec<Instr>, lines: &[Line]) -> Result<(), AllocError>
-    ensures { OnOk result (instrs.new.items ≡ instrs.old.items ++ spec.emitted_block (view.block_of lines.now)) }
+// The code of a function. One that gives no integer ends with a return.
+fn function(instrs: &mut Vec<Instr>, f: &Function) -> Result<(), AllocError>
+    ensures { OnOk result (instrs.new.items ≡ instrs.old.items ++ spec.emitted_function (view.function_of f.now)) }
 {
-    for line in lines {
-        statement(instrs, line.line, &line.stmt)?;
+    block(instrs, &f.body)?;
+    if !f.gives_int {
+        put(instrs, Instr::Return)?;
     }
     Ok(())
 }
 
-// The code of a statement of this line. The first grammar has no `return` without a value.
-fn statement(instrs: &mut Vec<Instr>, line: u32, stmt: &Stmt) -> Result<(), AllocError>
-    ensures { OnOk result (instrs.new.items ≡ instrs.old.items ++ spec.emitted_stmt line (view.stmt_of stmt.now)) }
+// The code of statements in order, and whether the last of them surely returns.
+#[cycle(emit)]
+fn block(instrs: &mut Vec<Instr>, lines: &[Line]) -> Result<bool, AllocError>
+    ensures instrs { OnOk result (instrs.new.items ≡ instrs.old.items ++ spec.emitted_block (view.block_of lines.now)) }
+    ensures returns { IfOk result (λ returns. returns ≡ typing.block_returns (plain_block (view.block_of lines.now))) }
+{
+    let mut returns = false;
+    for line in lines {
+        returns = statement(instrs, line.line, &line.stmt)?;
+    }
+    Ok(returns)
+}
+
+// The code of a statement of this line, and whether it surely returns.
+#[cycle(emit)]
+fn statement(instrs: &mut Vec<Instr>, line: u32, stmt: &Stmt) -> Result<bool, AllocError>
+    ensures instrs { OnOk result (instrs.new.items ≡ instrs.old.items ++ spec.emitted_stmt line (view.stmt_of stmt.now)) }
+    ensures returns { IfOk result (λ returns. returns ≡ typing.surely_returns (plain_stmt (view.stmt_of stmt.now))) }
 {
     match stmt {
-        Stmt::Declare(u, e) => {
-            put(instrs, expression(e))?;
-            put(instrs, Instr::Store(u.slot))
+        Stmt::If(e, b) => {
+            expression(instrs, line, e)?;
+            passed_over(instrs, b)?;
+            Ok(false)
         }
+        Stmt::IfElse(e, b, c) => {
+            expression(instrs, line, e)?;
+            let test = hole(instrs)?;
+            let first = block(instrs, b)?;
+            let end = hole(instrs)?;
+            land(instrs, test);
+            let second = block(instrs, c)?;
+            land_past(instrs, end, first);
+            Ok(first && second)
+        }
+        Stmt::While(e, b) => {
+            let start = instrs.len();
+            expression(instrs, line, e)?;
+            turn(instrs, start, b)?;
+            Ok(false)
+        }
+        Stmt::Scope(b) => {
+            inside(instrs, BlockKind::Scope, b)?;
+            Ok(false)
+        }
+        Stmt::Region(tag, b) => {
+            inside(instrs, BlockKind::Region(tag.index), b)?;
+            Ok(false)
+        }
+        Stmt::Return(e) => {
+            returned(instrs, line, e)?;
+            Ok(true)
+        }
+        Stmt::Declare(_, _)
+        | Stmt::DeclareArray(_, _)
+        | Stmt::Assign(_, _)
+        | Stmt::AssignElement(_, _, _)
+        | Stmt::AddTo(_, _)
+        | Stmt::Call(_)
+        | Stmt::Sync
+        | Stmt::For(_, _)
+        | Stmt::Cut(_, _)
+        | Stmt::Print(_) => {
+            alone(instrs, line, stmt)?;
+            Ok(false)
+        }
+    }
+}
+
+// The code of a statement of this line with no block in it and no return.
+fn alone(instrs: &mut Vec<Instr>, line: u32, stmt: &Stmt) -> Result<(), AllocError>
+    ensures { OnOk result (instrs.new.items ≡ instrs.old.items ++ spec.emitted_alone line (view.stmt_of stmt.now)) }
+{
+    match stmt {
+        Stmt::Declare(u, e) => valued(instrs, line, e, Instr::Store(u.slot)),
+        Stmt::Assign(u, e) => valued(instrs, line, e, Instr::Store(u.slot)),
+        Stmt::AddTo(s, e) => valued(instrs, line, e, Instr::AddTo(s.index)),
+        Stmt::Print(e) => valued(instrs, line, e, Instr::Print),
         Stmt::Call(c) => call(instrs, line, c),
         Stmt::Sync => put(instrs, Instr::Sync),
-        Stmt::Return(None) => Ok(()),
-        Stmt::Return(Some(e)) => {
-            put(instrs, expression(e))?;
-            put(instrs, Instr::Return)
+        Stmt::DeclareArray(_, _)
+        | Stmt::AssignElement(_, _, _)
+        | Stmt::If(_, _)
+        | Stmt::IfElse(_, _, _)
+        | Stmt::While(_, _)
+        | Stmt::For(_, _)
+        | Stmt::Scope(_)
+        | Stmt::Cut(_, _)
+        | Stmt::Region(_, _)
+        | Stmt::Return(_) => Ok(()),
+    }
+}
+
+// The code of a return, with its value if it has one.
+fn returned(instrs: &mut Vec<Instr>, line: u32, e: &Option<Expr>) -> Result<(), AllocError>
+    ensures { OnOk result (instrs.new.items ≡ instrs.old.items ++ spec.emitted_return line (option_map view.expr_of e.now)) }
+{
+    match e {
+        None => put(instrs, Instr::Return),
+        Some(e) => valued(instrs, line, e, Instr::ReturnValue),
+    }
+}
+
+// An expression, and an instruction on its value.
+fn valued(instrs: &mut Vec<Instr>, line: u32, e: &Expr, instr: Instr) -> Result<(), AllocError>
+    ensures { OnOk result (instrs.new.items ≡ instrs.old.items ++ (spec.emitted_expr line (view.expr_of e.now) ++ instr ∷ [])) }
+{
+    expression(instrs, line, e)?;
+    put(instrs, instr)
+}
+
+// The code of an expression of this line, operands from left to right.
+fn expression(instrs: &mut Vec<Instr>, line: u32, e: &Expr) -> Result<(), AllocError>
+    ensures { OnOk result (instrs.new.items ≡ instrs.old.items ++ spec.emitted_expr line (view.expr_of e.now)) }
+{
+    match e {
+        Expr::Number(n) => put(instrs, Instr::Push(*n)),
+        Expr::Variable(u) => put(instrs, Instr::Load(u.slot)),
+        Expr::Negative(e) => {
+            expression(instrs, line, e)?;
+            put(instrs, Instr::Unary(UnaryOperator::Negative, line))
         }
+        Expr::Not(e) => {
+            expression(instrs, line, e)?;
+            put(instrs, Instr::Unary(UnaryOperator::Not, line))
+        }
+        Expr::Binary(operator, d, e) => {
+            expression(instrs, line, d)?;
+            expression(instrs, line, e)?;
+            put(instrs, Instr::Binary(*operator, line))
+        }
+        Expr::Element(_, _) | Expr::Length(_) => Ok(()),
+    }
+}
+
+// The code of an argument.
+fn argument(instrs: &mut Vec<Instr>, line: u32, e: &Argument) -> Result<(), AllocError>
+    ensures { OnOk result (instrs.new.items ≡ instrs.old.items ++ spec.emitted_arg line (view.argument_of e.now)) }
+{
+    match e {
+        Argument::Int(e) => expression(instrs, line, e),
+        Argument::Array(_) => Ok(()),
     }
 }
 
 // A call: its arguments from left to right, and then its instruction.
 fn call(instrs: &mut Vec<Instr>, line: u32, c: &Call) -> Result<(), AllocError>
-    ensures { OnOk result (instrs.new.items ≡ instrs.old.items ++ spec.emitted_stmt line (view.stmt_of (Stmt.Call c.now))) }
+    ensures { OnOk result (instrs.new.items ≡ instrs.old.items ++ spec.emitted_alone line (view.stmt_of (Stmt.Call c.now))) }
 {
     for e in &c.arguments {
-        put(instrs, expression(e))?;
+        argument(instrs, line, e)?;
     }
-    let callee = Callee {
-        function: c.index,
+    put(instrs, Instr::Call(c.kind, callee_of(line, c)))?;
+    Ok(())
+}
+
+// What the instruction of a call carries.
+fn callee_of(line: u32, c: &Call) -> Callee
+    ensures { result ≡ spec.callee_of line c.now.site (option_map view.use_of c.now.target) (view.listed_of c.now.callee) }
+{
+    Callee {
+        function: c.callee.index,
         site: c.site,
         line,
-        target: c.target.as_ref().map(|u| u.slot),
-    };
-    match c.kind {
-        CallKind::Plain => put(instrs, Instr::Call(callee)),
-        CallKind::Spawned => put(instrs, Instr::Spawn(callee)),
+        target: slot_in(&c.target),
     }
 }
 
-// The one instruction that gives the value of an expression.
-fn expression(e: &Expr) -> Instr
-    ensures { result ≡ spec.emitted_expr (view.expr_of e.now) }
+// The slot that takes a result, if one does.
+fn slot_in(target: &Option<Use>) -> Option<u32>
+    ensures { result ≡ spec.slot_in (option_map view.use_of target.now) }
 {
-    match e {
-        Expr::Number(n) => Instr::Push(*n),
-        Expr::Variable(u) => Instr::Load(u.slot),
+    match target {
+        None => None,
+        Some(u) => Some(u.slot),
     }
 }
 
-// One more instruction.
-fn put(instrs: &mut Vec<Instr>, instr: Instr) -> Result<(), AllocError>
-    ensures { OnOk result (instrs.new.items ≡ instrs.old.items ++ instr ∷ []) }
+// A block that is passed over where the last operand is 0.
+#[cycle(emit)]
+fn passed_over(instrs: &mut Vec<Instr>, lines: &[Line]) -> Result<(), AllocError>
+    ensures { OnOk result (instrs.new.items ≡ instrs.old.items ++ spec.emitted_over (spec.emitted_block (view.block_of lines.now))) }
 {
-    instrs.push(instr)?;
+    let test = hole(instrs)?;
+    block(instrs, lines)?;
+    land(instrs, test);
     Ok(())
 }
 
-// The call statements of functions, in source order.
-fn sites_of(alloc: Global, sites: &mut Vec<Site>, functions: &[Function]) -> Result<(), AllocError>
-    requires { sites.old.items ≡ [] }
-    ensures { OnOk result (map code.site_view sites.new.items ≡ spec.emitted_sites (map view.function_of functions.now)) }
+// A sync block.
+#[cycle(emit)]
+fn inside(instrs: &mut Vec<Instr>, kind: BlockKind, lines: &[Line]) -> Result<(), AllocError>
+    ensures { OnOk result (instrs.new.items ≡ instrs.old.items ++ spec.emitted_inside kind (spec.emitted_block (view.block_of lines.now))) }
 {
-    for f in functions {
-        sites_in(alloc, sites, &f.body)?;
-    }
-    Ok(())
+    put(instrs, Instr::Open(kind))?;
+    block(instrs, lines)?;
+    put(instrs, Instr::Close)
 }
 
-// The call statements of a block, in source order.
-fn sites_in(alloc: Global, sites: &mut Vec<Site>, lines: &[Line]) -> Result<(), AllocError>
-    ensures { OnOk result (map code.site_view sites.new.items ≡ map code.site_view sites.old.items ++ spec.emitted_sites_in (view.block_of lines.now)) }
+// A block that goes back to its test, which starts at this place.
+#[cycle(emit)]
+fn turn(instrs: &mut Vec<Instr>, start: usize, lines: &[Line]) -> Result<(), AllocError>
+    requires { start ≤ length instrs.old.items }
+    ensures { OnOk result (instrs.new.items ≡ instrs.old.items ++ spec.emitted_turn (length instrs.old.items - start) (spec.emitted_block (view.block_of lines.now))) }
 {
-    for line in lines {
-        site(alloc, sites, line.line, &line.stmt)?;
-    }
+    let test = hole(instrs)?;
+    block(instrs, lines)?;
+    let n = distance(instrs.len() - start);
+    put(instrs, Instr::GoBack(n))?;
+    land(instrs, test);
     Ok(())
-}
-
-// The call site of a statement, if it is a call.
-fn site(alloc: Global, sites: &mut Vec<Site>, line: u32, stmt: &Stmt) -> Result<(), AllocError>
-    ensures { OnOk result (map code.site_view sites.new.items ≡ map code.site_view sites.old.items ++ spec.emitted_site line (view.stmt_of stmt.now)) }
-{
-    if let Stmt::Call(c) = stmt {
-        sites.push(site_of(alloc, line, c)?)?;
-    }
-    Ok(())
-}
-
-// The call site of a call of this line, with a copy of the name that it calls.
-fn site_of(alloc: Global, line: u32, c: &Call) -> Result<Site, AllocError>
-    ensures { IfOk result (λ made. code.site_view made ∷ [] ≡ spec.emitted_site line (view.stmt_of (Stmt.Call c.now))) }
-{
-    let callee = Vec::from_slice(alloc, c.callee.as_bytes())?;
-    Ok(Site {
-        number: c.site,
-        kind: c.kind,
-        line,
-        callee,
-    })
 }

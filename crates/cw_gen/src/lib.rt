@@ -3,7 +3,10 @@
 
 mod emit;
 mod generating;
+mod jumps;
+mod sites;
 #[cfg(test)]
 mod tests;
+mod whole;
 
 pub use generating::generate;

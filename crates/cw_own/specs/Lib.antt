@@ -1,3 +1,6 @@
 pub mod Sets
-pub mod Slots
+pub mod Taken
+pub mod Grown
+pub mod Rules
+pub mod Bounds
 pub mod Faults

@@ -1,12 +1,15 @@
-//! Ownership: which sources touch what a spawn has taken.
+//! Ownership: which sources touch what a spawn or a cut has taken.
 #![tactic(auto)]
 
+mod around;
+mod bits;
+mod gains;
 mod owned;
 mod owning;
+mod reading;
+mod row;
 mod rules;
 mod taken;
-#[cfg(test)]
-mod tests;
 
 pub use owned::Owned;
 pub use owning::own;

@@ -1,36 +1,72 @@
-//! The slots of taken names.
+//! What is taken.
 
 ghost use Rattle.std.specs.Prelude.{◌≡◌, ◌<◌};
 ghost use Rattle.cw_model.specs.Limits.{most_declared};
-ghost use Rattle.cw_own.specs.Sets.{no_slot, with_slot, slots_of};
+ghost use Rattle.cw_own.specs.Taken.{nothing, int_taken, array_taken, inside, inside_cut, taken_of};
 
-/// A set of slots, each below 256, the most names that a function declares: slot `s` is bit `s % 64` of row `s / 64`.
+use crate::bits::Bits;
+use crate::row::Row;
+
+/// What is taken: by spawns of the sync blocks around the innermost one, by the spawns of that one, and the arrays that
+/// are cut.
+///
+/// A join frees only what the spawns of its own sync block took, so that inside a sync block the first row stays as it
+/// is, and behind it the rows are again those of before.
 #[derive(Clone, Copy, Debug)]
 pub struct Taken {
-    pub rows: [u64; 4],
+    pub outer: Row,
+    pub here: Row,
+    pub cuts: Bits,
 }
 
 impl Taken {
-    /// No slot.
-    pub fn none() -> Taken
-        ensures { slots_of result.rows ≡ no_slot }
+    /// Nothing is taken.
+    pub fn nothing() -> Taken
+        ensures { taken_of result ≡ nothing }
     {
-        Taken { rows: [0; 4] }
+        Taken {
+            outer: Row::none(),
+            here: Row::none(),
+            cuts: Bits::none(),
+        }
     }
 
-    /// Whether a slot is taken.
-    pub fn has(&self, slot: u32) -> bool
-        requires { slot < most_declared }
-        ensures { result ≡ slots_of self.now.rows slot }
+    /// Whether an integer is taken.
+    pub fn has_int(&self, slot: u32) -> bool
+        ensures { result ≡ int_taken (taken_of self.now) slot }
     {
-        (self.rows[(slot / 64) as usize] >> (slot % 64)) & 1 == 1
+        self.outer.ints.has(slot) || self.here.ints.has(slot)
     }
 
-    /// Takes a slot.
-    pub fn take(&mut self, slot: u32)
-        requires { slot < most_declared }
-        ensures { slots_of self.new.rows ≡ with_slot slot (slots_of self.old.rows) }
+    /// Whether an array is taken.
+    pub fn has_array(&self, slot: u32) -> bool
+        ensures { result ≡ array_taken (taken_of self.now) slot }
     {
-        self.rows[(slot / 64) as usize] |= 1 << (slot % 64);
+        self.outer.arrays.has(slot) || self.here.arrays.has(slot) || self.cuts.has(slot)
+    }
+
+    /// What is taken as a sync block begins.
+    pub fn inside(&self) -> Taken
+        ensures { taken_of result ≡ inside (taken_of self.now) }
+    {
+        Taken {
+            outer: self.outer.either(&self.here),
+            here: Row::none(),
+            cuts: self.cuts,
+        }
+    }
+
+    /// What is taken as the block of a cut of this array begins.
+    pub fn inside_cut(&self, array: u32) -> Taken
+        requires { array < most_declared }
+        ensures { taken_of result ≡ inside_cut array (taken_of self.now) }
+    {
+        let mut cuts = self.cuts;
+        cuts.add(array);
+        Taken {
+            outer: self.outer.either(&self.here),
+            here: Row::none(),
+            cuts,
+        }
     }
 }

@@ -5,7 +5,7 @@ use Rattle.cw_model.specs.Lines.{lowest, unless}
 use Rattle.cw_model.proofs.Lowest.{lowest-append}
 use Rattle.cw_parse.specs.View.{block_of, expr_of, stmt_of}
 use Rattle.cw_parse.specs.declared.tree.Line.{the_lemmas}
-use Rattle.cw_cli.specs.Later.{is_taken, later_lines_in, later_within}
+use Rattle.cw_gen.specs.Later.{is_taken, later_lines_in, later_within}
 use Rattle.cw_cli.proofs.later.+later.Goals as goal
 
 pub note_block-loop-line-preserved : goal.note_block-loop-line-preserved

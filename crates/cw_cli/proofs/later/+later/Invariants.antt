@@ -1,7 +1,7 @@
 use Rattle.std.proofs.Common.{◌≡◌, drop}
 use Rattle.cw_model.specs.Lines.{lowest}
 use Rattle.cw_parse.specs.View.{block_of}
-use Rattle.cw_cli.specs.Later.{later_lines_in}
+use Rattle.cw_gen.specs.Later.{later_lines_in}
 use Rattle.cw_cli.proofs.later.+later.Given as goal
 
 abbrev pub invariant-note_block-loop-line : goal.invariant-note_block-loop-line

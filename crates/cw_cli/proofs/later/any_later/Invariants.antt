@@ -1,7 +1,7 @@
 use Rattle.std.proofs.Common.{◌≡◌, drop}
 use Rattle.std.specs.List.{list_any}
 use Rattle.cw_parse.specs.View.{exprs_of}
-use Rattle.cw_cli.specs.Later.{holds_later}
+use Rattle.cw_gen.specs.Later.{holds_later}
 use Rattle.cw_cli.proofs.later.any_later.Given as goal
 
 abbrev pub invariant-loop-e : goal.invariant-loop-e

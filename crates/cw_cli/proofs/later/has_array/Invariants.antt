@@ -1,6 +1,6 @@
 use Rattle.std.proofs.Common.{◌≡◌, drop, map}
 use Rattle.cw_parse.specs.View.{param_of}
-use Rattle.cw_cli.specs.Later.{has_array}
+use Rattle.cw_gen.specs.Later.{has_array}
 use Rattle.cw_cli.proofs.later.has_array.Given as goal
 
 abbrev pub invariant-loop-param : goal.invariant-loop-param

@@ -3,7 +3,7 @@ use Rattle.cw_model.specs.Lines.{lowest}
 use Rattle.cw_model.specs.Syntax.{Reducer}
 use Rattle.cw_model.proofs.Lowest.{lowest-append}
 use Rattle.cw_parse.specs.View.{function_of, reducer_of}
-use Rattle.cw_cli.specs.Later.{later_in_function}
+use Rattle.cw_gen.specs.Later.{later_in_function}
 use Rattle.cw_cli.proofs.later.later_line.Goals as goal
 
 pub returns : goal.returns

@@ -4,7 +4,7 @@ use Rattle.cw_model.specs.Syntax.{Function}
 use Rattle.cw_model.specs.Lines.{lowest}
 use Rattle.cw_model.proofs.Lowest.{lowest-append}
 use Rattle.cw_parse.specs.View.{function_of}
-use Rattle.cw_cli.specs.Later.{later_in_function}
+use Rattle.cw_gen.specs.Later.{later_in_function}
 use Rattle.cw_cli.proofs.later.note_functions.Goals as goal
 
 pub loop-function-preserved : goal.loop-function-preserved

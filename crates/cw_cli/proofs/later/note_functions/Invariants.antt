@@ -1,7 +1,7 @@
 use Rattle.std.proofs.Common.{◌≡◌, drop, map, flat_map}
 use Rattle.cw_model.specs.Lines.{lowest}
 use Rattle.cw_parse.specs.View.{function_of}
-use Rattle.cw_cli.specs.Later.{later_in_function}
+use Rattle.cw_gen.specs.Later.{later_in_function}
 use Rattle.cw_cli.proofs.later.note_functions.Given as goal
 
 abbrev pub invariant-loop-function : goal.invariant-loop-function

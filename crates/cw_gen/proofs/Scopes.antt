@@ -1,0 +1,57 @@
+-- The names that the statements of a block add, and whether a block surely returns.
+use Rattle.std.proofs.Common.{◌≡◌, List, [], ◌∷◌, ◌++◌, Bool, true, false, ◌&&◌, if◌then◌else◌, refl, sym, ap, ◌∙◌, append_assoc}
+use Rattle.std.proofs.lemmas.List.{append-nil}
+use Rattle.cw_model.specs.Syntax.{Name, Stmt, Declare, DeclareArray, IfElse, Block, End, Then}
+use Rattle.cw_model.specs.Names.{same_name, is_among}
+use Rattle.cw_model.specs.Typing.{surely_returns, block_returns}
+use Rattle.cw_model.specs.Ownership.{own_names}
+use Rattle.cw_types.specs.Resolved.{Lists, Locals, with_int, with_array, locals_after, resolved_stmt, resolved_block, plain_stmt, plain_block}
+
+-- the locals that are known after the statements of a block
+abbrev pub locals_after_all : Locals → Block → Locals
+locals_after_all locals End = locals
+locals_after_all locals (Then line s b) = locals_after_all (locals_after locals s) b
+
+-- the integers that a block adds are its own names
+pub record More (locals : Locals) (b : Block) : Type 0 where
+  pub more : List Name
+  pub same : (locals_after_all locals b).ints ≡ locals.ints ++ more
+  pub own : (x : Name) → is_among x more ≡ true → is_among x (own_names b) ≡ true
+
+behind : (x y : Name) (names others : List Name) → (is_among x names ≡ true → is_among x others ≡ true) → is_among x (y ∷ names) ≡ true → is_among x (y ∷ others) ≡ true
+behind x y names others more h = test (same_name x y) h
+  where
+    test : (b : Bool) → (if b then true else is_among x names) ≡ true → (if b then true else is_among x others) ≡ true
+    test true h' = refl
+    test false h' = more h'
+
+further : (x y : Name) (names : List Name) → is_among x names ≡ true → is_among x (y ∷ names) ≡ true
+further x y names h = test (same_name x y)
+  where
+    test : (b : Bool) → (if b then true else is_among x names) ≡ true
+    test true = refl
+    test false = h
+
+pub names_extend : (b : Block) (locals : Locals) → More locals b
+names_extend End locals = record { more = []; same = sym (append-nil locals.ints); own = λ x h. cc }
+names_extend (Then line (Declare x e) b) locals =
+    let all = names_extend b (with_int x locals) in
+    record { more = x ∷ all.more; same = all.same ∙ append_assoc locals.ints (x ∷ []) all.more; own = λ y h. behind y x all.more (own_names b) (all.own y) h }
+names_extend (Then line (DeclareArray a e) b) locals =
+    let all = names_extend b (with_array a locals) in
+    record { more = all.more; same = all.same; own = λ y h. further y a (own_names b) (all.own y h) }
+names_extend (Then line s b) locals =
+    let all = names_extend b locals in
+    record { more = all.more; same = all.same; own = all.own }
+
+-- looking names up changes no return
+mutual
+  stmt_same : (lists : Lists) (locals : Locals) (s : Stmt) → surely_returns (plain_stmt (resolved_stmt lists locals s)) ≡ surely_returns s
+  stmt_same lists locals (IfElse e b c) =
+      ap (λ r. r && block_returns (plain_block (resolved_block lists locals c))) (returns_same lists locals b) ∙ ap (λ r. block_returns b && r) (returns_same lists locals c)
+  stmt_same lists locals _ = refl
+
+  pub returns_same : (lists : Lists) (locals : Locals) (b : Block) → block_returns (plain_block (resolved_block lists locals b)) ≡ block_returns b
+  returns_same lists locals End = refl
+  returns_same lists locals (Then line s End) = stmt_same lists locals s
+  returns_same lists locals (Then line s (Then line' s' b)) = returns_same lists (locals_after locals s) (Then line' s' b)

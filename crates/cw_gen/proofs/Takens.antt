@@ -1,0 +1,193 @@
+-- Which names the spawns of one sync block hold.
+use Rattle.std.proofs.Common.{◌≡◌, ◌≢◌, ℕ, zero, suc, ◌<◌, ◌==◌, List, [], ◌∷◌, ◌++◌, Bool, true, false, not, ◌&&◌, if◌then◌else◌, cond, refl, sym, ap, ◌∙◌, arith, filter, Contains, ◌⊎◌, inl, inr, ⊎_elim, zero-lt-suc, true≢false, get_or}
+use Rattle.std.specs.Prelude.{map}
+use Rattle.std.proofs.lemmas.Bool.{eqb-true, eq-eqb}
+use Rattle.std.proofs.lemmas.List.Elements.{Contains-append_right, Contains-append_cases}
+use Rattle.std.proofs.lemmas.Slice.Eq.{bytes_eq-Decides}
+use Rattle.cw_model.specs.Syntax.{Name, Stmt, Declare, DeclareArray, Block, End, Then, Function}
+use Rattle.cw_model.specs.Names.{same_name, is_among}
+use Rattle.cw_model.specs.Lines.{unless}
+use Rattle.cw_model.specs.Ownership.{Holder, SpawnIn, CutOf, Taken, is_taken, is_spawn_in, freed, without, taken_by, own_names, taken_after, taken_after_all, IsLeastClosed, Around, Declared, left_taken, declared_by, known_after, Closing, at_end, owner_faults, owner_faults_in}
+use Rattle.cw_model.specs.WhileLaw.{one_turn}
+use Rattle.cw_gen.proofs.Decided.{first_true, second_true}
+
+-- a spawn of the sync block at this depth has the name
+abbrev pub has : ℕ → Name → (Name × Holder) → Bool
+has depth x t = same_name x t.0 && is_spawn_in depth t.1
+
+-- some spawn of that block has it
+abbrev pub holds : ℕ → Name → Taken → Bool
+holds depth x [] = false
+holds depth x (t ∷ taken) = if has depth x t then true else holds depth x taken
+
+pub holds_behind : (depth : ℕ) (x : Name) (a b : Taken) → holds depth x b ≡ true → holds depth x (a ++ b) ≡ true
+holds_behind depth x [] b h = h
+holds_behind depth x (t ∷ a) b h = test (holds_behind depth x a b h) (has depth x t)
+  where
+    test : holds depth x (a ++ b) ≡ true → (c : Bool) → (if c then true else holds depth x (a ++ b)) ≡ true
+    test more true = refl
+    test more false = more
+
+pub holds_before : (depth : ℕ) (x : Name) (a b : Taken) → holds depth x a ≡ true → holds depth x (a ++ b) ≡ true
+holds_before depth x [] b h = cc
+holds_before depth x (t ∷ a) b h = test (holds_before depth x a b) (has depth x t) h
+  where
+    test : (holds depth x a ≡ true → holds depth x (a ++ b) ≡ true) → (c : Bool) → (if c then true else holds depth x a) ≡ true → (if c then true else holds depth x (a ++ b)) ≡ true
+    test more true h' = refl
+    test more false h' = more h'
+
+-- a name that is held is taken
+pub held_is_taken : (depth : ℕ) (x : Name) (taken : Taken) → holds depth x taken ≡ true → is_taken taken x ≡ true
+held_is_taken depth x [] h = cc
+held_is_taken depth x (t ∷ taken) h = test (held_is_taken depth x taken) (same_name x t.0) h
+  where
+    test : (holds depth x taken ≡ true → is_taken taken x ≡ true) → (b : Bool) → (if b && is_spawn_in depth t.1 then true else holds depth x taken) ≡ true → (if b then true else is_taken taken x) ≡ true
+    test more true h' = refl
+    test more false h' = more h'
+
+pub not_held : (depth : ℕ) (x : Name) (taken : Taken) → is_taken taken x ≡ false → holds depth x taken ≡ false
+not_held depth x taken h = cases (holds depth x taken) refl
+  where
+    cases : (b : Bool) → holds depth x taken ≡ b → b ≡ false
+    cases true e = absurd (true≢false (sym (held_is_taken depth x taken e) ∙ h))
+    cases false e = refl
+
+-- a join of one sync block leaves what another holds
+pub held_past : (depth other : ℕ) (x : Name) (taken : Taken) → other ≢ depth → holds other x taken ≡ true → holds other x (freed depth taken) ≡ true
+held_past depth other x [] apart h = cc
+held_past depth other x (t ∷ taken) apart h = test (held_past depth other x taken apart) (is_spawn_in depth t.1) (has other x t) refl refl h
+  where
+    both : (k : Holder) → is_spawn_in depth k ≡ true → is_spawn_in other k ≡ false
+    both (SpawnIn d) e = cases (d == other) refl
+      where
+        cases : (b : Bool) → (d == other) ≡ b → b ≡ false
+        cases true e' = absurd (apart (sym (eqb-true d other e') ∙ eqb-true d depth e))
+        cases false e' = refl
+    both CutOf e = refl
+
+    test : (holds other x taken ≡ true → holds other x (freed depth taken) ≡ true) → (b c : Bool) → is_spawn_in depth t.1 ≡ b → has other x t ≡ c → (if c then true else holds other x taken) ≡ true → holds other x (cond (not b) (t ∷ freed depth taken) (freed depth taken)) ≡ true
+    test more true true e e' h' = absurd (true≢false (sym (second_true (same_name x t.0) (is_spawn_in other t.1) e') ∙ both t.1 e))
+    test more true false e e' h' = more h'
+    test more false true e e' h' = ap (λ c. if c then true else holds other x (freed depth taken)) e'
+    test more false false e e' h' = ap (λ c. if c then true else holds other x (freed depth taken)) e' ∙ more h'
+
+pub same_among : (x y : Name) (names : List Name) → same_name x y ≡ true → is_among y names ≡ true → is_among x names ≡ true
+same_among x y names e h = ap (λ z. is_among z names) ((bytes_eq-Decides x y).0 e) ∙ h
+
+-- a name that is not one of these stays held as these end
+pub held_without : (depth : ℕ) (x : Name) (own : List Name) (taken : Taken) → is_among x own ≡ false → holds depth x taken ≡ true → holds depth x (without own taken) ≡ true
+held_without depth x own [] apart h = cc
+held_without depth x own (t ∷ taken) apart h = test (held_without depth x own taken apart) (is_among t.0 own) (has depth x t) refl refl h
+  where
+    test : (holds depth x taken ≡ true → holds depth x (without own taken) ≡ true) → (b c : Bool) → is_among t.0 own ≡ b → has depth x t ≡ c → (if c then true else holds depth x taken) ≡ true → holds depth x (cond (not b) (t ∷ without own taken) (without own taken)) ≡ true
+    test more true true e e' h' = absurd (true≢false (sym (same_among x t.0 own (first_true (same_name x t.0) (is_spawn_in depth t.1) e') e) ∙ apart))
+    test more true false e e' h' = more h'
+    test more false true e e' h' = ap (λ c. if c then true else holds depth x (without own taken)) e'
+    test more false false e e' h' = ap (λ c. if c then true else holds depth x (without own taken)) e' ∙ more h'
+
+-- a spawn takes each of its names
+pub held_by_spawn : (depth : ℕ) (x : Name) (xs : List Name) (taken : Taken) → is_among x xs ≡ true → holds depth x (taken_by depth xs taken) ≡ true
+held_by_spawn depth x [] taken h = cc
+held_by_spawn depth x (y ∷ xs) taken h = test (held_by_spawn depth x xs taken) (same_name x y) h
+  where
+    test : (is_among x xs ≡ true → holds depth x (taken_by depth xs taken) ≡ true) → (b : Bool) → (if b then true else is_among x xs) ≡ true → (if b && (depth == depth) then true else holds depth x (taken_by depth xs taken)) ≡ true
+    test more true h' = ap (λ b. if b then true else holds depth x (taken_by depth xs taken)) (eq-eqb depth depth refl)
+    test more false h' = more h'
+
+contains_held : (depth : ℕ) (x : Name) (taken : Taken) → holds depth x taken ≡ true → Contains taken (x, SpawnIn depth)
+contains_held depth x [] h = cc
+contains_held depth x (t ∷ taken) h = test (contains_held depth x taken) (has depth x t) refl h
+  where
+    spawn : (k : Holder) → is_spawn_in depth k ≡ true → k ≡ SpawnIn depth
+    spawn (SpawnIn d) e = ap (λ n. SpawnIn n) (eqb-true d depth e)
+    spawn CutOf e = cc
+
+    test : (holds depth x taken ≡ true → Contains taken (x, SpawnIn depth)) → (b : Bool) → has depth x t ≡ b → (if b then true else holds depth x taken) ≡ true → Contains (t ∷ taken) (x, SpawnIn depth)
+    test more true e h' =
+        let n : t.0 ≡ x = sym ((bytes_eq-Decides x t.0).0 (first_true (same_name x t.0) (is_spawn_in depth t.1) e)) in
+        let k : t.1 ≡ SpawnIn depth = spawn t.1 (second_true (same_name x t.0) (is_spawn_in depth t.1) e) in
+        let all : t ≡ (x, SpawnIn depth) = ap (λ m. (m, t.1)) n ∙ ap (λ m. (x, m)) k in
+        (0, zero-lt-suc _, all)
+    test more false e h' = Contains-append_right (t ∷ []) taken (x, SpawnIn depth) (more h')
+
+held_contained : (depth : ℕ) (x : Name) (taken : Taken) → Contains taken (x, SpawnIn depth) → holds depth x taken ≡ true
+held_contained depth x [] c = absurd (omega (arith, c.1))
+held_contained depth x (t ∷ taken) c = ⊎_elim (λ here. first here) (λ later. holds_behind depth x (t ∷ []) taken (held_contained depth x taken later)) (Contains-append_cases (t ∷ []) taken (x, SpawnIn depth) c)
+  where
+    only : (k : ℕ) → k < 1 → get_or (t ∷ []) k (x, SpawnIn depth) ≡ (x, SpawnIn depth) → t ≡ (x, SpawnIn depth)
+    only zero l e = e
+    only (suc k) l e = absurd (omega arith)
+
+    first : Contains (t ∷ []) (x, SpawnIn depth) → holds depth x (t ∷ taken) ≡ true
+    first here =
+        let e : t ≡ (x, SpawnIn depth) = only here.0 here.1 here.2 in
+        ap (λ p. if has depth x p then true else holds depth x taken) e
+        ∙ ap (λ b. if b && (depth == depth) then true else holds depth x taken) ((bytes_eq-Decides x x).1 refl)
+        ∙ ap (λ b. if b then true else holds depth x taken) (eq-eqb depth depth refl)
+
+-- what a turn leaves held was held before it
+pub held_by_turns : (fs : List Function) (depth : ℕ) (b : Block) (before after : Taken) → IsLeastClosed (one_turn fs depth b) before after → (d : ℕ) (x : Name) → holds d x (one_turn fs depth b after) ≡ true → holds d x after ≡ true
+held_by_turns fs depth b before after least d x h = held_contained d x after (least.closed (x, SpawnIn d) (contains_held d x (one_turn fs depth b after) h))
+
+none_left : (b : Bool) (line : ℕ) (more : List ℕ) → unless b line ++ more ≡ [] → b ≡ true
+none_left true line more h = refl
+none_left false line more h = cc
+
+more_left : (b : Bool) (line : ℕ) (more : List ℕ) → unless b line ++ more ≡ [] → more ≡ []
+more_left true line more h = h
+more_left false line more h = cc
+
+-- the names that a block declared so far are not taken
+left_free : (declared : Declared) (taken : Taken) (x : Name) → left_taken declared taken ≡ [] → is_among x (map (λ d. d.0) declared) ≡ true → is_taken taken x ≡ false
+left_free [] taken x h among = cc
+left_free (d ∷ declared) taken x h among = test (left_free declared taken x (more_left (not (is_taken taken d.0)) d.1 (left_taken declared taken) h)) (same_name x d.0) refl among
+  where
+    free : is_taken taken d.0 ≡ false
+    free = negated (is_taken taken d.0) (none_left (not (is_taken taken d.0)) d.1 (left_taken declared taken) h)
+      where
+        negated : (b : Bool) → not b ≡ true → b ≡ false
+        negated true e = cc
+        negated false e = refl
+
+    test : (is_among x (map (λ d'. d'.0) declared) ≡ true → is_taken taken x ≡ false) → (b : Bool) → same_name x d.0 ≡ b → (if b then true else is_among x (map (λ d'. d'.0) declared)) ≡ true → is_taken taken x ≡ false
+    test more true e h' = ap (is_taken taken) ((bytes_eq-Decides x d.0).0 e) ∙ free
+    test more false e h' = more h'
+
+second_empty : (a b : List ℕ) → a ++ b ≡ [] → b ≡ []
+second_empty [] b h = h
+second_empty (x ∷ a) b h = cc
+
+-- at the end of a block none of the names that it declared is taken
+pub ends_free : (fs : List Function) (around : Around) (known : List Name) (depth : ℕ) (closing : Closing) (taken : Taken) (declared : Declared) (b : Block) → owner_faults_in fs around known depth closing taken declared b ≡ [] → (x : Name) →
+    is_among x (map (λ d. d.0) declared) ≡ true ⊎ is_among x (own_names b) ≡ true → is_taken (at_end closing depth (taken_after_all fs depth b taken)) x ≡ false
+ends_free fs around known depth closing taken declared End h x (inl among) = left_free declared (at_end closing depth taken) x h among
+ends_free fs around known depth closing taken declared End h x (inr among) = cc
+ends_free fs around known depth closing taken declared (Then line s b) h x among =
+    ends_free fs around (known_after known s) depth closing (taken_after fs depth s taken) (declared_by line s declared) b (second_empty (owner_faults fs around known depth taken line s) _ h) x (moved s among)
+  where
+    one : (y : Name) → is_among x (map (λ d. d.0) declared) ≡ true ⊎ (if same_name x y then true else is_among x (own_names b)) ≡ true → (if same_name x y then true else is_among x (map (λ d. d.0) declared)) ≡ true ⊎ is_among x (own_names b) ≡ true
+    one y a = test (same_name x y) a
+      where
+        test : (c : Bool) → is_among x (map (λ d. d.0) declared) ≡ true ⊎ (if c then true else is_among x (own_names b)) ≡ true → (if c then true else is_among x (map (λ d. d.0) declared)) ≡ true ⊎ is_among x (own_names b) ≡ true
+        test true a' = inl refl
+        test false a' = a'
+
+    moved : (s : Stmt) → is_among x (map (λ d. d.0) declared) ≡ true ⊎ is_among x (own_names (Then line s b)) ≡ true → is_among x (map (λ d. d.0) (declared_by line s declared)) ≡ true ⊎ is_among x (own_names b) ≡ true
+    moved (Declare y e) a = one y a
+    moved (DeclareArray y e) a = one y a
+    moved _ a = a
+
+-- two tests on the items of a list, in either order
+filters_swap : {X : Type 0} (p q : X → Bool) (xs : List X) → filter p (filter q xs) ≡ filter q (filter p xs)
+filters_swap p q [] = refl
+filters_swap {X} p q (x ∷ xs) = test (filters_swap p q xs) (p x) (q x) refl refl
+  where
+    test : filter p (filter q xs) ≡ filter q (filter p xs) → (b c : Bool) → p x ≡ b → q x ≡ c → filter p (cond c (x ∷ filter q xs) (filter q xs)) ≡ filter q (cond b (x ∷ filter p xs) (filter p xs))
+    test more true true e e' = ap (λ z. cond z (x ∷ filter p (filter q xs)) (filter p (filter q xs))) e ∙ ap (λ l. x ∷ l) more ∙ sym (ap (λ z. cond z (x ∷ filter q (filter p xs)) (filter q (filter p xs))) e')
+    test more true false e e' = more ∙ sym (ap (λ z. cond z (x ∷ filter q (filter p xs)) (filter q (filter p xs))) e')
+    test more false true e e' = ap (λ z. cond z (x ∷ filter p (filter q xs)) (filter p (filter q xs))) e ∙ more
+    test more false false e e' = more
+
+-- the names of a block end before or after the join at its end
+pub freed_without : (depth : ℕ) (own : List Name) (taken : Taken) → without own (freed depth taken) ≡ freed depth (without own taken)
+freed_without depth own taken = filters_swap _ _ taken

@@ -1,0 +1,24 @@
+-- What statements of the tree are in the definitions.
+use Rattle.std.proofs.Common.{◌≡◌, ℕ, map, Vec, Global}
+use Rattle.std.specs.Prelude.{option_map}
+use Rattle.cw_types.specs.declared.tree.Call.{Call}
+use Rattle.cw_types.specs.declared.tree.Expr.{Expr}
+use Rattle.cw_types.specs.declared.tree.Line.{Line}
+use Rattle.cw_types.specs.declared.tree.Stmt as tree_stmt
+use Rattle.cw_types.specs.declared.tree.Stmt.TheOpen.{Stmt-F}
+use Rattle.cw_types.specs.declared.tree.Stmt.TheFolds.{fold-roll-Stmt}
+use Rattle.cw_types.specs.declared.tree.Stmt.TheVariants as variant
+use Rattle.cw_types.specs.Resolved as spec
+use Rattle.cw_types.specs.View.{use_of, listed_of, argument_of, expr_of, stmt_of, block_of, stmt_step, line_step}
+
+pub if_else_is : (e : Expr) (b d : Vec Line Global) → stmt_of (variant.IfElse e b d) ≡ spec.IfElse (expr_of e) (block_of b.items) (block_of d.items)
+unfolding tree_stmt.roll-Stmt denote.Hole.Carrier.roll
+if_else_is e b d = fold-roll-Stmt spec.Stmt (ℕ × spec.Stmt) stmt_step line_step (Stmt-F.IfElse e b d)
+
+pub while_is : (e : Expr) (b : Vec Line Global) → stmt_of (variant.While e b) ≡ spec.While (expr_of e) (block_of b.items)
+unfolding tree_stmt.roll-Stmt denote.Hole.Carrier.roll
+while_is e b = fold-roll-Stmt spec.Stmt (ℕ × spec.Stmt) stmt_step line_step (Stmt-F.While e b)
+
+pub call_is : (c : Call) → stmt_of (variant.Call c) ≡ spec.Call c.kind c.site (option_map use_of c.target) (listed_of c.callee) (map argument_of c.arguments.items)
+unfolding tree_stmt.roll-Stmt denote.Hole.Carrier.roll
+call_is c = fold-roll-Stmt spec.Stmt (ℕ × spec.Stmt) stmt_step line_step (Stmt-F.Call c)

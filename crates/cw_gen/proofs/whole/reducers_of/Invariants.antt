@@ -1,0 +1,8 @@
+use Rattle.std.proofs.Common.{◌≡◌, ◌++◌}
+use Rattle.std.specs.Prelude.{drop, map}
+use Rattle.cw_types.specs.Resolved.{reducer_names}
+use Rattle.cw_types.specs.View as view
+use Rattle.cw_gen.proofs.whole.reducers_of.Given as goal
+
+abbrev pub invariant-loop-r : goal.invariant-loop-r
+invariant-loop-r l = map (λ name. name.items) l.names.items ++ reducer_names (map view.reducer_of (drop l.r-index l.reducers)) ≡ reducer_names (map view.reducer_of l.reducers)

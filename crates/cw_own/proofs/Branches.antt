@@ -1,0 +1,17 @@
+-- What a statement with blocks is, and how deep.
+use Rattle.std.proofs.Common.{◌≡◌, ℕ, List, ◌∷◌, Vec, Global, ap}
+use Rattle.cw_types.specs.declared.tree.Expr.{Expr}
+use Rattle.cw_types.specs.declared.tree.Line.{Line}
+use Rattle.cw_types.specs.declared.tree.Stmt as tree_stmt
+use Rattle.cw_types.specs.declared.tree.Stmt.TheOpen.{Stmt-F}
+use Rattle.cw_types.specs.declared.tree.Stmt.TheFolds.{fold-roll-Stmt, fold_out-Line}
+use Rattle.cw_types.specs.declared.tree.Stmt.TheVariants as variant
+use Rattle.cw_types.specs.Resolved as spec
+use Rattle.cw_types.specs.View.{expr_of, stmt_of, block_of, stmt_step, line_step}
+
+pub if_else_is : (e : Expr) (b d : Vec Line Global) → stmt_of (variant.IfElse e b d) ≡ spec.IfElse (expr_of e) (block_of b.items) (block_of d.items)
+unfolding tree_stmt.roll-Stmt denote.Hole.Carrier.roll
+if_else_is e b d = fold-roll-Stmt spec.Stmt (ℕ × spec.Stmt) stmt_step line_step (Stmt-F.IfElse e b d)
+
+pub line_is : (l : Line) (ls : List Line) → block_of (l ∷ ls) ≡ spec.Then l.line (stmt_of l.stmt) (block_of ls)
+line_is l ls = ap (λ p. spec.Then p.0 p.1 (block_of ls)) (fold_out-Line spec.Stmt (ℕ × spec.Stmt) stmt_step line_step l)

@@ -1,0 +1,138 @@
+-- What holds a name, by a test of holders.
+use Rattle.std.proofs.Common.{◌≡◌, ℕ, Bool, true, false, not, ◌&&◌, ◌||◌, if◌then◌else◌, cond, List, [], ◌∷◌, ◌++◌, refl, sym, ap, ◌∙◌}
+use Rattle.std.proofs.lemmas.Slice.Eq.{bytes_eq-Decides}
+use Rattle.cw_model.specs.Syntax.{Name}
+use Rattle.cw_model.specs.Names.{same_name, is_among}
+use Rattle.cw_model.specs.Ownership.{Holder, SpawnIn, CutOf, Taken, is_taken, is_spawn_in, freed, is_cut_of, cut_ended, without, taken_by}
+use Rattle.cw_own.proofs.Words.{if_or, or_group, and_all}
+
+-- a holder of this kind holds the name
+abbrev pub held : (Holder → Bool) → Taken → Name → Bool
+held p [] x = false
+held p (t ∷ taken) x = (same_name x t.0 && p t.1) || held p taken x
+
+abbrev pub any_holder : Holder → Bool
+any_holder h = true
+
+abbrev pub is_cut : Holder → Bool
+is_cut (SpawnIn d) = false
+is_cut CutOf = true
+
+-- not by a spawn of this sync block
+abbrev pub but_spawn : ℕ → (Holder → Bool) → Holder → Bool
+but_spawn depth p h = p h && not (is_spawn_in depth h)
+
+-- not by a cut
+abbrev pub but_cut : (Holder → Bool) → Holder → Bool
+but_cut p h = p h && not (is_cut h)
+
+pub taken_is : (taken : Taken) (x : Name) → is_taken taken x ≡ held any_holder taken x
+taken_is [] x = refl
+taken_is (t ∷ taken) x =
+    if_or (same_name x t.0) (is_taken taken x)
+    ∙ ap (λ b. b || is_taken taken x) (sym (and_all (same_name x t.0)))
+    ∙ ap (λ b. (same_name x t.0 && true) || b) (taken_is taken x)
+
+pub held_append : (p : Holder → Bool) (xs ys : Taken) (x : Name) → held p (xs ++ ys) x ≡ (held p xs x || held p ys x)
+held_append p [] ys x = refl
+held_append p (t ∷ xs) ys x =
+    ap (λ b. (same_name x t.0 && p t.1) || b) (held_append p xs ys x)
+    ∙ sym (or_group (same_name x t.0 && p t.1) (held p xs x) (held p ys x))
+
+-- one of several by a filter
+abbrev by_test : (b s q : Bool) (r r' : Bool) → Type 0
+by_test b s q r r' = ((s && (q && b)) || r) ≡ r'
+
+pub held_freed : (depth : ℕ) (p : Holder → Bool) (taken : Taken) (x : Name) → held p (freed depth taken) x ≡ held (but_spawn depth p) taken x
+held_freed depth p [] x = refl
+held_freed depth p (t ∷ taken) x = by (not (is_spawn_in depth t.1)) refl (held_freed depth p taken x)
+  where
+    by : (b : Bool) → not (is_spawn_in depth t.1) ≡ b → held p (freed depth taken) x ≡ held (but_spawn depth p) taken x →
+        held p (cond b (t ∷ freed depth taken) (freed depth taken)) x ≡ ((same_name x t.0 && (p t.1 && not (is_spawn_in depth t.1))) || held (but_spawn depth p) taken x)
+    by true e h =
+        ap (λ r. (same_name x t.0 && p t.1) || r) h
+        ∙ ap (λ b. (same_name x t.0 && b) || held (but_spawn depth p) taken x) (sym (ap (λ b. p t.1 && b) e ∙ and_all (p t.1)))
+    by false e h = h ∙ ap (λ b. b || held (but_spawn depth p) taken x) (sym (ap (λ b. same_name x t.0 && (p t.1 && b)) e ∙ none (same_name x t.0) (p t.1)))
+      where
+        none : (a b : Bool) → (a && (b && false)) ≡ false
+        none true true = refl
+        none true false = refl
+        none false b = refl
+
+pub held_without : (names : List Name) (p : Holder → Bool) (taken : Taken) (x : Name) → held p (without names taken) x ≡ (not (is_among x names) && held p taken x)
+held_without names p [] x = one (not (is_among x names))
+  where
+    one : (a : Bool) → false ≡ (a && false)
+    one true = refl
+    one false = refl
+held_without names p (t ∷ taken) x = by (not (is_among t.0 names)) refl (held_without names p taken x)
+  where
+    by : (b : Bool) → not (is_among t.0 names) ≡ b → held p (without names taken) x ≡ (not (is_among x names) && held p taken x) →
+        held p (cond b (t ∷ without names taken) (without names taken)) x ≡ (not (is_among x names) && ((same_name x t.0 && p t.1) || held p taken x))
+    by true e h = ap (λ r. (same_name x t.0 && p t.1) || r) h ∙ here (same_name x t.0) refl
+      where
+        here : (s : Bool) → same_name x t.0 ≡ s → ((s && p t.1) || (not (is_among x names) && held p taken x)) ≡ (not (is_among x names) && ((s && p t.1) || held p taken x))
+        here true same =
+            let free : not (is_among x names) ≡ true = ap (λ n. not (is_among n names)) ((bytes_eq-Decides x t.0).0 same) ∙ e in
+            ap (λ b. p t.1 || (b && held p taken x)) free ∙ sym (ap (λ b. b && (p t.1 || held p taken x)) free)
+        here false same = refl
+    by false e h = h ∙ here (same_name x t.0) refl
+      where
+        here : (s : Bool) → same_name x t.0 ≡ s → (not (is_among x names) && held p taken x) ≡ (not (is_among x names) && ((s && p t.1) || held p taken x))
+        here true same =
+            let shut : not (is_among x names) ≡ false = ap (λ n. not (is_among n names)) ((bytes_eq-Decides x t.0).0 same) ∙ e in
+            ap (λ b. b && held p taken x) shut ∙ sym (ap (λ b. b && (p t.1 || held p taken x)) shut)
+        here false same = refl
+
+-- the end of a cut frees its array, and no other name
+abbrev pub uncut_test : Name → (Holder → Bool) → Name → Holder → Bool
+uncut_test a p x h = p h && not (same_name a x && is_cut h)
+
+pub held_uncut : (a : Name) (p : Holder → Bool) (taken : Taken) (x : Name) → held p (cut_ended a taken) x ≡ held (uncut_test a p x) taken x
+held_uncut a p [] x = refl
+held_uncut a p ((n, h) ∷ taken) x = by (not (is_cut_of a (n, h))) refl (held_uncut a p taken x)
+  where
+    cut_is : (h : Holder) → same_name x n ≡ true → is_cut_of a (n, h) ≡ (same_name a x && is_cut h)
+    cut_is (SpawnIn d) s = none (same_name a x)
+      where
+        none : (b : Bool) → false ≡ (b && false)
+        none true = refl
+        none false = refl
+    cut_is CutOf s = ap (same_name a) (sym ((bytes_eq-Decides x n).0 s)) ∙ sym (and_all (same_name a x))
+
+    by : (b : Bool) → not (is_cut_of a (n, h)) ≡ b → held p (cut_ended a taken) x ≡ held (uncut_test a p x) taken x →
+        held p (cond b ((n, h) ∷ cut_ended a taken) (cut_ended a taken)) x ≡ ((same_name x n && (p h && not (same_name a x && is_cut h))) || held (uncut_test a p x) taken x)
+    by true e i = ap (λ r. (same_name x n && p h) || r) i ∙ ap (λ b. b || held (uncut_test a p x) taken x) (here (same_name x n) refl)
+      where
+        here : (s : Bool) → same_name x n ≡ s → (s && p h) ≡ (s && (p h && not (same_name a x && is_cut h)))
+        here true same = sym (ap (λ b. p h && not b) (sym (cut_is h same)) ∙ ap (λ b. p h && b) e ∙ and_all (p h))
+        here false same = refl
+    by false e i = i ∙ ap (λ b. b || held (uncut_test a p x) taken x) (here (same_name x n) refl)
+      where
+        none : (b : Bool) → false ≡ (b && false)
+        none true = refl
+        none false = refl
+
+        here : (s : Bool) → same_name x n ≡ s → false ≡ (s && (p h && not (same_name a x && is_cut h)))
+        here true same = none (p h) ∙ ap (λ b. p h && b) (sym e) ∙ ap (λ b. p h && not b) (cut_is h same)
+        here false same = refl
+
+pub held_spawned : (depth : ℕ) (xs : List Name) (p : Holder → Bool) (taken : Taken) (x : Name) →
+    held p (taken_by depth xs taken) x ≡ ((p (SpawnIn depth) && is_among x xs) || held p taken x)
+held_spawned depth [] p taken x = ap (λ b. b || held p taken x) (none (p (SpawnIn depth)))
+  where
+    none : (b : Bool) → false ≡ (b && false)
+    none true = refl
+    none false = refl
+held_spawned depth (y ∷ xs) p taken x =
+    ap (λ r. (same_name x y && p (SpawnIn depth)) || r) (held_spawned depth xs p taken x)
+    ∙ by (same_name x y) (p (SpawnIn depth)) (is_among x xs) (held p taken x)
+  where
+    by : (s q a r : Bool) → ((s && q) || ((q && a) || r)) ≡ ((q && (if s then true else a)) || r)
+    by true true a r = refl
+    by true false a r = refl
+    by false q a r = refl
+
+-- names that are held by no holder of a greater kind are held by none of a lesser one
+pub held_same : (p q : Holder → Bool) (taken : Taken) (x : Name) → ((h : Holder) → p h ≡ q h) → held p taken x ≡ held q taken x
+held_same p q taken x h = ap (λ f. held f taken x) (λ i. λ k. h k i)

@@ -1,0 +1,80 @@
+-- What surely returns leaves nothing taken, and stands in no sync block inside a function.
+use Rattle.std.proofs.Common.{◌≡◌, ℕ, Bool, true, false, not, ◌&&◌, ◌||◌, [], Some, None, refl, ap, ◌∙◌}
+use Rattle.cw_model.specs.Syntax.{Program, Stmt, Declare, DeclareArray, Assign, AssignElement, AddTo, Call, Start, Begin, Sync, If, IfElse, While, For, Scope, Cut, Region, Print, Return, Block, End, Then}
+use Rattle.cw_model.specs.Lines.{unless}
+use Rattle.cw_model.specs.Typing.{Known, Nowhere, is_fine, declares, surely_returns, block_returns, ends_block, faults_in, faults_in_block}
+use Rattle.cw_types.specs.Resolved.{Locals, Lists}
+use Rattle.cw_types.specs.Resolved as spec
+use Rattle.cw_own.specs.Sets.{Row, no_local, either_row, both_rows}
+use Rattle.cw_own.specs.Taken.{after, after_all, known_after}
+use Rattle.cw_own.proofs.Words.{and_none}
+use Rattle.cw_own.proofs.Small.{both_left, both_right, left_none, right_none}
+use Rattle.cw_own.proofs.Laws.{same_rows}
+
+pub none_known : (known : Row) → both_rows known no_local ≡ no_local
+none_known known = same_rows (both_rows known no_local) no_local (λ k. and_none (known.ints k)) (λ k. and_none (known.arrays k))
+
+mutual
+  pub none_after : (lists : Lists) (locals : Locals) (known here : Row) (s : Stmt) → surely_returns s ≡ true → after known (spec.resolved_stmt lists locals s) here ≡ no_local
+  none_after lists locals known here (Return e) h = refl
+  none_after lists locals known here (IfElse e b c) h =
+      ap (λ r. either_row (both_rows known r) (both_rows known (after_all known (spec.resolved_block lists locals c) here))) (none_after_all lists locals known here b (both_left (block_returns b) (block_returns c) h))
+      ∙ ap (λ r. either_row (both_rows known no_local) (both_rows known r)) (none_after_all lists locals known here c (both_right (block_returns b) (block_returns c) h))
+      ∙ ap (λ r. either_row r r) (none_known known)
+  none_after lists locals known here (Declare x e) h = cc
+  none_after lists locals known here (DeclareArray x e) h = cc
+  none_after lists locals known here (Assign x e) h = cc
+  none_after lists locals known here (AssignElement x i e) h = cc
+  none_after lists locals known here (AddTo x e) h = cc
+  none_after lists locals known here (Call kind site target f es) h = cc
+  none_after lists locals known here (Start kind f es) h = cc
+  none_after lists locals known here (Begin f from to captured over) h = cc
+  none_after lists locals known here Sync h = cc
+  none_after lists locals known here (If e c) h = cc
+  none_after lists locals known here (While e c) h = cc
+  none_after lists locals known here (For x y z from to grain over c) h = cc
+  none_after lists locals known here (Scope c) h = cc
+  none_after lists locals known here (Cut a e l r c) h = cc
+  none_after lists locals known here (Region tag c) h = cc
+  none_after lists locals known here (Print e) h = cc
+
+  pub none_after_all : (lists : Lists) (locals : Locals) (known here : Row) (b : Block) → block_returns b ≡ true → after_all known (spec.resolved_block lists locals b) here ≡ no_local
+  none_after_all lists locals known here End h = cc
+  none_after_all lists locals known here (Then line s End) h = none_after lists locals known here s h
+  none_after_all lists locals known here (Then line s (Then line' s' b)) h =
+      none_after_all lists (spec.locals_after locals s) (known_after known (spec.resolved_stmt lists locals s)) (after known (spec.resolved_stmt lists locals s) here) (Then line' s' b) h
+
+and_left : (a b : Bool) → a ≡ false → (a && b) ≡ false
+and_left true b h = cc
+and_left false b h = refl
+
+mutual
+  pub not_returning : (program : Program) (known : Known) (line : ℕ) (s : Stmt) → faults_in program Nowhere known line s ≡ [] → surely_returns s ≡ false
+  not_returning program known line (Return None) h = cc
+  not_returning program known line (Return (Some e)) h = cc
+  not_returning program known line (IfElse e b c) h =
+      and_left (block_returns b) (block_returns c)
+      (no_return program known b (left_none (faults_in_block program Nowhere known b) (faults_in_block program Nowhere known c) (right_none (unless (is_fine known e) line) _ h)))
+  not_returning program known line (Declare x e) h = refl
+  not_returning program known line (DeclareArray x e) h = refl
+  not_returning program known line (Assign x e) h = refl
+  not_returning program known line (AssignElement x i e) h = refl
+  not_returning program known line (AddTo x e) h = refl
+  not_returning program known line (Call kind site target f es) h = refl
+  not_returning program known line (Start kind f es) h = refl
+  not_returning program known line (Begin f from to captured over) h = refl
+  not_returning program known line Sync h = refl
+  not_returning program known line (If e c) h = refl
+  not_returning program known line (While e c) h = refl
+  not_returning program known line (For x y z from to grain over c) h = refl
+  not_returning program known line (Scope c) h = refl
+  not_returning program known line (Cut a e l r c) h = refl
+  not_returning program known line (Region tag c) h = refl
+  not_returning program known line (Print e) h = refl
+
+  pub no_return : (program : Program) (known : Known) (b : Block) → faults_in_block program Nowhere known b ≡ [] → block_returns b ≡ false
+  no_return program known End h = refl
+  no_return program known (Then line s End) h = not_returning program known line s (left_none (faults_in program Nowhere known line s) _ h)
+  no_return program known (Then line s (Then line' s' b)) h =
+      no_return program (declares s known) (Then line' s' b)
+      (right_none (unless (not (surely_returns s) || ends_block (Then line' s' b)) line) _ (right_none (faults_in program Nowhere known line s) _ h))

@@ -1,0 +1,56 @@
+-- Rows in order: what is set at a place, and what begins.
+use Rattle.std.proofs.Common.{◌≡◌, ℕ, zero, suc, List, [], ◌∷◌, ◌++◌, length, drop, map, slice_set, refl, sym, ap, ◌∙◌}
+use Rattle.cw_own.specs.declared.row.Row as code
+use Rattle.cw_own.specs.Sets.{Row, row_of}
+use Rattle.cw_types.specs.Resolved.{Stmt, Declare, DeclareArray, Assign, AssignElement, AddTo, Call, Sync, If, IfElse, While, For, Scope, Cut, Region, Print, Return}
+use Rattle.cw_own.specs.Taken.{Taken, BeginWith, taken_after, left_by}
+use Rattle.cw_own.specs.Rules.{seen_by}
+
+-- a place that was kept is set
+pub set_kept : (xs ys : List code.Row) (kept : Row) (g : code.Row) (rest : List Row) → map row_of xs ≡ (map row_of ys ++ kept ∷ []) ++ rest →
+    map row_of (slice_set xs (length ys) g) ≡ map row_of ys ++ row_of g ∷ rest
+set_kept [] [] kept g rest h = cc
+set_kept [] (y ∷ ys) kept g rest h = cc
+set_kept (x ∷ xs) [] kept g rest h = let e : map row_of xs ≡ rest = cc in ap (λ r. row_of g ∷ r) e
+set_kept (x ∷ xs) (y ∷ ys) kept g rest h =
+    let one : row_of x ≡ row_of y = cc in
+    let more : map row_of xs ≡ (map row_of ys ++ kept ∷ []) ++ rest = cc in
+    ap (λ r. r ∷ map row_of (slice_set xs (length ys) g)) one ∙ ap (λ r. row_of y ∷ r) (set_kept xs ys kept g rest more)
+
+pub rest_is : (first more : List Row) → drop (length first) (first ++ more) ≡ more
+rest_is [] more = refl
+rest_is (x ∷ first) more = rest_is first more
+
+pub begins : (first more rows : List Row) → rows ≡ first ++ more → BeginWith first rows
+begins first more rows h = h ∙ ap (λ r. first ++ r) (sym (rest_is first more) ∙ ap (λ r. drop (length first) r) (sym h))
+
+abbrev no_rows : List Row
+no_rows = []
+
+none_dropped : (n : ℕ) → drop n (no_rows) ≡ []
+none_dropped zero = refl
+none_dropped (suc n) = refl
+
+pub drop_both : (first second rows : List Row) → drop (length second) (drop (length first) rows) ≡ drop (length (first ++ second)) rows
+drop_both [] second rows = refl
+drop_both (x ∷ first) second [] = none_dropped (length second)
+drop_both (x ∷ first) second (r ∷ rows) = drop_both first second rows
+
+-- what a statement leaves of what it sees is what is taken after it
+pub left_is : (known : Row) (s : Stmt) (taken : Taken) → left_by known s (seen_by known taken s) ≡ taken_after known s taken
+left_is known (Declare u e) taken = refl
+left_is known (DeclareArray u e) taken = refl
+left_is known (Assign u e) taken = refl
+left_is known (AssignElement u i e) taken = refl
+left_is known (AddTo l e) taken = refl
+left_is known (Call kind site target f es) taken = refl
+left_is known Sync taken = refl
+left_is known (If e b) taken = refl
+left_is known (IfElse e b d) taken = refl
+left_is known (While e b) taken = refl
+left_is known (For head b) taken = refl
+left_is known (Scope b) taken = refl
+left_is known (Cut parts b) taken = refl
+left_is known (Region tag b) taken = refl
+left_is known (Print e) taken = refl
+left_is known (Return e) taken = refl

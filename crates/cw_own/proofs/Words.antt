@@ -1,0 +1,92 @@
+-- Words of tests.
+use Rattle.std.proofs.Common.{◌≡◌, Bool, true, false, not, ◌&&◌, ◌||◌, if◌then◌else◌, refl}
+
+pub if_or : (a b : Bool) → (if a then true else b) ≡ (a || b)
+if_or true b = refl
+if_or false b = refl
+
+pub or_none : (a : Bool) → (a || false) ≡ a
+or_none true = refl
+or_none false = refl
+
+pub and_all : (a : Bool) → (a && true) ≡ a
+and_all true = refl
+and_all false = refl
+
+pub and_none : (a : Bool) → (a && false) ≡ false
+and_none true = refl
+and_none false = refl
+
+pub or_all : (a : Bool) → (a || true) ≡ true
+or_all true = refl
+or_all false = refl
+
+pub or_turn : (a b : Bool) → (a || b) ≡ (b || a)
+or_turn true true = refl
+or_turn true false = refl
+or_turn false true = refl
+or_turn false false = refl
+
+pub or_group : (a b c : Bool) → ((a || b) || c) ≡ (a || (b || c))
+or_group true b c = refl
+or_group false b c = refl
+
+pub and_group : (a b c : Bool) → ((a && b) && c) ≡ (a && (b && c))
+and_group true b c = refl
+and_group false b c = refl
+
+pub or_twice : (a b : Bool) → (a || (a || b)) ≡ (a || b)
+or_twice true b = refl
+or_twice false b = refl
+
+-- the parts of two sums, by their sorts
+pub four_or : (a b c d : Bool) → ((a || b) || (c || d)) ≡ ((a || c) || (b || d))
+four_or true b c d = refl
+four_or false true true d = refl
+four_or false true false d = refl
+four_or false false c d = refl
+
+pub not_or : (a b : Bool) → not (a || b) ≡ (not a && not b)
+not_or true b = refl
+not_or false b = refl
+
+pub four_and : (a b c d : Bool) → ((a && b) && (c && d)) ≡ ((a && c) && (b && d))
+four_and false b c d = refl
+four_and true false true d = refl
+four_and true false false d = refl
+four_and true true c d = refl
+
+-- what is taken after two steps is what is taken after the second alone, and what of the first it keeps
+pub two_steps : (a b h k l : Bool) → (a || ((b || (h && k)) && l)) ≡ ((a || (b && l)) || (h && (k && l)))
+two_steps true b h k l = refl
+two_steps false true h k true = refl
+two_steps false true true k false = lemma k
+  where
+    lemma : (k : Bool) → false ≡ (false || (k && false))
+    lemma true = refl
+    lemma false = refl
+two_steps false true false k false = refl
+two_steps false false true true l = refl
+two_steps false false true false l = refl
+two_steps false false false k l = refl
+
+-- two ways on
+pub two_ways : (a b h k l : Bool) → ((a || (h && k)) || (b || (h && l))) ≡ ((a || b) || (h && (k || l)))
+two_ways true b h k l = refl
+two_ways false true true true l = refl
+two_ways false true true false l = refl
+two_ways false true false k l = refl
+two_ways false false true true l = refl
+two_ways false false true false l = refl
+two_ways false false false k l = refl
+
+-- what a turn keeps was there before
+pub turn_adds : (a h k : Bool) → (h || (a || (h && k))) ≡ (h || a)
+turn_adds a true k = refl
+turn_adds true false k = refl
+turn_adds false false k = refl
+
+pub masked : (n a h k : Bool) → (n && (a || (h && k))) ≡ ((n && a) || (h && (n && k)))
+masked true a h k = refl
+masked false a true k = refl
+masked false a false k = refl

@@ -1,0 +1,6 @@
+use Rattle.std.proofs.Common.{◌≡◌, rules, length}
+use Rattle.cw_own.proofs.Rows.{one_taken}
+use Rattle.cw_own.proofs.bits.Bits.add.Goals as goal
+
+pub returns : goal.returns
+returns c = let four : length c.args.self.now.words ≡ 4 = search rules in one_taken c.args.self.now.words c.args.slot four c.requires

@@ -1,0 +1,20 @@
+use Rattle.std.proofs.Common.{◌≡◌, ◌++◌, drop, length, map, option_map, true}
+use Rattle.cw_model.specs.Lines.{lowest}
+use Rattle.cw_types.specs.View.{block_of}
+use Rattle.cw_own.specs.Bounds.{small_block}
+use Rattle.cw_own.specs.Sets.{row_of}
+use Rattle.cw_own.specs.Taken.{taken_of, taken_after_all, turns_in}
+use Rattle.cw_own.specs.Rules.{loop_of, lines_in}
+use Rattle.cw_own.proofs.rules.+rules.Given as goal
+
+abbrev pub invariant-note_all-loop-line : goal.invariant-note_all-loop-line
+invariant-note_all-loop-line l = record {
+  small : small_block (block_of (drop l.line-index l.lines)) ≡ true;
+  taken : taken_after_all (row_of l.known) (block_of (drop l.line-index l.lines)) (taken_of l.taken)
+      ≡ taken_after_all (row_of l.fn.known) (block_of l.lines) (taken_of l.fn.taken);
+  lines : lowest l.least.line (lines_in (option_map loop_of l.around) (row_of l.known) (taken_of l.taken) (block_of (drop l.line-index l.lines)))
+      ≡ lowest l.fn.least.line (lines_in (option_map loop_of l.around) (row_of l.fn.known) (taken_of l.fn.taken) (block_of l.lines));
+  turns : map row_of l.rest.left.now
+      ≡ turns_in (row_of l.known) (block_of (drop l.line-index l.lines))
+      ++ drop (length (turns_in (row_of l.fn.known) (block_of l.lines))) (map row_of l.fn.rest.left.now);
+}

@@ -1,0 +1,43 @@
+-- How great the slots are that are declared, taken or listed: each is below the most names of a function.
+use Rattle.std.specs.Prelude.{Bool, true, ◌&&◌, nat_lt, nat_le, Option, Some, None, length}
+use Rattle.std.specs.List.{list_all}
+use Rattle.cw_model.specs.Limits.{most_declared, most_parameters}
+use Rattle.cw_types.specs.Resolved.{Use, Argument, Int, Array, Stmt, Declare, DeclareArray, Call, If, IfElse, While, For, Scope, Cut, Region, Block, End, Then, Function}
+
+-- a slot has a bit
+abbrev pub is_small : Use → Bool
+is_small u = nat_lt u.slot most_declared
+
+-- an array that is passed has a small slot
+abbrev pub small_argument : Argument → Bool
+small_argument (Int e) = true
+small_argument (Array u) = is_small u
+
+-- a target has a small slot
+abbrev pub small_target : Option Use → Bool
+small_target None = true
+small_target (Some u) = is_small u
+
+abbrev mutual
+  -- what a statement declares, takes or lists has small slots
+  pub small_stmt : Stmt → Bool
+  small_stmt (Declare u e) = is_small u
+  small_stmt (DeclareArray u e) = is_small u
+  small_stmt (Call kind site target f es) = small_target target && list_all small_argument es
+  small_stmt (If e b) = small_block b
+  small_stmt (IfElse e b c) = small_block b && small_block c
+  small_stmt (While e b) = small_block b
+  small_stmt (For head b) = is_small head.variable && (list_all is_small head.over && small_block b)
+  small_stmt (Scope b) = small_block b
+  small_stmt (Cut parts b) = is_small parts.array && (is_small parts.left && (is_small parts.right && small_block b))
+  small_stmt (Region tag b) = small_block b
+  small_stmt _ = true
+
+  -- the same of a block
+  pub small_block : Block → Bool
+  small_block End = true
+  small_block (Then line s b) = small_stmt s && small_block b
+
+-- the same of a function, which has few parameters
+abbrev pub small_function : Function → Bool
+small_function f = nat_le (length f.params) most_parameters && small_block f.body

@@ -1,0 +1,183 @@
+-- The rules of ownership by slots: which lines break one, over a tree with each name looked up.
+use Rattle.std.specs.Prelude.{ℕ, ◌==◌, Bool, true, false, not, ◌&&◌, ◌||◌, List, [], ◌∷◌, ◌++◌, Option, Some, None}
+use Rattle.std.specs.List.{list_all}
+use Rattle.cw_model.specs.Lines.{unless}
+use Rattle.cw_model.specs.Ownership.{Closing, Joins, Leaves}
+use Rattle.cw_types.specs.Resolved.{Use, Expr, Number, Variable, Element, Length, Negative, Not, Binary, Argument, Int, Array, Stmt, Declare, DeclareArray, Assign, AssignElement, AddTo, Call, Sync, If, IfElse, While, For, Scope, Cut, Region, Print, Return, Head, Block, End, Then, Function}
+use Rattle.cw_own.specs.declared.around.Loop as code
+use Rattle.cw_own.specs.Sets.{Slots, no_slot, with_slot, slots_of, Row, no_local, with_int, either_row, row_of}
+use Rattle.cw_own.specs.Taken.{Taken, nothing, int_taken, array_taken, inside, inside_cut, with_parts, known_after, taken_after, taken_after_all, gain, with_params}
+
+-- the innermost loop around: the locals from outside its body and its variable, the slot of that, and the arrays of the loop
+pub record Loop : Type 0 where
+  pub outer : Row
+  pub variable : ℕ
+  pub over : Slots
+
+-- what the code holds of a loop
+abbrev pub loop_of : code.Loop → Loop
+loop_of l = record { outer = row_of l.outer; variable = l.variable; over = slots_of l.over.words }
+
+-- the arrays of a loop, more than these
+abbrev pub with_uses : List Use → Slots → Slots
+with_uses [] set = set
+with_uses (u ∷ us) set = with_uses us (with_slot u.slot set)
+
+-- the loop of this head, where these locals are known before it
+abbrev pub loop_in : Head → Row → Loop
+loop_in head known =
+    record { outer = with_int head.variable.slot known; variable = head.variable.slot; over = with_uses head.over no_slot }
+
+-- the head of a further loop names no array of the loop around
+abbrev pub for_head : Option Loop → Option Loop
+for_head None = None
+for_head (Some l) = Some (record { outer = l.outer; variable = l.variable; over = no_slot })
+
+-- an integer is from outside the loop
+abbrev pub is_outer_int : Option Loop → ℕ → Bool
+is_outer_int None slot = false
+is_outer_int (Some l) slot = l.outer.ints slot
+
+-- an array is from outside the loop
+abbrev pub is_outer_array : Option Loop → ℕ → Bool
+is_outer_array None slot = false
+is_outer_array (Some l) slot = l.outer.arrays slot
+
+-- this integer alone
+abbrev pub is_variable : ℕ → Expr → Bool
+is_variable slot (Variable u) = slot == u.slot
+is_variable slot _ = false
+
+-- an outer array is named only as x[i], where the loop is over x and its variable is i
+abbrev pub may_index : Option Loop → ℕ → Expr → Bool
+may_index None slot e = true
+may_index (Some l) slot e = not (l.outer.arrays slot) || (l.over slot && is_variable l.variable e)
+
+-- an expression names nothing taken, and keeps the rule of the loop around
+abbrev pub may_read : Option Loop → Taken → Expr → Bool
+may_read around taken (Number n) = true
+may_read around taken (Variable u) = not (int_taken taken u.slot)
+may_read around taken (Element u e) = not (array_taken taken u.slot) && may_index around u.slot e && may_read around taken e
+may_read around taken (Length u) = not (array_taken taken u.slot) && not (is_outer_array around u.slot)
+may_read around taken (Negative e) = may_read around taken e
+may_read around taken (Not e) = may_read around taken e
+may_read around taken (Binary operator d e) = may_read around taken d && may_read around taken e
+
+-- an integer that is written is neither taken nor from outside the loop
+abbrev pub may_write : Option Loop → Taken → ℕ → Bool
+may_write around taken slot = not (int_taken taken slot) && not (is_outer_int around slot)
+
+-- an array that is passed or cut is neither taken nor from outside the loop
+abbrev pub may_pass : Option Loop → Taken → ℕ → Bool
+may_pass around taken slot = not (array_taken taken slot) && not (is_outer_array around slot)
+
+-- the result goes to an integer that may be written, if it goes anywhere
+abbrev pub may_target : Option Loop → Taken → Option Use → Bool
+may_target around taken None = true
+may_target around taken (Some u) = may_write around taken u.slot
+
+-- an argument may be read, or passed
+abbrev pub may_give : Option Loop → Taken → Argument → Bool
+may_give around taken (Int e) = may_read around taken e
+may_give around taken (Array u) = may_pass around taken u.slot
+
+-- what is returned may be read, if anything is returned
+abbrev pub may_return : Option Loop → Taken → Option Expr → Bool
+may_return around taken None = true
+may_return around taken (Some e) = may_read around taken e
+
+-- no array is passed twice, nor one of these
+abbrev pub passed_once : Slots → List Argument → Bool
+passed_once seen [] = true
+passed_once seen (Int e ∷ es) = passed_once seen es
+passed_once seen (Array u ∷ es) = not (seen u.slot) && passed_once (with_slot u.slot seen) es
+
+-- no array is named twice, nor one of these
+abbrev pub named_once : Slots → List Use → Bool
+named_once seen [] = true
+named_once seen (u ∷ us) = not (seen u.slot) && named_once (with_slot u.slot seen) us
+
+-- the head of a loop keeps the rules
+abbrev pub head_keeps : Option Loop → Taken → Head → Bool
+head_keeps around taken head =
+    may_read (for_head around) taken head.from && may_read (for_head around) taken head.to
+    && list_all (λ u. may_pass around taken u.slot) head.over && named_once no_slot head.over
+
+-- a statement keeps the rules, but for what stands in its blocks
+abbrev pub keeps : Option Loop → Taken → Stmt → Bool
+keeps around taken (Declare u e) = may_read around taken e
+keeps around taken (DeclareArray u e) = may_read around taken e
+keeps around taken (Assign u e) = may_read around taken e && may_write around taken u.slot
+keeps around taken (AssignElement u i e) =
+    may_read around taken i && may_read around taken e && not (array_taken taken u.slot) && may_index around u.slot i
+keeps around taken (AddTo s e) = may_read around taken e
+keeps around taken (Call kind site target f es) =
+    list_all (may_give around taken) es && may_target around taken target && passed_once no_slot es
+keeps around taken Sync = true
+keeps around taken (If e b) = may_read around taken e
+keeps around taken (IfElse e b c) = may_read around taken e
+keeps around taken (While e b) = may_read around taken e
+keeps around taken (For head b) = head_keeps around taken head
+keeps around taken (Scope b) = true
+keeps around taken (Cut parts b) = may_read around taken parts.at && may_pass around taken parts.array.slot
+keeps around taken (Region tag b) = true
+keeps around taken (Print e) = may_read around taken e
+keeps around taken (Return e) = may_return around taken e
+
+-- the line of a declaration whose name is taken as its block ends
+abbrev pub left_line : Taken → ℕ → Stmt → List ℕ
+left_line taken line (Declare u e) = unless (not (int_taken taken u.slot)) line
+left_line taken line (DeclareArray u e) = unless (not (array_taken taken u.slot)) line
+left_line taken line _ = []
+
+-- the lines of the declarations of a block whose names are taken as it ends
+abbrev pub left_lines : Taken → Block → List ℕ
+left_lines taken End = []
+left_lines taken (Then line s b) = left_line taken line s ++ left_lines taken b
+
+-- a sync block joins its own spawns at its end, another block none
+abbrev pub at_end : Closing → Taken → Taken
+at_end Joins taken = record { outer = taken.outer; here = no_local; cuts = taken.cuts }
+at_end Leaves taken = taken
+
+-- the lines of the declarations of a block that are still taken as it ends
+abbrev pub left_at_end : Closing → (known : Row) → Taken → Block → List ℕ
+left_at_end closing known taken b = left_lines (at_end closing (taken_after_all known b taken)) b
+
+-- what the test and the body of a `while` see as taken: also what a turn takes
+abbrev pub seen_by : (known : Row) → Taken → Stmt → Taken
+seen_by known taken (While e b) = record { outer = taken.outer; here = either_row taken.here (gain known b); cuts = taken.cuts }
+seen_by known taken _ = taken
+
+abbrev mutual
+  -- the lines in the blocks of a statement that break a rule, where so much is known and so much is taken
+  pub lines_within : Option Loop → (known : Row) → Taken → Stmt → List ℕ
+  lines_within around known taken (If e b) = lines_in around known taken b ++ left_at_end Leaves known taken b
+  lines_within around known taken (IfElse e b c) =
+      (lines_in around known taken b ++ left_at_end Leaves known taken b)
+      ++ (lines_in around known taken c ++ left_at_end Leaves known taken c)
+  lines_within around known taken (While e b) = lines_in around known taken b ++ left_at_end Leaves known taken b
+  lines_within around known taken (For head b) =
+      lines_in (Some (loop_in head known)) (with_int head.variable.slot known) (inside taken) b
+      ++ left_at_end Joins (with_int head.variable.slot known) (inside taken) b
+  lines_within around known taken (Scope b) = lines_in around known (inside taken) b ++ left_at_end Joins known (inside taken) b
+  lines_within around known taken (Cut parts b) =
+      lines_in around (with_parts parts known) (inside_cut parts.array.slot taken) b
+      ++ left_at_end Joins (with_parts parts known) (inside_cut parts.array.slot taken) b
+  lines_within around known taken (Region tag b) = lines_in around known (inside taken) b ++ left_at_end Joins known (inside taken) b
+  lines_within around known taken _ = []
+
+  -- the lines of the statements of a block that break a rule, its blocks included
+  pub lines_in : Option Loop → (known : Row) → Taken → Block → List ℕ
+  lines_in around known taken End = []
+  lines_in around known taken (Then line s b) =
+      (unless (keeps around (seen_by known taken s) s) line ++ lines_within around known (seen_by known taken s) s)
+      ++ lines_in around (known_after known s) (taken_after known s taken) b
+
+-- the lines of a block that break a rule, also of its declarations whose names are taken as it ends
+abbrev pub block_lines : Option Loop → (known : Row) → Taken → Closing → Block → List ℕ
+block_lines around known taken closing b = lines_in around known taken b ++ left_at_end closing known taken b
+
+-- the lines of a function that break a rule
+abbrev pub function_lines : Function → List ℕ
+function_lines f = block_lines None (with_params 0 0 f.params no_local) nothing Joins f.body

@@ -1,0 +1,153 @@
+-- What is taken, by slots. A spawn takes for the innermost sync block around it, and what it took is free again as that
+-- block joins: so inside a sync block what spawns outside of it have taken stays as it is.
+use Rattle.std.specs.Prelude.{◌≡◌, ℕ, length, drop, Bool, ◌||◌, List, [], ◌∷◌, ◌++◌, ◌+◌, if◌then◌else◌, Option, Some, None}
+use Rattle.cw_model.specs.declared.syntax.CallKind.{CallKind}
+use Rattle.cw_model.specs.declared.syntax.CallKind.TheVariants.{Plain, Spawned}
+use Rattle.cw_types.specs.Resolved.{Use, Parts, Argument, Int, Array, Stmt, Declare, DeclareArray, Call, Sync, If, IfElse, While, For, Scope, Cut, Region, Return, Block, End, Then}
+use Rattle.cw_model.specs.Syntax.{Param}
+use Rattle.cw_own.specs.declared.taken.Taken as code
+use Rattle.cw_own.specs.Sets.{Slots, no_slot, with_slot, without_slot, either, slots_of, Row, no_local, with_int, with_array, either_row, both_rows, row_of}
+
+-- what is taken: by spawns outside the innermost sync block, by those inside it, and the arrays that are cut
+pub record Taken : Type 0 where
+  pub outer : Row
+  pub here : Row
+  pub cuts : Slots
+
+-- nothing is taken
+abbrev pub nothing : Taken
+nothing = record { outer = no_local; here = no_local; cuts = no_slot }
+
+-- an integer is taken
+abbrev pub int_taken : Taken → ℕ → Bool
+int_taken taken slot = taken.outer.ints slot || taken.here.ints slot
+
+-- an array is taken
+abbrev pub array_taken : Taken → ℕ → Bool
+array_taken taken slot = taken.outer.arrays slot || (taken.here.arrays slot || taken.cuts slot)
+
+-- as a sync block begins
+abbrev pub inside : Taken → Taken
+inside taken = record { outer = either_row taken.outer taken.here; here = no_local; cuts = taken.cuts }
+
+-- as the block of a cut of this array begins
+abbrev pub inside_cut : ℕ → Taken → Taken
+inside_cut a taken = record { outer = either_row taken.outer taken.here; here = no_local; cuts = with_slot a taken.cuts }
+
+-- the integer that a result goes to, if it goes anywhere
+abbrev pub with_target : Option Use → Row → Row
+with_target None row = row
+with_target (Some u) row = with_int u.slot row
+
+-- the arrays that are passed
+abbrev pub with_arrays : List Argument → Row → Row
+with_arrays [] row = row
+with_arrays (Int e ∷ es) row = with_arrays es row
+with_arrays (Array u ∷ es) row = with_arrays es (with_array u.slot row)
+
+-- a spawn takes its target and its arrays, and a plain call gives all back
+abbrev pub taken_by_call : CallKind → Option Use → List Argument → Row → Row
+taken_by_call Plain target es here = here
+taken_by_call Spawned target es here = with_arrays es (with_target target here)
+
+-- with the two parts of a cut
+abbrev pub with_parts : Parts → Row → Row
+with_parts parts known = with_array parts.right.slot (with_array parts.left.slot known)
+
+-- the locals that are known after a statement
+abbrev pub known_after : Row → Stmt → Row
+known_after known (Declare u e) = with_int u.slot known
+known_after known (DeclareArray u e) = with_array u.slot known
+known_after known _ = known
+
+-- what is done where the test of a statement does not hold
+abbrev pub other_of : Stmt → Block
+other_of (IfElse e b c) = c
+other_of _ = End
+
+abbrev mutual
+  -- what the spawns of the innermost sync block have taken after a statement, where these locals are known before it
+  pub after : (known : Row) → Stmt → Row → Row
+  after known (Call kind site target f es) here = taken_by_call kind target es here
+  after known Sync here = no_local
+  after known (Return e) here = no_local
+  after known (If e b) here = either_row (both_rows known (after_all known b here)) here
+  after known (IfElse e b c) here =
+      either_row (both_rows known (after_all known b here)) (both_rows known (after_all known c here))
+  -- what was taken before, and what one turn takes where nothing is taken before it
+  after known (While e b) here = either_row here (both_rows known (after_all known b no_local))
+  after known _ here = here
+
+  -- the same of a block
+  pub after_all : (known : Row) → Block → Row → Row
+  after_all known End here = here
+  after_all known (Then line s b) here = after_all (known_after known s) b (after known s here)
+
+-- what one turn of a `while` takes where nothing is taken before it
+abbrev pub gain : (known : Row) → Block → Row
+gain known b = both_rows known (after_all known b no_local)
+
+abbrev mutual
+  -- what one turn of each `while` of a statement takes, in their order, the outer one first
+  pub turns : (known : Row) → Stmt → List Row
+  turns known (If e b) = turns_in known b
+  turns known (IfElse e b c) = turns_in known b ++ turns_in known c
+  turns known (While e b) = gain known b ∷ turns_in known b
+  turns known (For head b) = turns_in (with_int head.variable.slot known) b
+  turns known (Scope b) = turns_in known b
+  turns known (Cut parts b) = turns_in (with_parts parts known) b
+  turns known (Region tag b) = turns_in known b
+  turns known _ = []
+
+  -- the same of a block
+  pub turns_in : (known : Row) → Block → List Row
+  turns_in known End = []
+  turns_in known (Then line s b) = turns known s ++ turns_in (known_after known s) b
+
+abbrev mutual
+  -- the arrays that are cut after a statement: the end of a cut frees its array
+  pub cuts_after : Stmt → Slots → Slots
+  cuts_after (IfElse e b c) cuts = either (cuts_after_all b cuts) (cuts_after_all c cuts)
+  cuts_after (For head b) cuts = cuts_after_all b cuts
+  cuts_after (Scope b) cuts = cuts_after_all b cuts
+  cuts_after (Cut parts b) cuts = without_slot parts.array.slot (cuts_after_all b (with_slot parts.array.slot cuts))
+  cuts_after (Region tag b) cuts = cuts_after_all b cuts
+  cuts_after _ cuts = cuts
+
+  -- the same of a block
+  pub cuts_after_all : Block → Slots → Slots
+  cuts_after_all End cuts = cuts
+  cuts_after_all (Then line s b) cuts = cuts_after_all b (cuts_after s cuts)
+
+-- what is taken after a statement
+abbrev pub taken_after : (known : Row) → Stmt → Taken → Taken
+taken_after known s taken = record { outer = taken.outer; here = after known s taken.here; cuts = cuts_after s taken.cuts }
+
+-- what a statement leaves taken, where this much is seen by its test and its blocks
+abbrev pub left_by : (known : Row) → Stmt → Taken → Taken
+left_by known (While e b) seen = seen
+left_by known s seen = taken_after known s seen
+
+-- what one turn of each `while` in the blocks of a statement takes
+abbrev pub turns_within : (known : Row) → Stmt → List Row
+turns_within known (While e b) = turns_in known b
+turns_within known s = turns known s
+
+-- rows that begin with these
+abbrev pub BeginWith : List Row → List Row → Type 0
+BeginWith first rows = rows ≡ first ++ drop (length first) rows
+
+-- what is taken after a block
+abbrev pub taken_after_all : (known : Row) → Block → Taken → Taken
+taken_after_all known b taken =
+    record { outer = taken.outer; here = after_all known b taken.here; cuts = cuts_after_all b taken.cuts }
+
+-- the locals that are known with these parameters, where so many integers and arrays come before them
+abbrev pub with_params : (ints arrays : ℕ) → List Param → Row → Row
+with_params ints arrays [] known = known
+with_params ints arrays (p ∷ ps) known =
+    if p.is_array then with_params ints (arrays + 1) ps (with_array arrays known) else with_params (ints + 1) arrays ps (with_int ints known)
+
+-- what the code holds as taken
+abbrev pub taken_of : code.Taken → Taken
+taken_of t = record { outer = row_of t.outer; here = row_of t.here; cuts = slots_of t.cuts.words }

@@ -1,0 +1,83 @@
+//! The innermost loop around a statement.
+
+ghost use Rattle.std.specs.Prelude.{◌≡◌, option_map, map, true};
+ghost use Rattle.std.specs.List.{list_all};
+ghost use Rattle.cw_types.specs.View.{use_of, head_of};
+ghost use Rattle.cw_own.specs.Bounds.{is_small};
+ghost use Rattle.cw_own.specs.Sets.{row_of, slots_of};
+ghost use Rattle.cw_own.specs.Rules.{loop_of, loop_in, with_uses, for_head, is_outer_int, is_outer_array};
+
+use crate::bits::Bits;
+use crate::row::Row;
+use cw_types::tree::{Head, Use};
+
+/// A loop: the locals from outside its body and its variable, the slot of that, and the arrays of the loop.
+#[derive(Clone, Copy, Debug)]
+pub struct Loop {
+    pub outer: Row,
+    pub variable: u32,
+    pub over: Bits,
+}
+
+impl Loop {
+    /// The loop of a head, where these locals are known before it.
+    pub fn new(head: &Head, known: &Row) -> Loop
+        requires variable { is_small (use_of head.now.variable) ≡ true }
+        requires over { list_all is_small (map use_of head.now.over.items) ≡ true }
+        ensures { loop_of result ≡ loop_in (head_of head.now) (row_of known.now) }
+    {
+        let mut outer = *known;
+        outer.add_int(head.variable.slot);
+        Loop {
+            outer,
+            variable: head.variable.slot,
+            over: with_uses(Bits::none(), &head.over),
+        }
+    }
+}
+
+// A set with the slots of these uses.
+fn with_uses(set: Bits, uses: &[Use]) -> Bits
+    requires { list_all is_small (map use_of uses.now) ≡ true }
+    ensures { slots_of result.words ≡ with_uses (map use_of uses.now) (slots_of set.words) }
+{
+    let mut set = set;
+    for used in uses {
+        set.add(used.slot);
+    }
+    set
+}
+
+/// What the head of a further loop sees of the loop around: it names none of its arrays.
+pub fn for_head(around: &Option<Loop>) -> Option<Loop>
+    ensures { option_map loop_of result ≡ for_head (option_map loop_of around.now) }
+{
+    match around {
+        None => None,
+        Some(outer) => Some(Loop {
+            outer: outer.outer,
+            variable: outer.variable,
+            over: Bits::none(),
+        }),
+    }
+}
+
+/// Whether an integer is from outside the loop.
+pub fn is_outer_int(around: &Option<Loop>, slot: u32) -> bool
+    ensures { result ≡ is_outer_int (option_map loop_of around.now) slot }
+{
+    match around {
+        None => false,
+        Some(outer) => outer.outer.ints.has(slot),
+    }
+}
+
+/// Whether an array is from outside the loop.
+pub fn is_outer_array(around: &Option<Loop>, slot: u32) -> bool
+    ensures { result ≡ is_outer_array (option_map loop_of around.now) slot }
+{
+    match around {
+        None => false,
+        Some(outer) => outer.outer.arrays.has(slot),
+    }
+}

@@ -1,0 +1,66 @@
+//! Sets of slots.
+
+ghost use Rattle.std.specs.Prelude.{◌≡◌, ◌<◌};
+ghost use Rattle.cw_model.specs.Limits.{most_declared};
+ghost use Rattle.cw_own.specs.Sets.{no_slot, with_slot, without_slot, either, both, slots_of};
+
+/// A set of slots, each below 256, the most names that a function declares: slot `s` is bit `s % 64` of word `s / 64`.
+#[derive(Clone, Copy, Debug)]
+pub struct Bits {
+    pub words: [u64; 4],
+}
+
+impl Bits {
+    /// No slot.
+    pub fn none() -> Bits
+        ensures { slots_of result.words ≡ no_slot }
+    {
+        Bits { words: [0; 4] }
+    }
+
+    /// Whether a slot is there; none from 256 on is.
+    pub fn has(&self, slot: u32) -> bool
+        ensures { result ≡ slots_of self.now.words slot }
+    {
+        match self.words.get((slot / 64) as usize) {
+            Some(word) => (*word >> (slot % 64)) & 1 == 1,
+            None => false,
+        }
+    }
+
+    /// One slot more.
+    pub fn add(&mut self, slot: u32)
+        requires { slot < most_declared }
+        ensures { slots_of self.new.words ≡ with_slot slot (slots_of self.old.words) }
+    {
+        self.words[(slot / 64) as usize] |= 1 << (slot % 64);
+    }
+
+    /// One slot less.
+    pub fn remove(&mut self, slot: u32)
+        requires { slot < most_declared }
+        ensures { slots_of self.new.words ≡ without_slot slot (slots_of self.old.words) }
+    {
+        self.words[(slot / 64) as usize] &= !(1 << (slot % 64));
+    }
+
+    /// The slots of one of two sets.
+    pub fn either(&self, other: &Bits) -> Bits
+        ensures { slots_of result.words ≡ either (slots_of self.now.words) (slots_of other.now.words) }
+    {
+        let (a, b) = (&self.words, &other.words);
+        Bits {
+            words: [a[0] | b[0], a[1] | b[1], a[2] | b[2], a[3] | b[3]],
+        }
+    }
+
+    /// The slots of both sets.
+    pub fn both(&self, other: &Bits) -> Bits
+        ensures { slots_of result.words ≡ both (slots_of self.now.words) (slots_of other.now.words) }
+    {
+        let (a, b) = (&self.words, &other.words);
+        Bits {
+            words: [a[0] & b[0], a[1] & b[1], a[2] & b[2], a[3] & b[3]],
+        }
+    }
+}

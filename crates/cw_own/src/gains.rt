@@ -1,0 +1,243 @@
+//! What one turn of each `while` takes.
+//!
+//! What is taken after a statement is what was taken before it, without what the statement frees, and with what it
+//! takes. So what any number of turns takes is what one turn takes that begins with nothing taken, beside what was taken
+//! before: each body is looked at once for it, and once more for its faults.
+
+ghost use Rattle.std.specs.Prelude.{◌≡◌, ◌∷◌, [], length, slice_set, map, option_map, true};
+ghost use Rattle.std.specs.List.{list_all};
+ghost use Rattle.cw_types.specs.View.{use_of, argument_of, stmt_of, block_of};
+ghost use Rattle.cw_own.specs.Bounds.{small_target, small_argument, small_stmt, small_block};
+ghost use Rattle.cw_own.specs.Sets.{row_of, no_local, both_rows};
+ghost use Rattle.cw_own.specs.Grown.{Grown};
+ghost use Rattle.cw_own.specs.Taken.{other_of, with_target, with_arrays, taken_by_call, known_after, after, after_all, gain, turns, turns_in};
+
+use crate::row::Row;
+use cw_model::syntax::CallKind;
+use cw_types::tree::{Argument, Line, Stmt, Use};
+use std::alloc::Global;
+
+// With the integer that a result goes to, if there is one.
+fn with_target(row: Row, target: &Option<Use>) -> Row
+    requires { small_target (option_map use_of target.now) ≡ true }
+    ensures { row_of result ≡ with_target (option_map use_of target.now) (row_of row) }
+{
+    let mut row = row;
+    if let Some(used) = target {
+        row.add_int(used.slot);
+    }
+    row
+}
+
+// With the arrays that are passed.
+fn with_arrays(row: Row, es: &[Argument]) -> Row
+    requires { list_all small_argument (map argument_of es.now) ≡ true }
+    ensures { row_of result ≡ with_arrays (map argument_of es.now) (row_of row) }
+{
+    let mut row = row;
+    for e in es {
+        if let Argument::Array(used) = e {
+            row.add_array(used.slot);
+        }
+    }
+    row
+}
+
+/// What is taken by the spawns of a sync block after a call: a spawn takes its target and its arrays.
+pub fn after_call(here: Row, kind: CallKind, target: &Option<Use>, es: &[Argument]) -> Row
+    requires target { small_target (option_map use_of target.now) ≡ true }
+    requires arguments { list_all small_argument (map argument_of es.now) ≡ true }
+    ensures { row_of result ≡ taken_by_call kind (option_map use_of target.now) (map argument_of es.now) (row_of here) }
+{
+    match kind {
+        CallKind::Plain => here,
+        CallKind::Spawned => with_arrays(with_target(here, target), es),
+    }
+}
+
+/// The locals that are known after a statement.
+pub fn known_after(known: Row, stmt: &Stmt) -> Row
+    requires { small_stmt (stmt_of stmt.now) ≡ true }
+    ensures { row_of result ≡ known_after (row_of known) (stmt_of stmt.now) }
+{
+    let mut known = known;
+    match stmt {
+        Stmt::Declare(used, _) => known.add_int(used.slot),
+        Stmt::DeclareArray(used, _) => known.add_array(used.slot),
+        _ => {}
+    }
+    known
+}
+
+/// What one turn of each `while` takes, in order, as far as there was memory for it.
+#[derive(Drop)]
+pub struct Gains {
+    pub rows: Vec<Row>,
+    /// There was memory for each.
+    pub complete: bool,
+}
+
+impl Gains {
+    /// None so far.
+    pub fn new(alloc: Global) -> Gains
+        ensures complete { result.complete ≡ true }
+        ensures rows { result.rows.items ≡ [] }
+    {
+        Gains {
+            rows: Vec::new(alloc),
+            complete: true,
+        }
+    }
+
+    // Keeps a place, to be set later.
+    fn keep(&mut self) -> usize
+        ensures place { result ≡ length self.old.rows.items }
+        ensures grown { Grown self.old self.new (no_local ∷ []) }
+    {
+        let place = self.rows.len();
+        if self.rows.push(Row::none()).is_err() {
+            self.complete = false;
+        }
+        place
+    }
+
+    // Sets a place.
+    fn set(&mut self, place: usize, row: Row)
+        ensures complete { self.new.complete ≡ self.old.complete }
+        ensures rows { self.new.rows.items ≡ slice_set self.old.rows.items place row }
+    {
+        if place < self.rows.len() {
+            self.rows[place] = row;
+        }
+    }
+}
+
+// What the spawns of the innermost sync block have taken after these statements; adds what a turn of each `while` takes.
+#[cycle(gains)]
+fn after_all(known: Row, lines: &[Line], here: Row, gains: &mut Gains) -> Row
+    requires { small_block (block_of lines.now) ≡ true }
+    ensures row { row_of result ≡ after_all (row_of known) (block_of lines.now) (row_of here) }
+    ensures gains { Grown gains.old gains.new (turns_in (row_of known) (block_of lines.now)) }
+{
+    let mut known = known;
+    let mut here = here;
+    for line in lines {
+        let next = known_after(known, &line.stmt);
+        here = after(&known, &line.stmt, here, gains);
+        known = next;
+    }
+    here
+}
+
+// The same of a block, without the locals that end with it.
+#[cycle(gains)]
+fn after_block(known: &Row, lines: &[Line], here: Row, gains: &mut Gains) -> Row
+    requires { small_block (block_of lines.now) ≡ true }
+    ensures row { row_of result ≡ both_rows (row_of known.now) (after_all (row_of known.now) (block_of lines.now) (row_of here)) }
+    ensures gains { Grown gains.old gains.new (turns_in (row_of known.now) (block_of lines.now)) }
+{
+    let row = after_all(*known, lines, here, gains);
+    known.both(&row)
+}
+
+// The same of a statement.
+#[cycle(gains)]
+fn after(known: &Row, stmt: &Stmt, here: Row, gains: &mut Gains) -> Row
+    requires { small_stmt (stmt_of stmt.now) ≡ true }
+    ensures row { row_of result ≡ after (row_of known.now) (stmt_of stmt.now) (row_of here) }
+    ensures gains { Grown gains.old gains.new (turns (row_of known.now) (stmt_of stmt.now)) }
+{
+    match stmt {
+        Stmt::Call(call) => after_call(here, call.kind, &call.target, &call.arguments),
+        Stmt::Sync => Row::none(),
+        Stmt::Return(_) => Row::none(),
+        Stmt::If(_, block) => {
+            let branch = after_block(known, block, here, gains);
+            branch.either(&here)
+        }
+        Stmt::IfElse(_, block, _) => {
+            let branch = after_block(known, block, here, gains);
+            let other = after_other(known, stmt, here, gains);
+            branch.either(&other)
+        }
+        Stmt::While(_, block) => {
+            let gain = turn(known, block, gains);
+            here.either(&gain)
+        }
+        Stmt::For(head, block) => {
+            let mut inner = *known;
+            inner.add_int(head.variable.slot);
+            after_all(inner, block, Row::none(), gains);
+            here
+        }
+        Stmt::Scope(block) => {
+            after_all(*known, block, Row::none(), gains);
+            here
+        }
+        Stmt::Cut(cut, block) => {
+            let mut inner = *known;
+            inner.add_array(cut.left.slot);
+            inner.add_array(cut.right.slot);
+            after_all(inner, block, Row::none(), gains);
+            here
+        }
+        Stmt::Region(_, block) => {
+            after_all(*known, block, Row::none(), gains);
+            here
+        }
+        Stmt::Declare(_, _)
+        | Stmt::DeclareArray(_, _)
+        | Stmt::Assign(_, _)
+        | Stmt::AssignElement(_, _, _)
+        | Stmt::AddTo(_, _)
+        | Stmt::Print(_) => here,
+    }
+}
+
+// The same of what a statement does where its test does not hold.
+#[cycle(gains)]
+fn after_other(known: &Row, stmt: &Stmt, here: Row, gains: &mut Gains) -> Row
+    requires { small_stmt (stmt_of stmt.now) ≡ true }
+    ensures row { row_of result ≡ both_rows (row_of known.now) (after_all (row_of known.now) (other_of (stmt_of stmt.now)) (row_of here)) }
+    ensures gains { Grown gains.old gains.new (turns_in (row_of known.now) (other_of (stmt_of stmt.now))) }
+{
+    match stmt {
+        Stmt::IfElse(_, _, block) => after_block(known, block, here, gains),
+        Stmt::Declare(_, _)
+        | Stmt::DeclareArray(_, _)
+        | Stmt::Assign(_, _)
+        | Stmt::AssignElement(_, _, _)
+        | Stmt::AddTo(_, _)
+        | Stmt::Call(_)
+        | Stmt::Sync
+        | Stmt::If(_, _)
+        | Stmt::While(_, _)
+        | Stmt::For(_, _)
+        | Stmt::Scope(_)
+        | Stmt::Cut(_, _)
+        | Stmt::Region(_, _)
+        | Stmt::Print(_)
+        | Stmt::Return(_) => known.both(&here),
+    }
+}
+
+// What one turn of a `while` takes where nothing is taken before it; it stands before those of its body.
+#[cycle(gains)]
+fn turn(known: &Row, block: &[Line], gains: &mut Gains) -> Row
+    requires { small_block (block_of block.now) ≡ true }
+    ensures row { row_of result ≡ gain (row_of known.now) (block_of block.now) }
+    ensures gains { Grown gains.old gains.new (gain (row_of known.now) (block_of block.now) ∷ turns_in (row_of known.now) (block_of block.now)) }
+{
+    let place = gains.keep();
+    let gain = after_block(known, block, Row::none(), gains);
+    gains.set(place, gain);
+    gain
+}
+
+/// What one turn of each `while` of a function takes, and whether there was memory for that.
+pub fn turns(known: Row, lines: &[Line], gains: &mut Gains)
+    requires { small_block (block_of lines.now) ≡ true }
+    ensures { Grown gains.old gains.new (turns_in (row_of known) (block_of lines.now)) }
+{
+    after_all(known, lines, Row::none(), gains);
+}
