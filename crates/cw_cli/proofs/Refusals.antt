@@ -1,5 +1,5 @@
 -- A stage that refuses its input refuses the bytes.
-use Rattle.std.proofs.Common.{◌≡◌, ℕ, List, [], Some, None, Result, Ok, Err, MatchResult, IsErrAnd, subst, sym, ap, ◌∙◌}
+use Rattle.std.proofs.Common.{◌≡◌, ℕ, Bool, true, List, [], Some, None, Result, Ok, Err, MatchResult, IsErrAnd, subst, sym, ap, ◌∙◌}
 use Rattle.cw_model.specs.declared.token.Token.{Token}
 use Rattle.cw_model.specs.Syntax.{Program}
 use Rattle.cw_model.specs.Text.{IsSourceText}
@@ -13,7 +13,12 @@ use Rattle.cw_types.specs.View.{program_of}
 use Rattle.cw_types.specs.declared.tree.Tree.{Tree}
 use Rattle.cw_own.specs.Faults.{BreaksOwnership}
 use Rattle.cw_gen.specs.Generates as gen
-use Rattle.cw_code.specs.Code.{Code}
+use Rattle.cw_code.specs.Code.{Code, code_view}
+use Rattle.cw_code.specs.declared.code.Code as declared
+use Rattle.cw_code.specs.Fits.{Fits}
+use Rattle.cw_verify.specs.Table.{Fails}
+use Rattle.cw_model.specs.Sites.{are_numbered, call_sites}
+use Rattle.cw_model.specs.SiteLaw.{SitesAreNumbered}
 use Rattle.cw_model.specs.Lines.{lowest}
 use Rattle.cw_model.proofs.Lowest.{least_line, no_lines}
 use Rattle.cw_gen.specs.Later.{later_lines}
@@ -52,6 +57,7 @@ types_refused bytes program source _ h = absurd h
 module _ (bytes : List ℕ) (program : Program) (source : Sources.IsSourceOf bytes program) (tree : Tree) (typed : IsTyped program tree) where
   ownership_refused : (f : Fault) → BreaksOwnership program f → Sources.IsRefused bytes f
   ownership_refused (fault.Ownership p) h = record { program = program; source = source; within = typed.within; typed = typed.typed; least = h }
+  ownership_refused fault.Memory h = tt
   ownership_refused _ h = absurd h
 
   -- ownership of the resolved tree
@@ -64,6 +70,9 @@ module _ (bytes : List ℕ) (program : Program) (source : Sources.IsSourceOf byt
 
     accepted : Sources.IsAccepted bytes program
     accepted = record { source = source; within = typed.within; typed = typed.typed; owned = subst (λ p. ownership_faults p ≡ []) is_program owned }
+
+    pub numbered : SitesAreNumbered → are_numbered 0 (call_sites (program_of other)) ≡ true
+    numbered law = ap (λ p. are_numbered 0 (call_sites p)) is_program ∙ law bytes source.tokens program source.parsed.derived
 
     -- an accepted program that holds what is not compiled so far
     pub tree_later : (line : ℕ) → lowest None (later_lines program) ≡ Some line → Sources.PassesLimit bytes line
@@ -81,6 +90,15 @@ module _ (bytes : List ℕ) (program : Program) (source : Sources.IsSourceOf byt
       -- the code of the owned tree
       pub tree_too_large : (f : Fault) → gen.Why (program_of other) f → Sources.IsRefused bytes f
       tree_too_large f h = code_refused f (subst (λ p. gen.Why p f) is_program h)
+
+      pub none_later : later_lines (program_of other) ≡ []
+      none_later = ap later_lines is_program ∙ taken
+
+      -- generated code fits, so the verifier refuses it for want of memory alone
+      pub not_unfit : (code : declared.Code) → gen.Generates (program_of other) (code_view code) → (f : Fault) → Fails (Fits (code_view code) → ⊥) f → Sources.IsRefused bytes f
+      not_unfit code g fault.Code h = absurd (h g.fits)
+      not_unfit code g fault.Memory h = tt
+      not_unfit code g _ h = absurd h
 
       pub compiled : (code : Code) → gen.Generates (program_of other) code → IsCompiled bytes code
       compiled code h =

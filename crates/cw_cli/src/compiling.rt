@@ -40,5 +40,6 @@ pub fn compile(alloc: Global, bytes: &[u8]) -> Result<Verified, Fault>
         return Err(Fault::Size(Place { line }));
     }
     let code = generate(alloc, &owned)?;
-    verify(alloc, code)
+    let verified = verify(alloc, code)?;
+    Ok(verified)
 }

@@ -3,7 +3,7 @@
 use Rattle.std.specs.Prelude.{ℕ, Bool, true, false, not, ◌&&◌, ◌||◌, List, [], ◌∷◌, ◌++◌, Some, map, flat_map}
 use Rattle.std.specs.List.{list_any}
 use Rattle.cw_model.specs.Lines.{unless}
-use Rattle.cw_model.specs.Syntax.{Expr, Number, Variable, Element, Length, Negative, Not, Binary, Stmt, Declare, DeclareArray, Assign, AssignElement, AddTo, Call, Start, Begin, If, IfElse, While, For, Scope, Cut, Region, Print, Return, Block, End, Then, Param, Function, Program}
+use Rattle.cw_model.specs.Syntax.{Expr, Number, Variable, Element, Length, Negative, Not, Binary, Stmt, Declare, DeclareArray, Assign, AssignElement, AddTo, Call, Start, Begin, If, IfElse, While, For, Scope, Cut, Region, Print, Return, Block, End, Then, Param, Function, Reducer, Program}
 
 -- the forms of an expression that are not taken so far
 abbrev pub is_later_expr : Expr → Bool
@@ -83,6 +83,10 @@ later_in_function f = unless (not (has_array f.params)) f.line ++ later_lines_in
 abbrev pub later_functions : List Function → List ℕ
 later_functions functions = flat_map later_in_function functions
 
--- the lines of a program's statements and items that are not taken so far; no reducer is
+-- the lines of reducers, none of which is taken
+abbrev pub later_reducers : List Reducer → List ℕ
+later_reducers reducers = map (λ r. r.line) reducers
+
+-- the lines of a program's statements and items that are not taken so far
 abbrev pub later_lines : Program → List ℕ
-later_lines program = map (λ r. r.line) program.reducers ++ later_functions program.functions
+later_lines program = later_reducers program.reducers ++ later_functions program.functions

@@ -1,5 +1,5 @@
 -- The place of a name, where one more name comes.
-use Rattle.std.proofs.Common.{◌≡◌, ℕ, suc, ◌+◌, ◌<◌, ◌^◌, Bool, true, false, if◌then◌else◌, cond, bytes_eq, List, [], ◌∷◌, ◌++◌, length, Option, Some, None, option_map, is_some, refl, sym, ap, ◌∙◌, Bor, length-append}
+use Rattle.std.proofs.Common.{arith, ◌≡◌, ℕ, suc, ◌+◌, ◌<◌, ◌^◌, Bool, true, false, if◌then◌else◌, cond, bytes_eq, List, [], ◌∷◌, ◌++◌, length, Option, Some, None, option_map, is_some, refl, sym, ap, ◌∙◌, Bor, length-append}
 use Rattle.std.proofs.lemmas.Slice.Eq.{bytes_eq-Decides}
 use Rattle.std.proofs.lemmas.Map.Text.{hash_map_updates_str}
 use Rattle.std.specs.HashMap as hash
@@ -114,6 +114,67 @@ places_more m n names y place next are fits h updates =
           ∙ ap (λ p. cond (bytes_eq y x) (Some p) (get_by (λ k. bytes_eq x k.now) m)) next
           ∙ ap (λ o. cond (bytes_eq y x) (Some (length names)) o) (are.first x)
           ∙ sym (place_more x names y (sym (are.first y) ∙ not_there (get_by (λ k. bytes_eq y k.now) m) h));
+    }
+
+place_below : (x : Name) (names : List Name) (r : ℕ) → place_of x names ≡ Some r → r < length names
+place_below x [] r h = cc
+place_below x (y ∷ names) r h = first (same_name x y) (place_of x names) (λ q e. place_below x names q e) h
+  where
+    first : (b : Bool) (o : Option ℕ) → ((q : ℕ) → o ≡ Some q → q < length names) → (if b then Some 0 else option_map suc o) ≡ Some r → r < suc (length names)
+    first true o more e = let zero : 0 ≡ r = cc in omega arith
+    first false None more e = cc
+    first false (Some q) more e = let next : suc q ≡ r = cc in let below = more q refl in omega arith
+
+same_self : (y : Name) → same_name y y ≡ true
+same_self y = (bytes_eq-Decides y y).1 refl
+
+place_pushed : (names : List Name) (y : Name) → place_of y (names ++ y ∷ []) ≡ after_push (place_of y names) true (length names)
+place_pushed names y = push_if y names y ∙ ap (λ b. after_push (place_of y names) b (length names)) (same_self y)
+
+was_new : (names : List Name) (y : Name) → place_of y (names ++ y ∷ []) ≡ Some (length names) → place_of y names ≡ None
+was_new names y h = first (place_of y names) refl (sym (place_pushed names y) ∙ h)
+  where
+    first : (o : Option ℕ) → place_of y names ≡ o → after_push o true (length names) ≡ Some (length names) → place_of y names ≡ None
+    first None e f = e
+    first (Some r) e f = let below = place_below y names r e in let same : r ≡ length names = cc in absurd (omega arith)
+
+was_there : (names : List Name) (y : Name) → (place_of y (names ++ y ∷ []) ≡ Some (length names) → ⊥) → (q : ℕ) × (place_of y names ≡ Some q)
+was_there names y h = first (place_of y names) refl
+  where
+    first : (o : Option ℕ) → place_of y names ≡ o → (q : ℕ) × (place_of y names ≡ Some q)
+    first None e = absurd (h (place_pushed names y ∙ ap (λ o. after_push o true (length names)) e))
+    first (Some r) e = (r, e)
+
+shorter : (names : List Name) (y : Name) → length (names ++ y ∷ []) < 2 ^ 32 → length names < 2 ^ 32
+shorter names y h = let more = length-append names (y ∷ []) in omega arith
+
+-- the last name had its place, which goes with it
+pub places_less : {S : Type 0} (m n : HashMap (Bor (List ℕ)) ℕ S) (names : List Name) (y : Name) → ArePlaces m (names ++ y ∷ []) →
+    get_by (λ k. bytes_eq y k.now) m ≡ Some (length names) →
+    hash.UpdatesBy (λ x y. bytes_eq x.now y.now) (λ k. bytes_eq y k.now) m n None → ArePlaces n names
+places_less m n names y are here updates =
+    record {
+      fit = shorter names y are.fit;
+      first = λ x.
+          hash_map_updates_str y m n None updates x
+          ∙ ap (λ o. cond (bytes_eq y x) None o) (are.first x ∙ push_if x names y)
+          ∙ ap (λ b. cond (bytes_eq y x) None (after_push (place_of x names) b (length names))) (turned x y)
+          ∙ gone (bytes_eq y x) (place_of x names) (length names) (λ h. ap (λ z. place_of z names) (sym ((bytes_eq-Decides y x).0 h)) ∙ was_new names y (sym (are.first y) ∙ here));
+    }
+  where
+    gone : (b : Bool) (o : Option ℕ) (k : ℕ) → (b ≡ true → o ≡ None) → cond b None (after_push o b k) ≡ o
+    gone true o k h = sym (h refl)
+    gone false None k h = refl
+    gone false (Some q) k h = refl
+
+-- the last name had an earlier place, which stays
+pub places_kept : {S : Type 0} (m : HashMap (Bor (List ℕ)) ℕ S) (names : List Name) (y : Name) → ArePlaces m (names ++ y ∷ []) →
+    (get_by (λ k. bytes_eq y k.now) m ≡ Some (length names) → ⊥) → ArePlaces m names
+places_kept m names y are other =
+    let there = was_there names y (λ e. other (are.first y ∙ e)) in
+    record {
+      fit = shorter names y are.fit;
+      first = λ x. are.first x ∙ place_stays x names y there.0 there.1;
     }
 
 some_later : (o : Option ℕ) → is_some (option_map suc o) ≡ is_some o

@@ -1,29 +1,24 @@
 -- Why a source breaks a limit, or a rule of names and types.
-use Rattle.std.specs.Prelude.{◌≡◌, ℕ, List, [], ◌++◌}
+use Rattle.std.specs.Prelude.{◌≡◌, ℕ, []}
 use Rattle.cw_model.specs.Syntax.{Program}
 use Rattle.cw_model.specs.Lines.{IsLeastLine}
 use Rattle.cw_model.specs.Sizes.{limit_faults}
 use Rattle.cw_model.specs.Typing.{type_faults}
-use Rattle.cw_model.specs.FirstGrammar.{calls_below}
 use Rattle.cw_types.specs.declared.tree.Tree.{Tree}
 use Rattle.cw_types.specs.View.{program_of}
 use Rattle.cw_text.specs.declared.fault.Fault.{Fault}
 use Rattle.cw_text.specs.declared.fault.Fault.TheVariants as fault
 
--- the lines that break a rule of names and types; so far a call of a function that does not stand above breaks one too
-abbrev pub typing_lines : Program → List ℕ
-typing_lines program = type_faults program ++ calls_below [] program.functions
-
 -- a line breaks a rule of names and types, where no limit is passed
 pub record IsFirstTypeFault (program : Program) (line : ℕ) : Type 0 where
   pub within : limit_faults program ≡ []
-  pub least : IsLeastLine (typing_lines program) line
+  pub least : IsLeastLine (type_faults program) line
 
 -- a tree of this program, in which no limit is passed and no rule of names and types is broken
 pub record IsTyped (program : Program) (tree : Tree) : Type 0 where
   pub same : program_of tree ≡ program
   pub within : limit_faults program ≡ []
-  pub typed : typing_lines program ≡ []
+  pub typed : type_faults program ≡ []
 
 -- what must hold of the program where this fault is answered for it
 abbrev pub IsIllTyped : Program → Fault → Type 0

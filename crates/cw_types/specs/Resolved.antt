@@ -4,189 +4,429 @@
 -- and `View.program_of` is that without its slots and indices, which is the program of the source. A stage states what
 -- it makes as a function of the resolved tree alone, by the slot of each use and the index of each callee, and so looks
 -- no name up. That the slots and indices are right is a fact of the type: `Typed` keeps
--- `is_resolved (resolved_of tree) ≡ true`, and `Rattle.cw_types.proofs.Looked.{resolved_is}` turns it into
--- `resolved_of tree ≡ resolved (program_of tree)`, by which each slot is `slot_of x names`, each index
--- `slot_of f (function_names ..)`, and each count of slots the number of names that its function declares.
--- `Typed` also keeps `are_fitting (resolved_of tree).functions ≡ true`: each slot is below its function's count of
--- slots, and that is at most `most_declared`.
-use Rattle.std.specs.Prelude.{ℕ, suc, ℤ, pos, ◌==◌, Bool, true, false, ◌&&◌, if◌then◌else◌, List, [], ◌∷◌, ◌++◌, length, map, Option, Some, None, option_map}
-use Rattle.std.specs.List.{list_all}
+-- `is_resolved (resolved_of tree) ≡ true`, from which the law `slots_are_right` gives
+-- `resolved_of tree ≡ resolved (program_of tree)`: the slot of a name is its place among the integers or among the
+-- arrays that are known there.
+use Rattle.std.specs.Prelude.{ℕ, suc, ℤ, ◌==◌, max, nat_lt, Bool, not, ◌&&◌, if◌then◌else◌, List, [], ◌∷◌, ◌++◌, length, map, filter, Option, Some, None, option_map}
+use Rattle.std.specs.List.{list_any}
 use Rattle.cw_model.specs.declared.syntax.CallKind.{CallKind}
-use Rattle.cw_model.specs.Syntax.{Name, Param}
+use Rattle.cw_model.specs.declared.syntax.Operator.{Operator}
+use Rattle.cw_model.specs.Syntax.{Name, Param, Reducer}
 use Rattle.cw_model.specs.Syntax as model
-use Rattle.cw_model.specs.Names.{same_name}
+use Rattle.cw_model.specs.Names.{same_name, is_among}
 use Rattle.cw_model.specs.Answers.{main_name}
+use Rattle.cw_model.specs.Sizes.{first_places, regions_of}
 
--- a name where it stands, and the slot that it has there
+-- a local where it stands, and its slot among those of its kind
 pub record Use : Type 0 where
   pub name : Name
   pub slot : ℕ
 
--- an expression of the first grammar
+-- a function, a reducer or a tag, and its index among those of the program
+pub record Listed : Type 0 where
+  pub name : Name
+  pub index : ℕ
+
+-- an expression
 pub data Expr : Type 0 where
   Number : ℤ → Expr
   Variable : Use → Expr
+  Element : Use → Expr → Expr
+  Length : Use → Expr
+  Negative : Expr → Expr
+  Not : Expr → Expr
+  Binary : Operator → Expr → Expr → Expr
 
--- a statement of the first grammar; a call has the name and the index of its callee
-pub data Stmt : Type 0 where
-  Declare : Use → Expr → Stmt
-  Call : (kind : CallKind) (site : ℕ) (target : Option Use) (callee : Name) (index : ℕ) → List Expr → Stmt
-  Sync : Stmt
-  Return : Option Expr → Stmt
+-- what is given for a parameter
+pub data Argument : Type 0 where
+  Int : Expr → Argument
+  Array : Use → Argument
 
--- statements in order, each with the line of its first token
-pub data Block : Type 0 where
-  End : Block
-  Then : (line : ℕ) → Stmt → Block → Block
+-- the head of a loop
+pub record Head : Type 0 where
+  pub variable : Use
+  pub from : Expr
+  pub to : Expr
+  pub grain : ℕ
+  pub captured : List Use
+  pub over : List Use
 
--- a function: its name, the line of its head, the names of its parameters, how many slots it has, and its body
+-- where an array is cut, and its parts
+pub record Parts : Type 0 where
+  pub array : Use
+  pub at : Expr
+  pub left : Use
+  pub right : Use
+
+mutual
+  -- a statement
+  pub data Stmt : Type 0 where
+    Declare : Use → Expr → Stmt
+    DeclareArray : Use → Expr → Stmt
+    Assign : Use → Expr → Stmt
+    AssignElement : Use → Expr → Expr → Stmt
+    AddTo : Listed → Expr → Stmt
+    Call : (kind : CallKind) (site : ℕ) (target : Option Use) (callee : Listed) → List Argument → Stmt
+    Sync : Stmt
+    If : Expr → Block → Stmt
+    IfElse : Expr → Block → Block → Stmt
+    While : Expr → Block → Stmt
+    For : Head → Block → Stmt
+    Scope : Block → Stmt
+    Cut : Parts → Block → Stmt
+    Region : Listed → Block → Stmt
+    Print : Expr → Stmt
+    Return : Option Expr → Stmt
+
+  -- statements in order, each with the line of its first token
+  pub data Block : Type 0 where
+    End : Block
+    Then : (line : ℕ) → Stmt → Block → Block
+
+-- a function, with the numbers of slots that its integers and its arrays take
 pub record Function : Type 0 where
   pub name : Name
   pub line : ℕ
-  pub params : List Name
-  pub slots : ℕ
+  pub gives_int : Bool
+  pub params : List Param
+  pub ints : ℕ
+  pub arrays : ℕ
   pub body : Block
 
--- a program: its functions in order, and the index of main
+-- a program: its reducers and functions in order, its different tags by their first places, and the index of main
 pub record Resolved : Type 0 where
+  pub reducers : List Reducer
   pub functions : List Function
+  pub tags : List Name
   pub main : ℕ
+
+-- the names of functions, of reducers and of tags
+pub record Lists : Type 0 where
+  pub functions : List Name
+  pub reducers : List Name
+  pub tags : List Name
+
+-- the integers and the arrays that are known, each in the order of their declaration
+pub record Locals : Type 0 where
+  pub ints : List Name
+  pub arrays : List Name
 
 -- the first place of a name, or how many names there are
 abbrev pub slot_of : Name → List Name → ℕ
 slot_of x [] = 0
 slot_of x (y ∷ names) = if same_name x y then 0 else suc (slot_of x names)
 
--- a name looked up among those that are declared
+-- a name looked up among those that are known
 abbrev pub use_of : List Name → Name → Use
 use_of names x = record { name = x; slot = slot_of x names }
 
+-- a declaration takes the next slot
+abbrev pub next_use : List Name → Name → Use
+next_use names x = record { name = x; slot = length names }
+
+-- a name looked up among those of the program
+abbrev pub listed_in : List Name → Name → Listed
+listed_in names x = record { name = x; index = slot_of x names }
+
+-- one integer more
+abbrev pub with_int : Name → Locals → Locals
+with_int x locals = record { ints = locals.ints ++ x ∷ []; arrays = locals.arrays }
+
+-- one array more
+abbrev pub with_array : Name → Locals → Locals
+with_array a locals = record { ints = locals.ints; arrays = locals.arrays ++ a ∷ [] }
+
 -- an expression with each name looked up
-abbrev pub resolved_expr : List Name → model.Expr → Expr
-resolved_expr names (model.Number n) = Number n
-resolved_expr names (model.Variable x) = Variable (use_of names x)
--- the first grammar has no other
-resolved_expr names _ = Number (pos 0)
+abbrev pub resolved_expr : Locals → model.Expr → Expr
+resolved_expr locals (model.Number n) = Number n
+resolved_expr locals (model.Variable x) = Variable (use_of locals.ints x)
+resolved_expr locals (model.Element a e) = Element (use_of locals.arrays a) (resolved_expr locals e)
+resolved_expr locals (model.Length a) = Length (use_of locals.arrays a)
+resolved_expr locals (model.Negative e) = Negative (resolved_expr locals e)
+resolved_expr locals (model.Not e) = Not (resolved_expr locals e)
+resolved_expr locals (model.Binary operator d e) = Binary operator (resolved_expr locals d) (resolved_expr locals e)
 
--- a statement with each name looked up, where these functions and names are declared; a declaration takes the next slot
-abbrev pub resolved_stmt : (functions names : List Name) → model.Stmt → Stmt
-resolved_stmt functions names (model.Declare x e) = Declare (record { name = x; slot = length names }) (resolved_expr names e)
-resolved_stmt functions names (model.Call kind site target f es) =
-    Call kind site (option_map (use_of names) target) f (slot_of f functions) (map (resolved_expr names) es)
-resolved_stmt functions names (model.Return e) = Return (option_map (resolved_expr names) e)
--- a sync, and the first grammar has no other
-resolved_stmt functions names _ = Sync
+-- a name alone is an array where an array is known by it
+abbrev pub resolved_name : Locals → Name → Argument
+resolved_name locals x =
+    if is_among x locals.arrays then Array (use_of locals.arrays x) else Int (Variable (use_of locals.ints x))
 
--- the names that are declared after a statement
-abbrev pub names_after : List Name → model.Stmt → List Name
-names_after names (model.Declare x e) = names ++ x ∷ []
-names_after names _ = names
+-- an argument with each name looked up
+abbrev pub resolved_argument : Locals → model.Expr → Argument
+resolved_argument locals (model.Variable x) = resolved_name locals x
+resolved_argument locals e = Int (resolved_expr locals e)
 
--- the names that are declared after a block
-abbrev pub names_after_all : List Name → model.Block → List Name
-names_after_all names model.End = names
-names_after_all names (model.Then line s b) = names_after_all (names_after names s) b
+-- the locals that are known after a statement
+abbrev pub locals_after : Locals → model.Stmt → Locals
+locals_after locals (model.Declare x e) = with_int x locals
+locals_after locals (model.DeclareArray a e) = with_array a locals
+locals_after locals _ = locals
 
--- a block with each name looked up among those that are declared before it
-abbrev pub resolved_block : (functions names : List Name) → model.Block → Block
-resolved_block functions names model.End = End
-resolved_block functions names (model.Then line s b) =
-    Then line (resolved_stmt functions names s) (resolved_block functions (names_after names s) b)
+-- the integers that an expression reads
+abbrev pub reads : Expr → List Use
+reads (Number n) = []
+reads (Variable u) = u ∷ []
+reads (Element a e) = reads e
+reads (Length a) = []
+reads (Negative e) = reads e
+reads (Not e) = reads e
+reads (Binary operator d e) = reads d ++ reads e
 
--- the names of parameters
-abbrev pub param_names : List Param → List Name
-param_names ps = map (λ p. p.name) ps
+-- the integers that an argument reads
+abbrev pub argument_reads : Argument → List Use
+argument_reads (Int e) = reads e
+argument_reads (Array a) = []
 
--- a function with each name looked up, its callees among these functions
-abbrev pub resolved_function : List Name → model.Function → Function
-resolved_function functions f = record {
+-- the integers that arguments read
+abbrev pub arguments_read : List Argument → List Use
+arguments_read [] = []
+arguments_read (e ∷ es) = argument_reads e ++ arguments_read es
+
+-- the integers that a return reads
+abbrev pub return_reads : Option Expr → List Use
+return_reads None = []
+return_reads (Some e) = reads e
+
+-- the integers that the head of a loop reads, and those that the body takes from outside
+abbrev pub head_reads : Head → List Use
+head_reads head = reads head.from ++ (reads head.to ++ head.captured)
+
+abbrev mutual
+  -- the integers that a statement reads, in order; a loop reads what its head reads and what its body takes from outside
+  pub reads_in : Stmt → List Use
+  reads_in (Declare u e) = reads e
+  reads_in (DeclareArray u e) = reads e
+  reads_in (Assign u e) = reads e
+  reads_in (AssignElement u i e) = reads i ++ reads e
+  reads_in (AddTo s e) = reads e
+  reads_in (Call kind site target callee es) = arguments_read es
+  reads_in Sync = []
+  reads_in (If e b) = reads e ++ reads_in_block b
+  reads_in (IfElse e b c) = reads e ++ (reads_in_block b ++ reads_in_block c)
+  reads_in (While e b) = reads e ++ reads_in_block b
+  reads_in (For head b) = head_reads head
+  reads_in (Scope b) = reads_in_block b
+  reads_in (Cut parts b) = reads parts.at ++ reads_in_block b
+  reads_in (Region tag b) = reads_in_block b
+  reads_in (Print e) = reads e
+  reads_in (Return e) = return_reads e
+
+  -- the same of a block
+  pub reads_in_block : Block → List Use
+  reads_in_block End = []
+  reads_in_block (Then line s b) = reads_in s ++ reads_in_block b
+
+-- the slot is one of these
+abbrev pub is_slot_in : ℕ → List ℕ → Bool
+is_slot_in slot slots = list_any (λ k. k == slot) slots
+
+-- the uses found so far, with a use whose slot is below n and none of theirs
+abbrev pub with_first : (n : ℕ) → List Use → Use → List Use
+with_first n found u = if nat_lt u.slot n && not (is_slot_in u.slot (map (λ w. w.slot) found)) then found ++ u ∷ [] else found
+
+-- the uses found so far, and behind them the first one of each further slot below n
+abbrev pub first_uses : (n : ℕ) → (found : List Use) → List Use → List Use
+first_uses n found [] = found
+first_uses n found (u ∷ us) = first_uses n (with_first n found u) us
+
+-- the integers from outside that a body reads, each once and in order, where so many are known before it
+abbrev pub captured_in : ℕ → Block → List Use
+captured_in n body = first_uses n [] (reads_in_block body)
+
+-- the head of a loop, whose body is already resolved
+abbrev pub head_with : Locals → Name → (from to : model.Expr) → ℕ → List Name → Block → Head
+head_with locals x from to grain over body = record {
+  variable = next_use locals.ints x;
+  from = resolved_expr locals from;
+  to = resolved_expr locals to;
+  grain = grain;
+  captured = captured_in (length locals.ints) body;
+  over = map (use_of locals.arrays) over;
+}
+
+-- a loop, whose body is already resolved
+abbrev pub loop_of : Locals → Name → (from to : model.Expr) → ℕ → List Name → Block → Stmt
+loop_of locals x from to grain over body = For (head_with locals x from to grain over body) body
+
+-- where an array is cut, and its parts
+abbrev pub parts_of : Locals → Name → model.Expr → (left right : Name) → Parts
+parts_of locals a e l r = record {
+  array = use_of locals.arrays a;
+  at = resolved_expr locals e;
+  left = next_use locals.arrays l;
+  right = next_use (locals.arrays ++ l ∷ []) r;
+}
+
+abbrev mutual
+  -- a statement with each name looked up, where these locals are known
+  pub resolved_stmt : Lists → Locals → model.Stmt → Stmt
+  resolved_stmt lists locals (model.Declare x e) = Declare (next_use locals.ints x) (resolved_expr locals e)
+  resolved_stmt lists locals (model.DeclareArray a e) = DeclareArray (next_use locals.arrays a) (resolved_expr locals e)
+  resolved_stmt lists locals (model.Assign x e) = Assign (use_of locals.ints x) (resolved_expr locals e)
+  resolved_stmt lists locals (model.AssignElement a i e) =
+      AssignElement (use_of locals.arrays a) (resolved_expr locals i) (resolved_expr locals e)
+  resolved_stmt lists locals (model.AddTo s e) = AddTo (listed_in lists.reducers s) (resolved_expr locals e)
+  resolved_stmt lists locals (model.Call kind site target f es) =
+      Call kind site (option_map (use_of locals.ints) target) (listed_in lists.functions f) (map (resolved_argument locals) es)
+  -- no source has one
+  resolved_stmt lists locals (model.Start kind f es) = Sync
+  resolved_stmt lists locals (model.Begin f from to captured over) = Sync
+  resolved_stmt lists locals model.Sync = Sync
+  resolved_stmt lists locals (model.If e b) = If (resolved_expr locals e) (resolved_block lists locals b)
+  resolved_stmt lists locals (model.IfElse e b c) =
+      IfElse (resolved_expr locals e) (resolved_block lists locals b) (resolved_block lists locals c)
+  resolved_stmt lists locals (model.While e b) = While (resolved_expr locals e) (resolved_block lists locals b)
+  resolved_stmt lists locals (model.For x y z from to grain over b) =
+      loop_of locals x from to grain over (resolved_block lists (with_int x locals) b)
+  resolved_stmt lists locals (model.Scope b) = Scope (resolved_block lists locals b)
+  resolved_stmt lists locals (model.Cut a e l r b) =
+      Cut (parts_of locals a e l r) (resolved_block lists (with_array r (with_array l locals)) b)
+  resolved_stmt lists locals (model.Region tag b) = Region (listed_in lists.tags tag) (resolved_block lists locals b)
+  resolved_stmt lists locals (model.Print e) = Print (resolved_expr locals e)
+  resolved_stmt lists locals (model.Return e) = Return (option_map (resolved_expr locals) e)
+
+  -- a block with each name looked up; its own names end with it
+  pub resolved_block : Lists → Locals → model.Block → Block
+  resolved_block lists locals model.End = End
+  resolved_block lists locals (model.Then line s b) =
+      Then line (resolved_stmt lists locals s) (resolved_block lists (locals_after locals s) b)
+
+abbrev mutual
+  -- how many slots of integers a statement needs, where so many are there already
+  pub ints_in : ℕ → Stmt → ℕ
+  ints_in n (Declare u e) = max n (suc u.slot)
+  ints_in n (If e b) = ints_in_block n b
+  ints_in n (IfElse e b c) = ints_in_block (ints_in_block n b) c
+  ints_in n (While e b) = ints_in_block n b
+  ints_in n (For head b) = ints_in_block (max n (suc head.variable.slot)) b
+  ints_in n (Scope b) = ints_in_block n b
+  ints_in n (Cut parts b) = ints_in_block n b
+  ints_in n (Region tag b) = ints_in_block n b
+  ints_in n _ = n
+
+  -- the same of a block
+  pub ints_in_block : ℕ → Block → ℕ
+  ints_in_block n End = n
+  ints_in_block n (Then line s b) = ints_in_block (ints_in n s) b
+
+abbrev mutual
+  -- how many slots of arrays a statement needs, where so many are there already
+  pub arrays_in : ℕ → Stmt → ℕ
+  arrays_in n (DeclareArray u e) = max n (suc u.slot)
+  arrays_in n (If e b) = arrays_in_block n b
+  arrays_in n (IfElse e b c) = arrays_in_block (arrays_in_block n b) c
+  arrays_in n (While e b) = arrays_in_block n b
+  arrays_in n (For head b) = arrays_in_block n b
+  arrays_in n (Scope b) = arrays_in_block n b
+  arrays_in n (Cut parts b) = arrays_in_block (max n (suc parts.right.slot)) b
+  arrays_in n (Region tag b) = arrays_in_block n b
+  arrays_in n _ = n
+
+  -- the same of a block
+  pub arrays_in_block : ℕ → Block → ℕ
+  arrays_in_block n End = n
+  arrays_in_block n (Then line s b) = arrays_in_block (arrays_in n s) b
+
+-- the locals that are parameters
+abbrev pub locals_of : List Param → Locals
+locals_of ps = record {
+  ints = map (λ p. p.name) (filter (λ p. not p.is_array) ps);
+  arrays = map (λ p. p.name) (filter (λ p. p.is_array) ps);
+}
+
+-- a function whose body is already resolved; it has a slot for each local that may be known at once
+abbrev pub function_with : model.Function → Locals → Block → Function
+function_with f locals body = record {
   name = f.name;
   line = f.line;
-  params = param_names f.params;
-  slots = length (names_after_all (param_names f.params) f.body);
-  body = resolved_block functions (param_names f.params) f.body;
+  gives_int = f.gives_int;
+  params = f.params;
+  ints = ints_in_block (length locals.ints) body;
+  arrays = arrays_in_block (length locals.arrays) body;
+  body = body;
 }
+
+-- a function with each name looked up
+abbrev pub resolved_function : Lists → model.Function → Function
+resolved_function lists f = function_with f (locals_of f.params) (resolved_block lists (locals_of f.params) f.body)
 
 -- the names of functions
 abbrev pub function_names : List model.Function → List Name
 function_names fs = map (λ f. f.name) fs
 
+-- the names of reducers
+abbrev pub reducer_names : List Reducer → List Name
+reducer_names rs = map (λ r. r.name) rs
+
+-- the different tags, in the order of their first places
+abbrev pub tags_of : model.Program → List Name
+tags_of program = map (λ d. d.0) (first_places (regions_of program) [])
+
+-- the names that a program lists
+abbrev pub lists_of : model.Program → Lists
+lists_of program = record {
+  functions = function_names program.functions;
+  reducers = reducer_names program.reducers;
+  tags = tags_of program;
+}
+
 -- a program with each name looked up
 abbrev pub resolved : model.Program → Resolved
 resolved program = record {
-  functions = map (resolved_function (function_names program.functions)) program.functions;
+  reducers = program.reducers;
+  functions = map (resolved_function (lists_of program)) program.functions;
+  tags = tags_of program;
   main = slot_of main_name (function_names program.functions);
 }
 
--- an expression without slots and indices
+-- an expression without slots
 abbrev pub plain_expr : Expr → model.Expr
 plain_expr (Number n) = model.Number n
 plain_expr (Variable u) = model.Variable u.name
+plain_expr (Element u e) = model.Element u.name (plain_expr e)
+plain_expr (Length u) = model.Length u.name
+plain_expr (Negative e) = model.Negative (plain_expr e)
+plain_expr (Not e) = model.Not (plain_expr e)
+plain_expr (Binary operator d e) = model.Binary operator (plain_expr d) (plain_expr e)
 
--- a statement without slots and indices
-abbrev pub plain_stmt : Stmt → model.Stmt
-plain_stmt (Declare u e) = model.Declare u.name (plain_expr e)
-plain_stmt (Call kind site target f index es) = model.Call kind site (option_map (λ u. u.name) target) f (map plain_expr es)
-plain_stmt Sync = model.Sync
-plain_stmt (Return e) = model.Return (option_map plain_expr e)
+-- an argument without slots
+abbrev pub plain_argument : Argument → model.Expr
+plain_argument (Int e) = plain_expr e
+plain_argument (Array u) = model.Variable u.name
 
--- a block without slots and indices
-abbrev pub plain_block : Block → model.Block
-plain_block End = model.End
-plain_block (Then line s b) = model.Then line (plain_stmt s) (plain_block b)
+abbrev mutual
+  -- a statement without slots and indices; the three names of a loop's head are one
+  pub plain_stmt : Stmt → model.Stmt
+  plain_stmt (Declare u e) = model.Declare u.name (plain_expr e)
+  plain_stmt (DeclareArray u e) = model.DeclareArray u.name (plain_expr e)
+  plain_stmt (Assign u e) = model.Assign u.name (plain_expr e)
+  plain_stmt (AssignElement u i e) = model.AssignElement u.name (plain_expr i) (plain_expr e)
+  plain_stmt (AddTo s e) = model.AddTo s.name (plain_expr e)
+  plain_stmt (Call kind site target f es) =
+      model.Call kind site (option_map (λ u. u.name) target) f.name (map plain_argument es)
+  plain_stmt Sync = model.Sync
+  plain_stmt (If e b) = model.If (plain_expr e) (plain_block b)
+  plain_stmt (IfElse e b c) = model.IfElse (plain_expr e) (plain_block b) (plain_block c)
+  plain_stmt (While e b) = model.While (plain_expr e) (plain_block b)
+  plain_stmt (For head b) =
+      let x = head.variable.name in
+      model.For x x x (plain_expr head.from) (plain_expr head.to) head.grain (map (λ u. u.name) head.over) (plain_block b)
+  plain_stmt (Scope b) = model.Scope (plain_block b)
+  plain_stmt (Cut parts b) =
+      model.Cut parts.array.name (plain_expr parts.at) parts.left.name parts.right.name (plain_block b)
+  plain_stmt (Region tag b) = model.Region tag.name (plain_block b)
+  plain_stmt (Print e) = model.Print (plain_expr e)
+  plain_stmt (Return e) = model.Return (option_map plain_expr e)
 
--- an integer parameter of this name
-abbrev pub int_param : Name → Param
-int_param x = record { name = x; is_array = false }
+  -- a block without slots and indices
+  pub plain_block : Block → model.Block
+  plain_block End = model.End
+  plain_block (Then line s b) = model.Then line (plain_stmt s) (plain_block b)
 
--- a function of integers that gives one, without slots and indices
+-- a function without slots and indices
 abbrev pub plain_function : Function → model.Function
-plain_function f = record { name = f.name; line = f.line; gives_int = true; params = map int_param f.params; body = plain_block f.body }
+plain_function f = record { name = f.name; line = f.line; gives_int = f.gives_int; params = f.params; body = plain_block f.body }
 
 -- a program without slots and indices
 abbrev pub plain : Resolved → model.Program
-plain tree = record { reducers = []; functions = map plain_function tree.functions }
-
--- a use has the slot of its name
-abbrev pub is_use : List Name → Use → Bool
-is_use names u = u.slot == slot_of u.name names
-
--- each use in an expression has the slot of its name
-abbrev pub is_resolved_expr : List Name → Expr → Bool
-is_resolved_expr names (Number n) = true
-is_resolved_expr names (Variable u) = is_use names u
-
--- the result of a call, if it goes to a name, goes to the slot of that name
-abbrev pub is_target_use : List Name → Option Use → Bool
-is_target_use names None = true
-is_target_use names (Some u) = is_use names u
-
--- each use in what is returned has the slot of its name
-abbrev pub is_resolved_return : List Name → Option Expr → Bool
-is_resolved_return names None = true
-is_resolved_return names (Some e) = is_resolved_expr names e
-
--- each slot and index in a statement is right, where these functions and names are declared
-abbrev pub is_resolved_stmt : (functions names : List Name) → Stmt → Bool
-is_resolved_stmt functions names (Declare u e) = (u.slot == length names) && is_resolved_expr names e
-is_resolved_stmt functions names (Call kind site target f index es) =
-    is_target_use names target && (index == slot_of f functions) && list_all (is_resolved_expr names) es
-is_resolved_stmt functions names Sync = true
-is_resolved_stmt functions names (Return e) = is_resolved_return names e
-
--- each slot and index in a block is right
-abbrev pub is_resolved_block : (functions names : List Name) → Block → Bool
-is_resolved_block functions names End = true
-is_resolved_block functions names (Then line s b) =
-    is_resolved_stmt functions names s && is_resolved_block functions (names_after names (plain_stmt s)) b
-
--- each slot and index in a function is right, and its count of slots too
-abbrev pub is_resolved_function : List Name → Function → Bool
-is_resolved_function functions f =
-    (f.slots == length (names_after_all f.params (plain_block f.body))) && is_resolved_block functions f.params f.body
-
--- each slot, index and count of slots is right
-abbrev pub is_resolved : Resolved → Bool
-is_resolved tree =
-    let functions = map (λ f. f.name) tree.functions in
-    list_all (is_resolved_function functions) tree.functions && (tree.main == slot_of main_name functions)
+plain tree = record { reducers = tree.reducers; functions = map plain_function tree.functions }

@@ -1,89 +1,114 @@
--- The rules of names and types by slots, over a tree with each name looked up. Where n names are declared, a name is
--- one of them where its slot is below n.
-use Rattle.std.specs.Prelude.{ℕ, ◌+◌, Bool, true, false, not, ◌&&◌, ◌||◌, nat_lt, List, [], ◌∷◌, ◌++◌, length, flat_map, Option, Some, None, slice_get}
-use Rattle.cw_model.specs.Syntax.{Name, Param}
-use Rattle.cw_model.specs.Syntax as model
-use Rattle.cw_model.specs.Names.{same_name, is_among}
-use Rattle.cw_model.specs.Lines.{unless}
+-- Whether each slot, each index and each count of slots of a resolved tree is right: a test, since a `Typed` can keep
+-- only that. A tree that passes it is `resolved` of its program, as the law `slots_are_right` says.
+use Rattle.std.specs.Prelude.{◌==◌, Bool, true, false, not, ◌&&◌, bytes_eq, List, [], ◌∷◌, ◌++◌, length, Option, Some, None}
+use Rattle.std.specs.List.{list_all}
+use Rattle.cw_model.specs.Syntax.{Name}
+use Rattle.cw_model.specs.Names.{is_among}
 use Rattle.cw_model.specs.Answers.{main_name}
-use Rattle.cw_model.specs.FirstGrammar.{is_first_expr, is_first_stmt}
-use Rattle.cw_types.specs.Bounds.{below_expr}
-use Rattle.cw_types.specs.Resolved.{Use, Expr, Stmt, Declare, Call, Sync, Return, Block, End, Then, Function, resolved_stmt, names_after, param_names, function_names, resolved}
+use Rattle.cw_types.specs.Resolved.{Use, Listed, Expr, Number, Variable, Element, Length, Negative, Not, Binary, Argument, Int, Array, Head, Parts, Stmt, Declare, DeclareArray, Assign, AssignElement, AddTo, Call, Sync, If, IfElse, While, For, Scope, Cut, Region, Print, Return, Block, End, Then, Function, Resolved, Lists, Locals, slot_of, with_int, with_array, locals_after, captured_in, ints_in_block, arrays_in_block, locals_of, lists_of, tags_of, plain_stmt, plain}
 
--- a statement of the first grammar, the return of a value at its end too
-abbrev pub is_simple : model.Stmt → Bool
-is_simple (model.Return (Some e)) = is_first_expr e
-is_simple s = is_first_stmt s
+-- a use has the slot of its name
+abbrev pub is_use : List Name → Use → Bool
+is_use names u = u.slot == slot_of u.name names
 
--- each statement of a block is such
-abbrev pub are_simple : model.Block → Bool
-are_simple model.End = true
-are_simple (model.Then line s b) = is_simple s && are_simple b
+-- a declaration has the next slot
+abbrev pub is_next : List Name → Use → Bool
+is_next names u = u.slot == length names
 
--- the result of a call, if it goes to a name, goes to a declared one and is an integer
-abbrev pub fine_target : ℕ → model.Function → Option Use → Bool
-fine_target n f None = true
-fine_target n f (Some u) = nat_lt u.slot n && f.gives_int
+-- a use of what a program lists has the index of its name
+abbrev pub is_listed : List Name → Listed → Bool
+is_listed names l = l.index == slot_of l.name names
 
--- one integer for each parameter
-abbrev pub fine_arguments : ℕ → List Param → List Expr → Bool
-fine_arguments n [] [] = true
-fine_arguments n (p ∷ ps) (e ∷ es) = (not p.is_array && below_expr n e) && fine_arguments n ps es
-fine_arguments n _ _ = false
+-- the same uses
+abbrev pub same_uses : List Use → List Use → Bool
+same_uses [] [] = true
+same_uses (u ∷ us) (w ∷ ws) = bytes_eq u.name w.name && (u.slot == w.slot) && same_uses us ws
+same_uses _ _ = false
 
--- the callee is there and is not main, and takes the arguments and gives the result
-abbrev pub fine_call : ℕ → Option Use → Option model.Function → List Expr → Bool
-fine_call n target None es = false
-fine_call n target (Some f) es = fine_target n f target && fine_arguments n f.params es && not (same_name f.name main_name)
+-- the same names
+abbrev pub same_names : List Name → List Name → Bool
+same_names [] [] = true
+same_names (x ∷ xs) (y ∷ ys) = bytes_eq x y && same_names xs ys
+same_names _ _ = false
 
--- a statement breaks no rule of names and types, where these functions and names are declared
-abbrev pub fine_stmt : List model.Function → (globals names : List Name) → Stmt → Bool
-fine_stmt fs globals names (Declare u e) = below_expr (length names) e && not (is_among u.name names || is_among u.name globals)
-fine_stmt fs globals names (Call kind site target f index es) = fine_call (length names) target (slice_get fs index) es
-fine_stmt fs globals names Sync = true
-fine_stmt fs globals names (Return None) = false
-fine_stmt fs globals names (Return (Some e)) = below_expr (length names) e
+-- each use in an expression has its slot
+abbrev pub is_right_expr : Locals → Expr → Bool
+is_right_expr locals (Number n) = true
+is_right_expr locals (Variable u) = is_use locals.ints u
+is_right_expr locals (Element u e) = is_use locals.arrays u && is_right_expr locals e
+is_right_expr locals (Length u) = is_use locals.arrays u
+is_right_expr locals (Negative e) = is_right_expr locals e
+is_right_expr locals (Not e) = is_right_expr locals e
+is_right_expr locals (Binary operator d e) = is_right_expr locals d && is_right_expr locals e
 
--- the lines of a block that break a rule, where these names are declared before it
-abbrev pub slot_faults : List model.Function → (globals names : List Name) → model.Block → List ℕ
-slot_faults fs globals names model.End = []
-slot_faults fs globals names (model.Then line s b) =
-    unless (fine_stmt fs globals names (resolved_stmt globals names s)) line ++ slot_faults fs globals (names_after names s) b
+-- each use in an argument has its slot, and a name alone is an array where an array is known by it
+abbrev pub is_right_argument : Locals → Argument → Bool
+is_right_argument locals (Int (Variable u)) = not (is_among u.name locals.arrays) && is_use locals.ints u
+is_right_argument locals (Int e) = is_right_expr locals e
+is_right_argument locals (Array u) = is_among u.name locals.arrays && is_use locals.arrays u
 
--- parameters are new names that differ
-abbrev pub are_new : (globals names : List Name) → List Name → Bool
-are_new globals names [] = true
-are_new globals names (x ∷ xs) = not (is_among x names || is_among x globals) && are_new globals (names ++ x ∷ []) xs
+-- what a result goes to has its slot
+abbrev pub is_right_target : Locals → Option Use → Bool
+is_right_target locals None = true
+is_right_target locals (Some u) = is_use locals.ints u
 
--- the lines of a function that break a rule; its parameters count at its head
-abbrev pub slot_faults_of : List model.Function → List Name → model.Function → List ℕ
-slot_faults_of fs globals f =
-    unless (are_new globals [] (param_names f.params)) f.line ++ slot_faults fs globals (param_names f.params) f.body
+-- each use in what is returned has its slot
+abbrev pub is_right_return : Locals → Option Expr → Bool
+is_right_return locals None = true
+is_right_return locals (Some e) = is_right_expr locals e
 
--- the lines of functions whose name an earlier one has, or is among these names
-abbrev pub repeated_after : List Name → List model.Function → List ℕ
-repeated_after names [] = []
-repeated_after names (f ∷ fs) = unless (not (is_among f.name names)) f.line ++ repeated_after (names ++ f.name ∷ []) fs
+-- each use in the head of a loop has its slot, and what it captures is what this body does
+abbrev pub is_right_head : Locals → Head → Block → Bool
+is_right_head locals h b =
+    is_next locals.ints h.variable && is_right_expr locals h.from && is_right_expr locals h.to
+    && same_uses h.captured (captured_in (length locals.ints) b) && list_all (is_use locals.arrays) h.over
 
--- the lines of calls whose callee does not come before the function of this index
-abbrev pub below_line : ℕ → ℕ → Stmt → List ℕ
-below_line i line (Call kind site target f index es) = unless (nat_lt index i) line
-below_line i line _ = []
+-- each use in a cut has its slot
+abbrev pub is_right_cut : Locals → Parts → Bool
+is_right_cut locals c =
+    is_use locals.arrays c.array && is_right_expr locals c.at && is_next locals.arrays c.left
+    && is_next (locals.arrays ++ c.left.name ∷ []) c.right
 
--- the same of a block
-abbrev pub below_lines : ℕ → Block → List ℕ
-below_lines i End = []
-below_lines i (Then line s b) = below_line i line s ++ below_lines i b
+abbrev mutual
+  -- each slot and index in a statement is right
+  pub is_right_stmt : Lists → Locals → Stmt → Bool
+  is_right_stmt lists locals (Declare u e) = is_next locals.ints u && is_right_expr locals e
+  is_right_stmt lists locals (DeclareArray u e) = is_next locals.arrays u && is_right_expr locals e
+  is_right_stmt lists locals (Assign u e) = is_use locals.ints u && is_right_expr locals e
+  is_right_stmt lists locals (AssignElement u i e) = is_use locals.arrays u && is_right_expr locals i && is_right_expr locals e
+  is_right_stmt lists locals (AddTo s e) = is_listed lists.reducers s && is_right_expr locals e
+  is_right_stmt lists locals (Call kind site target f es) =
+      is_right_target locals target && is_listed lists.functions f && list_all (is_right_argument locals) es
+  is_right_stmt lists locals Sync = true
+  is_right_stmt lists locals (If e b) = is_right_expr locals e && is_right_block lists locals b
+  is_right_stmt lists locals (IfElse e b c) =
+      is_right_expr locals e && is_right_block lists locals b && is_right_block lists locals c
+  is_right_stmt lists locals (While e b) = is_right_expr locals e && is_right_block lists locals b
+  is_right_stmt lists locals (For head b) =
+      is_right_head locals head b && is_right_block lists (with_int head.variable.name locals) b
+  is_right_stmt lists locals (Scope b) = is_right_block lists locals b
+  is_right_stmt lists locals (Cut parts b) =
+      is_right_cut locals parts && is_right_block lists (with_array parts.right.name (with_array parts.left.name locals)) b
+  is_right_stmt lists locals (Region tag b) = is_listed lists.tags tag && is_right_block lists locals b
+  is_right_stmt lists locals (Print e) = is_right_expr locals e
+  is_right_stmt lists locals (Return e) = is_right_return locals e
 
--- the same of functions in order, the first of which has this index
-abbrev pub below : ℕ → List Function → List ℕ
-below i [] = []
-below i (f ∷ fs) = below_lines i f.body ++ below (i + 1) fs
+  -- each slot and index in a block is right
+  pub is_right_block : Lists → Locals → Block → Bool
+  is_right_block lists locals End = true
+  is_right_block lists locals (Then line s b) =
+      is_right_stmt lists locals s && is_right_block lists (locals_after locals (plain_stmt s)) b
 
--- all lines that break a rule, in the order in which they are found
-abbrev pub slot_lines : model.Program → List ℕ
-slot_lines program =
-    let fs = program.functions in
-    let globals = function_names fs in
-    repeated_after [] fs
-    ++ (flat_map (slot_faults_of fs globals) fs ++ (unless (is_among main_name globals) 1 ++ below 0 (resolved program).functions))
+-- each slot, each index and both counts of slots of a function are right
+abbrev pub is_right_function : Lists → Function → Bool
+is_right_function lists f =
+    let locals = locals_of f.params in
+    (f.ints == ints_in_block (length locals.ints) f.body) && (f.arrays == arrays_in_block (length locals.arrays) f.body)
+    && is_right_block lists locals f.body
+
+-- each slot, each index and each count of slots is right, and so are the tags and the place of main
+abbrev pub is_resolved : Resolved → Bool
+is_resolved tree =
+    let lists = lists_of (plain tree) in
+    same_names tree.tags (tags_of (plain tree)) && (tree.main == slot_of main_name lists.functions)
+    && list_all (is_right_function lists) tree.functions

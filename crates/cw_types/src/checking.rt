@@ -1,19 +1,18 @@
 //! The test of limits, names and types.
 
-ghost use Rattle.std.specs.Prelude.{◌≡◌, MatchResult, IfOk, OnOk, true, []};
-ghost use Rattle.cw_model.specs.FirstGrammar.{is_first};
+ghost use Rattle.std.specs.Prelude.{◌≡◌, MatchResult, IfOk, None, []};
+ghost use Rattle.cw_model.specs.Lines.{lowest};
 ghost use Rattle.cw_model.specs.Sizes.{limit_faults};
+ghost use Rattle.cw_model.specs.Typing.{type_faults};
 ghost use Rattle.cw_parse.specs.View.{program_of};
 ghost use Rattle.cw_types.specs.Faults.{IsTyped, IsIllTyped};
-ghost use Rattle.cw_model.specs.Lines.{lowest};
-ghost use Rattle.cw_types.specs.Resolved.{resolved};
-ghost use Rattle.cw_types.specs.Slots.{slot_lines};
-ghost use Rattle.cw_types.specs.View.{resolved_of};
 
-use crate::functions::{below, functions, globals};
+use crate::functions::functions_faults;
+use crate::globals::Globals;
 use crate::limits::limits;
+use crate::program::resolve;
+use crate::repeated::{repeated_functions, repeated_reducers, shared_names};
 use crate::rules::MAIN;
-use crate::tree::Tree;
 use crate::typed::Typed;
 use cw_parse::tree::Ast;
 use cw_text::{Fault, LeastLine, Place};
@@ -21,36 +20,37 @@ use std::alloc::{AllocError, Global};
 
 /// The tree with each name looked up.
 ///
-/// Answers `Size` at the least line that passes a limit (1,024 functions, 16 parameters of a
-/// function, 256 names that a function declares), else `Types` at the least line that breaks a rule
-/// of names and types or calls a function that does not stand above, and `Memory` where there is
-/// none for the resolved tree. A program without `main` breaks a rule in line 1. The tree that was
-/// given is let go in each case.
+/// Answers `Size` at the least line that passes a limit (1,024 functions, 32 reducers, 16 parameters
+/// of a function, 256 names that a function declares, 64 different tags, 32 bytes of a tag), else
+/// `Types` at the least line that breaks a rule of names and types, and `Memory` where there is none
+/// for the resolved tree. A program without `main` breaks a rule in line 1. The tree that was given
+/// is let go in each case.
 pub fn check(alloc: Global, ast: Ast) -> Result<Typed, Fault>
-    requires { is_first (program_of ast) ≡ true }
     ensures { MatchResult result (λ typed. IsTyped (program_of ast) typed.tree) (IsIllTyped (program_of ast)) }
 {
-    if let Some(line) = limits(&ast).line {
+    let size = limits(alloc, &ast)?;
+    if let Some(line) = size.line {
         return Err(Fault::Size(Place { line }));
     }
-    let mut least = LeastLine::new();
-    let tree = resolve(alloc, &ast, &mut least)?;
-    match least.line {
-        Some(line) => Err(Fault::Types(Place { line })),
-        None => Ok(Typed { tree }),
+    let types = faults(alloc, &ast)?;
+    if let Some(line) = types.line {
+        return Err(Fault::Types(Place { line }));
     }
+    let tree = resolve(alloc, &ast)?;
+    Ok(Typed { tree })
 }
 
-// The resolved tree; notes each line that breaks a rule.
-fn resolve(alloc: Global, ast: &Ast, least: &mut LeastLine) -> Result<Tree, AllocError>
+// The least line that breaks a rule of names and types.
+fn faults(alloc: Global, ast: &Ast) -> Result<LeastLine, AllocError>
     requires { limit_faults (program_of ast.now) ≡ [] }
-    ensures tree { IfOk result (λ tree. resolved_of tree ≡ resolved (program_of ast.now)) }
-    ensures lines { OnOk result (least.new.line ≡ lowest least.old.line (slot_lines (program_of ast.now))) }
+    ensures { IfOk result (λ least. least.line ≡ lowest None (type_faults (program_of ast.now))) }
 {
-    let globals = globals(alloc, &ast.functions, least)?;
-    let functions = functions(alloc, &ast.functions, &globals, least)?;
-    let main = globals.find(MAIN);
-    least.note(globals.has(MAIN), 1);
-    below(&functions, least);
-    Ok(Tree { functions, main })
+    let globals = Globals::new(alloc, ast)?;
+    let mut least = LeastLine::new();
+    least.note(globals.functions.has(MAIN), 1);
+    repeated_functions(alloc, &ast.functions, &mut least)?;
+    repeated_reducers(alloc, &ast.reducers, &mut least)?;
+    shared_names(&ast.functions, &ast.reducers, &mut least);
+    functions_faults(alloc, &globals, &mut least)?;
+    Ok(least)
 }

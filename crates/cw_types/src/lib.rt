@@ -1,16 +1,30 @@
 //! Names and types: which sources break a rule, and the tree with each name looked up.
 #![tactic(auto)]
 
+mod bodies;
+mod captured;
 mod checking;
+mod frames;
 mod functions;
+mod globals;
+mod known;
+pub mod laws;
 mod limits;
+mod lists;
+mod locals;
+mod program;
+mod regions;
+mod repeated;
 mod resolve;
 mod rules;
+mod statements;
 mod table;
-#[cfg(test)]
-mod tests;
+mod tags;
 pub mod tree;
 mod typed;
 
 pub use checking::check;
 pub use typed::Typed;
+
+#[cfg(test)]
+mod tests;

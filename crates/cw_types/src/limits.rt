@@ -1,20 +1,29 @@
 //! The limits of a program.
 
-ghost use Rattle.std.specs.Prelude.{◌≡◌, ℕ, List, ◌∷◌, ◌++◌, None, map, drop, flat_map, true};
-ghost use Rattle.std.specs.List.{list_all};
-ghost use Rattle.cw_model.specs.FirstGrammar.{is_first, is_first_function};
-ghost use Rattle.cw_model.specs.Limits.{most_functions};
-ghost use Rattle.cw_model.specs.Sizes.{limit_faults, function_limits as limits_of, declaring_lines_in, lines_beyond};
-ghost use Rattle.cw_parse.specs.View.{program_of, function_of, block_of, stmt_of};
-ghost use Rattle.cw_model.specs.Lines.{lowest};
-ghost use Rattle.cw_types.specs.Slots.{are_simple};
-ghost use Rattle.cw_types.specs.Declares.{is_declare};
+ghost use Rattle.std.specs.Prelude.{◌≡◌, ℕ, List, ◌++◌, ◌∷◌, [], None, map, flat_map, drop, nat_le, length, IfOk, OnOk};
+ghost use Rattle.cw_model.specs.Lines.{lowest, unless};
+ghost use Rattle.cw_model.specs.Sizes.{limit_faults, function_limits as limits_of, declaring_lines, declaring_lines_in, lines_beyond, regions_in_block, regions_in, first_places};
+ghost use Rattle.cw_model.specs.Limits.{most_functions, most_reducers, most_tags, most_tag_bytes};
+ghost use Rattle.cw_parse.specs.View.{program_of, function_of, reducer_of, block_of, stmt_of};
+ghost use Rattle.cw_types.specs.Regions.{region_of, regions_of};
 
-use cw_parse::tree::{Ast, Function, Line, Param, Stmt};
+use crate::known::Known;
+use crate::regions::{Marked, regions};
+use cw_parse::tree::{Ast, Function, Line, Param, Reducer, Stmt};
 use cw_text::LeastLine;
+use std::alloc::{AllocError, Global};
 
 /// The most functions of a program.
 const MOST_FUNCTIONS: usize = 1_024;
+
+/// The most reducers of a program.
+const MOST_REDUCERS: usize = 32;
+
+/// The most different tags of a program.
+const MOST_TAGS: usize = 64;
+
+/// The most bytes of a tag.
+const MOST_TAG_BYTES: usize = 32;
 
 /// The most parameters of a function.
 const MOST_PARAMETERS: usize = 16;
@@ -22,16 +31,21 @@ const MOST_PARAMETERS: usize = 16;
 /// The most names that a function declares, its parameters included.
 const MOST_DECLARED: usize = 256;
 
-/// The least line that passes a limit: that of the 1,025th function or a later one, of a function
-/// with more than 16 parameters, or of what declares the 257th name of a function or a later one.
-pub fn limits(ast: &Ast) -> LeastLine
-    requires { is_first (program_of ast.now) ≡ true }
-    ensures { result.line ≡ lowest None (limit_faults (program_of ast.now)) }
+/// The least line that passes a limit: that of the 1,025th function or a later one, of the 33rd
+/// reducer or a later one, of a function with more than 16 parameters, of what declares the 257th
+/// name of a function or a later one, of a tag with more than 32 bytes, or of the first place of the
+/// 65th different tag or a later one.
+pub fn limits(alloc: Global, ast: &Ast) -> Result<LeastLine, AllocError>
+    ensures { IfOk result (λ least. least.line ≡ lowest None (limit_faults (program_of ast.now))) }
 {
     let mut least = LeastLine::new();
     functions_beyond(&ast.functions, &mut least);
+    reducers_beyond(&ast.reducers, &mut least);
     functions_limits(&ast.functions, &mut least);
-    least
+    let regions = regions(alloc, &ast.functions)?;
+    long_tags(&regions, &mut least);
+    tags_beyond(alloc, &regions, &mut least)?;
+    Ok(least)
 }
 
 // Notes the lines of the functions behind the most of them.
@@ -44,9 +58,18 @@ fn functions_beyond(functions: &[Function], least: &mut LeastLine)
     }
 }
 
+// Notes the lines of the reducers behind the most of them.
+fn reducers_beyond(reducers: &[Reducer], least: &mut LeastLine)
+    ensures { least.new.line ≡ lowest least.old.line (lines_beyond most_reducers (map (λ r. r.line) (map reducer_of reducers.now))) }
+{
+    let mut room = MOST_REDUCERS;
+    for reducer in reducers {
+        room = beyond(room, reducer.line, least);
+    }
+}
+
 // Notes the lines that pass a limit of one function.
 fn functions_limits(functions: &[Function], least: &mut LeastLine)
-    requires { list_all is_first_function (map function_of functions.now) ≡ true }
     ensures { least.new.line ≡ lowest least.old.line (flat_map limits_of (map function_of functions.now)) }
 {
     for function in functions {
@@ -56,18 +79,17 @@ fn functions_limits(functions: &[Function], least: &mut LeastLine)
 
 // The same of one of the functions.
 fn function_limits(function: &Function, least: &mut LeastLine)
-    requires { are_simple (block_of function.now.body.items) ≡ true }
     ensures { least.new.line ≡ lowest least.old.line (limits_of (function_of function.now)) }
 {
     least.note(function.params.len() <= MOST_PARAMETERS, function.line);
     let room = params_beyond(MOST_DECLARED, function.line, &function.params, least);
-    body_beyond(room, &function.body, least);
+    block_beyond(room, &function.body, least);
 }
 
 // What room is left after the parameters.
 fn params_beyond(room: usize, line: u32, params: &[Param], least: &mut LeastLine) -> usize
     // The lines to come give the least line past the room left that they give past `room` with the parameters' first.
-    ensures { (lines : List ℕ) → lowest least.new.line (drop result lines) ≡ lowest least.old.line (drop room (map (λ _. line) params.now ++ lines)) }
+    ensures { (more : List ℕ) → lowest least.new.line (drop result more) ≡ lowest least.old.line (drop room (map (λ _. line) params.now ++ more)) }
 {
     let mut left = room;
     for _param in params {
@@ -76,34 +98,98 @@ fn params_beyond(room: usize, line: u32, params: &[Param], least: &mut LeastLine
     left
 }
 
-// Notes the lines of the body that declare a name where no room is left.
-fn body_beyond(room: usize, lines: &[Line], least: &mut LeastLine)
-    requires { are_simple (block_of lines.now) ≡ true }
-    ensures { least.new.line ≡ lowest least.old.line (drop room (declaring_lines_in (block_of lines.now))) }
+// What room is left after what the statements declare; notes the line of what has no room.
+#[cycle(declaring)]
+fn block_beyond(room: usize, lines: &[Line], least: &mut LeastLine) -> usize
+    ensures { (more : List ℕ) → lowest least.new.line (drop result more) ≡ lowest least.old.line (drop room (declaring_lines_in (block_of lines.now) ++ more)) }
 {
     let mut left = room;
     for line in lines {
-        if declares(&line.stmt) {
-            left = beyond(left, line.line, least);
-        }
+        left = statement_beyond(left, line.line, &line.stmt, least);
     }
+    left
 }
 
-// Whether a statement declares a name.
-fn declares(stmt: &Stmt) -> bool
-    ensures { result ≡ is_declare (stmt_of stmt.now) }
+// The same of a statement of a line.
+#[cycle(declaring)]
+fn statement_beyond(room: usize, line: u32, stmt: &Stmt, least: &mut LeastLine) -> usize
+    ensures { (more : List ℕ) → lowest least.new.line (drop result more) ≡ lowest least.old.line (drop room (declaring_lines line (stmt_of stmt.now) ++ more)) }
 {
-    matches!(stmt, Stmt::Declare(_, _))
+    match stmt {
+        Stmt::Declare(_, _) | Stmt::DeclareArray(_, _) => beyond(room, line, least),
+        Stmt::If(_, b) | Stmt::While(_, b) | Stmt::Scope(b) | Stmt::Region(_, b) => {
+            block_beyond(room, b, least)
+        }
+        Stmt::IfElse(_, b, c) => {
+            let left = block_beyond(room, b, least);
+            block_beyond(left, c, least)
+        }
+        Stmt::For(_, b) => {
+            let left = beyond(room, line, least);
+            block_beyond(left, b, least)
+        }
+        Stmt::Cut(_, b) => {
+            let after_one = beyond(room, line, least);
+            let after_both = beyond(after_one, line, least);
+            block_beyond(after_both, b, least)
+        }
+        Stmt::Assign(_, _)
+        | Stmt::AssignElement(_, _, _)
+        | Stmt::AddTo(_, _)
+        | Stmt::Call(_)
+        | Stmt::Sync
+        | Stmt::Print(_)
+        | Stmt::Return(_) => room,
+    }
 }
 
 // One line more, which breaks the limit where there is no room left for it; what room is left then.
 fn beyond(room: usize, line: u32, least: &mut LeastLine) -> usize
     // The lines to come give the least line past the room left that they give past `room` with this one first.
-    ensures { (lines : List ℕ) → lowest least.new.line (drop result lines) ≡ lowest least.old.line (drop room (line ∷ lines)) }
+    ensures { (more : List ℕ) → lowest least.new.line (drop result more) ≡ lowest least.old.line (drop room (line ∷ more)) }
 {
     if room == 0 {
         least.note(false, line);
         return 0;
     }
     room - 1
+}
+
+// Notes the lines of regions whose tags are too long.
+fn long_tags(regions: &[Marked], least: &mut LeastLine)
+    ensures { least.new.line ≡ lowest least.old.line (flat_map (λ d. unless (nat_le (length d.0) most_tag_bytes) d.1) (regions_of regions.now)) }
+{
+    for region in regions {
+        least.note(region.tag.len() <= MOST_TAG_BYTES, region.line);
+    }
+}
+
+// Notes the lines of the first places of tags behind the most of them.
+fn tags_beyond(alloc: Global, regions: &[Marked], least: &mut LeastLine) -> Result<(), AllocError>
+    ensures { OnOk result (least.new.line ≡ lowest least.old.line (lines_beyond most_tags (map (λ d. d.1) (first_places (regions_of regions.now) [])))) }
+{
+    let mut seen = Known::new(alloc);
+    let mut room = MOST_TAGS;
+    for region in regions {
+        room = tag_beyond(&mut seen, room, *region, least)?;
+    }
+    Ok(())
+}
+
+// One region more; what room for tags is left then.
+fn tag_beyond<'a>(
+    seen: &mut Known<'a>,
+    room: usize,
+    region: Marked<'a>,
+    least: &mut LeastLine,
+) -> Result<usize, AllocError>
+    // The regions to come give the least line past the room left that they give past `room` with this one first.
+    ensures { IfOk result (λ left. (more : List (List ℕ × ℕ)) → lowest least.new.line (drop left (map (λ d. d.1) (first_places more (map (λ k. k.0) seen.new)))) ≡ lowest least.old.line (drop room (map (λ d. d.1) (first_places (region_of region.entry ∷ more) (map (λ k. k.0) seen.old))))) }
+{
+    if seen.has(region.tag) {
+        return Ok(room);
+    }
+    let left = beyond(room, region.line, least);
+    seen.declare(region.tag, false)?;
+    Ok(left)
 }

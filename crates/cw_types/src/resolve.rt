@@ -1,15 +1,18 @@
-//! Names looked up.
+//! Names looked up, in what stands in a statement beside its blocks.
 
-ghost use Rattle.std.specs.Prelude.{◌≡◌, IfOk, map, option_map};
+ghost use Rattle.std.specs.Prelude.{◌≡◌, ◌<◌, ◌+◌, ◌^◌, length, map, option_map, IfOk};
 ghost use Rattle.cw_parse.specs.View as parsed;
+ghost use Rattle.cw_types.specs.Heads as part;
+ghost use Rattle.cw_types.specs.Locals.{locals_view, lists_view};
 ghost use Rattle.cw_types.specs.Resolved as spec;
-ghost use Rattle.cw_parse.specs.declared.tree.Stmt.TheOpen.{Stmt-F};
-ghost use Rattle.cw_types.specs.View.{use_of, expr_of, stmt_of};
-ghost use Rattle.cw_types.specs.declared.tree.Stmt.TheVariants as variant;
+ghost use Rattle.cw_types.specs.View.{use_of, listed_of, expr_of, argument_of, head_of, parts_of, block_of, stmt_of};
 
+use crate::captured::captured;
+use crate::lists::Lists;
+use crate::locals::Locals;
 use crate::table::Table;
 use crate::tree;
-use cw_parse::tree::{Call, Expr, Name, Stmt};
+use cw_parse::tree::{Call, Cut, Expr, Head, Name};
 use std::alloc::{AllocError, Global};
 
 /// A copy of a name.
@@ -20,8 +23,8 @@ pub fn copy(alloc: Global, name: &Name) -> Result<Name, AllocError>
     Ok(copied)
 }
 
-// A use of a name where these are declared.
-fn use_of(alloc: Global, names: &Table, name: &Name) -> Result<tree::Use, AllocError>
+/// A use of a name among these.
+pub fn use_of(alloc: Global, names: &Table, name: &Name) -> Result<tree::Use, AllocError>
     ensures { IfOk result (λ used. use_of used ≡ spec.use_of names.now name.now) }
 {
     let slot = names.find(name.as_bytes());
@@ -29,37 +32,107 @@ fn use_of(alloc: Global, names: &Table, name: &Name) -> Result<tree::Use, AllocE
     Ok(tree::Use { name, slot })
 }
 
-// An expression; the first grammar has no other than numbers and names.
-fn expression(alloc: Global, names: &Table, e: &Expr) -> Result<tree::Expr, AllocError>
-    ensures { IfOk result (λ found. expr_of found ≡ spec.resolved_expr names.now (parsed.expr_of e.now)) }
+/// The declaration of a name behind these.
+pub fn next_use(alloc: Global, names: &Table, name: &Name) -> Result<tree::Use, AllocError>
+    ensures { IfOk result (λ used. use_of used ≡ spec.next_use names.now name.now) }
+{
+    let slot = names.len();
+    let name = copy(alloc, name)?;
+    Ok(tree::Use { name, slot })
+}
+
+/// A use of a name that a program lists.
+pub fn listed(alloc: Global, names: &Table, name: &Name) -> Result<tree::Listed, AllocError>
+    ensures { IfOk result (λ used. listed_of used ≡ spec.listed_in names.now name.now) }
+{
+    let index = names.find(name.as_bytes());
+    let name = copy(alloc, name)?;
+    Ok(tree::Listed { name, index })
+}
+
+/// An expression with each name looked up.
+pub fn expression(alloc: Global, locals: &Locals, e: &Expr) -> Result<tree::Expr, AllocError>
+    ensures { IfOk result (λ found. expr_of found ≡ spec.resolved_expr (locals_view locals.now) (parsed.expr_of e.now)) }
 {
     match e {
         Expr::Number(n) => Ok(tree::Expr::Number(*n)),
         Expr::Variable(x) => {
-            let used = use_of(alloc, names, x)?;
+            let used = use_of(alloc, &locals.ints, x)?;
             Ok(tree::Expr::Variable(used))
         }
-        Expr::Element(_, _)
-        | Expr::Length(_)
-        | Expr::Negative(_)
-        | Expr::Not(_)
-        | Expr::Binary(_, _, _) => Ok(tree::Expr::Number(0)),
+        Expr::Element(a, i) => {
+            let used = use_of(alloc, &locals.arrays, a)?;
+            let index = expression(alloc, locals, i)?;
+            Ok(tree::Expr::Element(used, Box::new(alloc, index)?))
+        }
+        Expr::Length(a) => {
+            let used = use_of(alloc, &locals.arrays, a)?;
+            Ok(tree::Expr::Length(used))
+        }
+        Expr::Negative(d) => {
+            let operand = expression(alloc, locals, d)?;
+            Ok(tree::Expr::Negative(Box::new(alloc, operand)?))
+        }
+        Expr::Not(d) => {
+            let operand = expression(alloc, locals, d)?;
+            Ok(tree::Expr::Not(Box::new(alloc, operand)?))
+        }
+        Expr::Binary(operator, d, e) => {
+            let left = expression(alloc, locals, d)?;
+            let right = expression(alloc, locals, e)?;
+            let left = Box::new(alloc, left)?;
+            let right = Box::new(alloc, right)?;
+            Ok(tree::Expr::Binary(*operator, left, right))
+        }
     }
 }
 
-// The arguments in their order, each with its names looked up.
-fn arguments(alloc: Global, names: &Table, es: &[Expr]) -> Result<Vec<tree::Expr>, AllocError>
-    ensures { IfOk result (λ found. map expr_of found.items ≡ map (spec.resolved_expr names.now) (map parsed.expr_of es.now)) }
+// A name alone in the place of an argument.
+fn name_alone(alloc: Global, locals: &Locals, name: &Name) -> Result<tree::Argument, AllocError>
+    ensures { IfOk result (λ found. argument_of found ≡ spec.resolved_name (locals_view locals.now) name.now) }
+{
+    if locals.arrays.has(name.as_bytes()) {
+        let used = use_of(alloc, &locals.arrays, name)?;
+        return Ok(tree::Argument::Array(used));
+    }
+    let used = use_of(alloc, &locals.ints, name)?;
+    Ok(tree::Argument::Int(tree::Expr::Variable(used)))
+}
+
+// An argument with each name looked up.
+fn argument(alloc: Global, locals: &Locals, e: &Expr) -> Result<tree::Argument, AllocError>
+    ensures { IfOk result (λ found. argument_of found ≡ spec.resolved_argument (locals_view locals.now) (parsed.expr_of e.now)) }
+{
+    match e {
+        Expr::Variable(x) => {
+            let found = name_alone(alloc, locals, x)?;
+            Ok(found)
+        }
+        Expr::Number(_)
+        | Expr::Element(_, _)
+        | Expr::Length(_)
+        | Expr::Negative(_)
+        | Expr::Not(_)
+        | Expr::Binary(_, _, _) => {
+            let found = expression(alloc, locals, e)?;
+            Ok(tree::Argument::Int(found))
+        }
+    }
+}
+
+// The arguments in their order.
+fn arguments(alloc: Global, locals: &Locals, es: &[Expr]) -> Result<Vec<tree::Argument>, AllocError>
+    ensures { IfOk result (λ found. map argument_of found.items ≡ map (spec.resolved_argument (locals_view locals.now)) (map parsed.expr_of es.now)) }
 {
     let mut found = Vec::new(alloc);
     for e in es {
-        let argument = expression(alloc, names, e)?;
+        let argument = argument(alloc, locals, e)?;
         found.push(argument)?;
     }
     Ok(found)
 }
 
-// The name that takes the result of a call, if there is one.
+// The integer that takes the result of a call, if one does.
 fn target(
     alloc: Global,
     names: &Table,
@@ -76,78 +149,95 @@ fn target(
     }
 }
 
-// What is returned, if anything is.
-fn returned(
+/// What is returned, if anything is.
+pub fn returned(
     alloc: Global,
-    names: &Table,
+    locals: &Locals,
     e: &Option<Expr>,
 ) -> Result<Option<tree::Expr>, AllocError>
-    ensures { IfOk result (λ found. option_map expr_of found ≡ option_map (spec.resolved_expr names.now) (option_map parsed.expr_of e.now)) }
+    ensures { IfOk result (λ found. option_map expr_of found ≡ option_map (spec.resolved_expr (locals_view locals.now)) (option_map parsed.expr_of e.now)) }
 {
     match e {
         None => Ok(None),
         Some(e) => {
-            let found = expression(alloc, names, e)?;
+            let found = expression(alloc, locals, e)?;
             Ok(Some(found))
         }
     }
 }
 
-// A call with its names and its callee looked up.
-fn call(alloc: Global, globals: &Table, names: &Table, c: &Call) -> Result<tree::Call, AllocError>
-    ensures { IfOk result (λ found. stmt_of (variant.Call found) ≡ spec.resolved_stmt globals.now names.now (parsed.stmt_step (Stmt-F.Call c.now))) }
+/// A call with its names and its callee looked up.
+pub fn call(
+    alloc: Global,
+    lists: &Lists,
+    locals: &Locals,
+    c: &Call,
+) -> Result<tree::Call, AllocError>
+    ensures { IfOk result (λ found. part.call_of found ≡ part.resolved_call (lists_view lists.now) (locals_view locals.now) c.now) }
 {
-    let target = target(alloc, names, &c.target)?;
-    let index = globals.find(c.callee.as_bytes());
-    let callee = copy(alloc, &c.callee)?;
-    let arguments = arguments(alloc, names, &c.arguments)?;
+    let target = target(alloc, &locals.ints, &c.target)?;
+    let callee = listed(alloc, &lists.functions, &c.callee)?;
+    let arguments = arguments(alloc, locals, &c.arguments)?;
     Ok(tree::Call {
         kind: c.kind,
         site: c.site,
         target,
         callee,
-        index,
         arguments,
     })
 }
 
-/// A statement with each name looked up, where these functions and names are declared. The first
-/// grammar has no other than declarations, calls, syncs and returns.
-pub fn statement(
-    alloc: Global,
-    globals: &Table,
-    names: &Table,
-    s: &Stmt,
-) -> Result<tree::Stmt, AllocError>
-    ensures { IfOk result (λ found. stmt_of found ≡ spec.resolved_stmt globals.now names.now (parsed.stmt_of s.now)) }
+// The arrays of a loop.
+fn arrays(alloc: Global, names: &Table, over: &[Name]) -> Result<Vec<tree::Use>, AllocError>
+    ensures { IfOk result (λ found. map use_of found.items ≡ map (spec.use_of names.now) over.now) }
 {
-    match s {
-        Stmt::Declare(x, e) => {
-            let value = expression(alloc, names, e)?;
-            let name = copy(alloc, x)?;
-            let slot = names.len();
-            Ok(tree::Stmt::Declare(tree::Use { name, slot }, value))
-        }
-        Stmt::Call(c) => {
-            let found = call(alloc, globals, names, c)?;
-            Ok(tree::Stmt::Call(found))
-        }
-        Stmt::Return(e) => {
-            let found = returned(alloc, names, e)?;
-            Ok(tree::Stmt::Return(found))
-        }
-        Stmt::Sync
-        | Stmt::DeclareArray(_, _)
-        | Stmt::Assign(_, _)
-        | Stmt::AssignElement(_, _, _)
-        | Stmt::AddTo(_, _)
-        | Stmt::If(_, _)
-        | Stmt::IfElse(_, _, _)
-        | Stmt::While(_, _)
-        | Stmt::For(_, _)
-        | Stmt::Scope(_)
-        | Stmt::Cut(_, _)
-        | Stmt::Region(_, _)
-        | Stmt::Print(_) => Ok(tree::Stmt::Sync),
+    let mut found = Vec::new(alloc);
+    for name in over {
+        let used = use_of(alloc, names, name)?;
+        found.push(used)?;
     }
+    Ok(found)
+}
+
+/// The head of a loop, whose body is already resolved.
+pub fn head(
+    alloc: Global,
+    locals: &Locals,
+    head: &Head,
+    body: &[tree::Line],
+) -> Result<tree::Head, AllocError>
+    ensures { IfOk result (λ found. head_of found ≡ part.resolved_head (locals_view locals.now) head.now (block_of body.now)) }
+{
+    let variable = next_use(alloc, &locals.ints, &head.variable)?;
+    let from = expression(alloc, locals, &head.from)?;
+    let to = expression(alloc, locals, &head.to)?;
+    let captured = captured(alloc, locals.ints.len(), body)?;
+    let over = arrays(alloc, &locals.arrays, &head.over)?;
+    Ok(tree::Head {
+        variable,
+        from,
+        to,
+        grain: head.grain,
+        captured,
+        over,
+    })
+}
+
+/// A cut with each name looked up.
+pub fn cut(alloc: Global, locals: &Locals, cut: &Cut) -> Result<tree::Cut, AllocError>
+    requires { length locals.now.arrays + 1 < 2 ^ 32 }
+    ensures { IfOk result (λ found. parts_of found ≡ part.resolved_cut (locals_view locals.now) cut.now) }
+{
+    let array = use_of(alloc, &locals.arrays, &cut.array)?;
+    let at = expression(alloc, locals, &cut.at)?;
+    let left = next_use(alloc, &locals.arrays, &cut.left)?;
+    let name = copy(alloc, &cut.right)?;
+    let slot = left.slot + 1;
+    let right = tree::Use { name, slot };
+    Ok(tree::Cut {
+        array,
+        at,
+        left,
+        right,
+    })
 }

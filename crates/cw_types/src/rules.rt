@@ -1,90 +1,245 @@
-//! The rules of names and types, by slots.
+//! The rules of names and types, statement by statement.
 
-ghost use Rattle.std.specs.Prelude.{◌≡◌, map, option_map, slice_get};
+ghost use Rattle.std.specs.Prelude.{◌≡◌, true, false, map, option_map, not, ◌||◌};
+ghost use Rattle.std.specs.List.{list_all};
 ghost use Rattle.cw_model.specs.Names.{same_name};
 ghost use Rattle.cw_model.specs.Answers.{main_name};
-ghost use Rattle.cw_parse.specs.View.{function_of, param_of};
-ghost use Rattle.cw_types.specs.Bounds.{below_expr};
-ghost use Rattle.cw_types.specs.Slots.{fine_target, fine_arguments, fine_call, fine_stmt};
-ghost use Rattle.cw_types.specs.View.{use_of, expr_of, stmt_of};
-ghost use Rattle.cw_types.specs.declared.tree.Stmt.TheVariants as variant;
+ghost use Rattle.cw_model.specs.Typing as rule;
+ghost use Rattle.cw_parse.specs.View.{program_of, function_of, param_of, expr_of, stmt_of, block_of};
+ghost use Rattle.cw_parse.specs.declared.tree.Stmt.TheOpen.{Stmt-F};
+ghost use Rattle.cw_types.specs.Returned.{returns_of};
+ghost use Rattle.cw_types.specs.Typing as spec;
 
-use crate::table::Table;
-use crate::tree::{Call, Expr, Stmt, Use};
-use cw_parse::tree::{Function, Param};
+use crate::globals::Globals;
+use crate::known::Known;
+use cw_parse::tree::{Call, Cut, Expr, Function, Head, Line, Name, Param, Stmt};
 
 /// The name of the function that a run begins with.
 pub const MAIN: &[u8] = b"main";
 
-// Whether an expression names only what is declared, where so many names are.
-fn keeps_expression(declared: u32, e: &Expr) -> bool
-    ensures { result ≡ below_expr declared (expr_of e.now) }
+/// The most turns in a leaf of a loop.
+const MOST_GRAIN: u64 = 1_000_000;
+
+/// Which returns may stand in a block.
+#[derive(Clone, Copy)]
+pub enum Returns {
+    /// None.
+    Nowhere,
+    /// Those of an integer.
+    WithInt,
+    /// Those of nothing.
+    Alone,
+}
+
+// Whether a name is that of a known integer.
+fn is_int(known: &Known, name: &Name) -> bool
+    ensures { result ≡ rule.is_int known.now name.now }
+{
+    known.is_int(name.as_bytes())
+}
+
+// Whether a name is that of a known array.
+fn is_array(known: &Known, name: &Name) -> bool
+    ensures { result ≡ rule.is_array known.now name.now }
+{
+    known.is_array(name.as_bytes())
+}
+
+/// Whether a name may be declared: it is not known, and no function or reducer has it.
+pub fn is_new(globals: &Globals, known: &Known, name: &Name) -> bool
+    ensures { result ≡ rule.is_new (program_of globals.now.ast.now) known.now name.now }
+{
+    let name = name.as_bytes();
+    !(known.has(name) || globals.has(name))
+}
+
+// Whether an expression is one of integers.
+fn is_fine(known: &Known, e: &Expr) -> bool
+    ensures { result ≡ rule.is_fine known.now (expr_of e.now) }
 {
     match e {
         Expr::Number(_) => true,
-        Expr::Variable(used) => used.slot < declared,
+        Expr::Variable(x) => is_int(known, x),
+        Expr::Element(a, e) => is_array(known, a) && is_fine(known, e),
+        Expr::Length(a) => is_array(known, a),
+        Expr::Negative(e) | Expr::Not(e) => is_fine(known, e),
+        Expr::Binary(_, d, e) => is_fine(known, d) && is_fine(known, e),
     }
 }
 
-// Whether the target of a call of this function is declared.
-fn keeps_target(declared: u32, function: &Function, target: &Option<Use>) -> bool
-    ensures { result ≡ fine_target declared (function_of function.now) (option_map use_of target.now) }
+// Whether an argument fits a parameter: an array alone an array, and an expression an integer.
+fn is_argument(known: &Known, param: &Param, e: &Expr) -> bool
+    ensures { result ≡ rule.is_argument known.now (param_of param.now).is_array (expr_of e.now) }
 {
-    match target {
-        None => true,
-        Some(used) => used.slot < declared && function.gives_int,
+    if !param.is_array {
+        return is_fine(known, e);
+    }
+    match e {
+        Expr::Variable(a) => is_array(known, a),
+        Expr::Number(_)
+        | Expr::Element(_, _)
+        | Expr::Length(_)
+        | Expr::Negative(_)
+        | Expr::Not(_)
+        | Expr::Binary(_, _, _) => false,
     }
 }
 
-// Whether there is one integer for each parameter.
-fn keeps_arguments(declared: u32, params: &[Param], arguments: &[Expr]) -> bool
-    ensures { result ≡ fine_arguments declared (map param_of params.now) (map expr_of arguments.now) }
+// Whether there is one argument for each parameter.
+fn are_arguments(known: &Known, params: &[Param], arguments: &[Expr]) -> bool
+    ensures { result ≡ rule.are_arguments known.now (map param_of params.now) (map expr_of arguments.now) }
 {
     if params.len() != arguments.len() {
         return false;
     }
     for i in 0..params.len() {
-        if params[i].is_array || !keeps_expression(declared, &arguments[i]) {
+        if !is_argument(known, &params[i], &arguments[i]) {
             return false;
         }
     }
     true
 }
 
-// Whether a run begins with the function.
-fn is_main(function: &Function) -> bool
+// Whether the target of a call is an integer, and the function gives one.
+fn is_target(known: &Known, function: &Function, target: &Option<Name>) -> bool
+    ensures { result ≡ rule.is_target known.now (function_of function.now) target.now }
+{
+    match target {
+        None => true,
+        Some(x) => is_int(known, x) && function.gives_int,
+    }
+}
+
+/// Whether a run begins with the function.
+pub fn is_main(function: &Function) -> bool
     ensures { result ≡ same_name (function_of function.now).name main_name }
 {
     function.name.as_bytes() == MAIN
 }
 
-// Whether the callee is there and is not main, and takes these arguments and gives the target.
-fn keeps_call(functions: &[Function], declared: u32, call: &Call) -> bool
-    ensures { result ≡ fine_call declared (option_map use_of call.now.target) (slice_get (map function_of functions.now) call.now.index) (map expr_of call.now.arguments.items) }
+// Whether a call is of a function that is there and is not main, and fits it.
+fn is_call(globals: &Globals, known: &Known, call: &Call) -> bool
+    ensures { result ≡ rule.is_call known.now call.now.target (rule.called call.now.callee (program_of globals.now.ast.now).functions) (map expr_of call.now.arguments.items) }
 {
-    match functions.get(call.index as usize) {
+    match globals.function(call.callee.as_bytes()) {
         None => false,
         Some(function) => {
-            keeps_target(declared, function, &call.target)
-                && keeps_arguments(declared, &function.params, &call.arguments)
+            is_target(known, function, &call.target)
+                && are_arguments(known, &function.params, &call.arguments)
                 && !is_main(function)
         }
     }
 }
 
-/// Whether a statement keeps the rules of names and types, where these functions and names are
-/// declared. Where a callee stands is no part of them: `below` tests it.
-pub fn keeps_types(functions: &[Function], globals: &Table, names: &Table, stmt: &Stmt) -> bool
-    ensures { result ≡ fine_stmt (map function_of functions.now) globals.now names.now (stmt_of stmt.now) }
+// Whether the names are all of known arrays.
+fn are_arrays(known: &Known, names: &[Name]) -> bool
+    ensures { result ≡ list_all (λ a. rule.is_array known.now a) names.now }
+{
+    for name in names {
+        if !is_array(known, name) {
+            return false;
+        }
+    }
+    true
+}
+
+// Whether the three names of a loop's head are one new name, its ends are integers, its grain is in
+// range, and it is over arrays.
+fn is_head(globals: &Globals, known: &Known, head: &Head) -> bool
+    ensures { result ≡ spec.is_head (program_of globals.now.ast.now) known.now head.now }
+{
+    is_new(globals, known, &head.variable)
+        && head.tested.as_bytes() == head.variable.as_bytes()
+        && head.stepped.as_bytes() == head.variable.as_bytes()
+        && is_fine(known, &head.from)
+        && is_fine(known, &head.to)
+        && 1 <= head.grain
+        && head.grain <= MOST_GRAIN
+        && are_arrays(known, &head.over)
+}
+
+// Whether an array is cut at an integer into two new names that differ.
+fn is_cut(globals: &Globals, known: &Known, cut: &Cut) -> bool
+    ensures { result ≡ spec.cuts (program_of globals.now.ast.now) known.now cut.now }
+{
+    is_array(known, &cut.array)
+        && is_fine(known, &cut.at)
+        && is_new(globals, known, &cut.left)
+        && is_new(globals, known, &cut.right)
+        && !(cut.left.as_bytes() == cut.right.as_bytes())
+}
+
+// Whether a return may stand here.
+fn may_return(returns: Returns, known: &Known, value: &Option<Expr>) -> bool
+    ensures { result ≡ rule.may_return (returns_of returns) known.now (option_map expr_of value.now) }
+{
+    match (returns, value) {
+        (Returns::WithInt, Some(e)) => is_fine(known, e),
+        (Returns::Alone, None) => true,
+        (_, _) => false,
+    }
+}
+
+/// Whether what stands in the line of a statement itself keeps the rules, the blocks in it aside.
+pub fn keeps_rules(globals: &Globals, returns: Returns, known: &Known, stmt: &Stmt) -> bool
+    ensures { result ≡ spec.keeps_rules (program_of globals.now.ast.now) (returns_of returns) known.now (stmt_of stmt.now) }
 {
     match stmt {
-        Stmt::Declare(new, e) => {
-            let name = new.name.as_bytes();
-            keeps_expression(names.len(), e) && !(names.has(name) || globals.has(name))
+        Stmt::Declare(x, e) | Stmt::DeclareArray(x, e) => {
+            is_fine(known, e) && is_new(globals, known, x)
         }
-        Stmt::Call(call) => keeps_call(functions, names.len(), call),
-        Stmt::Sync => true,
-        Stmt::Return(None) => false,
-        Stmt::Return(Some(e)) => keeps_expression(names.len(), e),
+        Stmt::Assign(x, e) => is_int(known, x) && is_fine(known, e),
+        Stmt::AssignElement(a, i, e) => is_array(known, a)
+            && is_fine(known, i)
+            && is_fine(known, e),
+        Stmt::AddTo(s, e) => globals.reducers.has(s.as_bytes()) && is_fine(known, e),
+        Stmt::Call(call) => is_call(globals, known, call),
+        Stmt::If(e, _) | Stmt::IfElse(e, _, _) | Stmt::While(e, _) | Stmt::Print(e) => {
+            is_fine(known, e)
+        }
+        Stmt::For(head, _) => is_head(globals, known, head),
+        Stmt::Cut(cut, _) => is_cut(globals, known, cut),
+        Stmt::Sync | Stmt::Scope(_) | Stmt::Region(_, _) => true,
+        Stmt::Return(value) => may_return(returns, known, value),
     }
+}
+
+/// Whether a statement is a return, or an if with two branches that surely return.
+#[cycle(returning)]
+pub fn surely_returns(stmt: &Stmt) -> bool
+    ensures { result ≡ rule.surely_returns (stmt_of stmt.now) }
+{
+    match stmt {
+        Stmt::Return(_) => true,
+        Stmt::IfElse(_, b, c) => {
+            let first_returns = block_returns(b);
+            let second_returns = block_returns(c);
+            first_returns && second_returns
+        }
+        Stmt::Declare(_, _)
+        | Stmt::DeclareArray(_, _)
+        | Stmt::Assign(_, _)
+        | Stmt::AssignElement(_, _, _)
+        | Stmt::AddTo(_, _)
+        | Stmt::Call(_)
+        | Stmt::Sync
+        | Stmt::If(_, _)
+        | Stmt::While(_, _)
+        | Stmt::For(_, _)
+        | Stmt::Scope(_)
+        | Stmt::Cut(_, _)
+        | Stmt::Region(_, _)
+        | Stmt::Print(_) => false,
+    }
+}
+
+/// Whether the last statement of a block is such.
+#[cycle(returning)]
+pub fn block_returns(lines: &[Line]) -> bool
+    ensures { result ≡ rule.block_returns (block_of lines.now) }
+{
+    if lines.is_empty() {
+        return false;
+    }
+    surely_returns(&lines[lines.len() - 1].stmt)
 }

@@ -1,6 +1,6 @@
 //! Names by their places.
 
-ghost use Rattle.std.specs.Prelude.{◌≡◌, ◌<◌, ◌+◌, ◌^◌, [], ◌∷◌, ◌++◌, length, MatchResult};
+ghost use Rattle.std.specs.Prelude.{◌≡◌, ◌<◌, ◌≤◌, ◌+◌, ◌-◌, ◌^◌, [], ◌∷◌, ◌++◌, length, take, MatchResult};
 ghost use Rattle.cw_model.specs.Names.{is_among};
 ghost use Rattle.cw_types.specs.Resolved.{slot_of};
 
@@ -78,6 +78,31 @@ impl<'a> Table<'a> {
                 self.names.pop();
                 Err(AllocError)
             }
+        }
+    }
+
+    /// The last name is gone, if there is one.
+    pub fn forget(&mut self)
+        requires { 1 ≤ length self.old }
+        ensures { self.new ≡ take (length self.old - 1) self.old }
+    {
+        if let Some(name) = self.names.pop() {
+            let len = self.names.len() as u32;
+            if let Some(place) = self.places.get(name).copied() {
+                if place == len {
+                    self.places.remove(name);
+                }
+            }
+        }
+    }
+
+    /// The names after the first so many are gone.
+    pub fn leave(&mut self, len: u32)
+        requires { len ≤ length self.old }
+        ensures { self.new ≡ take len self.old }
+    {
+        while self.len() > len {
+            self.forget();
         }
     }
 }

@@ -1,11 +1,11 @@
-//! The rules of names and types on whole sources, with the lines by hand, and the limits at and one past each.
+//! The rules of names and types on whole sources of the first grammar, with the lines by hand.
 
 use crate::checking::check;
 use crate::typed::Typed;
 use cw_lex::lex;
 use cw_parse::parse;
 use cw_text::{Fault, Place, Source};
-use std::alloc::{AllocError, Global};
+use std::alloc::Global;
 use std::test::Fail;
 
 fn typed(alloc: Global, text: &str) -> Result<Typed, Fault> {
@@ -31,272 +31,157 @@ fn too_large(line: u32) -> Option<Fault> {
 }
 
 #[test]
-fn sources_that_keep_the_rules(rt: HostRuntime) -> Result<(), Fail> {
+fn names_are_declared_once_and_before_their_use(rt: HostRuntime) -> Result<(), Fail> {
     let alloc = rt.alloc();
-    for text in [
-        "int main() {\nreturn 0; }",
-        "int main(int a, int b) {\nreturn b; }",
-        "int f(int a, int b) {\nint c = a;\nreturn b; }\nint main() {\nint x = 1;\nint y = x;\nx = f(x, y);\nreturn x; }",
-        "int f(int a) {\nreturn a; }\nint g(int a) {\nint b = a;\nb = cilk_spawn f(a);\ncilk_sync;\nreturn b; }\nint main() {\nint a = 0;\na = g(1);\nreturn a; }",
-    ] {
-        assert_eq!(rt; fault_of(alloc, text), None, "{text}");
-    }
-    Ok(())
-}
-
-#[test]
-fn each_function_has_a_name_of_its_own_and_one_is_main(rt: HostRuntime) -> Result<(), Fail> {
-    let alloc = rt.alloc();
-    for (line, text) in [
-        // no main, which counts in line 1
-        (1, "int f() {\nreturn 0; }"),
-        // two of a name
+    for (fault, text) in [
         (
-            3,
-            "int f() {\nreturn 0; }\nint f() {\nreturn 1; }\nint main() {\nreturn 0; }",
+            None,
+            "int main(int a) {\nint x = a;\nint y = x;\nreturn y; }",
         ),
-    ] {
-        assert_eq!(rt; fault_of(alloc, text), ill_typed(line), "{text}");
-    }
-    Ok(())
-}
-
-#[test]
-fn a_callee_stands_above_its_call(rt: HostRuntime) -> Result<(), Fail> {
-    let alloc = rt.alloc();
-    for (line, text) in [
-        // not there
-        (3, "int main() {\nint x = 0;\nx = f();\nreturn x; }"),
-        // main
+        (ill_typed(3), "int main() {\nint x = 1;\nreturn y; }"),
+        (ill_typed(2), "int main() {\nint x = x;\nreturn x; }"),
         (
-            5,
-            "int f() {\nreturn 0; }\nint main() {\nint x = 0;\nx = main();\nreturn x; }",
-        ),
-        // below
-        (
-            3,
-            "int f() {\nint x = 0;\nx = g();\nreturn x; }\nint g() {\nreturn 1; }\nint main() {\nreturn 0; }",
-        ),
-        // the function itself
-        (
-            3,
-            "int f(int a) {\nint x = 0;\nx = f(x);\nreturn x; }\nint main() {\nreturn 0; }",
-        ),
-    ] {
-        assert_eq!(rt; fault_of(alloc, text), ill_typed(line), "{text}");
-    }
-    Ok(())
-}
-
-#[test]
-fn a_call_has_one_argument_for_each_parameter(rt: HostRuntime) -> Result<(), Fail> {
-    let alloc = rt.alloc();
-    for (line, text) in [
-        // too few
-        (
-            5,
-            "int f(int a, int b) {\nreturn a; }\nint main() {\nint x = 0;\nx = f(x);\nreturn x; }",
-        ),
-        // too many
-        (
-            5,
-            "int f(int a) {\nreturn a; }\nint main() {\nint x = 0;\nx = f(x, x);\nreturn x; }",
-        ),
-    ] {
-        assert_eq!(rt; fault_of(alloc, text), ill_typed(line), "{text}");
-    }
-    Ok(())
-}
-
-#[test]
-fn a_name_is_declared_before_its_use(rt: HostRuntime) -> Result<(), Fail> {
-    let alloc = rt.alloc();
-    for (line, text) in [
-        // as a value
-        (2, "int main() {\nint x = x;\nreturn 0; }"),
-        // as a target
-        (
-            4,
+            ill_typed(4),
             "int f() {\nreturn 0; }\nint main() {\nx = f();\nreturn 0; }",
         ),
-        // as an argument
+        // the same name in two functions
         (
-            5,
-            "int f(int a) {\nreturn 0; }\nint main() {\nint x = 0;\nx = f(y);\nreturn 0; }",
+            None,
+            "int f(int x) {\nint y = x;\nreturn y; }\nint main(int y) {\nint x = y;\nreturn x; }",
         ),
-        // as what is returned
-        (2, "int main() {\nreturn x; }"),
-    ] {
-        assert_eq!(rt; fault_of(alloc, text), ill_typed(line), "{text}");
-    }
-    Ok(())
-}
-
-#[test]
-fn a_name_is_declared_once(rt: HostRuntime) -> Result<(), Fail> {
-    let alloc = rt.alloc();
-    for (line, text) in [
-        // twice in a body
-        (3, "int main() {\nint x = 0;\nint x = 1;\nreturn 0; }"),
-        // as a parameter and in the body
-        (2, "int main(int a) {\nint a = 0;\nreturn 0; }"),
-        // the name of a function
-        (2, "int main() {\nint main = 0;\nreturn 0; }"),
-        // twice as a parameter
-        (1, "int main(int a, int a) {\nreturn 0; }"),
-        // a parameter with the name of a function
-        (3, "int f() {\nreturn 0; }\nint main(int f) {\nreturn 0; }"),
-    ] {
-        assert_eq!(rt; fault_of(alloc, text), ill_typed(line), "{text}");
-    }
-    Ok(())
-}
-
-#[test]
-fn the_least_line_is_told(rt: HostRuntime) -> Result<(), Fail> {
-    let alloc = rt.alloc();
-    for (line, text) in [
-        // both found in one pass
-        (2, "int main() {\nint x = y;\nint x = z;\nreturn 0; }"),
-        // the greater line found first
         (
-            3,
-            "int f() {\nint x = 0;\nx = g();\nreturn 0; }\nint g() {\nint y = z;\nreturn 0; }\nint main() {\nreturn 0; }",
+            ill_typed(3),
+            "int main() {\nint x = 1;\nint x = 2;\nreturn x; }",
         ),
+        (ill_typed(2), "int main(int x) {\nint x = 2;\nreturn x; }"),
+        (ill_typed(2), "int main() {\nint main = 2;\nreturn 0; }"),
     ] {
-        assert_eq!(rt; fault_of(alloc, text), ill_typed(line), "{text}");
+        assert_eq!(rt; fault_of(alloc, text), fault, "{text}");
     }
     Ok(())
 }
 
 #[test]
-fn slots_and_indices(rt: HostRuntime) -> Result<(), Fail> {
+fn calls_have_a_callee_that_is_not_main_and_all_arguments(rt: HostRuntime) -> Result<(), Fail> {
+    let alloc = rt.alloc();
+    for (fault, text) in [
+        // above, below, and the function itself
+        (
+            None,
+            "int f(int n) {\nreturn n; }\nint main() {\nint x = 0;\nx = f(1);\nreturn x; }",
+        ),
+        (
+            None,
+            "int f() {\nint x = 0;\nx = g();\nreturn x; }\nint g() {\nreturn 1; }\nint main() {\nreturn 0; }",
+        ),
+        (
+            None,
+            "int f(int n) {\nint x = 0;\nx = cilk_spawn f(n);\ncilk_sync;\nreturn x; }\nint main() {\nreturn 0; }",
+        ),
+        (
+            ill_typed(3),
+            "int main() {\nint x = 0;\nx = main();\nreturn x; }",
+        ),
+        (
+            ill_typed(3),
+            "int main() {\nint x = 0;\nx = g();\nreturn x; }",
+        ),
+        (
+            None,
+            "int f(int a, int b) {\nreturn a; }\nint main() {\nint x = 0;\nx = f(1, x);\nreturn x; }",
+        ),
+        (
+            ill_typed(5),
+            "int f(int a, int b) {\nreturn a; }\nint main() {\nint x = 0;\nx = f(1);\nreturn x; }",
+        ),
+        (
+            ill_typed(5),
+            "int f(int a) {\nreturn a; }\nint main() {\nint x = 0;\nx = cilk_spawn f(1, 2);\nreturn x; }",
+        ),
+    ] {
+        assert_eq!(rt; fault_of(alloc, text), fault, "{text}");
+    }
+    Ok(())
+}
+
+#[test]
+fn heads_have_names_of_their_own_and_one_is_main(rt: HostRuntime) -> Result<(), Fail> {
+    let alloc = rt.alloc();
+    for (fault, text) in [
+        (
+            None,
+            "\nint f(int a, int b) { return b; }\nint main() { return 0; }",
+        ),
+        (
+            ill_typed(2),
+            "\nint f(int a, int a) { return a; }\nint main() { return 0; }",
+        ),
+        (
+            ill_typed(2),
+            "\nint f(int f) { return f; }\nint main() { return 0; }",
+        ),
+        (
+            ill_typed(2),
+            "int f() { return 0; }\nint f() { return 1; }\nint main() { return 0; }",
+        ),
+        // no main, which counts in line 1
+        (None, "\nint main() { return 0; }"),
+        (ill_typed(1), "\nint f() { return 0; }"),
+    ] {
+        assert_eq!(rt; fault_of(alloc, text), fault, "{text}");
+    }
+    Ok(())
+}
+
+#[test]
+fn the_least_line_is_told_and_a_limit_before_it(rt: HostRuntime) -> Result<(), Fail> {
+    let alloc = rt.alloc();
+    for (fault, text) in [
+        (
+            ill_typed(2),
+            "int main() {\nint x = y;\nint x = z;\nreturn 0; }",
+        ),
+        // a head behind its body
+        (
+            ill_typed(2),
+            "\nint f(int a, int a) {\nreturn z; }\nint main() { return 0; }",
+        ),
+        // 16 parameters, and 17
+        (
+            ill_typed(1),
+            "int f(int a, int b, int c, int d, int e, int g, int h, int i, int j, int k, int l, int m, int n, int o, int p, int q) { return z; }\nint main() { return 0; }",
+        ),
+        (
+            too_large(2),
+            "int f() { return z; }\nint main(int a, int b, int c, int d, int e, int g, int h, int i, int j, int k, int l, int m, int n, int o, int p, int q, int r) { return 0; }",
+        ),
+    ] {
+        assert_eq!(rt; fault_of(alloc, text), fault, "{text}");
+    }
+    Ok(())
+}
+
+#[test]
+fn names_have_their_slots(rt: HostRuntime) -> Result<(), Fail> {
     let alloc = rt.alloc();
     let text =
-        "int f(int a) {\nreturn a; }\nint g() {\nreturn 2; }\nint main(int m) {\nint x = 7;\nint y = m;\ny = g();\nx = f(y);\nreturn x; }";
+        "int f(int a) {\nint b = a;\nreturn b; }\nint main(int l, int m) {\nint x = 7;\nx = f(m);\nreturn x; }";
     let typed = typed(alloc, text)?;
-    assert_eq!(rt; typed.tree.main, 2);
+    assert_eq!(rt; typed.tree.main, 1);
+    assert_eq!(rt; typed.tree.functions.len(), 2);
+    for (function, ints) in typed.tree.functions.iter().zip([2, 3]) {
+        assert_eq!(rt; function.ints, ints);
+        assert_eq!(rt; function.arrays, 0);
+    }
     let shown = format!(in alloc; "{:?}", typed.tree.functions.as_slice().last())?;
     for part in [
-        "slot: 1 }, Number(7)",
-        "slot: 2 }, Variable(Use",
-        "index: 1, arguments: []",
-        "index: 0, arguments: [Variable(Use",
-        "slots: 3",
+        // x behind the parameters, f first of the functions, m behind l
+        "slot: 2 }, Number(7)",
+        "index: 0 }, arguments: [Int(Variable(Use",
+        "slot: 1 }))]",
     ] {
         let found = shown.as_str().find(part).is_some();
         assert!(rt; found, "{part} in {shown}");
-    }
-    Ok(())
-}
-
-// A text with a part repeated, each time with its number.
-fn repeated(
-    alloc: Global,
-    front: &str,
-    part: (&str, usize, &str),
-    back: &str,
-) -> Result<String, AllocError> {
-    let (before, count, after) = part;
-    let mut text = String::from_str(alloc, front)?;
-    for i in 0..count {
-        let row = format!(in alloc; "{before}{i}{after}")?;
-        text.push_str(row.as_str())?;
-    }
-    text.push_str(back)?;
-    Ok(text)
-}
-
-#[test]
-fn a_function_has_at_most_16_parameters(rt: HostRuntime) -> Result<(), Fail> {
-    let alloc = rt.alloc();
-    for (more, fault) in [(15, None), (16, too_large(1))] {
-        let text = repeated(
-            alloc,
-            "int main(int p",
-            (", int p", more, ""),
-            ") { return 0; }",
-        )?;
-        assert_eq!(rt; fault_of(alloc, text.as_str()), fault, "{more} more");
-    }
-    Ok(())
-}
-
-#[test]
-fn a_function_declares_at_most_256_names(rt: HostRuntime) -> Result<(), Fail> {
-    let alloc = rt.alloc();
-    for (fault, front, part, back) in [
-        (
-            None,
-            "int main() {",
-            ("\nint x", 256, " = 0;"),
-            "\nreturn x255; }",
-        ),
-        (
-            too_large(258),
-            "int main() {",
-            ("\nint x", 257, " = 0;"),
-            "\nreturn 0; }",
-        ),
-        // a parameter is one of them
-        (
-            None,
-            "int main(int a) {",
-            ("\nint x", 255, " = a;"),
-            "\nreturn 0; }",
-        ),
-        (
-            too_large(257),
-            "int main(int a) {",
-            ("\nint x", 256, " = a;"),
-            "\nreturn 0; }",
-        ),
-    ] {
-        let text = repeated(alloc, front, part, back)?;
-        assert_eq!(rt; fault_of(alloc, text.as_str()), fault, "{front} {back}");
-    }
-    Ok(())
-}
-
-#[test]
-fn a_program_has_at_most_1024_functions(rt: HostRuntime) -> Result<(), Fail> {
-    let alloc = rt.alloc();
-    for (others, fault) in [(1_023, None), (1_024, too_large(1_025))] {
-        let text = repeated(
-            alloc,
-            "",
-            ("int f", others, "() { return 0; }\n"),
-            "int main() { return 0; }",
-        )?;
-        assert_eq!(rt; fault_of(alloc, text.as_str()), fault, "{others} others");
-    }
-    Ok(())
-}
-
-#[test]
-fn a_limit_comes_before_a_rule(rt: HostRuntime) -> Result<(), Fail> {
-    let alloc = rt.alloc();
-    for (line, front, part, back) in [
-        (
-            1,
-            "int main(int p",
-            (", int p", 16, ""),
-            ") {\nint p0 = y;\nreturn x; }",
-        ),
-        // at whatever line
-        (
-            258,
-            "int main() {",
-            ("\nint x", 257, " = y;"),
-            "\nreturn 0; }",
-        ),
-    ] {
-        let text = repeated(alloc, front, part, back)?;
-        assert_eq!(rt;
-            fault_of(alloc, text.as_str()),
-            too_large(line),
-            "{front} {back}"
-        );
     }
     Ok(())
 }

@@ -1,57 +1,58 @@
-use Rattle.std.proofs.Common.{[], sym, ap, ◌∙◌}
-use Rattle.cw_model.specs.FirstGrammar.{is_first, calls_below}
+use Rattle.std.proofs.Common.{◌≡◌, ℕ, refl, sym, ap, ◌∙◌, Option, Some, None}
 use Rattle.cw_model.specs.Sizes.{limit_faults}
 use Rattle.cw_model.specs.Typing.{type_faults}
-use Rattle.cw_parse.specs.View.{program_of}
-use Rattle.cw_types.specs.Faults.{typing_lines}
-use Rattle.cw_types.specs.Bounds.{are_fitting}
-use Rattle.cw_model.specs.Lines.{lowest}
-use Rattle.cw_types.specs.Resolved.{plain, is_resolved}
-use Rattle.cw_types.specs.Slots.{slot_lines}
 use Rattle.cw_model.proofs.Lowest.{no_lines, least_line}
-use Rattle.cw_types.proofs.Typing.{lines_by_slot}
-use Rattle.cw_types.proofs.Kept.{same_program, right_program}
-use Rattle.cw_types.proofs.Checked.{not_some, well_typed, no_type_fault, no_call_below, slots_fit}
+use Rattle.cw_parse.specs.View.{program_of}
+use Rattle.cw_types.specs.Bounds.{is_fitting}
+use Rattle.cw_types.specs.Resolved.{plain}
+use Rattle.cw_types.specs.Slots.{is_resolved}
+use Rattle.cw_types.proofs.Fitting.{resolved_fits}
+use Rattle.cw_types.proofs.Plain.{plain_of_resolved}
+use Rattle.cw_types.proofs.Right.{resolved_is_right}
 use Rattle.cw_types.proofs.checking.check.Goals as goal
 
+not_some : (o : Option ℕ) → ((n : ℕ) → o ≡ Some n → ⊥) → o ≡ None
+not_some None h = refl
+not_some (Some n) h = absurd (h n refl)
+
 pub returns-in-Some : goal.returns-in-Some
-returns-in-Some c = least_line (limit_faults (program_of c.args.ast)) c.in-Some.line (sym c.limits.ensures ∙ c.in-Some.is)
+returns-in-Some c = least_line (limit_faults (program_of c.args.ast)) c.in-Some.line (sym c.in_ok-size.ensures ∙ c.in-Some.is)
+
+pub faults-requires : goal.faults-requires
+faults-requires c =
+    no_lines (limit_faults (program_of c.args.ast)) (sym c.in_ok-size.ensures ∙ not_some c.in_ok-size.size.line c.in_default.not-Some)
 
 pub resolve-requires : goal.resolve-requires
-resolve-requires c = no_lines (limit_faults (program_of c.args.ast)) (sym c.limits.ensures ∙ not_some c.limits.result.line c.in_default.not-Some)
+resolve-requires c =
+    no_lines (limit_faults (program_of c.args.ast)) (sym c.in_ok-size.ensures ∙ not_some c.in_ok-size.size.line c.in_default.not-Some)
 
 pub returns-in-Some-line : goal.returns-in-Some-line
 returns-in-Some-line c =
     let program = program_of c.args.ast in
     record {
-      within = no_lines (limit_faults program) (sym c.limits.ensures ∙ not_some c.limits.result.line c.in_default.not-Some);
-      least = least_line (typing_lines program) c.in-Some-line.line
-          (sym (lines_by_slot program c.requires)
-          ∙ ap (λ o. lowest o (slot_lines program)) (sym c.new-least.ensures)
-          ∙ sym c.in_ok-tree.ensures.lines
-          ∙ c.in-Some-line.is);
+      within = no_lines (limit_faults program) (sym c.in_ok-size.ensures ∙ not_some c.in_ok-size.size.line c.in_default.not-Some);
+      least = least_line (type_faults program) c.in-Some-line.line (sym c.in_ok-types.ensures ∙ c.in-Some-line.is);
     }
 
 pub invariant_of-result : goal.invariant_of-result
 invariant_of-result c =
     let program = program_of c.args.ast in
-    let within = no_lines (limit_faults program) (sym c.limits.ensures ∙ not_some c.limits.result.line c.in_default.not-Some) in
-    let same = ap plain c.in_ok-tree.ensures.tree ∙ same_program program c.requires in
-    let none = well_typed program c.requires (sym c.in-None.is ∙ c.in_ok-tree.ensures.lines ∙ ap (λ o. lowest o (slot_lines program)) c.new-least.ensures) in
+    let within = no_lines (limit_faults program) (sym c.in_ok-size.ensures ∙ not_some c.in_ok-size.size.line c.in_default.not-Some) in
+    let none = no_lines (type_faults program) (sym c.in_ok-types.ensures ∙ not_some c.in_ok-types.types.line c.in_default-line.not-Some) in
+    let same = ap plain c.in_ok-tree.ensures ∙ plain_of_resolved program none in
     record {
-      resolved = ap is_resolved c.in_ok-tree.ensures.tree ∙ right_program program c.requires;
-      first = ap is_first same ∙ c.requires;
+      resolved = ap is_resolved c.in_ok-tree.ensures ∙ resolved_is_right program none;
       within = ap limit_faults same ∙ within;
-      typed = ap type_faults same ∙ no_type_fault program none;
-      above = ap (λ p. calls_below [] p.functions) same ∙ no_call_below program none;
-      fitting = ap (λ r. are_fitting r.functions) c.in_ok-tree.ensures.tree ∙ slots_fit program c.requires within (no_type_fault program none);
+      typed = ap type_faults same ∙ none;
+      fitting = ap is_fitting c.in_ok-tree.ensures ∙ resolved_fits program within none;
     }
 
 pub returns : goal.returns
 returns c =
     let program = program_of c.args.ast in
+    let none = no_lines (type_faults program) (sym c.in_ok-types.ensures ∙ not_some c.in_ok-types.types.line c.in_default-line.not-Some) in
     record {
-      same = ap plain c.in_ok-tree.ensures.tree ∙ same_program program c.requires;
-      within = no_lines (limit_faults program) (sym c.limits.ensures ∙ not_some c.limits.result.line c.in_default.not-Some);
-      typed = well_typed program c.requires (sym c.in-None.is ∙ c.in_ok-tree.ensures.lines ∙ ap (λ o. lowest o (slot_lines program)) c.new-least.ensures);
+      same = ap plain c.in_ok-tree.ensures ∙ plain_of_resolved program none;
+      within = no_lines (limit_faults program) (sym c.in_ok-size.ensures ∙ not_some c.in_ok-size.size.line c.in_default.not-Some);
+      typed = none;
     }

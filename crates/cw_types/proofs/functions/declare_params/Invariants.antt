@@ -1,14 +1,12 @@
-use Rattle.std.proofs.Common.{◌≡◌, ◌+◌, ◌++◌, ◌&&◌, drop, map, length}
-use Rattle.cw_parse.specs.View as parsed
-use Rattle.cw_types.specs.Resolved.{param_names}
-use Rattle.cw_types.specs.Slots.{are_new}
+use Rattle.std.proofs.Common.{◌≡◌, ◌++◌, ◌&&◌, drop, map}
+use Rattle.cw_model.specs.Typing.{known_of}
+use Rattle.cw_parse.specs.View.{program_of, param_of}
+use Rattle.cw_types.specs.Typing.{are_new}
 use Rattle.cw_types.proofs.functions.declare_params.Given as goal
 
 abbrev pub invariant-loop-param : goal.invariant-loop-param
 invariant-loop-param l = record {
-  as_many : length l.names ≡ length l.fn.names + l.param-index;
-  all : l.names ++ param_names (map parsed.param_of (drop l.param-index l.params))
-      ≡ l.fn.names ++ param_names (map parsed.param_of l.params);
-  same : (l.new && are_new l.globals l.names (param_names (map parsed.param_of (drop l.param-index l.params))))
-      ≡ are_new l.globals l.fn.names (param_names (map parsed.param_of l.params));
+  all : known_of (map param_of (drop l.param-index l.params)) ++ l.known ≡ known_of (map param_of l.params) ++ l.fn.known;
+  same : (l.new && are_new (program_of l.globals.ast.now) l.known (map param_of (drop l.param-index l.params)))
+      ≡ are_new (program_of l.globals.ast.now) l.fn.known (map param_of l.params);
 }

@@ -1,5 +1,5 @@
-use Rattle.std.proofs.Common.{◌≡◌, ℕ, List, [], ◌∷◌, ◌++◌, map, drop, length, nat_le, ap, sym, refl, ◌∙◌, arith}
-use Rattle.std.proofs.lemmas.List.{length-map}
+use Rattle.std.proofs.Common.{◌≡◌, ℕ, zero, suc, List, [], ◌∷◌, ◌++◌, map, drop, length, nat_le, ap, sym, refl, ◌∙◌, arith}
+use Rattle.std.proofs.lemmas.List.{length-map, append-nil}
 use Rattle.cw_model.specs.Limits.{most_declared}
 use Rattle.cw_model.specs.Lines.{unless}
 use Rattle.cw_model.specs.Sizes.{declaring_lines_in}
@@ -13,6 +13,10 @@ heads : (line : ℕ) (ps : List Param) → map (λ _. line) ps ≡ map (λ _. li
 heads line [] = refl
 heads line (p ∷ ps) = ap (λ ls. line ∷ ls) (heads line ps)
 
+dropped : (n : ℕ) → drop {A = ℕ} n [] ≡ []
+dropped zero = refl
+dropped (suc n) = refl
+
 pub returns : goal.returns
 returns c =
     let ps = c.args.function.now.params.items in
@@ -21,7 +25,10 @@ returns c =
     let lines = declaring_lines_in (block_of c.args.function.now.body.items) in
     let count : c.len.result ≡ length (map param_of ps) = grind (arith, length-map) in
     let room = drop most_declared (map (λ _. line) (map param_of ps) ++ lines) in
-    c.body_beyond.ensures
+    let nothing : drop c.block_beyond.result [] ≡ [] = dropped c.block_beyond.result in
+    sym (ap (lowest c.block_beyond.new.least.line) nothing)
+    ∙ c.block_beyond.ensures []
+    ∙ ap (λ ls. lowest c.params_beyond-room.new.least.line (drop c.params_beyond-room.result ls)) (append-nil (declaring_lines_in (block_of c.deref-2.result.now)))
     ∙ ap (λ b. lowest c.params_beyond-room.new.least.line (drop c.params_beyond-room.result (declaring_lines_in (block_of b)))) c.deref-2.ensures.value
     ∙ c.params_beyond-room.ensures lines
     ∙ ap (λ l. lowest c.note.new.self.line (drop most_declared (map (λ _. line) l ++ lines))) c.deref.ensures.value

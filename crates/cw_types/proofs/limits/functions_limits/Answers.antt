@@ -1,33 +1,18 @@
 use Rattle.std.proofs.Common.{◌≡◌, List, ◌∷◌, map, drop, flat_map, ◌+◌, ap, sym, ◌∙◌, arith}
-use Rattle.std.specs.List.{list_all}
 use Rattle.std.proofs.lemmas.Grind.{common_steps}
 use Rattle.cw_model.specs.Syntax.{Function}
-use Rattle.cw_model.specs.FirstGrammar.{is_first_function}
 use Rattle.cw_model.specs.Sizes.{function_limits}
 use Rattle.cw_parse.specs.View.{function_of}
 use Rattle.cw_model.specs.Lines.{lowest}
 use Rattle.cw_model.proofs.Lowest.{lowest-append}
-use Rattle.cw_types.proofs.Looked.{both_left, both_right}
-use Rattle.cw_types.proofs.Simple.{functions_are_simple}
 use Rattle.cw_types.proofs.limits.functions_limits.Goals as goal
-
-pub function_limits-requires : goal.function_limits-requires
-function_limits-requires c =
-    let f = function_of c.function-item.result in
-    let rest = map function_of (drop (c.loop-function.function-index + 1) c.args.functions.now) in
-    let split : map function_of (drop c.loop-function.function-index c.args.functions.now) ≡ f ∷ rest = grind (arith, common_steps) in
-    functions_are_simple f (both_left (is_first_function f) (list_all is_first_function rest) (ap (list_all is_first_function) (sym split) ∙ c.loop-function.invariant.first))
 
 pub loop-function-preserved : goal.loop-function-preserved
 loop-function-preserved c =
     let f = function_of c.function-item.result in
     let rest = map function_of (drop (c.loop-function.function-index + 1) c.args.functions.now) in
     let split : map function_of (drop c.loop-function.function-index c.args.functions.now) ≡ f ∷ rest = grind (arith, common_steps) in
-    record {
-      first = both_right (is_first_function f) (list_all is_first_function rest) (ap (list_all is_first_function) (sym split) ∙ c.loop-function.invariant.first);
-      same =
-          ap (λ o. lowest o (flat_map function_limits rest)) c.function_limits.ensures
-          ∙ sym (lowest-append c.loop-function.least.line (function_limits f) (flat_map function_limits rest))
-          ∙ ap (λ (fs : List Function). lowest c.loop-function.least.line (flat_map function_limits fs)) (sym split)
-          ∙ c.loop-function.invariant.same;
-    }
+    ap (λ o. lowest o (flat_map function_limits rest)) c.function_limits.ensures
+    ∙ sym (lowest-append c.loop-function.least.line (function_limits f) (flat_map function_limits rest))
+    ∙ ap (λ (fs : List Function). lowest c.loop-function.least.line (flat_map function_limits fs)) (sym split)
+    ∙ c.loop-function.invariant

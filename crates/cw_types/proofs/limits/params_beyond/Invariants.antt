@@ -3,6 +3,6 @@ use Rattle.cw_model.specs.Lines.{lowest}
 use Rattle.cw_types.proofs.limits.params_beyond.Given as goal
 
 abbrev pub invariant-loop-param : goal.invariant-loop-param
-invariant-loop-param l = (lines : List ℕ) →
-    lowest l.least.line (drop l.left (map (λ _. l.line) (drop l._param-index l.params) ++ lines))
-    ≡ lowest l.fn.least.line (drop l.room (map (λ _. l.line) l.params ++ lines))
+invariant-loop-param l = (more : List ℕ) →
+    lowest l.least.line (drop l.left (map (λ _. l.line) (drop l._param-index l.params) ++ more))
+    ≡ lowest l.fn.least.line (drop l.room (map (λ _. l.line) l.params ++ more))

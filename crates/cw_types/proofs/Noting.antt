@@ -1,0 +1,165 @@
+-- The lines that break a rule of names and types, in the order in which the code finds them.
+use Rattle.std.proofs.Common.{Bor, ◌==◌, ◌&&◌, ◌||◌, get_or, zero, option_map, option_copied, ◌≡◌, ℕ, suc, ◌-◌, ◌≤◌, Bool, true, false, if◌then◌else◌, List, [], ◌∷◌, ◌++◌, length, map, drop, Option, Some, None, slice_get, refl, sym, ap, ◌∙◌, arith}
+use Rattle.std.proofs.lemmas.List.{append-nil}
+use Rattle.std.proofs.lemmas.Bool.Decides.{nat_tests}
+use Rattle.cw_model.specs.Lines.{unless, lowest}
+use Rattle.cw_model.specs.Names.{same_name, is_among}
+use Rattle.cw_model.specs.Syntax.{Name, Expr, Param, Function, Program, Stmt, Declare, DeclareArray, Assign, AssignElement, AddTo, Call, Start, Begin, Sync, If, IfElse, While, For, Scope, Cut, Region, Print, Return}
+use Rattle.cw_model.specs.Typing.{Known, Returns, ends_block, faults_in, declares, called, is_argument, are_arguments, block_returns, surely_returns}
+use Rattle.cw_model.proofs.Lowest.{lowest-append}
+use Rattle.cw_parse.specs.declared.tree.Function.{Function as CodeFunction}
+use Rattle.cw_parse.specs.declared.tree.Line.{Line, the_lemmas}
+use Rattle.cw_parse.specs.View.{function_of, block_of, stmt_of}
+use Rattle.cw_types.specs.Globals.{option_function}
+use Rattle.cw_types.specs.Resolved.{slot_of, function_names}
+use Rattle.cw_types.specs.Typing.{keeps_rules, faults_inside, oldest}
+
+pub by_parts : (program : Program) (returns : Returns) (known : Known) (line : ℕ) (s : Stmt) →
+    faults_in program returns known line s ≡ unless (keeps_rules program returns known s) line ++ faults_inside program returns known s
+by_parts program returns known line (Declare x e) = sym (append-nil (unless (keeps_rules program returns known (Declare x e)) line))
+by_parts program returns known line (DeclareArray a e) = sym (append-nil (unless (keeps_rules program returns known (DeclareArray a e)) line))
+by_parts program returns known line (Assign x e) = sym (append-nil (unless (keeps_rules program returns known (Assign x e)) line))
+by_parts program returns known line (AssignElement a i e) = sym (append-nil (unless (keeps_rules program returns known (AssignElement a i e)) line))
+by_parts program returns known line (AddTo s e) = sym (append-nil (unless (keeps_rules program returns known (AddTo s e)) line))
+by_parts program returns known line (Call kind site target f es) = sym (append-nil (unless (keeps_rules program returns known (Call kind site target f es)) line))
+by_parts program returns known line (Start kind f es) = refl
+by_parts program returns known line (Begin f from to captured over) = refl
+by_parts program returns known line Sync = refl
+by_parts program returns known line (If e b) = refl
+by_parts program returns known line (IfElse e b c) = refl
+by_parts program returns known line (While e b) = refl
+by_parts program returns known line (For x y z from to grain over b) = refl
+by_parts program returns known line (Scope b) = refl
+by_parts program returns known line (Cut a e l r b) = refl
+by_parts program returns known line (Region tag b) = refl
+by_parts program returns known line (Print e) = sym (append-nil (unless (keeps_rules program returns known (Print e)) line))
+by_parts program returns known line (Return e) = sym (append-nil (unless (keeps_rules program returns known (Return e)) line))
+
+-- what a statement declares is newer
+pub oldest_more : (k : Name × Bool) (ks : Known) (n : ℕ) → n ≤ length ks → oldest n (k ∷ ks) ≡ oldest n ks
+oldest_more k ks n h =
+    let more : length (k ∷ ks) - n ≡ suc (length ks - n) = omega arith in
+    ap (λ i. drop i (k ∷ ks)) more
+
+pub oldest_declares : (s : Stmt) (ks : Known) (n : ℕ) → n ≤ length ks → oldest n (declares s ks) ≡ oldest n ks
+oldest_declares (Declare x e) ks n h = oldest_more (x, false) ks n h
+oldest_declares (DeclareArray a e) ks n h = oldest_more (a, true) ks n h
+oldest_declares (Assign x e) ks n h = refl
+oldest_declares (AssignElement a i e) ks n h = refl
+oldest_declares (AddTo s e) ks n h = refl
+oldest_declares (Call kind site target f es) ks n h = refl
+oldest_declares (Start kind f es) ks n h = refl
+oldest_declares (Begin f from to captured over) ks n h = refl
+oldest_declares Sync ks n h = refl
+oldest_declares (If e b) ks n h = refl
+oldest_declares (IfElse e b c) ks n h = refl
+oldest_declares (While e b) ks n h = refl
+oldest_declares (For x y z from to grain over b) ks n h = refl
+oldest_declares (Scope b) ks n h = refl
+oldest_declares (Cut a e l r b) ks n h = refl
+oldest_declares (Region tag b) ks n h = refl
+oldest_declares (Print e) ks n h = refl
+oldest_declares (Return e) ks n h = refl
+
+pub longer_declares : (s : Stmt) (ks : Known) (n : ℕ) → n ≤ length ks → n ≤ length (declares s ks)
+longer_declares (Declare x e) ks n h = omega arith
+longer_declares (DeclareArray a e) ks n h = omega arith
+longer_declares (Assign x e) ks n h = h
+longer_declares (AssignElement a i e) ks n h = h
+longer_declares (AddTo s e) ks n h = h
+longer_declares (Call kind site target f es) ks n h = h
+longer_declares (Start kind f es) ks n h = h
+longer_declares (Begin f from to captured over) ks n h = h
+longer_declares Sync ks n h = h
+longer_declares (If e b) ks n h = h
+longer_declares (IfElse e b c) ks n h = h
+longer_declares (While e b) ks n h = h
+longer_declares (For x y z from to grain over b) ks n h = h
+longer_declares (Scope b) ks n h = h
+longer_declares (Cut a e l r b) ks n h = h
+longer_declares (Region tag b) ks n h = h
+longer_declares (Print e) ks n h = h
+longer_declares (Return e) ks n h = h
+
+-- a name and what is known then
+pub oldest_whole : (ks : Known) → oldest (length ks) ks ≡ ks
+oldest_whole ks = ap (λ n. drop n ks) (none (length ks))
+  where
+    none : (n : ℕ) → n - n ≡ 0
+    none n = omega arith
+
+-- a statement and those after it, as they are noted
+pub noted : (keeps rest_stands : Bool) (line : ℕ) (inner rest : List ℕ) (p q r s t : Option ℕ) →
+    q ≡ lowest p (unless keeps line) → r ≡ lowest q inner → s ≡ lowest r (unless rest_stands line) → t ≡ lowest s rest →
+    t ≡ lowest p ((unless keeps line ++ inner) ++ (unless rest_stands line ++ rest))
+noted keeps stands line inner rest p q r s t first second third fourth =
+    fourth
+    ∙ ap (λ o. lowest o rest) third
+    ∙ sym (lowest-append r (unless stands line) rest)
+    ∙ ap (λ o. lowest o (unless stands line ++ rest)) (second ∙ ap (λ o. lowest o inner) first ∙ sym (lowest-append p (unless keeps line) inner))
+    ∙ sym (lowest-append p (unless keeps line ++ inner) (unless stands line ++ rest))
+
+-- the first function of a name is the one at its place
+pub called_at : (x : Name) (fs : List Function) → slice_get fs (slot_of x (function_names fs)) ≡ called x fs
+called_at x [] = refl
+called_at x (f ∷ fs) = first (same_name x f.name) (called_at x fs)
+  where
+    first : (b : Bool) → slice_get fs (slot_of x (function_names fs)) ≡ called x fs →
+        slice_get (f ∷ fs) (if b then 0 else suc (slot_of x (function_names fs))) ≡ (if b then Some f else called x fs)
+    first true h = refl
+    first false h = h
+
+-- a name among names in two lists
+pub among_append : (x : Name) (xs ys : List Name) → is_among x (xs ++ ys) ≡ (is_among x xs || is_among x ys)
+among_append x [] ys = refl
+among_append x (y ∷ xs) ys = first (same_name x y) (among_append x xs ys)
+  where
+    first : (b : Bool) → is_among x (xs ++ ys) ≡ (is_among x xs || is_among x ys) →
+        (if b then true else is_among x (xs ++ ys)) ≡ ((if b then true else is_among x xs) || is_among x ys)
+    first true h = refl
+    first false h = h
+
+-- as many arguments as parameters
+pub unequal : (known : Known) (ps : List Param) (es : List Expr) → (length ps ≡ length es → ⊥) → are_arguments known ps es ≡ false
+unequal known [] [] h = absurd (h refl)
+unequal known [] (e ∷ es) h = refl
+unequal known (p ∷ ps) [] h = refl
+unequal known (p ∷ ps) (e ∷ es) h = first (is_argument known p.is_array e) (unequal known ps es (λ k. h (omega (arith, k))))
+  where
+    first : (b : Bool) → are_arguments known ps es ≡ false → (b && are_arguments known ps es) ≡ false
+    first true k = k
+    first false k = refl
+
+-- a function that was found
+pub found_function : (fs : List CodeFunction) (i : ℕ) (r : Option (Bor CodeFunction)) → option_copied r ≡ slice_get fs i → option_function r ≡ slice_get (map function_of fs) i
+found_function fs i r h = as_copied r ∙ ap (option_map function_of) h ∙ mapped fs i
+  where
+    as_copied : (r : Option (Bor CodeFunction)) → option_function r ≡ option_map function_of (option_copied r)
+    as_copied None = refl
+    as_copied (Some f) = refl
+
+    mapped : (fs : List CodeFunction) (i : ℕ) → option_map function_of (slice_get fs i) ≡ slice_get (map function_of fs) i
+    mapped [] i = refl
+    mapped (f ∷ fs) zero = refl
+    mapped (f ∷ fs) (suc i) = mapped fs i
+
+-- the last statement of a block
+pub last_returns : (ls : List Line) (k : ℕ) (d : Line) → suc k ≡ length ls → block_returns (block_of ls) ≡ surely_returns (stmt_of (get_or ls k d).stmt)
+last_returns [] k d h = absurd (omega (arith, h))
+last_returns (l ∷ []) zero d h = grind (arith, the_lemmas)
+last_returns (l ∷ []) (suc k) d h = absurd (omega (arith, h))
+last_returns (l ∷ m ∷ ls) zero d h = absurd (omega (arith, h))
+last_returns (l ∷ m ∷ ls) (suc k) d h = last_returns (m ∷ ls) k d (omega (arith, h))
+
+pub not_empty : (n : ℕ) → false ≡ (n == 0) → suc (n - 1) ≡ n
+not_empty zero h = cc
+not_empty (suc n) h = omega arith
+
+pub ends_empty : (ls : List Line) → (length ls == 0) ≡ ends_block (block_of ls)
+ends_empty [] = refl
+ends_empty (l ∷ ls) = more (length ls)
+  where
+    more : (n : ℕ) → (suc n == 0) ≡ false
+    more n = grind (arith, nat_tests)
+
+pub ruleset ends = (ends_empty)

@@ -1,0 +1,8 @@
+use Rattle.std.proofs.Common.{◌≡◌, drop, map}
+use Rattle.std.specs.List.{list_any}
+use Rattle.cw_parse.specs.View.{param_of}
+use Rattle.cw_types.proofs.functions.has_array.Given as goal
+
+abbrev pub invariant-loop-param : goal.invariant-loop-param
+invariant-loop-param l =
+    list_any (λ p. p.is_array) (map param_of (drop l.param-index l.params)) ≡ list_any (λ p. p.is_array) (map param_of l.params)

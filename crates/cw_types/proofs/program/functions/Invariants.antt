@@ -1,0 +1,11 @@
+use Rattle.std.proofs.Common.{◌≡◌, ◌++◌, drop, map}
+use Rattle.cw_parse.specs.View as parsed
+use Rattle.cw_types.specs.Locals.{lists_view}
+use Rattle.cw_types.specs.Resolved as spec
+use Rattle.cw_types.specs.View.{function_of}
+use Rattle.cw_types.proofs.program.functions.Given as goal
+
+abbrev pub invariant-loop-f : goal.invariant-loop-f
+invariant-loop-f l =
+    map function_of l.found.items ++ map (spec.resolved_function (lists_view l.lists)) (map parsed.function_of (drop l.f-index l.functions))
+    ≡ map (spec.resolved_function (lists_view l.lists)) (map parsed.function_of l.functions)

@@ -1,0 +1,7 @@
+use Rattle.std.proofs.Common.{◌≡◌, ◌++◌, drop, map}
+use Rattle.cw_parse.specs.View as parsed
+use Rattle.cw_types.specs.View.{param_of}
+use Rattle.cw_types.proofs.program.params.Given as goal
+
+abbrev pub invariant-loop-param : goal.invariant-loop-param
+invariant-loop-param l = map param_of l.found.items ++ map parsed.param_of (drop l.param-index l.params) ≡ map parsed.param_of l.params

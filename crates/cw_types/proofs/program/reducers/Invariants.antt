@@ -1,0 +1,7 @@
+use Rattle.std.proofs.Common.{◌≡◌, ◌++◌, drop, map}
+use Rattle.cw_parse.specs.View as parsed
+use Rattle.cw_types.specs.View.{reducer_of}
+use Rattle.cw_types.proofs.program.reducers.Given as goal
+
+abbrev pub invariant-loop-reducer : goal.invariant-loop-reducer
+invariant-loop-reducer l = map reducer_of l.found.items ++ map parsed.reducer_of (drop l.reducer-index l.reducers) ≡ map parsed.reducer_of l.reducers

@@ -1,0 +1,11 @@
+use Rattle.std.proofs.Common.{◌≡◌, drop, map, length}
+use Rattle.cw_model.specs.Typing.{are_arguments}
+use Rattle.cw_parse.specs.View.{param_of, expr_of}
+use Rattle.cw_types.proofs.rules.are_arguments.Given as goal
+
+abbrev pub invariant-loop-i : goal.invariant-loop-i
+invariant-loop-i l = record {
+  as_many : length l.params ≡ length l.arguments;
+  same : are_arguments l.known (map param_of (drop l.i l.params)) (map expr_of (drop l.i l.arguments))
+      ≡ are_arguments l.known (map param_of l.params) (map expr_of l.arguments);
+}

@@ -1,0 +1,10 @@
+-- A function that is looked up in a program.
+use Rattle.std.specs.Prelude.{Option, option_map}
+use Rattle.std.specs.Borrow.{Bor}
+use Rattle.cw_model.specs.Syntax as model
+use Rattle.cw_parse.specs.declared.tree.Function.{Function}
+use Rattle.cw_parse.specs.View.{function_of}
+
+-- the function of the definitions that was found, if one was
+abbrev pub option_function : Option (Bor Function) → Option model.Function
+option_function found = option_map (λ f. function_of f.now) found

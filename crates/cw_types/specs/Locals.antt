@@ -1,0 +1,17 @@
+-- The locals that are known, as the code has them.
+use Rattle.std.specs.Prelude.{ℕ, ◌+◌, length}
+use Rattle.cw_types.specs.declared.locals.Locals.{Locals}
+use Rattle.cw_types.specs.declared.lists.Lists.{Lists}
+use Rattle.cw_types.specs.Resolved as spec
+
+-- the locals of the code as those of the definitions
+abbrev pub locals_view : Locals → spec.Locals
+locals_view l = record { ints = l.ints; arrays = l.arrays }
+
+-- how many there are
+abbrev pub locals_count : Locals → ℕ
+locals_count l = length l.ints + length l.arrays
+
+-- the lists of the code as those of the definitions
+abbrev pub lists_view : Lists → spec.Lists
+lists_view l = record { functions = l.functions; reducers = l.reducers; tags = l.tags }

@@ -1,0 +1,69 @@
+-- The rules of names and types by the parts that the code tests them in.
+use Rattle.std.specs.Prelude.{ℕ, ◌-◌, Bool, true, false, not, ◌&&◌, ◌||◌, List, [], ◌∷◌, ◌++◌, length, drop, Option, Some, None, if◌then◌else◌}
+use Rattle.cw_model.specs.Syntax.{Name, Param, Function, Program, Stmt, Declare, DeclareArray, Assign, AssignElement, AddTo, Call, Start, Begin, Sync, If, IfElse, While, For, Scope, Cut, Region, Print, Return}
+use Rattle.cw_model.specs.Names.{same_name}
+use Rattle.cw_model.specs.Typing.{Known, Returns, Nowhere, is_fine, is_new, is_int, is_array, is_reducer, is_call, called, is_head_of_loop, is_cut, may_return, block_returns, faults_in_block}
+use Rattle.std.specs.List.{list_any}
+use Rattle.cw_model.specs.Answers.{main_name}
+use Rattle.cw_parse.specs.declared.tree.Head.{Head}
+use Rattle.cw_parse.specs.declared.tree.Cut.{Cut as Parts}
+use Rattle.cw_parse.specs.View.{expr_of}
+
+-- the newest name that is spelled so is an array, or an integer, if there is one
+abbrev pub kind_of : Name → Known → Option Bool
+kind_of x [] = None
+kind_of x (k ∷ ks) = if same_name x k.0 then Some k.1 else kind_of x ks
+
+-- the oldest so many names
+abbrev pub oldest : ℕ → Known → Known
+oldest n known = drop (length known - n) known
+
+-- the head of a loop of the code keeps the rules
+abbrev pub is_head : Program → Known → Head → Bool
+is_head program known h =
+    is_head_of_loop program known h.variable h.tested h.stepped (expr_of h.from) (expr_of h.to) h.grain h.over.items
+
+-- a cut of the code keeps the rules
+abbrev pub cuts : Program → Known → Parts → Bool
+cuts program known c = is_cut program known c.array (expr_of c.at) c.left c.right
+
+-- what stands in the line of a statement itself keeps the rules, the blocks in it aside
+abbrev pub keeps_rules : Program → Returns → Known → Stmt → Bool
+keeps_rules program returns known (Declare x e) = is_fine known e && is_new program known x
+keeps_rules program returns known (DeclareArray a e) = is_fine known e && is_new program known a
+keeps_rules program returns known (Assign x e) = is_int known x && is_fine known e
+keeps_rules program returns known (AssignElement a i e) = is_array known a && is_fine known i && is_fine known e
+keeps_rules program returns known (AddTo s e) = is_reducer program s && is_fine known e
+keeps_rules program returns known (Call kind site target f es) = is_call known target (called f program.functions) es
+keeps_rules program returns known (Start kind callee es) = false
+keeps_rules program returns known (Begin callee from to captured over) = false
+keeps_rules program returns known Sync = true
+keeps_rules program returns known (If e b) = is_fine known e
+keeps_rules program returns known (IfElse e b c) = is_fine known e
+keeps_rules program returns known (While e b) = is_fine known e
+keeps_rules program returns known (For x y z from to grain over b) = is_head_of_loop program known x y z from to grain over
+keeps_rules program returns known (Scope b) = true
+keeps_rules program returns known (Cut a e l r b) = is_cut program known a e l r
+keeps_rules program returns known (Region tag b) = true
+keeps_rules program returns known (Print e) = is_fine known e
+keeps_rules program returns known (Return e) = may_return returns known e
+
+-- the lines of the blocks in a statement that break a rule
+abbrev pub faults_inside : Program → Returns → Known → Stmt → List ℕ
+faults_inside program returns known (If e b) = faults_in_block program returns known b
+faults_inside program returns known (IfElse e b c) = faults_in_block program returns known b ++ faults_in_block program returns known c
+faults_inside program returns known (While e b) = faults_in_block program returns known b
+faults_inside program returns known (For x y z from to grain over b) = faults_in_block program Nowhere ((x, false) ∷ known) b
+faults_inside program returns known (Scope b) = faults_in_block program Nowhere known b
+faults_inside program returns known (Cut a e l r b) = faults_in_block program Nowhere ((r, true) ∷ (l, true) ∷ known) b
+faults_inside program returns known (Region tag b) = faults_in_block program Nowhere known b
+faults_inside program returns known _ = []
+
+-- parameters are new names that differ, where these names are known
+abbrev pub are_new : Program → Known → List Param → Bool
+are_new program known [] = true
+are_new program known (p ∷ ps) = is_new program known p.name && are_new program ((p.name, p.is_array) ∷ known) ps
+
+-- a function that gives an integer surely returns, and main is one of integers alone
+abbrev pub keeps_head : Function → Bool
+keeps_head f = (not f.gives_int || block_returns f.body) && (not (same_name f.name main_name) || (f.gives_int && not (list_any (λ p. p.is_array) f.params)))

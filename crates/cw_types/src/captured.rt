@@ -1,0 +1,158 @@
+//! The integers from outside that the body of a loop reads.
+#![tactic(auto, using(crate::proofs::Reading::uses, std::proofs::lemmas::Grind::common_steps))]
+
+ghost use Rattle.std.specs.Prelude.{◌≡◌, [], map, IfOk, OnOk};
+ghost use Rattle.cw_types.specs.Resolved.{reads, argument_reads, arguments_read, head_reads, reads_in, reads_in_block, first_uses, with_first, captured_in, is_slot_in};
+ghost use Rattle.cw_types.specs.View.{use_of, expr_of, argument_of, head_of, stmt_of, block_of};
+
+use crate::tree::{Argument, Expr, Head, Line, Stmt, Use};
+use cw_parse::tree::Name;
+use std::alloc::{AllocError, Global};
+
+/// The integers that a body reads of those that have the first so many slots, each once and in the
+/// order of their first use.
+pub fn captured(alloc: Global, count: u32, body: &[Line]) -> Result<Vec<Use>, AllocError>
+    ensures { IfOk result (λ found. map use_of found.items ≡ captured_in count (block_of body.now)) }
+{
+    let mut found = Vec::new(alloc);
+    block(alloc, count, &mut found, body)?;
+    Ok(found)
+}
+
+// Whether one of the uses has the slot.
+fn has_slot(found: &[Use], slot: u32) -> bool
+    ensures { result ≡ is_slot_in slot (map (λ w. w.slot) (map use_of found.now)) }
+{
+    for used in found {
+        if used.slot == slot {
+            return true;
+        }
+    }
+    false
+}
+
+// One use more.
+fn note(alloc: Global, count: u32, found: &mut Vec<Use>, used: &Use) -> Result<(), AllocError>
+    ensures { OnOk result (map use_of found.new.items ≡ with_first count (map use_of found.old.items) (use_of used.now)) }
+{
+    if used.slot < count && !has_slot(found, used.slot) {
+        let name = Name::new(alloc, used.name.as_bytes())?;
+        let slot = used.slot;
+        found.push(Use { name, slot })?;
+    }
+    Ok(())
+}
+
+// Uses in order.
+fn notes(alloc: Global, count: u32, found: &mut Vec<Use>, uses: &[Use]) -> Result<(), AllocError>
+    ensures { OnOk result (map use_of found.new.items ≡ first_uses count (map use_of found.old.items) (map use_of uses.now)) }
+{
+    for used in uses {
+        note(alloc, count, found, used)?;
+    }
+    Ok(())
+}
+
+// What an expression reads.
+fn expression(alloc: Global, count: u32, found: &mut Vec<Use>, e: &Expr) -> Result<(), AllocError>
+    ensures { OnOk result (map use_of found.new.items ≡ first_uses count (map use_of found.old.items) (reads (expr_of e.now))) }
+{
+    match e {
+        Expr::Number(_) | Expr::Length(_) => Ok(()),
+        Expr::Variable(used) => note(alloc, count, found, used),
+        Expr::Element(_, e) | Expr::Negative(e) | Expr::Not(e) => expression(
+            alloc, count, found, e,
+        ),
+        Expr::Binary(_, d, e) => {
+            expression(alloc, count, found, d)?;
+            expression(alloc, count, found, e)?;
+            Ok(())
+        }
+    }
+}
+
+// What an argument reads.
+fn argument(alloc: Global, count: u32, found: &mut Vec<Use>, e: &Argument) -> Result<(), AllocError>
+    ensures { OnOk result (map use_of found.new.items ≡ first_uses count (map use_of found.old.items) (argument_reads (argument_of e.now))) }
+{
+    match e {
+        Argument::Int(e) => expression(alloc, count, found, e),
+        Argument::Array(_) => Ok(()),
+    }
+}
+
+// What arguments read.
+fn arguments(
+    alloc: Global,
+    count: u32,
+    found: &mut Vec<Use>,
+    es: &[Argument],
+) -> Result<(), AllocError>
+    ensures { OnOk result (map use_of found.new.items ≡ first_uses count (map use_of found.old.items) (arguments_read (map argument_of es.now))) }
+{
+    for e in es {
+        argument(alloc, count, found, e)?;
+    }
+    Ok(())
+}
+
+// What the head of a loop reads, and what its body takes from outside.
+fn head(alloc: Global, count: u32, found: &mut Vec<Use>, head: &Head) -> Result<(), AllocError>
+    ensures { OnOk result (map use_of found.new.items ≡ first_uses count (map use_of found.old.items) (head_reads (head_of head.now))) }
+{
+    expression(alloc, count, found, &head.from)?;
+    expression(alloc, count, found, &head.to)?;
+    notes(alloc, count, found, &head.captured)?;
+    Ok(())
+}
+
+// What statements in order read.
+#[cycle(reading)]
+fn block(alloc: Global, count: u32, found: &mut Vec<Use>, lines: &[Line]) -> Result<(), AllocError>
+    ensures { OnOk result (map use_of found.new.items ≡ first_uses count (map use_of found.old.items) (reads_in_block (block_of lines.now))) }
+{
+    for line in lines {
+        statement(alloc, count, found, &line.stmt)?;
+    }
+    Ok(())
+}
+
+// What a statement reads.
+#[cycle(reading)]
+fn statement(alloc: Global, count: u32, found: &mut Vec<Use>, stmt: &Stmt) -> Result<(), AllocError>
+    ensures { OnOk result (map use_of found.new.items ≡ first_uses count (map use_of found.old.items) (reads_in (stmt_of stmt.now))) }
+{
+    match stmt {
+        Stmt::Declare(_, e)
+        | Stmt::DeclareArray(_, e)
+        | Stmt::Assign(_, e)
+        | Stmt::AddTo(_, e)
+        | Stmt::Print(e)
+        | Stmt::Return(Some(e)) => expression(alloc, count, found, e),
+        Stmt::AssignElement(_, i, e) => {
+            expression(alloc, count, found, i)?;
+            expression(alloc, count, found, e)?;
+            Ok(())
+        }
+        Stmt::Call(call) => arguments(alloc, count, found, &call.arguments),
+        Stmt::Sync | Stmt::Return(None) => Ok(()),
+        Stmt::If(e, b) | Stmt::While(e, b) => {
+            expression(alloc, count, found, e)?;
+            block(alloc, count, found, b)?;
+            Ok(())
+        }
+        Stmt::IfElse(e, b, c) => {
+            expression(alloc, count, found, e)?;
+            block(alloc, count, found, b)?;
+            block(alloc, count, found, c)?;
+            Ok(())
+        }
+        Stmt::For(h, _) => head(alloc, count, found, h),
+        Stmt::Scope(b) | Stmt::Region(_, b) => block(alloc, count, found, b),
+        Stmt::Cut(cut, b) => {
+            expression(alloc, count, found, &cut.at)?;
+            block(alloc, count, found, b)?;
+            Ok(())
+        }
+    }
+}

@@ -1,0 +1,79 @@
+//! The names of a whole program.
+
+ghost use Rattle.std.specs.Prelude.{◌≡◌, ◌<◌, ◌≤◌, ◌^◌, length, map, IfOk, OnOk, option_copied, IfSome};
+ghost use Rattle.cw_model.specs.Names.{is_among};
+ghost use Rattle.cw_model.specs.Typing.{globals as globals_of, called};
+ghost use Rattle.cw_parse.specs.View.{program_of, function_of, reducer_of};
+ghost use Rattle.cw_types.specs.Globals.{option_function};
+ghost use Rattle.cw_types.specs.Resolved as spec;
+
+use crate::table::Table;
+use cw_parse::tree::{Ast, Function, Reducer};
+use std::alloc::{AllocError, Global};
+
+/// A program, and its functions and reducers by their names.
+#[derive(Drop)]
+pub struct Globals<'a> {
+    pub ast: &'a Ast,
+    pub functions: Table<'a>,
+    pub reducers: Table<'a>,
+    // Each table has the names in the order of the program.
+    pub ghost functions_named: { functions ≡ spec.function_names (program_of ast.now).functions },
+    pub ghost reducers_named: { reducers ≡ spec.reducer_names (program_of ast.now).reducers },
+}
+
+impl<'a> Globals<'a> {
+    /// The tables of a program.
+    pub fn new(alloc: Global, ast: &'a Ast) -> Result<Globals<'a>, AllocError>
+        requires few_functions { length ast.now.functions.items < 2 ^ 32 }
+        requires few_reducers { length ast.now.reducers.items < 2 ^ 32 }
+        ensures { IfOk result (λ globals. globals.ast.now ≡ ast.now) }
+    {
+        let functions = function_names(alloc, &ast.functions)?;
+        let reducers = reducer_names(alloc, &ast.reducers)?;
+        Ok(Globals {
+            ast,
+            functions,
+            reducers,
+        })
+    }
+
+    /// Whether a function or a reducer has the name.
+    pub fn has(&self, name: &[u8]) -> bool
+        ensures { result ≡ is_among name.now (globals_of (program_of self.now.ast.now)) }
+    {
+        self.functions.has(name) || self.reducers.has(name)
+    }
+
+    /// The first function of a name, if there is one.
+    pub fn function(&self, name: &[u8]) -> Option<&'a Function>
+        ensures { option_function result ≡ called name.now (program_of self.now.ast.now).functions }
+    {
+        let index = self.functions.find(name) as usize;
+        self.ast.functions.get(index)
+    }
+}
+
+/// The names of functions in their order.
+pub fn function_names<'a>(alloc: Global, functions: &'a [Function]) -> Result<Table<'a>, AllocError>
+    requires { length functions.now < 2 ^ 32 }
+    ensures { IfOk result (λ names. names ≡ spec.function_names (map function_of functions.now)) }
+{
+    let mut names = Table::new(alloc);
+    for function in functions {
+        names.add(function.name.as_bytes())?;
+    }
+    Ok(names)
+}
+
+/// The names of reducers in their order.
+pub fn reducer_names<'a>(alloc: Global, reducers: &'a [Reducer]) -> Result<Table<'a>, AllocError>
+    requires { length reducers.now < 2 ^ 32 }
+    ensures { IfOk result (λ names. names ≡ spec.reducer_names (map reducer_of reducers.now)) }
+{
+    let mut names = Table::new(alloc);
+    for reducer in reducers {
+        names.add(reducer.name.as_bytes())?;
+    }
+    Ok(names)
+}

@@ -1,0 +1,43 @@
+//! The locals that are known.
+
+ghost use Rattle.std.specs.Prelude.{◌≡◌, ◌<◌, ◌+◌, ◌^◌, [], OnOk};
+ghost use Rattle.cw_parse.specs.View.{stmt_of};
+ghost use Rattle.cw_types.specs.Declares.{declares_in};
+ghost use Rattle.cw_types.specs.Locals.{locals_view, locals_count};
+ghost use Rattle.cw_types.specs.Resolved.{locals_after};
+
+use crate::table::Table;
+use cw_parse::tree::Stmt;
+use std::alloc::{AllocError, Global};
+
+/// The integers and the arrays that are known, each in the order of their declaration.
+#[derive(Drop)]
+pub struct Locals<'a> {
+    pub ints: Table<'a>,
+    pub arrays: Table<'a>,
+}
+
+impl<'a> Locals<'a> {
+    /// No local.
+    pub fn new(alloc: Global) -> Locals<'a>
+        ensures ints { result.ints ≡ [] }
+        ensures arrays { result.arrays ≡ [] }
+    {
+        Locals {
+            ints: Table::new(alloc),
+            arrays: Table::new(alloc),
+        }
+    }
+}
+
+/// Declares the local that the statement declares, if it declares one.
+pub fn declare<'a>(locals: &mut Locals<'a>, stmt: &'a Stmt) -> Result<(), AllocError>
+    requires { locals_count locals.old + declares_in (stmt_of stmt.now) < 2 ^ 32 }
+    ensures { OnOk result (locals_view locals.new ≡ locals_after (locals_view locals.old) (stmt_of stmt.now)) }
+{
+    match stmt {
+        Stmt::Declare(x, _) => locals.ints.add(x.as_bytes()),
+        Stmt::DeclareArray(a, _) => locals.arrays.add(a.as_bytes()),
+        _ => Ok(()),
+    }
+}

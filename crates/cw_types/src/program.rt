@@ -1,0 +1,134 @@
+//! Names looked up in a whole program.
+
+ghost use Rattle.std.specs.Prelude.{◌≡◌, ◌≤◌, ◌<◌, ◌+◌, ◌++◌, ◌^◌, [], map, length, All, IfOk, OnOk};
+ghost use Rattle.cw_model.specs.Sizes.{limit_faults};
+ghost use Rattle.cw_parse.specs.View as parsed;
+ghost use Rattle.cw_types.specs.Declares.{declares_in_block};
+ghost use Rattle.cw_types.specs.Locals.{lists_view, locals_count};
+ghost use Rattle.cw_types.specs.Resolved as spec;
+ghost use Rattle.cw_types.specs.View.{resolved_of, function_of, param_of, reducer_of};
+
+use crate::frames::{arrays_of_block, ints_of_block};
+use crate::globals::{function_names, reducer_names};
+use crate::lists::Lists;
+use crate::locals::Locals;
+use crate::regions::regions;
+use crate::resolve::copy;
+use crate::rules::MAIN;
+use crate::statements::block;
+use crate::tags::{different, tag_names, tag_table};
+use crate::tree;
+use cw_parse::tree::{Ast, Function, Param, Reducer};
+use std::alloc::{AllocError, Global};
+
+/// The resolved tree of a program that passes no limit.
+pub fn resolve(alloc: Global, ast: &Ast) -> Result<tree::Tree, AllocError>
+    requires { limit_faults (parsed.program_of ast.now) ≡ [] }
+    ensures { IfOk result (λ tree. resolved_of tree ≡ spec.resolved (parsed.program_of ast.now)) }
+{
+    let regions = regions(alloc, &ast.functions)?;
+    let different = different(alloc, &regions)?;
+    let function_table = function_names(alloc, &ast.functions)?;
+    let reducer_table = reducer_names(alloc, &ast.reducers)?;
+    let tag_table = tag_table(alloc, &different)?;
+    let lists = Lists {
+        functions: function_table,
+        reducers: reducer_table,
+        tags: tag_table,
+    };
+    let reducers = reducers(alloc, &ast.reducers)?;
+    let functions = functions(alloc, &lists, &ast.functions)?;
+    let tags = tag_names(alloc, &different)?;
+    let main = lists.functions.find(MAIN);
+    Ok(tree::Tree {
+        reducers,
+        functions,
+        tags,
+        main,
+    })
+}
+
+// The reducers in their order.
+fn reducers(alloc: Global, reducers: &[Reducer]) -> Result<Vec<tree::Reducer>, AllocError>
+    ensures { IfOk result (λ found. map reducer_of found.items ≡ map parsed.reducer_of reducers.now) }
+{
+    let mut found = Vec::new(alloc);
+    for reducer in reducers {
+        let name = copy(alloc, &reducer.name)?;
+        let line = reducer.line;
+        found.push(tree::Reducer { name, line })?;
+    }
+    Ok(found)
+}
+
+// The functions in their order, each name looked up.
+fn functions(
+    alloc: Global,
+    lists: &Lists,
+    functions: &[Function],
+) -> Result<Vec<tree::Function>, AllocError>
+    requires { All (λ f. length f.params.items + declares_in_block (parsed.block_of f.body.items) ≤ 256) functions.now }
+    ensures { IfOk result (λ found. map function_of found.items ≡ map (spec.resolved_function (lists_view lists.now)) (map parsed.function_of functions.now)) }
+{
+    let mut found = Vec::new(alloc);
+    for f in functions {
+        let resolved = function(alloc, lists, f)?;
+        found.push(resolved)?;
+    }
+    Ok(found)
+}
+
+// One function, each name looked up.
+fn function(alloc: Global, lists: &Lists, f: &Function) -> Result<tree::Function, AllocError>
+    requires { length f.now.params.items + declares_in_block (parsed.block_of f.now.body.items) ≤ 256 }
+    ensures { IfOk result (λ found. function_of found ≡ spec.resolved_function (lists_view lists.now) (parsed.function_of f.now)) }
+{
+    let mut locals = Locals::new(alloc);
+    declare_params(&mut locals, &f.params)?;
+    let known_ints = locals.ints.len() as u64;
+    let known_arrays = locals.arrays.len() as u64;
+    let body = block(alloc, lists, &mut locals, &f.body)?;
+    let int_slots = ints_of_block(known_ints, &body);
+    let array_slots = arrays_of_block(known_arrays, &body);
+    let name = copy(alloc, &f.name)?;
+    let params = params(alloc, &f.params)?;
+    Ok(tree::Function {
+        name,
+        line: f.line,
+        gives_int: f.gives_int,
+        params,
+        ints: int_slots as u32,
+        arrays: array_slots as u32,
+        body,
+    })
+}
+
+// Declares the parameters.
+fn declare_params<'a>(locals: &mut Locals<'a>, params: &'a [Param]) -> Result<(), AllocError>
+    requires { locals_count locals.old + length params.now < 2 ^ 32 }
+    ensures ints { OnOk result (locals.new.ints ≡ locals.old.ints ++ (spec.locals_of (map parsed.param_of params.now)).ints) }
+    ensures arrays { OnOk result (locals.new.arrays ≡ locals.old.arrays ++ (spec.locals_of (map parsed.param_of params.now)).arrays) }
+{
+    for param in params {
+        let name = param.name.as_bytes();
+        if param.is_array {
+            locals.arrays.add(name)?;
+        } else {
+            locals.ints.add(name)?;
+        }
+    }
+    Ok(())
+}
+
+// The parameters in their order.
+fn params(alloc: Global, params: &[Param]) -> Result<Vec<tree::Param>, AllocError>
+    ensures { IfOk result (λ found. map param_of found.items ≡ map parsed.param_of params.now) }
+{
+    let mut found = Vec::new(alloc);
+    for param in params {
+        let name = copy(alloc, &param.name)?;
+        let is_array = param.is_array;
+        found.push(tree::Param { name, is_array })?;
+    }
+    Ok(found)
+}

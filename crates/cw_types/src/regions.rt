@@ -1,0 +1,67 @@
+//! The regions of a program in their order.
+
+ghost use Rattle.std.specs.Prelude.{◌≡◌, ◌++◌, map, flat_map, IfOk, OnOk};
+ghost use Rattle.cw_model.specs.Sizes.{regions_in, regions_in_block};
+ghost use Rattle.cw_parse.specs.View.{block_of, stmt_of, function_of};
+ghost use Rattle.cw_types.specs.Regions.{regions_of};
+
+use cw_parse::tree::{Function, Line, Stmt};
+use std::alloc::{AllocError, Global};
+
+/// A region by its tag, and the line of its first token.
+#[derive(Clone, Copy)]
+pub struct Marked<'a> {
+    pub tag: &'a [u8],
+    pub line: u32,
+}
+
+/// All regions of these functions.
+pub fn regions<'a>(alloc: Global, functions: &'a [Function]) -> Result<Vec<Marked<'a>>, AllocError>
+    ensures { IfOk result (λ found. regions_of found.items ≡ flat_map (λ f. regions_in_block f.body) (map function_of functions.now)) }
+{
+    let mut found = Vec::new(alloc);
+    for function in functions {
+        block(&mut found, &function.body)?;
+    }
+    Ok(found)
+}
+
+// Adds the regions of statements in order.
+#[cycle(marking)]
+fn block<'a>(found: &mut Vec<Marked<'a>>, lines: &'a [Line]) -> Result<(), AllocError>
+    ensures { OnOk result (regions_of found.new.items ≡ regions_of found.old.items ++ regions_in_block (block_of lines.now)) }
+{
+    for line in lines {
+        statement(found, line.line, &line.stmt)?;
+    }
+    Ok(())
+}
+
+// Adds the regions of a statement of a line.
+#[cycle(marking)]
+fn statement<'a>(found: &mut Vec<Marked<'a>>, line: u32, stmt: &'a Stmt) -> Result<(), AllocError>
+    ensures { OnOk result (regions_of found.new.items ≡ regions_of found.old.items ++ regions_in line (stmt_of stmt.now)) }
+{
+    match stmt {
+        Stmt::If(_, b) | Stmt::While(_, b) | Stmt::For(_, b) | Stmt::Scope(b) | Stmt::Cut(_, b) =>
+            block(found, b),
+        Stmt::IfElse(_, b, c) => {
+            block(found, b)?;
+            block(found, c)
+        }
+        Stmt::Region(tag, b) => {
+            let tag = tag.as_bytes();
+            found.push(Marked { tag, line })?;
+            block(found, b)
+        }
+        Stmt::Declare(_, _)
+        | Stmt::DeclareArray(_, _)
+        | Stmt::Assign(_, _)
+        | Stmt::AssignElement(_, _, _)
+        | Stmt::AddTo(_, _)
+        | Stmt::Call(_)
+        | Stmt::Sync
+        | Stmt::Print(_)
+        | Stmt::Return(_) => Ok(()),
+    }
+}

@@ -1,0 +1,72 @@
+//! Names of functions and reducers that are there twice.
+
+ghost use Rattle.std.specs.Prelude.{◌≡◌, [], nat_le, if◌then◌else◌, map, flat_map, OnOk};
+ghost use Rattle.cw_model.specs.Lines.{lowest};
+ghost use Rattle.cw_model.specs.Typing.{repeated, of_both_kinds};
+ghost use Rattle.cw_parse.specs.View.{function_of, reducer_of};
+ghost use Rattle.cw_types.specs.Named.{functions_named, reducers_named};
+
+use crate::known::Known;
+use cw_parse::tree::{Function, Reducer};
+use cw_text::LeastLine;
+use std::alloc::{AllocError, Global};
+
+/// Notes the line of each function whose name an earlier one has.
+pub fn repeated_functions(
+    alloc: Global,
+    functions: &[Function],
+    least: &mut LeastLine,
+) -> Result<(), AllocError>
+    ensures { OnOk result (least.new.line ≡ lowest least.old.line (repeated (functions_named (map function_of functions.now)) [])) }
+{
+    let mut earlier = Known::new(alloc);
+    for function in functions {
+        let name = function.name.as_bytes();
+        least.note(!earlier.has(name), function.line);
+        earlier.declare(name, false)?;
+    }
+    Ok(())
+}
+
+/// Notes the line of each reducer whose name an earlier one has.
+pub fn repeated_reducers(
+    alloc: Global,
+    reducers: &[Reducer],
+    least: &mut LeastLine,
+) -> Result<(), AllocError>
+    ensures { OnOk result (least.new.line ≡ lowest least.old.line (repeated (reducers_named (map reducer_of reducers.now)) [])) }
+{
+    let mut earlier = Known::new(alloc);
+    for reducer in reducers {
+        let name = reducer.name.as_bytes();
+        least.note(!earlier.has(name), reducer.line);
+        earlier.declare(name, false)?;
+    }
+    Ok(())
+}
+
+/// Notes of each reducer and each function of its name the later line.
+pub fn shared_names(functions: &[Function], reducers: &[Reducer], least: &mut LeastLine)
+    ensures { least.new.line ≡ lowest least.old.line (flat_map (of_both_kinds (functions_named (map function_of functions.now))) (reducers_named (map reducer_of reducers.now))) }
+{
+    for reducer in reducers {
+        shared_name(functions, reducer, least);
+    }
+}
+
+// The same of one reducer.
+fn shared_name(functions: &[Function], reducer: &Reducer, least: &mut LeastLine)
+    ensures { least.new.line ≡ lowest least.old.line (of_both_kinds (functions_named (map function_of functions.now)) (reducer.now.name, reducer.now.line)) }
+{
+    for function in functions {
+        let differ = !(reducer.name.as_bytes() == function.name.as_bytes());
+        least.note(differ, later(reducer.line, function.line));
+    }
+}
+
+// The later of two lines.
+fn later(line: u32, other: u32) -> u32
+    ensures { result ≡ (if nat_le line other then other else line) }
+{
+    if line <= other { other } else { line }
+}

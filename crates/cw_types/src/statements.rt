@@ -1,0 +1,174 @@
+//! Names looked up in statements and blocks.
+
+ghost use Rattle.std.specs.Prelude.{◌≡◌, ◌<◌, ◌+◌, ◌^◌, true, IfOk, OnOk};
+ghost use Rattle.cw_parse.specs.View as parsed;
+ghost use Rattle.cw_types.specs.Declares.{declares_in, declares_in_block, is_plain};
+ghost use Rattle.cw_types.specs.Locals.{locals_view, locals_count, lists_view};
+ghost use Rattle.cw_types.specs.Resolved as spec;
+ghost use Rattle.cw_types.specs.View.{block_of, stmt_of};
+
+use crate::lists::Lists;
+use crate::locals::{Locals, declare};
+use crate::resolve::{call, cut, expression, head, listed, next_use, returned, use_of};
+use crate::tree;
+use cw_parse::tree::{Line, Stmt};
+use std::alloc::{AllocError, Global};
+
+/// The statements of a block, each name looked up; the names that it declares are gone after it.
+#[cycle(statements)]
+pub fn block<'a>(
+    alloc: Global,
+    lists: &Lists,
+    locals: &mut Locals<'a>,
+    lines: &'a [Line],
+) -> Result<Vec<tree::Line>, AllocError>
+    requires { locals_count locals.old + declares_in_block (parsed.block_of lines.now) < 2 ^ 32 }
+    ensures tree { IfOk result (λ found. block_of found.items ≡ spec.resolved_block (lists_view lists.now) (locals_view locals.old) (parsed.block_of lines.now)) }
+    ensures ints { OnOk result (locals.new.ints ≡ locals.old.ints) }
+    ensures arrays { OnOk result (locals.new.arrays ≡ locals.old.arrays) }
+{
+    let ints = locals.ints.len();
+    let arrays = locals.arrays.len();
+    let mut found = Vec::new(alloc);
+    for line in lines {
+        let stmt = statement(alloc, lists, locals, &line.stmt)?;
+        declare(locals, &line.stmt)?;
+        found.push(tree::Line {
+            line: line.line,
+            stmt,
+        })?;
+    }
+    locals.ints.leave(ints);
+    locals.arrays.leave(arrays);
+    Ok(found)
+}
+
+// A statement, each name looked up; what it declares is not known after it yet.
+#[cycle(statements)]
+fn statement<'a>(
+    alloc: Global,
+    lists: &Lists,
+    locals: &mut Locals<'a>,
+    stmt: &'a Stmt,
+) -> Result<tree::Stmt, AllocError>
+    requires { locals_count locals.old + declares_in (parsed.stmt_of stmt.now) < 2 ^ 32 }
+    ensures tree { IfOk result (λ found. stmt_of found ≡ spec.resolved_stmt (lists_view lists.now) (locals_view locals.old) (parsed.stmt_of stmt.now)) }
+    ensures ints { OnOk result (locals.new.ints ≡ locals.old.ints) }
+    ensures arrays { OnOk result (locals.new.arrays ≡ locals.old.arrays) }
+{
+    match stmt {
+        Stmt::If(e, b) => {
+            let condition = expression(alloc, locals, e)?;
+            let body = block(alloc, lists, locals, b)?;
+            Ok(tree::Stmt::If(condition, body))
+        }
+        Stmt::IfElse(e, b, c) => {
+            let condition = expression(alloc, locals, e)?;
+            let body = block(alloc, lists, locals, b)?;
+            let other = block(alloc, lists, locals, c)?;
+            Ok(tree::Stmt::IfElse(condition, body, other))
+        }
+        Stmt::While(e, b) => {
+            let condition = expression(alloc, locals, e)?;
+            let body = block(alloc, lists, locals, b)?;
+            Ok(tree::Stmt::While(condition, body))
+        }
+        Stmt::For(h, b) => {
+            locals.ints.add(h.variable.as_bytes())?;
+            let body = block(alloc, lists, locals, b)?;
+            locals.ints.forget();
+            let head = head(alloc, locals, h, &body)?;
+            Ok(tree::Stmt::For(head, body))
+        }
+        Stmt::Scope(b) => {
+            let body = block(alloc, lists, locals, b)?;
+            Ok(tree::Stmt::Scope(body))
+        }
+        Stmt::Cut(c, b) => {
+            let parts = cut(alloc, locals, c)?;
+            locals.arrays.add(c.left.as_bytes())?;
+            locals.arrays.add(c.right.as_bytes())?;
+            let body = block(alloc, lists, locals, b)?;
+            locals.arrays.forget();
+            locals.arrays.forget();
+            Ok(tree::Stmt::Cut(parts, body))
+        }
+        Stmt::Region(tag, b) => {
+            let tag = listed(alloc, &lists.tags, tag)?;
+            let body = block(alloc, lists, locals, b)?;
+            Ok(tree::Stmt::Region(tag, body))
+        }
+        Stmt::Declare(_, _)
+        | Stmt::DeclareArray(_, _)
+        | Stmt::Assign(_, _)
+        | Stmt::AssignElement(_, _, _)
+        | Stmt::AddTo(_, _)
+        | Stmt::Call(_)
+        | Stmt::Sync
+        | Stmt::Print(_)
+        | Stmt::Return(_) => {
+            let found = plain(alloc, lists, locals, stmt)?;
+            Ok(found)
+        }
+    }
+}
+
+// A statement without blocks, each name looked up.
+fn plain(
+    alloc: Global,
+    lists: &Lists,
+    locals: &Locals,
+    stmt: &Stmt,
+) -> Result<tree::Stmt, AllocError>
+    requires { is_plain (parsed.stmt_of stmt.now) ≡ true }
+    ensures { IfOk result (λ found. stmt_of found ≡ spec.resolved_stmt (lists_view lists.now) (locals_view locals.now) (parsed.stmt_of stmt.now)) }
+{
+    match stmt {
+        Stmt::Declare(x, e) => {
+            let name = next_use(alloc, &locals.ints, x)?;
+            let value = expression(alloc, locals, e)?;
+            Ok(tree::Stmt::Declare(name, value))
+        }
+        Stmt::DeclareArray(a, e) => {
+            let name = next_use(alloc, &locals.arrays, a)?;
+            let length = expression(alloc, locals, e)?;
+            Ok(tree::Stmt::DeclareArray(name, length))
+        }
+        Stmt::Assign(x, e) => {
+            let name = use_of(alloc, &locals.ints, x)?;
+            let value = expression(alloc, locals, e)?;
+            Ok(tree::Stmt::Assign(name, value))
+        }
+        Stmt::AssignElement(a, i, e) => {
+            let name = use_of(alloc, &locals.arrays, a)?;
+            let index = expression(alloc, locals, i)?;
+            let value = expression(alloc, locals, e)?;
+            Ok(tree::Stmt::AssignElement(name, index, value))
+        }
+        Stmt::AddTo(s, e) => {
+            let reducer = listed(alloc, &lists.reducers, s)?;
+            let value = expression(alloc, locals, e)?;
+            Ok(tree::Stmt::AddTo(reducer, value))
+        }
+        Stmt::Call(c) => {
+            let found = call(alloc, lists, locals, c)?;
+            Ok(tree::Stmt::Call(found))
+        }
+        Stmt::Print(e) => {
+            let value = expression(alloc, locals, e)?;
+            Ok(tree::Stmt::Print(value))
+        }
+        Stmt::Return(e) => {
+            let value = returned(alloc, locals, e)?;
+            Ok(tree::Stmt::Return(value))
+        }
+        Stmt::Sync
+        | Stmt::If(_, _)
+        | Stmt::IfElse(_, _, _)
+        | Stmt::While(_, _)
+        | Stmt::For(_, _)
+        | Stmt::Scope(_)
+        | Stmt::Cut(_, _)
+        | Stmt::Region(_, _) => Ok(tree::Stmt::Sync),
+    }
+}

@@ -1,0 +1,50 @@
+//! The different tags of a program.
+
+ghost use Rattle.std.specs.Prelude.{◌≡◌, ◌<◌, ◌^◌, [], map, length, IfOk};
+ghost use Rattle.cw_model.specs.Sizes.{first_places};
+ghost use Rattle.cw_types.specs.Regions.{regions_of, tags_of};
+
+use crate::known::Known;
+use crate::regions::Marked;
+use crate::table::Table;
+use cw_parse::tree::Name;
+use std::alloc::{AllocError, Global};
+
+/// The first region of each tag.
+pub fn different<'a>(alloc: Global, regions: &[Marked<'a>]) -> Result<Vec<Marked<'a>>, AllocError>
+    ensures { IfOk result (λ found. regions_of found.items ≡ first_places (regions_of regions.now) []) }
+{
+    let mut seen = Known::new(alloc);
+    let mut found = Vec::new(alloc);
+    for region in regions {
+        if !seen.has(region.tag) {
+            seen.declare(region.tag, false)?;
+            found.push(*region)?;
+        }
+    }
+    Ok(found)
+}
+
+/// The tags of regions by their places.
+pub fn tag_table<'a>(alloc: Global, regions: &[Marked<'a>]) -> Result<Table<'a>, AllocError>
+    requires { length regions.now < 2 ^ 32 }
+    ensures { IfOk result (λ names. names ≡ tags_of regions.now) }
+{
+    let mut names = Table::new(alloc);
+    for region in regions {
+        names.add(region.tag)?;
+    }
+    Ok(names)
+}
+
+/// Copies of the tags of regions.
+pub fn tag_names(alloc: Global, regions: &[Marked]) -> Result<Vec<Name>, AllocError>
+    ensures { IfOk result (λ names. names.items ≡ tags_of regions.now) }
+{
+    let mut names = Vec::new(alloc);
+    for region in regions {
+        let name = Name::new(alloc, region.tag)?;
+        names.push(name)?;
+    }
+    Ok(names)
+}
