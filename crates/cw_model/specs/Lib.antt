@@ -6,7 +6,6 @@ pub mod Tokens
 pub mod Syntax
 pub mod Names
 pub mod Grammar
-pub mod FirstGrammar
 pub mod Ints
 pub mod Frames
 pub mod Expressions

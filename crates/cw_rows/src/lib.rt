@@ -2,6 +2,8 @@
 #![tactic(auto)]
 
 #[cfg(test)]
+mod integers;
+#[cfg(test)]
 mod program;
 #[cfg(test)]
 mod refusals;

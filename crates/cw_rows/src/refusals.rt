@@ -38,7 +38,6 @@ const NO_SOURCES: &[(&str, &str)] = &[
     ("int main() { return 0;\n", "refused 2 line 2\n"),
     ("int main() {\n  return 0\n}\n", "refused 2 line 3\n"),
     ("int main() { return 0; }\n;", "refused 2 line 2\n"),
-    ("int main() { }", "refused 2 line 1\n"),
     // 65 brackets, whatever the grammar says of them
     (
         "int\n((((((((((((((((((((((((((((((((((((((((((((((((((((((((((((((((\n(",
@@ -54,6 +53,7 @@ const NO_PROGRAMS: &[(&str, &str)] = &[
         "refused 5 line 1\n",
     ),
     ("int f() { return 0; }", "refused 3 line 1\n"),
+    ("int main() { }", "refused 3 line 1\n"),
     (
         "int main() { int x = 0;\nx = g(1); return x; }",
         "refused 3 line 2\n",
@@ -85,6 +85,55 @@ const NO_PROGRAMS: &[(&str, &str)] = &[
     ),
     (
         "int f(int v) { return v; }\nint main() {\n  int x = 0;\n  x = cilk_spawn f(1);\n  return x;\n}",
+        "refused 4 line 5\n",
+    ),
+    // a turn of a loop meets what the turn before it took
+    (
+        "int f(int v) { return v; } int main() { int x = 0; while (x < 1) { x = cilk_spawn f(1); } cilk_sync; return 0; }",
+        "refused 4 line 1\n",
+    ),
+    (
+        "int f(int v) { return v; } int main() { int x = 0; int y = 0; while (x < 1) { y = cilk_spawn f(1); } cilk_sync; return 0; }",
+        "refused 4 line 1\n",
+    ),
+    // one array twice, an array that is cut, and an integer from outside a parallel loop
+    (
+        "void g(int a[], int b[]) { } int main() { int a[1]; g(a, a); return 0; }",
+        "refused 4 line 1\n",
+    ),
+    (
+        "int main() { int a[2]; cut a at 1 as l, r { cilk_sync; print(len(a)); } return 0; }",
+        "refused 4 line 1\n",
+    ),
+    (
+        "int main() { int t = 0; cilk_for (int i = 0; i < 4; i++) { t = t + i; } return t; }",
+        "refused 4 line 1\n",
+    ),
+    // a tag of 33 bytes
+    (
+        "int main() {\nregion t01234567890123456789012345678901 { }\nreturn 0; }",
+        "refused 5 line 2\n",
+    ),
+    // what is not taken so far: arrays, parallel loops and reducers, after ownership
+    ("int main() {\nint a[1];\nreturn 0; }", "refused 5 line 2\n"),
+    (
+        "int main() { return 0; }\nint f(int a[]) { return 0; }",
+        "refused 5 line 2\n",
+    ),
+    (
+        "int main() {\ncilk_for (int i = 0; i < 2; i++) { }\nreturn 0; }",
+        "refused 5 line 2\n",
+    ),
+    (
+        "int main() { return 0; }\nreducer sum s;",
+        "refused 5 line 2\n",
+    ),
+    (
+        "int main() {\ns += 1;\nreturn 0; }\nreducer sum s;",
+        "refused 5 line 2\n",
+    ),
+    (
+        "void g(int a[]) { }\nint main() {\nint a[1];\ncilk_spawn g(a);\nprint(a[0]);\ncilk_sync;\nreturn 0; }",
         "refused 4 line 5\n",
     ),
     // types before ownership, though further down
