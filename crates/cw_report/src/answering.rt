@@ -10,8 +10,8 @@ use crate::sink::Sink;
 use crate::text::{ended_text, printed_text};
 use crate::writing::write_text;
 use cw_machine::alone::Ended;
-use cw_verify::verified::Verified;
 use cw_text::Fault;
+use cw_verify::verified::Verified;
 use std::alloc::Global;
 
 /// Writes the report of a check: `ok` and a line feed. No memory is taken.
