@@ -86,6 +86,82 @@ const OPERATORS: &str = "int main() {
 const BRANCHES: &str =
     "int main() { int i = 0; while (i < 2) { if (i == 0) { print(7); } else { print(8); } i = i + 1; } return i; }";
 
+// two programs of examples/
+const PRIMES: &str =
+    "// How many primes lie below n: ranges are halved down to 16 numbers, and the first half is spawned.
+// cilkwork run primes.cilk 1000
+// There are 168 primes below 1000.
+
+int is_prime(int n) {
+  if (n < 2) {
+    return 0;
+  }
+  int d = 2;
+  while (d * d <= n) {
+    if (n % d == 0) {
+      return 0;
+    }
+    d = d + 1;
+  }
+  return 1;
+}
+
+int primes(int from, int to) {
+  int count = 0;
+  if (to - from <= 16) {
+    int p = 0;
+    while (from < to) {
+      p = is_prime(from);
+      count = count + p;
+      from = from + 1;
+    }
+    return count;
+  }
+  int middle = from + (to - from) / 2;
+  int rest = 0;
+  count = cilk_spawn primes(from, middle);
+  rest = primes(middle, to);
+  cilk_sync;
+  return count + rest;
+}
+
+int main(int n) {
+  int count = 0;
+  count = primes(0, n);
+  return count;
+}
+";
+
+const COLLATZ: &str =
+    "// For each number from 1 to n, the steps that halving and tripling take to reach 1; prints the steps of each
+// number, in the order of the numbers, whatever runs beside what.
+// cilkwork run collatz.cilk 5
+// 1: 0 steps; 2: 1; 3, 10, 5, 16, 8, 4, 2, 1: 7; 4: 2; 5, 16, 8, 4, 2, 1: 5.
+
+void collatz(int n) {
+  int count = 0;
+  while (n != 1) {
+    if (n % 2 == 0) {
+      n = n / 2;
+    } else {
+      n = 3 * n + 1;
+    }
+    count = count + 1;
+  }
+  print(count);
+}
+
+int main(int n) {
+  int i = 1;
+  while (i <= n) {
+    cilk_spawn collatz(i);
+    i = i + 1;
+  }
+  cilk_sync;
+  return 0;
+}
+";
+
 #[test]
 fn runs_control_flow_and_recursion(rt: HostRuntime) -> Result<(), Fail> {
     let rows: &[Row] = &[
@@ -242,6 +318,19 @@ fn runs_the_deepest_expressions(rt: HostRuntime) -> Result<(), Fail> {
         assert_eq!(rt; told.0, status, "{count} of {open}");
         assert_eq!(rt; told.1.as_slice(), out.as_bytes(), "{count} of {open}");
         assert_eq!(rt; told.2.as_slice(), err.as_bytes(), "{count} of {open}");
+    }
+    Ok(())
+}
+
+#[test]
+fn runs_the_examples(rt: HostRuntime) -> Result<(), Fail> {
+    for (words, source, wanted) in [
+        ("run primes.cilk 1000", PRIMES, "return 168\n"),
+        ("run collatz.cilk 5", COLLATZ, "0\n1\n7\n2\n5\nreturn 0\n"),
+    ] {
+        let (status, out, err) = answer(rt.alloc(), words, source.as_bytes())?;
+        assert_eq!(rt; (status, err.len()), (0, 0), "{words}");
+        assert_eq!(rt; out.as_slice(), wanted.as_bytes(), "{words}");
     }
     Ok(())
 }
