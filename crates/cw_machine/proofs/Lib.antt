@@ -1,6 +1,7 @@
 pub mod Decided
 pub mod Cells
 pub mod Holding
-pub mod Moves
+pub mod Order
+mod Moves
 pub mod Running
 pub mod FromMain
