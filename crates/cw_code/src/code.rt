@@ -1,18 +1,36 @@
 //! Instructions, functions and call sites.
 
-use cw_model::syntax::CallKind;
+use cw_model::syntax::{CallKind, Operator};
 
 /// What a call names.
 #[derive(Clone, Copy, Debug, PartialEq, Eq)]
 pub struct Callee {
     /// The index of its function in the code.
     pub function: u32,
-    /// The number of its call site.
+    /// The number of its call site, from 1.
     pub site: u32,
     /// The line of its statement, from 1: a trap of the call is told there.
     pub line: u32,
     /// The slot of the caller that takes its result; without one the result is dropped.
     pub target: Option<u32>,
+}
+
+/// An operator on one operand.
+#[derive(Clone, Copy, Debug, PartialEq, Eq)]
+pub enum UnaryOperator {
+    /// The number with the other sign. Overflow is a trap.
+    Negative,
+    /// 1 for 0, and 0 for every other number.
+    Not,
+}
+
+/// What a sync block inside a call is.
+#[derive(Clone, Copy, Debug, PartialEq, Eq)]
+pub enum BlockKind {
+    /// A scope.
+    Scope,
+    /// A region with the tag of this index in the code.
+    Region(u32),
 }
 
 /// One instruction, which costs one unit of work. Slots are counted from 0 in each call.
@@ -24,23 +42,45 @@ pub enum Instr {
     Load(u32),
     /// The last operand, into a slot that is not empty.
     Store(u32),
-    /// A call in place: it takes its arguments from the operands, the last one last, and its result goes into its
-    /// slot as it ends.
-    Call(Callee),
-    /// A call that may run beside what follows it: its slot is empty up to the next join, where the result goes
-    /// into it.
-    Spawn(Callee),
-    /// A join: the results of spawned calls go into their slots.
+    /// An operator on the last operand; a trap of it is told in this line.
+    Unary(UnaryOperator, u32),
+    /// An operator on the last two operands, the first one first; a trap of it is told in this line.
+    Binary(Operator, u32),
+    /// On past so many places after the next one.
+    Skip(u32),
+    /// The last operand: on past so many places after the next one where it is 0, else to the next one.
+    SkipIfZero(u32),
+    /// Back by so many places.
+    GoBack(u32),
+    /// A call, which takes its arguments from the operands, the last one last. In place, its result goes into its
+    /// slot as it ends. Spawned, it may run beside what follows it: its slot is empty up to the next join of the
+    /// sync block, where the result goes into it.
+    Call(CallKind, Callee),
+    /// A join: the results of the calls that the innermost sync block spawned go into their slots.
     Sync,
+    /// A sync block begins.
+    Open(BlockKind),
+    /// A join, and the end of the innermost sync block.
+    Close,
+    /// The last operand is printed.
+    Print,
+    /// The last operand is added to the reducer of this index.
+    AddTo(u32),
     /// A join, and the end of the call with the last operand as its value.
+    ReturnValue,
+    /// A join, and the end of a call that gives no value.
     Return,
 }
 
-/// A function.
+/// A function. Its instructions stand in a row.
 #[derive(Clone, Copy, Debug, PartialEq, Eq)]
 pub struct Func {
     /// The index of its first instruction.
     pub start: usize,
+    /// The index after its last instruction.
+    pub end: usize,
+    /// Whether its calls give a value.
+    pub gives_int: bool,
     /// The count of its parameters, which take the first slots.
     pub params: usize,
     /// The count of its slots, parameters included.
@@ -58,6 +98,8 @@ pub struct Site {
     pub line: u32,
     /// The name of the function that it calls.
     pub callee: Vec<u8>,
+    /// The index of that function in the code.
+    pub function: u32,
 }
 
 /// The code of a program.
@@ -71,4 +113,8 @@ pub struct Code {
     pub main: u32,
     /// The call sites, in source order.
     pub sites: Vec<Site>,
+    /// The names of the reducers, in source order.
+    pub reducers: Vec<Vec<u8>>,
+    /// The different tags of the regions, in the order of their first places.
+    pub tags: Vec<Vec<u8>>,
 }
