@@ -1,0 +1,49 @@
+-- Codes that do not fit, for one reason each.
+use Rattle.std.specs.Prelude.{ℕ, ◌+◌, ℤ, pos, true, List, [], ◌∷◌, Option, None}
+use Rattle.cw_model.specs.declared.syntax.CallKind.{CallKind}
+use Rattle.cw_model.specs.declared.syntax.CallKind.TheVariants.{Plain, Spawned}
+use Rattle.cw_model.specs.Sites.{Of}
+use Rattle.cw_code.specs.declared.code.Callee.{Callee}
+use Rattle.cw_code.specs.declared.code.Func.{Func}
+use Rattle.cw_code.specs.declared.code.Instr.{Instr}
+use Rattle.cw_code.specs.declared.code.Instr.TheVariants.{Push, Call, Sync, ReturnValue}
+use Rattle.cw_code.specs.Code.{CodeSite, Code}
+
+-- a function of no parameter and no name that gives a value
+abbrev pub nameless : (start end : ℕ) → Func
+nameless start end = record { start = start; end = end; gives_int = true; params = 0; slots = 0 }
+
+-- the call of function 1, at site 1
+abbrev pub call_it : Callee
+call_it = record { function = 1; site = 1; line = 1; target = None }
+
+-- site 1, of this kind
+abbrev pub its_site : CallKind → CodeSite
+its_site kind = record { told = record { number = 1; kind = Of kind; line = 1; callee = [] }; function = 1 }
+
+-- main up to this place, then a function of two instructions, and a call site of this kind
+abbrev pub two_functions : (end : ℕ) → CallKind → List Instr → Code
+two_functions end kind instrs = record {
+  instrs = instrs;
+  funcs = nameless 0 end ∷ nameless end (end + 2) ∷ [];
+  main = 0;
+  sites = its_site kind ∷ [];
+  reducers = [];
+  tags = [];
+}
+
+-- main has one instruction, a join, and runs on into the code of the next function
+abbrev pub falling : Code
+falling = two_functions 1 Plain (Sync ∷ Push (pos 1) ∷ ReturnValue ∷ [])
+
+-- main spawns with an operand that is no argument
+abbrev pub crowded : Code
+crowded = two_functions 5 Spawned (Push (pos 7) ∷ Call Spawned call_it ∷ Sync ∷ Push (pos 0) ∷ ReturnValue ∷ Push (pos 1) ∷ ReturnValue ∷ [])
+
+-- main joins with an operand
+abbrev pub littered : Code
+littered = two_functions 3 Plain (Push (pos 7) ∷ Sync ∷ ReturnValue ∷ Push (pos 1) ∷ ReturnValue ∷ [])
+
+-- main spawns at the site of a plain call
+abbrev pub mistaken : Code
+mistaken = two_functions 4 Plain (Call Spawned call_it ∷ Sync ∷ Push (pos 0) ∷ ReturnValue ∷ Push (pos 1) ∷ ReturnValue ∷ [])
