@@ -1,1 +1,5 @@
 pub mod Tests
+pub mod Acts
+pub mod Under
+pub mod Travels
+pub mod Budgets
