@@ -3,3 +3,11 @@ pub mod Acts
 pub mod Under
 pub mod Travels
 pub mod Budgets
+pub mod StrandLaws
+pub mod Rests
+pub mod Calls
+pub mod Schedules
+pub mod Costing
+pub mod WorldLaws
+pub mod Owners
+pub mod Plays
