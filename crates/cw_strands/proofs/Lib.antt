@@ -11,3 +11,5 @@ pub mod Costing
 pub mod WorldLaws
 pub mod Owners
 pub mod Plays
+pub mod JobsFit
+pub mod StrandsFit
