@@ -13,3 +13,4 @@ pub mod Owners
 pub mod Plays
 pub mod JobsFit
 pub mod StrandsFit
+pub mod Walks

@@ -5,8 +5,8 @@ use Rattle.cw_code.specs.Code.{Code}
 use Rattle.cw_strands.specs.Jobs.{Job, Effect}
 use Rattle.cw_strands.specs.Strands.{Strand, Going, Waits, Halted}
 use Rattle.cw_strands.specs.Steps.{Advanced, Ran, Handed, AtSync, Finished, Unfit, advance}
-use Rattle.cw_strands.specs.Worlds.{Place, Undecided, Kept, Offered, Runs, Made, Settled, Spent, World, effect_in, Has, Next, Run, Spawn, Offer as Offers, Inline as Inlines, Begin as Begins, Skip as Skips, End, Settle as Settles, Give as Gives, Want as Wants, GiveUp as GivesUp, After, Now, Later}
-use Rattle.cw_strands.specs.Events.{Event, Advance, Offer, Inline, Begin, Skip, Settle, Give, Want, GiveUp, advanced, skips, gives, with_job, at, happens, number_of, apply, and_apply, play, PlaysCome}
+use Rattle.cw_strands.specs.Worlds.{Place, Undecided, Kept, Offered, Runs, Made, Settled, Spent, World, effect_in, Has, Next, Run, Spawn, Offer as Offers, Inline as Inlines, Begin as Begins, Skip as Skips, End, Settle as Settles, Give as Gives, Want as Wants, GiveUp as GivesUp, Resume as Resumes, After, Now, Later}
+use Rattle.cw_strands.specs.Events.{Event, Advance, Offer, Inline, Begin, Skip, Settle, Give, Want, GiveUp, TakeBack, advanced, skips, takes_back, gives, with_job, at, happens, number_of, apply, and_apply, play, PlaysCome}
 
 some_world : (a b : World) → Some a ≡ Some b → a ≡ b
 some_world a b e = ap (λ o. elim o [ Some c ↦ c | None ↦ a ]) e
@@ -47,6 +47,17 @@ module _ (code : Code) (world next : World) where
   comes_skip i n worker job out (Halted e jobs) outs Spent has has' h = absurd_none next h
   comes_skip i n worker job out (Going s count jobs) outs place has has' h = absurd_none next h
   comes_skip i n worker job out (Waits s count jobs) outs place has has' h = absurd_none next h
+
+  comes_back : (i n worker : ℕ) (job out : Job) (strand : Strand) (outs : List ℕ) (place : Place) → Has world i job (Runs worker strand (n ∷ outs)) → Has world n out place → takes_back world i n worker strand outs place ≡ Some next → Next code world next
+  comes_back i n worker job out (Waits s count jobs) outs (Kept w) has has' h = moved _ (some_world _ next h) (Resumes world i n worker job out (Waits s count jobs) outs (Kept w) has tt has' tt)
+  comes_back i n worker job out (Waits s count jobs) outs (Offered w) has has' h = moved _ (some_world _ next h) (Resumes world i n worker job out (Waits s count jobs) outs (Offered w) has tt has' tt)
+  comes_back i n worker job out (Waits s count jobs) outs (Undecided w) has has' h = absurd_none next h
+  comes_back i n worker job out (Waits s count jobs) outs (Runs w strand outs') has has' h = absurd_none next h
+  comes_back i n worker job out (Waits s count jobs) outs (Made w e') has has' h = absurd_none next h
+  comes_back i n worker job out (Waits s count jobs) outs (Settled e') has has' h = absurd_none next h
+  comes_back i n worker job out (Waits s count jobs) outs Spent has has' h = absurd_none next h
+  comes_back i n worker job out (Going s count jobs) outs place has has' h = absurd_none next h
+  comes_back i n worker job out (Halted e jobs) outs place has has' h = absurd_none next h
 
   comes_give : (i n worker : ℕ) (job out : Job) (strand : Strand) (outs : List ℕ) (place : Place) (o : Option Effect) → Has world i job (Runs worker strand (n ∷ outs)) → Has world n out place → effect_in place ≡ o → gives world i n worker job strand outs o ≡ Some next → Next code world next
   comes_give i n worker job out (Waits s count jobs) outs place (Some e) has has' is h = moved _ (some_world _ next h) (Gives world i n worker job out (Waits s count jobs) outs place e has tt has' is)
@@ -122,6 +133,14 @@ module _ (code : Code) (world next : World) where
   comes (GiveUp worker i) job (Made w e) has h = absurd_none next h
   comes (GiveUp worker i) job (Settled e) has h = absurd_none next h
   comes (GiveUp worker i) job Spent has h = absurd_none next h
+  comes (TakeBack i) job (Runs worker strand (n ∷ outs)) has h = with_has world n _ next h (λ out place has' k. comes_back i n worker job out strand outs place has has' k)
+  comes (TakeBack i) job (Runs worker strand []) has h = absurd_none next h
+  comes (TakeBack i) job (Undecided w) has h = absurd_none next h
+  comes (TakeBack i) job (Kept w) has h = absurd_none next h
+  comes (TakeBack i) job (Offered w) has h = absurd_none next h
+  comes (TakeBack i) job (Made w e) has h = absurd_none next h
+  comes (TakeBack i) job (Settled e) has h = absurd_none next h
+  comes (TakeBack i) job Spent has h = absurd_none next h
 
   applied : (event : Event) → apply code world event ≡ Some next → Next code world next
   applied event h = with_has world (number_of event) _ next h (λ job place has k. comes event job place has k)

@@ -4,7 +4,7 @@ use Rattle.cw_model.specs.Answers.{Answer}
 use Rattle.cw_code.specs.Code.{Code}
 use Rattle.cw_strands.specs.Jobs.{Job, Effect, Memory, answered}
 use Rattle.cw_strands.specs.Strands.{Strand, Waits, Halted}
-use Rattle.cw_strands.specs.Steps.{started, Advanced, Ran, Handed, AtSync, Finished, Unfit, advance, give, skip, out_of_memory}
+use Rattle.cw_strands.specs.Steps.{started, Advanced, Ran, Handed, AtSync, Finished, Unfit, advance, give, skip, take_back, out_of_memory}
 use Rattle.cw_strands.specs.Worlds.{Place, Undecided, Kept, Offered, Runs, Made, Settled, Spent, World, effect_in, placed, joined_by, After}
 
 -- an event, at the job of this number
@@ -18,6 +18,7 @@ pub data Event : Type 0 where
   Give : ℕ → Event
   Want : ℕ → Event
   GiveUp : (worker : ℕ) → ℕ → Event
+  TakeBack : ℕ → Event
 
 abbrev pub advanced : World → (i worker : ℕ) → List ℕ → Advanced → Option World
 advanced world i worker outs (Ran new) = Some (placed world i (Runs worker new outs))
@@ -37,6 +38,12 @@ abbrev pub gives : World → (i n worker : ℕ) → Job → Strand → List ℕ 
 gives world i n worker job (Waits s count jobs) outs (Some e) = Some (placed (placed world n Spent) i (Runs worker (give job (Waits s count jobs) e) outs))
 gives world i n worker job (Halted e' jobs) outs (Some e) = Some (placed (placed world n Spent) i (Runs worker (give job (Halted e' jobs) e) outs))
 gives world i n worker job strand outs found = None
+
+-- the newest job out is taken back, if it has not begun
+abbrev pub takes_back : World → (i n worker : ℕ) → Strand → List ℕ → Place → Option World
+takes_back world i n worker (Waits s count jobs) outs (Kept w) = Some (placed (placed world n Spent) i (Runs worker (take_back (Waits s count jobs)) outs))
+takes_back world i n worker (Waits s count jobs) outs (Offered w) = Some (placed (placed world n Spent) i (Runs worker (take_back (Waits s count jobs)) outs))
+takes_back world i n worker strand outs place = None
 
 -- with a job and its place
 abbrev pub with_job : Option Job → Option Place → (Job → Place → Option World) → Option World
@@ -58,6 +65,7 @@ happens code world (Give i) job (Runs worker strand (n ∷ outs)) = at world n (
 happens code world (Want i) job (Runs worker strand outs) = Some (placed world i (Runs worker (out_of_memory strand) outs))
 happens code world (GiveUp worker i) job (Kept w) = Some (placed world i (Made worker Memory))
 happens code world (GiveUp worker i) job (Offered w) = Some (placed world i (Made worker Memory))
+happens code world (TakeBack i) job (Runs worker strand (n ∷ outs)) = at world n (λ out place. takes_back world i n worker strand outs place)
 happens code world event job place = None
 
 -- the number that an event is at
@@ -71,6 +79,7 @@ number_of (Settle i) = i
 number_of (Give i) = i
 number_of (Want i) = i
 number_of (GiveUp worker i) = i
+number_of (TakeBack i) = i
 
 abbrev pub apply : Code → World → Event → Option World
 apply code world event = at world (number_of event) (λ job place. happens code world event job place)

@@ -6,3 +6,4 @@ pub mod RestLaws
 pub mod Worlds
 pub mod Events
 pub mod Costs
+pub mod Walks
