@@ -1,13 +1,13 @@
 -- What keeps that a call has what a shape says.
-use Rattle.std.proofs.Common.{◌≡◌, ◌≢◌, ℕ, zero, suc, ◌+◌, ◌-◌, ◌<◌, ◌≤◌, ℤ, pos, Bool, true, false, ◌&&◌, Option, Some, None, List, [], ◌∷◌, ◌++◌, length, refl, sym, ap, ◌∙◌, subst, arith, length-append, append_assoc}
+use Rattle.std.proofs.Common.{◌≡◌, ℕ, ◌-◌, ◌<◌, ◌≤◌, ℤ, pos, true, Some, None, List, [], ◌∷◌, ◌++◌, length, refl, sym, ap, ◌∙◌, subst, arith, length-append, append_assoc}
 use Rattle.std.specs.Prelude.{reverse, take, replicate, slice_get, slice_set}
 use Rattle.std.proofs.lemmas.List.{length-set, length-map, length-reverse, length-take, length-replicate, append-nil}
 use Rattle.cw_code.specs.declared.code.Func.{Func}
-use Rattle.cw_code.specs.Run.{Slots, Results, Around, Caller, Block, Opened, is_full, settled, full, slots_of}
+use Rattle.cw_code.specs.Run.{Slots, Results, Around, Block, Opened, is_full, settled, full, slots_of}
 use Rattle.cw_code.specs.Fits.{Row, Shape, is_full_in, full_in_all, has_slot, none_empty, first_shape, CoversEach}
-use Rattle.cw_code.specs.Good.{IsNotAmong, IsOnce, slots_in, slots_round, awaited_in, RowHolds, RowsHold, Good, FitSettles}
+use Rattle.cw_code.specs.Good.{IsNotAmong, IsOnce, slots_in, slots_round, awaited_in, RowsHold, Good, FitSettles}
 use Rattle.cw_code.proofs.Tests.{first_true, second_true}
-use Rattle.cw_code.proofs.Slots.{covered_row, covered_rows, set_full, was_full, set_other, full_apart, row_apart, row_there, not_in_both, not_in_second, once_in_second, AllFull, AllApart, settled_full, settled_apart, count_settled, full_is_full, none_waits, empty_row, fewer_wait, slots_in_both}
+use Rattle.cw_code.proofs.Slots.{covered_row, covered_rows, set_full, was_full, set_other, full_apart, row_apart, row_there, not_in_both, once_in_second, AllFull, AllApart, settled_full, settled_apart, count_settled, full_is_full, none_waits, empty_row, fewer_wait, slots_in_both}
 
 module _ (f : Func) where
   -- what the shape has as full is full
@@ -91,7 +91,7 @@ module _ (f : Func) where
   pub with_settled : (shape : Shape) (operands : List ℤ) (slots : Slots) (newest others : Results) (around : List Around) → Good f shape operands slots (newest ++ others) around → Good f shape operands (settled newest slots) others around
   with_settled shape operands slots newest others around g =
       let same : awaited_in (newest ++ others) around ≡ (slots_in newest ++ awaited_in others around) =
-          ap (λ xs. xs ++ slots_round around) (slots_in_both newest others) ∙ append_assoc (slots_in newest) (slots_in others) (slots_round around) in
+      ap (λ xs. xs ++ slots_round around) (slots_in_both newest others) ∙ append_assoc (slots_in newest) (slots_in others) (slots_round around) in
       record {
         as_many = g.as_many;
         as_wide = omega (arith, g.as_wide, count_settled newest slots);

@@ -1,11 +1,9 @@
 -- The unruly codes do not fit.
-use Rattle.std.proofs.Common.{◌≡◌, ℕ, zero, suc, ◌+◌, ◌<◌, ◌≤◌, ℤ, pos, Bool, true, false, Option, Some, None, List, [], ◌∷◌, refl, sym, ap, ◌∙◌, subst, arith}
-use Rattle.std.specs.Prelude.{slice_get, nat_eq}
-use Rattle.cw_model.specs.declared.syntax.CallKind.TheVariants.{Plain, Spawned}
-use Rattle.cw_code.specs.declared.code.Func.{Func}
-use Rattle.cw_code.specs.declared.code.Instr.TheVariants.{Push, Call, Sync, ReturnValue}
-use Rattle.cw_code.specs.Code.{Code}
-use Rattle.cw_code.specs.Fits.{has_arguments, has_target, names_well, FitsFunc, Fits}
+use Rattle.std.proofs.Common.{◌≡◌, pos, true, false, None, refl, arith}
+use Rattle.std.specs.Prelude.{nat_eq}
+use Rattle.cw_model.specs.declared.syntax.CallKind.TheVariants.{Spawned}
+use Rattle.cw_code.specs.declared.code.Instr.TheVariants.{Push, Call, Sync}
+use Rattle.cw_code.specs.Fits.{has_target, Fits}
 use Rattle.cw_code.specs.Unruly.{nameless, call_it, falling, crowded, littered, mistaken}
 use Rattle.cw_code.proofs.Tests.{first_true, eq_of}
 

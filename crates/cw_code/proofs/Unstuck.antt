@@ -1,5 +1,5 @@
 -- Code that fits never gets stuck.
-use Rattle.std.proofs.Common.{◌≡◌, ◌≢◌, ℕ, zero, suc, ◌+◌, ◌-◌, ◌<◌, ◌≤◌, ℤ, pos, Bool, true, false, not, ◌&&◌, nat_lt, if◌then◌else◌, Option, Some, None, List, [], ◌∷◌, ◌++◌, length, refl, sym, ap, ◌∙◌, subst, arith}
+use Rattle.std.proofs.Common.{◌≡◌, ℕ, zero, suc, ◌+◌, ◌-◌, ◌<◌, ◌≤◌, ℤ, Bool, true, false, not, ◌&&◌, nat_lt, if◌then◌else◌, Option, Some, None, List, [], ◌∷◌, length, refl, sym, ap, ◌∙◌, subst, arith}
 use Rattle.std.specs.Prelude.{drop, reverse, slice_get, slice_set, is_none, option_map, nat_eq, nat_le}
 use Rattle.std.proofs.lemmas.List.{length-drop, length-reverse}
 use Rattle.cw_model.specs.declared.trap.Trap.TheVariants as trap
@@ -11,15 +11,14 @@ use Rattle.cw_model.specs.declared.syntax.CallKind.{CallKind}
 use Rattle.cw_model.specs.declared.syntax.CallKind.TheVariants.{Plain, Spawned}
 use Rattle.cw_model.specs.Outcome.{Trace}
 use Rattle.cw_model.specs.Answers.{answer_of}
-use Rattle.cw_code.specs.declared.code.BlockKind.{BlockKind}
 use Rattle.cw_code.specs.declared.code.BlockKind.TheVariants.{Scope, Region}
 use Rattle.cw_code.specs.declared.code.Callee.{Callee}
 use Rattle.cw_code.specs.declared.code.Func.{Func}
 use Rattle.cw_code.specs.declared.code.Instr.{Instr}
 use Rattle.cw_code.specs.declared.code.Instr.TheVariants as instr
 use Rattle.cw_code.specs.Code.{Code}
-use Rattle.cw_code.specs.Run.{Slots, Results, Waiting, Around, Caller, Block, State, Went, On, Ends, Stops, Stuck, Ran, ticked, synced, printed, added, inside, on_top, on_two, is_full, loaded, stored, operated, apply_unary, prints, adds, settled, put_in, slots_of, may_take, taken_from, has_room, may_keep, may_begin, waiting_at, begun, enter, given, awaited, result_of, going_on, back, opened_at, opened, opened_region, closed, jumped, act, step, go_on, steps, first_state, first_went, reducers_of, code_serial}
-use Rattle.cw_code.specs.Fits.{params_of, gives_value, NeverStuck, is_site, names_target, names_callee, names_tag, names_well, Row, Shape, has_slot, has_target, has_arguments, none_open, is_ready, with_target, none_empty, first_shape, closed_shape, popped, leaves, nexts, CoversEach, Table, Leads, AllLead, FitsFunc, LieFrom, Fits}
+use Rattle.cw_code.specs.Run.{Slots, Around, Caller, Block, State, Went, On, Ends, Stops, Stuck, Ran, ticked, synced, inside, on_top, on_two, is_full, loaded, operated, apply_unary, adds, settled, put_in, slots_of, may_take, taken_from, has_room, may_keep, waiting_at, begun, enter, given, awaited, going_on, back, opened_at, opened, opened_region, closed, jumped, act, step, go_on, steps, first_state, first_went, reducers_of, code_serial}
+use Rattle.cw_code.specs.Fits.{params_of, gives_value, NeverStuck, is_site, names_target, names_callee, names_well, Row, Shape, has_slot, has_target, none_open, is_ready, with_target, none_empty, first_shape, closed_shape, popped, leaves, nexts, CoversEach, Table, Leads, AllLead, LieFrom, Fits}
 use Rattle.cw_code.specs.Good.{slots_round, RowsHold, Seat, Good, IsGiven, Resumed, Resumes, AllResume, GoodState, GoodWent, Facts, FitBegins, FitFacts, FitSteps, NeverStuckFrom}
 use Rattle.cw_code.proofs.Tests.{taken, both_true, first_true, second_true, at_most, equal, le_of, lt_of, eq_of}
 use Rattle.cw_code.proofs.Keeps.{finds, covered, with_operands, with_slot, with_taken, with_block, with_outer, with_joined, begins_well}

@@ -1,13 +1,13 @@
 -- A strand of a job of code that fits always finds what its next instruction needs.
-use Rattle.std.proofs.Common.{◌≡◌, ℕ, zero, suc, ◌+◌, ℤ, pos, Bool, true, false, ◌&&◌, Option, Some, None, List, [], ◌∷◌, ◌++◌, refl, sym, ap, ◌∙◌, subst, append_assoc}
+use Rattle.std.proofs.Common.{◌≡◌, ℕ, zero, suc, ℤ, pos, Bool, true, false, ◌&&◌, Option, Some, None, List, [], ◌∷◌, ◌++◌, refl, sym, ap, ◌∙◌, subst, append_assoc}
 use Rattle.std.specs.Prelude.{slice_get}
 use Rattle.std.proofs.lemmas.List.{append-nil}
 use Rattle.cw_model.specs.declared.syntax.CallKind.TheVariants.{Spawned}
-use Rattle.cw_model.specs.Outcome.{Trace, quiet, joined}
+use Rattle.cw_model.specs.Outcome.{Trace, quiet}
 use Rattle.cw_code.specs.declared.code.Callee.{Callee}
 use Rattle.cw_code.specs.declared.code.Func.{Func}
 use Rattle.cw_code.specs.Code.{Code}
-use Rattle.cw_code.specs.Fits.{Shape, Fits}
+use Rattle.cw_code.specs.Fits.{Fits}
 use Rattle.cw_code.specs.Run.{Slots, Results, Waiting, Around, Caller, State, Went, On, Ends, Stops, Stuck, settled, waiting_at, begun, awaited, result_of, going_on, step}
 use Rattle.cw_code.specs.Good.{Seat, Good, IsGiven, AllResume, GoodState, GoodWent, FitSteps, FitSettles}
 use Rattle.cw_strands.specs.Jobs.{Extent, WholeCall, ToJoin, joins, is_first, has_come, Standing, standing, Came, Arrives, Returns, Falls, Beyond, Lost, moved, travel, Job, job_start}
@@ -108,7 +108,7 @@ module _ (code : Code) (fits : Fits code) (steps_well : FitSteps code fits) (set
       let shape = h.0.seat.shape in
       let r = h.0.on (some_given gives) (is_given gives) quiet in
       let went : result_of Spawned w.callee.target (some_given gives) (going_on w around quiet) ≡ On (record (going_on w around quiet) { slots = r.slots; results = r.results }) =
-          ap (λ k. result_of k w.callee.target (some_given gives) (going_on w around quiet)) (sym kind) ∙ r.went in
+      ap (λ k. result_of k w.callee.target (some_given gives) (going_on w around quiet)) (sym kind) ∙ r.went in
       let slots : w.slots ≡ r.slots = same_slots w.callee.target (some_given gives) (going_on w around quiet) (record (going_on w around quiet) { slots = r.slots; results = r.results }) went in
       record {
         base = Upon (record (going_on w around quiet) { operands = []; results = r.results });

@@ -1,6 +1,5 @@
 -- Small codes, and lists of events that carry them out in different orders; the last event stands first.
 use Rattle.std.specs.Prelude.{◌≡◌, ℕ, ℤ, pos, true, false, List, [], ◌∷◌, Option, Some, None}
-use Rattle.cw_model.specs.declared.syntax.CallKind.{CallKind}
 use Rattle.cw_model.specs.declared.syntax.CallKind.TheVariants.{Spawned}
 use Rattle.cw_model.specs.declared.syntax.Operator.TheVariants.{Divide}
 use Rattle.cw_model.specs.Sites.{Of}
@@ -12,7 +11,7 @@ use Rattle.cw_code.specs.declared.code.Instr.TheVariants.{Push, Load, Binary, Ca
 use Rattle.cw_code.specs.Code.{CodeSite, Code}
 use Rattle.cw_code.specs.Run.{code_serial}
 use Rattle.cw_strands.specs.Jobs.{root_job}
-use Rattle.cw_strands.specs.Worlds.{World, world_of}
+use Rattle.cw_strands.specs.Worlds.{world_of}
 use Rattle.cw_strands.specs.Events.{Event, Advance, Offer, Inline, Begin, Skip, Settle, Give, TakeBack, play, outcome}
 
 -- the first function, called at a site in a line, with its result dropped

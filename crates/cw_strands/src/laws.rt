@@ -8,7 +8,6 @@ ghost use Rattle.cw_strands.specs.Steps.{CallsKeep};
 ghost use Rattle.cw_strands.specs.Walks.{FailingWalks, PrintingWalks};
 ghost use Rattle.cw_strands.specs.Worlds.{NoneIsUnfit, OwnersAreSingle, WorldsAreSerial};
 
-
 /// The serial run from a spawn is the child's run, then that of the rest of the block up to its join from the slots
 /// as they stand, and then what waits goes back into its slots and the block goes on.
 #[tactic(auto, using(crate::proofs::Schedules::cut))]
