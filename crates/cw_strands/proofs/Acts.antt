@@ -1,6 +1,6 @@
 -- What an instruction does, by the kind of its move.
-use Rattle.std.proofs.Common.{ℕ, ◌+◌, ◌-◌, ℤ, pos, ◌+ℤ◌, Bool, true, false, nat_lt, if◌then◌else◌, Option, Some, None, List, [], ◌∷◌, length}
-use Rattle.std.specs.Prelude.{map, take, drop, slice_get, slice_set}
+use Rattle.std.proofs.Common.{◌≡◌, ℕ, ◌+◌, ◌-◌, ℤ, pos, ◌+ℤ◌, Bool, true, false, nat_lt, if◌then◌else◌, Option, Some, None, List, [], ◌∷◌, length, refl}
+use Rattle.std.specs.Prelude.{map, take, drop, is_none, slice_get, slice_set}
 use Rattle.cw_model.specs.declared.trap.Trap.{Trap}
 use Rattle.cw_model.specs.declared.trap.Trap.TheVariants as trap
 use Rattle.cw_model.specs.Limits.{most_depth}
@@ -21,7 +21,7 @@ use Rattle.cw_code.specs.declared.code.Func.{Func}
 use Rattle.cw_code.specs.declared.code.Instr.{Instr}
 use Rattle.cw_code.specs.declared.code.Instr.TheVariants as instr
 use Rattle.cw_code.specs.Code.{Code}
-use Rattle.cw_code.specs.Run.{Slots, State, Went, On, Stops, Stuck, synced, on_top, on_two, on_slot, is_full, apply_unary, operated, set_array, adds, settled, put_in, Whole, arrays_in, Entering, arguments_of, may_begin, begun, begins, call_of, on_arrays, enter, recur, parts_of, looped, on_range, start, back, opened, opened_region, cut_arrays, may_cut, cuts, closed, cut_ends, passed_by, act}
+use Rattle.cw_code.specs.Run.{Slots, State, Went, On, Stops, Stuck, synced, on_top, on_two, on_slot, is_full, apply_unary, operated, set_array, adds, settled, put_in, Whole, arrays_in, Entering, arguments_of, may_begin, begun, begins, call_of, on_arrays, enter, recur, parts_of, looped, on_range, start, back, opened, opened_region, cut_arrays, may_cut, cuts, Opened, Around, Caller, Block, resumes, closed, uncut_arrays, uncut, cut_ends, passed_by, act}
 use Rattle.cw_strands.specs.Jobs.{joins}
 use Rattle.cw_strands.specs.Strands.{Turn, Goes, turn_call, turn_in, turn_of}
 
@@ -35,8 +35,7 @@ module _ (code : Code) (s : State) (P : (joins : Bool) → Turn → Went → Typ
     pub enters : (e : Entering) → P false (turn_call e.kind e.target e.taken) (On (begun s e))
     pub opens : (operands : List ℤ) (arrays : Slots (List ℤ)) (tag : Option Name) (cut : Option Halves) → P false Goes (opened (record s { operands = operands; arrays = arrays }) tag cut)
     pub syncs : P true Goes (On (record (put_in s) { place = s.place + 1; trace = synced s.trace }))
-    pub closes : P true Goes (closed (put_in s) s.around)
-    pub uncuts : P true Goes (cut_ends (put_in s) s.around)
+    pub leaves : (arrays : Slots (List ℤ)) (o : Opened) (around : List Around) → s.around ≡ Block o ∷ around → P true Goes (resumes (record (put_in s) { arrays = arrays }) o around)
     pub returns : (v : Option ℤ) → P true (turn_in s.around) (back s.around v (settled s.arrived s.arrays) (synced s.trace))
 
   module _ (moves : Moves) where
@@ -135,6 +134,27 @@ module _ (code : Code) (s : State) (P : (joins : Bool) → Turn → Went → Typ
     regions None = moves.stuck false Goes
     regions (Some tag) = moves.opens s.operands s.arrays (Some tag) None
 
+    closes : (around : List Around) → s.around ≡ around → P true Goes (closed (put_in s) around)
+    closes [] e = moves.stuck true Goes
+    closes (Caller w ∷ around) e = moves.stuck true Goes
+    closes (Block o ∷ around) e = either true Goes (is_none o.cut) (resumes (put_in s) o around) Stuck (moves.leaves (settled s.arrived s.arrays) o around e) (moves.stuck true Goes)
+
+    uncuts : (around : List Around) → s.around ≡ around → P true Goes (cut_ends (put_in s) around)
+    uncuts [] e = moves.stuck true Goes
+    uncuts (Caller w ∷ around) e = moves.stuck true Goes
+    uncuts (Block o ∷ around) e = by_cut o.cut
+      where
+        part : (x : Option (Option (List ℤ))) (go : List ℤ → Went) → ((xs : List ℤ) → P true Goes (go xs)) → P true Goes (on_slot x go)
+        part None go k = moves.stuck true Goes
+        part (Some None) go k = moves.stuck true Goes
+        part (Some (Some xs)) go k = k xs
+
+        by_cut : (c : Option Halves) → P true Goes (uncut (put_in s) o around c)
+        by_cut None = moves.stuck true Goes
+        by_cut (Some h) =
+            part (slice_get (settled s.arrived s.arrays) h.left) _ (λ left.
+            part (slice_get (settled s.arrived s.arrays) h.right) _ (λ right. moves.leaves (uncut_arrays h left right (settled s.arrived s.arrays)) o around e))
+
     -- EVERY INSTRUCTION is of one of these kinds
     pub acts_by : (o : Option Instr) → P (joins o) (turn_of code o s.around) (act code s o)
     acts_by None = moves.stuck false Goes
@@ -154,11 +174,11 @@ module _ (code : Code) (s : State) (P : (joins : Bool) → Turn → Went → Typ
     acts_by (Some (instr.Element a line)) = on_it (slice_get s.arrays a) _ (λ xs. top false Goes _ (λ v rest. operates line rest (in_bounds (element xs v))))
     acts_by (Some (instr.SetElement a line)) = on_it (slice_get s.arrays a) _ (λ xs. two _ (λ i v rest. sets a line rest _ (written xs i v)))
     acts_by (Some (instr.Cut h line)) = on_it (slice_get s.arrays h.array) _ (λ xs. top false Goes _ (λ v rest. cut_at h line xs rest (cut_place xs v)))
-    acts_by (Some instr.EndCut) = moves.uncuts
+    acts_by (Some instr.EndCut) = uncuts s.around refl
     acts_by (Some instr.Sync) = moves.syncs
     acts_by (Some (instr.Open Scope)) = moves.opens s.operands s.arrays None None
     acts_by (Some (instr.Open (Region k))) = regions (slice_get code.tags k)
-    acts_by (Some instr.Close) = moves.closes
+    acts_by (Some instr.Close) = closes s.around refl
     acts_by (Some instr.Print) = top false Goes _ (λ v rest. moves.local (s.place + 1) rest s.slots s.arrays (v ∷ []) [])
     acts_by (Some (instr.AddTo k)) = top false Goes _ (λ v rest. names (slice_get code.reducers k) v rest)
     acts_by (Some instr.ReturnValue) = top true (turn_in s.around) _ (λ v rest. moves.returns (Some v))

@@ -96,25 +96,6 @@ resume_shows n s o around h =
     let f = one_more (o.events ++ block_event o.tag (tree_of s.trace.events) ∷ []) in
     omega (arith, e, f, h)
 
-close_shows : (n : ℕ) (s : State) (around : List Around) → work_in s.trace.events + outside around + 1 ≡ n → Shows n (closed s around)
-close_shows n s [] h = tt
-close_shows n s (Caller w ∷ around) h = tt
-close_shows n s (Block o ∷ around) h = either_shows n (is_none o.cut) (resumes s o around) Stuck (resume_shows n s o around h) tt
-
-part_shows : (n : ℕ) (s : State) (o : Opened) (around : List Around) (c : Option Halves) → work_in s.trace.events + (work_in o.events + outside around) + 1 ≡ n → Shows n (uncut s o around c)
-part_shows n s o around None h = tt
-part_shows n s o around (Some c) h = on_it (slice_get s.arrays c.left) _ (λ left. on_it (slice_get s.arrays c.right) _ (λ right. resume_shows n (record s { arrays = uncut_arrays c left right s.arrays }) o around h))
-  where
-    on_it : (x : Option (Option (List ℤ))) (go : List ℤ → Went) → ((xs : List ℤ) → Shows n (go xs)) → Shows n (on_slot x go)
-    on_it None go k = tt
-    on_it (Some None) go k = tt
-    on_it (Some (Some xs)) go k = k xs
-
-uncut_shows : (n : ℕ) (s : State) (around : List Around) → work_in s.trace.events + outside around + 1 ≡ n → Shows n (cut_ends s around)
-uncut_shows n s [] h = tt
-uncut_shows n s (Caller w ∷ around) h = tt
-uncut_shows n s (Block o ∷ around) h = part_shows n s o around o.cut h
-
 act_shows : (n : ℕ) (code : Code) (s : State) (o : Option Instr) → work_in s.trace.events + outside s.around + 1 ≡ n → Shows n (act code s o)
 act_shows n code s o h =
     let one = one_more s.trace.events in
@@ -126,8 +107,7 @@ act_shows n code s o h =
       enters = λ e. omega (arith, one, h);
       opens = λ operands arrays tag cut. omega (arith, one, h);
       syncs = omega (arith, join, h);
-      closes = close_shows n (put_in s) s.around h;
-      uncuts = uncut_shows n (put_in s) s.around h;
+      leaves = λ arrays o around e. resume_shows n (record (put_in s) { arrays = arrays }) o around (subst (λ a. work_in s.trace.events + outside a + 1 ≡ n) e h);
       returns = λ v. back_shows n s.around v (settled s.arrived s.arrays) (synced s.trace) (omega (arith, join, h));
     }) o
 

@@ -86,25 +86,6 @@ module _ (limit bound : ℕ) (outs : List Job) (from : State) where
       by_arrays None = nothing_out (turn_back w.kind)
       by_arrays (Some results) = cases w.kind w.target v results _ h
 
-  close_out : (s : State) (around : List Around) → Outs limit bound around outs → OutsAfter limit bound outs from Goes (closed s around)
-  close_out s [] h = tt
-  close_out s (Caller w ∷ around) h = tt
-  close_out s (Block o ∷ around) h = either_out Goes (is_none o.cut) (resumes s o around) Stuck h tt
-
-  resume_out : (s : State) (o : Opened) (around : List Around) (c : Option Halves) → Outs limit bound around outs → OutsAfter limit bound outs from Goes (uncut s o around c)
-  resume_out s o around None h = tt
-  resume_out s o around (Some c) h = on_it (slice_get s.arrays c.left) _ (λ left. on_it (slice_get s.arrays c.right) _ (λ right. h))
-    where
-      on_it : (x : Option (Option (List ℤ))) (go : List ℤ → Went) → ((xs : List ℤ) → OutsAfter limit bound outs from Goes (go xs)) → OutsAfter limit bound outs from Goes (on_slot x go)
-      on_it None go k = tt
-      on_it (Some None) go k = tt
-      on_it (Some (Some xs)) go k = k xs
-
-  uncut_out : (s : State) (around : List Around) → Outs limit bound around outs → OutsAfter limit bound outs from Goes (cut_ends s around)
-  uncut_out s [] h = tt
-  uncut_out s (Caller w ∷ around) h = tt
-  uncut_out s (Block o ∷ around) h = resume_out s o around o.cut h
-
 pub act_out : (limit bound : ℕ) (outs : List Job) (code : Code) (s : State) (o : Option Instr) → Outs limit bound s.around outs → OutsAfter limit bound outs s (turn_of code o s.around) (act code s o)
 act_out limit bound outs code s o h = acts_by code s (λ j turn w. OutsAfter limit bound outs s turn w) (record {
   stuck = λ j turn. nothing_out limit bound outs s turn;
@@ -113,8 +94,7 @@ act_out limit bound outs code s o h = acts_by code s (λ j turn w. OutsAfter lim
   enters = λ e. enter_out limit bound outs s e h;
   opens = λ operands arrays tag cut. h;
   syncs = h;
-  closes = close_out limit bound outs s (put_in s) s.around h;
-  uncuts = uncut_out limit bound outs s (put_in s) s.around h;
+  leaves = λ arrays o around e. subst (λ a. Outs limit bound a outs) e h;
   returns = λ v. back_out limit bound outs s s.around v (settled s.arrived s.arrays) (synced s.trace) h;
 }) o
 

@@ -108,8 +108,7 @@ module _ (code : Code) (fits : Fits code) (steps_well : FitSteps code fits) (set
           enters = enters;
           opens = λ operands arrays tag cut s' e g. g;
           syncs = λ s' e g. g;
-          closes = λ s' e g. g;
-          uncuts = λ s' e g. g;
+          leaves = λ arrays o around e s' e' g. g;
           returns = λ v. returns s.around (back s.around v (settled s.arrived s.arrays) (synced s.trace));
         }) o
 

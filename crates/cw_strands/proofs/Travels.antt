@@ -1,5 +1,5 @@
 -- THE CUT: a run over what waits is the run up to the join, and from there on, what waits having gone back into its slots.
-use Rattle.std.proofs.Common.{◌≡◌, ℕ, zero, suc, ℤ, Bool, true, false, ◌&&◌, if◌then◌else◌, Option, Some, None, List, [], ◌∷◌, ◌++◌, refl, sym, ap, ◌∙◌}
+use Rattle.std.proofs.Common.{◌≡◌, ℕ, zero, suc, ℤ, Bool, true, false, ◌&&◌, if◌then◌else◌, Option, Some, None, List, [], ◌∷◌, ◌++◌, refl, sym, ap, ◌∙◌, subst}
 use Rattle.std.specs.Prelude.{slice_get, slice_set, is_none}
 use Rattle.cw_model.specs.declared.syntax.CallKind.{CallKind}
 use Rattle.cw_model.specs.declared.syntax.CallKind.TheVariants.{Plain, Spawned}
@@ -53,25 +53,6 @@ module _ (d : ℕ) where
       by_arrays (Some results) = result_based (going_on w around (rejoined (event_of w.kind w.site) w.events t)) w.kind w.target v results h
   back_based depth (Block o ∷ around) v arrays t h = tt
 
-  resume_based : (s : State) (o : Opened) (around : List Around) (c : Option Halves) → base_of s.depth around ≡ d → WentBased d (uncut s o around c)
-  resume_based s o around None h = tt
-  resume_based s o around (Some c) h = on_it (slice_get s.arrays c.left) _ (λ left. on_it (slice_get s.arrays c.right) _ (λ right. h))
-    where
-      on_it : (x : Option (Option (List ℤ))) (go : List ℤ → Went) → ((xs : List ℤ) → WentBased d (go xs)) → WentBased d (on_slot x go)
-      on_it None go k = tt
-      on_it (Some None) go k = tt
-      on_it (Some (Some xs)) go k = k xs
-
-  uncut_based : (s : State) (around : List Around) → base_of s.depth around ≡ d → WentBased d (cut_ends s around)
-  uncut_based s [] h = tt
-  uncut_based s (Caller w ∷ around) h = tt
-  uncut_based s (Block o ∷ around) h = resume_based s o around o.cut h
-
-  close_based : (s : State) (around : List Around) → base_of s.depth around ≡ d → WentBased d (closed s around)
-  close_based s [] h = tt
-  close_based s (Caller w ∷ around) h = tt
-  close_based s (Block o ∷ around) h = either_based d (is_none o.cut) (resumes s o around) Stuck h tt
-
   act_based : (code : Code) (s : State) (o : Option Instr) → Based d s → WentBased d (act code s o)
   act_based code s o h = acts_by code s (λ j turn w. WentBased d w) (record {
     stuck = λ j turn. tt;
@@ -80,8 +61,7 @@ module _ (d : ℕ) where
     enters = λ e. h;
     opens = λ operands arrays tag cut. h;
     syncs = h;
-    closes = close_based (put_in s) s.around h;
-    uncuts = uncut_based (put_in s) s.around h;
+    leaves = λ arrays o around e. subst (λ a. base_of s.depth a ≡ d) e h;
     returns = λ v. back_based s.depth s.around v (settled s.arrived s.arrays) (synced s.trace) h;
   }) o
 
