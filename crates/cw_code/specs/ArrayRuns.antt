@@ -1,5 +1,5 @@
 -- Small codes with arrays, cuts and loops, written by hand, and the sources that they are of.
-use Rattle.std.specs.Prelude.{◌≡◌, ℕ, ℤ, pos, true, false, List, [], ◌∷◌, Option, Some, None}
+use Rattle.std.specs.Prelude.{◌≡◌, ℕ, pos, true, false, [], ◌∷◌, Some}
 use Rattle.cw_model.specs.declared.syntax.CallKind.TheVariants.{Plain, Spawned}
 use Rattle.cw_model.specs.declared.syntax.Operator.TheVariants.{Plus, Minus, Less, AtMost, Divide}
 use Rattle.cw_model.specs.Syntax.{Name, Expr, Stmt, Block, End, Then, Param, Function, Program}
@@ -7,7 +7,6 @@ use Rattle.cw_model.specs.Syntax as source
 use Rattle.cw_model.specs.Sites.{Of}
 use Rattle.cw_model.specs.Answers.{OverLimit, main_name, serial_answer}
 use Rattle.cw_code.specs.declared.code.BlockKind.TheVariants.{Scope}
-use Rattle.cw_code.specs.declared.code.Func.{Func}
 use Rattle.cw_code.specs.declared.code.Instr.TheVariants.{Push, Load, Store, Binary, Skip, SkipIfZero, GoBack, Call, Recur, Start, NewArray, Length, Element, SetElement, Cut, EndCut, Open, Close, ReturnValue, Return}
 use Rattle.cw_code.specs.Code.{Code}
 use Rattle.cw_code.specs.Run.{code_serial}

@@ -16,7 +16,6 @@ use Rattle.cw_model.specs.Outcome.{joined}
 use Rattle.cw_code.specs.declared.code.BlockKind.TheVariants.{Scope, Region}
 use Rattle.cw_code.specs.declared.code.Callee.{Callee}
 use Rattle.cw_code.specs.declared.code.Halves.{Halves}
-use Rattle.cw_code.specs.declared.code.Inner.{Inner}
 use Rattle.cw_code.specs.declared.code.Func.{Func}
 use Rattle.cw_code.specs.declared.code.Instr.{Instr}
 use Rattle.cw_code.specs.declared.code.Instr.TheVariants as instr

@@ -1,14 +1,13 @@
 -- Each instruction adds one to the work that is shown.
 use Rattle.std.proofs.Common.{◌≡◌, ℕ, zero, suc, ◌+◌, ℤ, Bool, true, false, if◌then◌else◌, Option, Some, None, List, [], ◌∷◌, ◌++◌, refl, sym, ◌∙◌, subst, arith}
-use Rattle.std.specs.Prelude.{slice_get, slice_set, is_none}
+use Rattle.std.specs.Prelude.{slice_get, slice_set}
 use Rattle.cw_model.specs.declared.syntax.CallKind.{CallKind}
 use Rattle.cw_model.specs.declared.syntax.CallKind.TheVariants.{Plain, Spawned}
 use Rattle.cw_model.specs.Trees.{Event, Work, Series, Fork, Join, work, parts_of, tree_of}
 use Rattle.cw_model.specs.Outcome.{Trace}
 use Rattle.cw_code.specs.declared.code.Instr.{Instr}
 use Rattle.cw_code.specs.Code.{Code}
-use Rattle.cw_code.specs.declared.code.Halves.{Halves}
-use Rattle.cw_code.specs.Run.{Slots, Results, Opened, Around, Caller, Block, State, Went, On, Ends, Stops, Stuck, synced, on_slot, is_full, settled, put_in, given_back, going_on, event_of, rejoined, result_of, returns_to, back, block_event, resumes, closed, uncut_arrays, uncut, cut_ends, act, step}
+use Rattle.cw_code.specs.Run.{Slots, Results, Opened, Around, Caller, Block, State, Went, On, Ends, Stops, Stuck, synced, is_full, settled, put_in, given_back, going_on, event_of, rejoined, result_of, returns_to, back, block_event, resumes, act, step}
 use Rattle.cw_strands.specs.Jobs.{Extent, WholeCall, ToJoin, has_come, Came, Arrives, Returns, Falls, Beyond, Lost, moved, travel, job_start, Effect, Ended, Joined, TrapIn, OverLimit, Memory}
 use Rattle.cw_strands.specs.Promises.{StandsFor}
 use Rattle.cw_strands.specs.Costs.{CostIsWork, CostsAreWork}

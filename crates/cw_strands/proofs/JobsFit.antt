@@ -196,8 +196,8 @@ module _ (code : Code) (fits : Fits code) (steps_well : FitSteps code fits) (set
   gone_back f shape b frame slots arrays first second others first' second' others' same same' g =
       let s : State = record b { place = frame.place; operands = frame.operands; slots = slots; arrays = arrays } in
       let one = settles f shape s (first ++ second) others (first' ++ second') others'
-          (subst (λ r. Good f shape (record s { results = r; arrived = (first' ++ second') ++ others' })) (sym (append_assoc first second others))
-          (subst (λ r. Good f shape (record s { results = first ++ (second ++ others); arrived = r })) (sym (append_assoc first' second' others')) g)) in
+      (subst (λ r. Good f shape (record s { results = r; arrived = (first' ++ second') ++ others' })) (sym (append_assoc first second others))
+      (subst (λ r. Good f shape (record s { results = first ++ (second ++ others); arrived = r })) (sym (append_assoc first' second' others')) g)) in
       subst (λ x. Good f shape (record s { slots = x; arrays = settled second' frame.arrays; results = others; arrived = others' })) (settled_append first second slots ∙ ap (settled second) (sym same))
       (subst (λ x. Good f shape (record s { slots = settled (first ++ second) slots; arrays = x; results = others; arrived = others' })) (settled_append first' second' arrays ∙ ap (settled second') (sym same')) one)
 
@@ -205,8 +205,8 @@ module _ (code : Code) (fits : Fits code) (steps_well : FitSteps code fits) (set
   pub gives_fit : (x : Extent) (base : Base x) (s : State) (frame : Standing) (t : Trace) → GoodState code fits (lifted base s) → Arrived (lifted base s) frame → GoodState code fits (lifted base (resumed s frame t))
   gives_fit x Alone s frame t good a =
       let g = gone_back a.seat.func a.seat.shape s frame a.slots a.arrays a.results s.results [] a.returned s.arrived [] a.same a.same_arrays
-          (subst (λ r. Good a.seat.func a.seat.shape (record s { place = frame.place; operands = frame.operands; slots = a.slots; arrays = a.arrays; results = a.results ++ r; arrived = a.returned ++ (s.arrived ++ []) })) (sym (append-nil s.results))
-          (subst (λ r. Good a.seat.func a.seat.shape (record s { place = frame.place; operands = frame.operands; slots = a.slots; arrays = a.arrays; results = a.results ++ s.results; arrived = a.returned ++ r })) (sym (append-nil s.arrived)) a.good)) in
+      (subst (λ r. Good a.seat.func a.seat.shape (record s { place = frame.place; operands = frame.operands; slots = a.slots; arrays = a.arrays; results = a.results ++ r; arrived = a.returned ++ (s.arrived ++ []) })) (sym (append-nil s.results))
+      (subst (λ r. Good a.seat.func a.seat.shape (record s { place = frame.place; operands = frame.operands; slots = a.slots; arrays = a.arrays; results = a.results ++ s.results; arrived = a.returned ++ r })) (sym (append-nil s.arrived)) a.good)) in
       record { seat = a.seat; call = record { as_many = g.as_many; ints = g.ints; arrays = g.arrays; cuts = g.cuts }; others = a.others }
   gives_fit x (Upon b) s frame t good a = cases s.around a.good a.others
     where
@@ -218,6 +218,6 @@ module _ (code : Code) (fits : Fits code) (steps_well : FitSteps code fits) (set
           record { seat = a.seat; call = record { as_many = k.as_many; ints = k.ints; arrays = k.arrays; cuts = k.cuts }; others = others }
       cases (y ∷ around) g others =
           let k = gone_back a.seat.func a.seat.shape (under b (record s { around = y ∷ around })) frame a.slots a.arrays a.results s.results [] a.returned s.arrived [] a.same a.same_arrays
-              (subst (λ r. Good a.seat.func a.seat.shape (record (under b (record s { around = y ∷ around })) { place = frame.place; operands = frame.operands; slots = a.slots; arrays = a.arrays; results = a.results ++ r; arrived = a.returned ++ (s.arrived ++ []) })) (sym (append-nil s.results))
-              (subst (λ r. Good a.seat.func a.seat.shape (record (under b (record s { around = y ∷ around })) { place = frame.place; operands = frame.operands; slots = a.slots; arrays = a.arrays; results = a.results ++ s.results; arrived = a.returned ++ r })) (sym (append-nil s.arrived)) g)) in
+          (subst (λ r. Good a.seat.func a.seat.shape (record (under b (record s { around = y ∷ around })) { place = frame.place; operands = frame.operands; slots = a.slots; arrays = a.arrays; results = a.results ++ r; arrived = a.returned ++ (s.arrived ++ []) })) (sym (append-nil s.results))
+          (subst (λ r. Good a.seat.func a.seat.shape (record (under b (record s { around = y ∷ around })) { place = frame.place; operands = frame.operands; slots = a.slots; arrays = a.arrays; results = a.results ++ s.results; arrived = a.returned ++ r })) (sym (append-nil s.arrived)) g)) in
           record { seat = a.seat; call = record { as_many = k.as_many; ints = k.ints; arrays = k.arrays; cuts = k.cuts }; others = others }

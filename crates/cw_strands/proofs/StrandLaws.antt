@@ -1,14 +1,13 @@
 -- EACH STEP OF A STRAND keeps what is true of it; so an effect that it ends with means its job.
 use Rattle.std.proofs.Common.{◌≡◌, ℕ, ◌+◌, ◌-◌, ◌<◌, ◌≤◌, ℤ, Bool, true, false, if◌then◌else◌, Option, Some, None, List, [], ◌∷◌, ◌++◌, refl, sym, ap, ◌∙◌, subst, inl, inr, arith}
 use Rattle.std.proofs.lemmas.Bool.{cases_lt}
-use Rattle.std.specs.Prelude.{slice_get, slice_set, is_none}
+use Rattle.std.specs.Prelude.{slice_get, slice_set}
 use Rattle.cw_model.specs.declared.syntax.CallKind.{CallKind}
 use Rattle.cw_model.specs.declared.syntax.CallKind.TheVariants.{Plain, Spawned}
 use Rattle.cw_model.specs.Outcome.{Trace}
 use Rattle.cw_code.specs.declared.code.Instr.{Instr}
 use Rattle.cw_code.specs.Code.{Code}
-use Rattle.cw_code.specs.declared.code.Halves.{Halves}
-use Rattle.cw_code.specs.Run.{Slots, Results, Waiting, Opened, Around, Caller, Block, State, Went, On, Ends, Stops, Stuck, synced, on_slot, is_full, settled, put_in, Entering, begun, given_back, going_on, result_of, returns_to, back, resumes, closed, uncut, cut_ends, act, step}
+use Rattle.cw_code.specs.Run.{Slots, Results, Waiting, Around, Caller, Block, State, Went, On, Ends, Stops, Stuck, synced, is_full, settled, Entering, begun, given_back, going_on, result_of, returns_to, back, act, step}
 use Rattle.cw_strands.specs.Jobs.{Extent, ToJoin, has_come, Standing, standing, Came, Arrives, Falls, Beyond, moved, travel, Job, job_start, course, Effect, Ended, Joined, TrapIn, OverLimit, Memory, JobMeaning}
 use Rattle.cw_strands.specs.Strands.{Strand, Going, Waits, Halted, rest_at, Turn, Goes, HandsOut, ComesBack, turn_back, turn_in, turn_call, turn_of, turn, spawn_job, goes_on, resumed, HasStopped, stopped_after, dropped, cost_of}
 use Rattle.cw_strands.specs.Promises.{Takes, OutAt, Outs, IsOutHere, OutsHere, Leads, IsStrandOf}

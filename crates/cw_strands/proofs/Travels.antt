@@ -1,14 +1,13 @@
 -- THE CUT: a run over what waits is the run up to the join, and from there on, what waits having gone back into its slots.
 use Rattle.std.proofs.Common.{◌≡◌, ℕ, zero, suc, ℤ, Bool, true, false, ◌&&◌, if◌then◌else◌, Option, Some, None, List, [], ◌∷◌, ◌++◌, refl, sym, ap, ◌∙◌, subst}
-use Rattle.std.specs.Prelude.{slice_get, slice_set, is_none}
+use Rattle.std.specs.Prelude.{slice_get, slice_set}
 use Rattle.cw_model.specs.declared.syntax.CallKind.{CallKind}
 use Rattle.cw_model.specs.declared.syntax.CallKind.TheVariants.{Plain, Spawned}
 use Rattle.cw_model.specs.Outcome.{Trace, joined}
 use Rattle.cw_code.specs.declared.code.Instr.{Instr}
 use Rattle.cw_code.specs.declared.code.Instr.TheVariants as instr
 use Rattle.cw_code.specs.Code.{Code}
-use Rattle.cw_code.specs.declared.code.Halves.{Halves}
-use Rattle.cw_code.specs.Run.{Slots, Results, Opened, Around, Caller, Block, State, Went, On, Ends, Stops, Stuck, synced, on_slot, is_full, settled, put_in, given_back, going_on, event_of, rejoined, result_of, returns_to, back, resumes, closed, uncut, cut_ends, act, step}
+use Rattle.cw_code.specs.Run.{Slots, Results, Around, Caller, Block, State, Went, On, Ends, Stops, Stuck, synced, is_full, settled, put_in, given_back, going_on, event_of, rejoined, result_of, returns_to, back, act, step}
 use Rattle.cw_strands.specs.Jobs.{Extent, WholeCall, ToJoin, joins, is_first, has_come, standing, Arrives, Beyond, moved, travel}
 use Rattle.cw_strands.specs.Strands.{resumed}
 use Rattle.cw_strands.specs.RestLaws.{onwards}

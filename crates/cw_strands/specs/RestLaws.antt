@@ -1,5 +1,5 @@
 -- The laws of jobs: the cut at a spawn, the join, and whatever the schedule the serial answer.
-use Rattle.std.specs.Prelude.{◌≡◌, ◌⊎◌, ℕ, ◌+◌, ℤ, List, [], ◌++◌, slice_get}
+use Rattle.std.specs.Prelude.{◌≡◌, ◌⊎◌, ℕ, ℤ, List, [], ◌++◌, slice_get}
 use Rattle.cw_model.specs.Outcome.{joined}
 use Rattle.cw_code.specs.declared.code.Func.{Func}
 use Rattle.cw_code.specs.Code.{Code}
