@@ -154,7 +154,7 @@ module _ (code : Code) (s : State) (P : (joins : Bool) → Turn → Went → Typ
             part (slice_get (settled s.arrived s.arrays) h.left) _ (λ left.
             part (slice_get (settled s.arrived s.arrays) h.right) _ (λ right. moves.leaves (uncut_arrays h left right (settled s.arrived s.arrays)) o around e))
 
-    -- EVERY INSTRUCTION is of one of these kinds
+    -- every instruction is of one of these kinds
     pub acts_by : (o : Option Instr) → P (joins o) (turn_of code o s.around) (act code s o)
     acts_by None = moves.stuck false Goes
     acts_by (Some (instr.Push v)) = moves.local (s.place + 1) (v ∷ s.operands) s.slots s.arrays [] []

@@ -110,7 +110,7 @@ module _ (code : Code) (fits : Fits code) (steps_well : FitSteps code fits) (set
       cases true e more = subst NotLost (sym (come_at x code (suc n) s e)) tt
       cases false e more = subst NotLost (sym (go_one x code n s e)) (went (step code s) (lifted_step x base s e good) more)
 
-  -- A JOB THAT FITS
+  -- a job that fits
   pub record FitJob (job : Job) : Type 0 where
     pub base : Base job.extent
     pub good : GoodState code fits (lifted base (job_start job))
@@ -201,7 +201,7 @@ module _ (code : Code) (fits : Fits code) (steps_well : FitSteps code fits) (set
       subst (λ x. Good f shape (record s { slots = x; arrays = settled second' frame.arrays; results = others; arrived = others' })) (settled_append first second slots ∙ ap (settled second) (sym same))
       (subst (λ x. Good f shape (record s { slots = settled (first ++ second) slots; arrays = x; results = others; arrived = others' })) (settled_append first' second' arrays ∙ ap (settled second') (sym same')) one)
 
-  -- GIVE leaves a state that fits
+  -- give leaves a state that fits
   pub gives_fit : (x : Extent) (base : Base x) (s : State) (frame : Standing) (t : Trace) → GoodState code fits (lifted base s) → Arrived (lifted base s) frame → GoodState code fits (lifted base (resumed s frame t))
   gives_fit x Alone s frame t good a =
       let g = gone_back a.seat.func a.seat.shape s frame a.slots a.arrays a.results s.results [] a.returned s.arrived [] a.same a.same_arrays

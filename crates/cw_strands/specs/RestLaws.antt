@@ -28,7 +28,7 @@ call_job e limit before = record {
   before = before;
 }
 
--- THE CUT: from a spawn the serial run is the child's run, and then its caller goes on; where the caller goes on, the serial run is the run of the rest up to the join, from the slots as they stand, and then what waits goes back into its slots and the block goes on
+-- the cut: from a spawn the serial run is the child's run, and then its caller goes on; where the caller goes on, the serial run is the run of the rest up to the join, from the slots as they stand, and then what waits goes back into its slots and the block goes on
 pub record Cut (code : Code) : Type 0 where
   pub child : (y : Extent) (s : State) (e : Entering) (limit before n : ℕ) → travel y code n (begun s e) ≡ onwards code y (begun s e) (course code (call_job e limit before) n)
   pub rest : (y : Extent) (s : State) (limit before n : ℕ) → s.operands ≡ [] → travel y code n s ≡ onwards code y s (course code (rest_at s limit before) n)
@@ -43,7 +43,7 @@ abbrev pub RootsAreSerial : Type 0
 RootsAreSerial = (code : Code) (f : Func) (args : List ℤ) (limit : ℕ) (e : Effect) → first_went (slice_get code.funcs code.main) args ≡ On (first_state f args [])
     → JobMeaning code (root_job f args limit) e → (e ≡ Memory) ⊎ (answered code e ≡ code_serial code args limit)
 
--- WHATEVER THE SCHEDULE
+-- whatever the schedule
 abbrev pub SchedulesAreSerial : Type 0
 SchedulesAreSerial = (code : Code) (f : Func) (args : List ℤ) (limit : ℕ) (e : Effect) → first_went (slice_get code.funcs code.main) args ≡ On (first_state f args [])
     → Makes code (root_job f args limit) e → (e ≡ Memory) ⊎ (answered code e ≡ code_serial code args limit)
