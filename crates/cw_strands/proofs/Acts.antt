@@ -77,7 +77,7 @@ module _ (code : Code) (s : State) (P : (joins : Bool) → Turn → Went → Typ
     regions None = moves.stuck false Goes
     regions (Some tag) = moves.opens (Some tag)
 
-    -- EVERY INSTRUCTION is of one of these kinds
+    -- every instruction is of one of these kinds
     pub acts_by : (o : Option Instr) → P (joins o) (turn_of o s.around) (act code s o)
     acts_by None = moves.stuck false Goes
     acts_by (Some (instr.Push v)) = moves.local (s.place + 1) (v ∷ s.operands) s.slots [] []

@@ -95,7 +95,7 @@ module _ (code : Code) (fits : Fits code) (steps_well : FitSteps code fits) (set
       cases true e more = subst NotLost (sym (come_at x code (suc n) s e)) tt
       cases false e more = subst NotLost (sym (go_one x code n s e)) (went (step code s) (lifted_step x base s e good) more)
 
-  -- A JOB THAT FITS
+  -- a job that fits
   pub record FitJob (job : Job) : Type 0 where
     pub base : Base job.extent
     pub good : GoodState code fits (lifted base (job_start job))
@@ -166,7 +166,7 @@ module _ (code : Code) (fits : Fits code) (steps_well : FitSteps code fits) (set
       cases true h more = subst (Arrived b) (ap (λ c. elim c [ Arrives f u k ↦ f | Returns v u k ↦ standing s | Falls trap line lines k ↦ standing s | Beyond ↦ standing s | Lost ↦ standing s ]) (sym (come_at ToJoin code (suc n) s h) ∙ e)) (at s.around (joins (slice_get code.instrs s.place)) h good)
       cases false h more = went (step code s) (lifted_step ToJoin (Upon b) s h good) more (sym (go_one ToJoin code n s h) ∙ e)
 
-  -- GIVE leaves a state that fits
+  -- give leaves a state that fits
   pub gives_fit : (x : Extent) (base : Base x) (s : State) (frame : Standing) (t : Trace) → GoodState code fits (lifted base s) → Arrived (lifted base s) frame → GoodState code fits (lifted base (resumed s frame t))
   gives_fit x Alone s frame t good a = record {
     seat = a.seat;

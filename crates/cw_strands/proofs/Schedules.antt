@@ -1,4 +1,4 @@
--- WHATEVER THE SCHEDULE, the answer is that of the serial run.
+-- Whatever the schedule, the answer is that of the serial run.
 use Rattle.std.proofs.Common.{◌≡◌, ◌⊎◌, ℕ, zero, suc, ◌-◌, ℤ, Some, None, List, [], ◌∷◌, refl, sym, ap, ◌∙◌, subst, inl, inr, arith}
 use Rattle.std.specs.Prelude.{slice_get, option_map}
 use Rattle.cw_model.specs.Frames.{no_frame}

@@ -1,4 +1,4 @@
--- EACH STEP OF A STRAND keeps what is true of it; so an effect that it ends with means its job.
+-- Each step of a strand keeps what is true of it; so an effect that it ends with means its job.
 use Rattle.std.proofs.Common.{◌≡◌, ℕ, ◌+◌, ◌-◌, ◌<◌, ◌≤◌, ℤ, Bool, true, false, if◌then◌else◌, Option, Some, None, List, [], ◌∷◌, ◌++◌, refl, sym, ap, ◌∙◌, subst, inl, inr, arith}
 use Rattle.std.proofs.lemmas.Bool.{cases_lt}
 use Rattle.std.specs.Prelude.{slice_get, slice_set}
@@ -156,7 +156,7 @@ module _ (code : Code) where
     pub wants_memory : (strand : Strand) (outs : List Job) → IsStrandOf code job strand → IsStrandOf code job (Halted Memory outs)
     wants_memory strand outs h = let le = before_fits strand h in (omega (arith, le), tt)
 
-    -- GIVE
+    -- give
     pub gives : (out : Job) (s : State) (count : ℕ) (outs : List Job) (frame : Standing) (t : Trace) (cost : ℕ)
         → IsStrandOf code job (Waits s count (out ∷ outs)) → JobMeaning code out (Joined frame t cost) → job.before + (count + cost) ≤ job.limit
         → IsStrandOf code job (Going (resumed s frame t) (count + cost) outs)
@@ -210,7 +210,7 @@ module _ (code : Code) where
         )
     gives_stop out s count outs Memory h m stop le = (omega (arith, le), tt)
 
-    -- SKIP, and DROP
+    -- skip, and drop
     pub skips : (out : Job) (e : Effect) (outs : List Job) → IsStrandOf code job (Halted e (out ∷ outs)) → IsStrandOf code job (Halted e outs)
     skips out e outs h = h
 
@@ -221,7 +221,7 @@ module _ (code : Code) where
     drops out e OverLimit outs h = h
     drops out e Memory outs h = wants_memory (Halted e (out ∷ outs)) outs h
 
-    -- AN EFFECT
+    -- an effect
     pub arrives : (s : State) (count : ℕ) (outs : List Job) → IsStrandOf code job (Going s count outs) → has_come job.extent code s ≡ true → JobMeaning code job (Joined (standing s) s.trace count)
     arrives s count outs h e =
         stands_meaning code job (Joined (standing s) s.trace count) h.0 (record {

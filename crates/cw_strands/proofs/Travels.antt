@@ -1,4 +1,4 @@
--- THE CUT: a run over what waits is the run up to the join, and from there on, what waits having gone back into its slots.
+-- The cut: a run over what waits is the run up to the join, and from there on, what waits having gone back into its slots.
 use Rattle.std.proofs.Common.{◌≡◌, ℕ, zero, suc, ℤ, Bool, true, false, ◌&&◌, if◌then◌else◌, Option, Some, None, List, [], ◌∷◌, ◌++◌, refl, sym, ap, ◌∙◌}
 use Rattle.std.specs.Prelude.{slice_get, slice_set}
 use Rattle.cw_model.specs.declared.syntax.CallKind.{CallKind}
@@ -146,7 +146,7 @@ module _ (code : Code) where
     moves_under (Stops trap line lines) n d more = refl
     moves_under Stuck n d more = refl
 
-    -- THE FRAME RULE on whole runs
+    -- the frame rule on whole runs
     pub travel_under : (n : ℕ) (s : State) → MayStand x → Based b.depth s → travel y code n (under b s) ≡ onwards code y b (travel x code n s)
     travel_under zero s may d = cases (has_come x code s) refl
       where

@@ -56,7 +56,7 @@ moved (Ends v t) left next = Returns v t left
 moved (Stops trap line lines) left next = Falls trap line lines left
 moved Stuck left next = Lost
 
--- THE RUN OF A JOB within a budget of instructions
+-- the run of a job within a budget of instructions
 abbrev pub travel : Extent → Code → ℕ → State → Came
 travel x code zero s = if has_come x code s then Arrives (standing s) s.trace zero else Beyond
 travel x code (suc n) s = if has_come x code s then Arrives (standing s) s.trace (suc n) else moved (step code s) n (λ s'. travel x code n s')
@@ -98,7 +98,7 @@ IsOf (Falls trap line lines left) n e = e ≡ TrapIn trap line lines (n - left)
 IsOf Beyond n e = e ≡ OverLimit
 IsOf Lost n e = ⊥
 
--- THE MEANING OF A JOB: what its run comes to within the limit; or over, where the run is over within the limit less the cost before; or memory was wanting
+-- the meaning of a job: what its run comes to within the limit; or over, where the run is over within the limit less the cost before; or memory was wanting
 pub data JobMeaning (code : Code) (job : Job) (e : Effect) : Type 0 where
   Same : IsOf (course code job job.limit) job.limit e → JobMeaning code job e
   Passed : e ≡ OverLimit → course code job (job.limit - job.before) ≡ Beyond → JobMeaning code job e

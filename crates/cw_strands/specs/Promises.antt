@@ -1,4 +1,4 @@
--- What is true of a strand at each moment, whatever its schedule: THE STATE OF A STRAND IS A STATE OF THE SERIAL RUN OF ITS JOB.
+-- What is true of a strand at each moment, whatever its schedule: the state of a strand is a state of the serial run of its job.
 use Rattle.std.specs.Prelude.{◌≡◌, ℕ, ◌+◌, ◌≤◌, ◌<◌, List, [], ◌∷◌}
 use Rattle.cw_model.specs.declared.syntax.CallKind.{CallKind}
 use Rattle.cw_model.specs.declared.syntax.CallKind.TheVariants.{Plain, Spawned}
@@ -52,7 +52,7 @@ OutsHere limit bound s (out ∷ outs) = IsOutHere limit bound s out × Outs limi
 abbrev pub Leads : Code → Job → ℕ → State → Type 0
 Leads code job count s = Takes count (course code job) (λ n. travel job.extent code n s)
 
--- A STRAND OF A JOB
+-- a strand of a job
 abbrev pub IsStrandOf : Code → Job → Strand → Type 0
 IsStrandOf code job (Going s count outs) = (job.before + count ≤ job.limit) × Leads code job count s × Outs job.limit (job.before + count) s.around outs
 IsStrandOf code job (Waits s count outs) = (job.before + count ≤ job.limit) × Leads code job count s × OutsHere job.limit (job.before + count) s outs

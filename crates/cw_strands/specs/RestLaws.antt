@@ -22,7 +22,7 @@ onwards code y b Lost = Lost
 abbrev pub call_job : State → Func → (limit before : ℕ) → Job
 call_job s f limit before = record { extent = WholeCall; place = f.start; slots = slots_of f s.operands; depth = s.depth + 1; limit = limit; before = before }
 
--- THE CUT: from a spawn the serial run is the child's run, and then its caller goes on; where the caller goes on, the serial run is the run of the rest up to the join, from the slots as they stand, and then what waits goes back into its slots and the block goes on
+-- the cut: from a spawn the serial run is the child's run, and then its caller goes on; where the caller goes on, the serial run is the run of the rest up to the join, from the slots as they stand, and then what waits goes back into its slots and the block goes on
 pub record Cut (code : Code) : Type 0 where
   pub child : (y : Extent) (s : State) (c : Callee) (f : Func) (limit before n : ℕ) → travel y code n (begun s Spawned c f) ≡ onwards code y (begun s Spawned c f) (course code (call_job s f limit before) n)
   pub rest : (y : Extent) (s : State) (limit before n : ℕ) → s.operands ≡ [] → travel y code n s ≡ onwards code y s (course code (rest_at s limit before) n)
@@ -37,7 +37,7 @@ abbrev pub RootsAreSerial : Type 0
 RootsAreSerial = (code : Code) (f : Func) (args : List ℤ) (limit : ℕ) (e : Effect) → first_went (slice_get code.funcs code.main) args ≡ On (first_state f args)
     → JobMeaning code (root_job f args limit) e → (e ≡ Memory) ⊎ (answered code e ≡ code_serial code args limit)
 
--- WHATEVER THE SCHEDULE
+-- whatever the schedule
 abbrev pub SchedulesAreSerial : Type 0
 SchedulesAreSerial = (code : Code) (f : Func) (args : List ℤ) (limit : ℕ) (e : Effect) → first_went (slice_get code.funcs code.main) args ≡ On (first_state f args)
     → Makes code (root_job f args limit) e → (e ≡ Memory) ⊎ (answered code e ≡ code_serial code args limit)

@@ -34,7 +34,7 @@ went_on turn from (Ends v t) limit before count outs = finished outs (Ended v t 
 went_on turn from (Stops trap line lines) limit before count outs = Ran (Halted (TrapIn trap line lines count) outs)
 went_on turn from Stuck limit before count outs = Unfit
 
--- ADVANCE: one instruction, which counts; past the limit the strand stops
+-- advance: one instruction, which counts; past the limit the strand stops
 abbrev pub advance : Code → Job → Strand → Advanced
 advance code job (Going s count outs) =
     if has_come job.extent code s then finished outs (Joined (standing s) s.trace count)
@@ -44,7 +44,7 @@ advance code job (Waits s count outs) = AtSync
 advance code job (Halted e []) = Finished e
 advance code job (Halted e (out ∷ outs)) = AtSync
 
--- GIVE, within the limit
+-- give, within the limit
 abbrev pub given_to : State → (count : ℕ) → List Job → Effect → Strand
 given_to s count outs (Joined frame t cost) = Going (resumed s frame t) (count + cost) outs
 given_to s count outs (Ended v t cost) = Halted OverLimit outs
@@ -52,7 +52,7 @@ given_to s count outs (TrapIn trap line lines cost) = Halted (stopped_after s co
 given_to s count outs OverLimit = Halted OverLimit outs
 given_to s count outs Memory = Halted Memory outs
 
--- GIVE: the effect of the newest job out
+-- give: the effect of the newest job out
 abbrev pub give : Job → Strand → Effect → Strand
 give job (Going s count outs) e = Going s count outs
 give job (Waits s count []) e = Waits s count []
@@ -60,12 +60,12 @@ give job (Waits s count (out ∷ outs)) e = if nat_lt job.limit (job.before + (c
 give job (Halted e' []) e = Halted e' []
 give job (Halted e' (out ∷ outs)) e = Halted (dropped e' e) outs
 
--- SKIP: the newest job out was got back unrun, and the call beside it has stopped
+-- skip: the newest job out was got back unrun, and the call beside it has stopped
 abbrev pub skip : Strand → Strand
 skip (Halted e (out ∷ outs)) = Halted e outs
 skip strand = strand
 
--- TAKE BACK: the newest job out was got back unrun, and the call beside it has ended: the strand goes on itself, the result of the call still waiting for the join
+-- take back: the newest job out was got back unrun, and the call beside it has ended: the strand goes on itself, the result of the call still waiting for the join
 abbrev pub take_back : Strand → Strand
 take_back (Waits s count (out ∷ outs)) = Going s count outs
 take_back strand = strand
@@ -88,7 +88,7 @@ AdvanceKeeps code job old AtSync = Unit {0}
 AdvanceKeeps code job old (Finished e) = JobMeaning code job e
 AdvanceKeeps code job old Unfit = Unit {0}
 
--- THE CALLS ON A STRAND keep that it is a strand of its job, and what it ends with means the job
+-- the calls on a strand keep that it is a strand of its job, and what it ends with means the job
 pub record CallsKeep (code : Code) : Type 0 where
   pub starting : (job : Job) → job.before ≤ job.limit → IsStrandOf code job (started job)
   pub advancing : (job : Job) (strand : Strand) → IsStrandOf code job strand → AdvanceKeeps code job strand (advance code job strand)

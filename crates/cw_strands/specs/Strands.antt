@@ -27,7 +27,7 @@ outs_of (Halted e outs) = outs
 abbrev pub rest_of : Waiting → (limit before : ℕ) → Job
 rest_of w limit before = record { extent = ToJoin; place = w.place; slots = w.slots; depth = w.depth; limit = limit; before = before }
 
--- THE JOB THAT IS OUT where a strand waits: the rest of the block that it will go on with
+-- the job that is out where a strand waits: the rest of the block that it will go on with
 abbrev pub rest_at : State → (limit before : ℕ) → Job
 rest_at s limit before = record { extent = ToJoin; place = s.place; slots = s.slots; depth = s.depth; limit = limit; before = before }
 
@@ -59,7 +59,7 @@ turn_of _ around = Goes
 abbrev pub turn : Code → State → Turn
 turn code s = turn_of (slice_get code.instrs s.place) s.around
 
--- THE JOB OF A SPAWN: the rest of its block, from the next place, with the slot of the result empty
+-- the job of a spawn: the rest of its block, from the next place, with the slot of the result empty
 abbrev pub spawn_job : State → Callee → (limit before : ℕ) → Job
 spawn_job s c limit before = record { extent = ToJoin; place = s.place + 1; slots = taken_from Spawned c.target s.slots; depth = s.depth; limit = limit; before = before }
 
@@ -69,7 +69,7 @@ goes_on Goes from to limit before count outs = Going to count outs
 goes_on (HandsOut c) from to limit before count outs = Going to count (spawn_job from c limit (before + count) ∷ outs)
 goes_on ComesBack from to limit before count outs = Waits to count outs
 
--- THE JOIN: the rest is done, what waits goes back into its slots, and the block goes on from its join
+-- the join: the rest is done, what waits goes back into its slots, and the block goes on from its join
 abbrev pub resumed : State → Standing → Trace → State
 resumed s frame t = record s { place = frame.place; operands = frame.operands; slots = settled s.results frame.slots; results = []; trace = joined s.trace t }
 
@@ -120,7 +120,7 @@ mutual
     -- memory may be wanting at any step
     NoMemory : (job : Job) (strand : Strand)
         → Reached code job strand → Reached code job (Halted Memory (outs_of strand))
-    -- GIVE: the effect of the newest rest out
+    -- give: the effect of the newest rest out
     Given : (job out : Job) (s : State) (count : ℕ) (outs : List Job) (frame : Standing) (t : Trace) (cost : ℕ)
         → Reached code job (Waits s count (out ∷ outs)) → Makes code out (Joined frame t cost) → job.before + (count + cost) ≤ job.limit
         → Reached code job (Going (resumed s frame t) (count + cost) outs)
@@ -130,7 +130,7 @@ mutual
     GivenStop : (job out : Job) (s : State) (count : ℕ) (outs : List Job) (e : Effect)
         → Reached code job (Waits s count (out ∷ outs)) → Makes code out e → HasStopped e → job.before + (count + cost_of e) ≤ job.limit
         → Reached code job (Halted (stopped_after s count e) outs)
-    -- SKIP: the call stopped, and its rest was got back unrun
+    -- skip: the call stopped, and its rest was got back unrun
     Skipped : (job out : Job) (e : Effect) (outs : List Job)
         → Reached code job (Halted e (out ∷ outs)) → Reached code job (Halted e outs)
     -- the call stopped, and its rest was run elsewhere

@@ -62,7 +62,7 @@ pub record Has (world : World) (i : ℕ) (job : Job) (place : Place) : Type 0 wh
   pub job_is : slice_get world.jobs i ≡ Some job
   pub place_is : slice_get world.places i ≡ Some place
 
--- ONE EVENT. Which strand of a worker moves, and from which end a deque is taken, is left free: each rule for it allows fewer events
+-- one event. Which strand of a worker moves, and from which end a deque is taken, is left free: each rule for it allows fewer events
 pub data Next (code : Code) : World → World → Type 0 where
   -- an instruction
   Run : (world : World) (i worker : ℕ) (job : Job) (strand new : Strand) (outs : List ℕ)
@@ -105,7 +105,7 @@ pub data After (code : Code) (first : World) : World → Type 0 where
 abbrev pub world_of : Job → World
 world_of job = record { jobs = job ∷ []; places = Runs 0 (started job) [] ∷ [] }
 
--- WHATEVER THE EVENTS, the effect of the root answers what the code gives, or memory was wanting
+-- whatever the events, the effect of the root answers what the code gives, or memory was wanting
 abbrev pub WorldsAreSerial : Type 0
 WorldsAreSerial = (code : Code) (f : Func) (args : List ℤ) (limit : ℕ) (world : World) (place : Place) (e : Effect) → first_went (slice_get code.funcs code.main) args ≡ On (first_state f args)
     → After code (world_of (root_job f args limit)) world → slice_get world.places 0 ≡ Some place → effect_in place ≡ Some e → (e ≡ Memory) ⊎ (answered code e ≡ code_serial code args limit)
