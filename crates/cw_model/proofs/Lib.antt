@@ -2,11 +2,6 @@ mod Paths
 pub mod Regrouping
 mod Sites
 mod Closure
-pub mod Cutting
-pub mod Terminals
-pub mod Deriving
-pub mod Found
-pub mod Refusing
 pub mod Endings
 pub mod Parts
 mod Halves

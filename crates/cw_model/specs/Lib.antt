@@ -35,5 +35,3 @@ pub mod ExampleSizes
 pub mod ExampleValues
 pub mod ExampleStatements
 pub mod ExampleRows
-pub mod ExampleSources
-pub mod ExampleTexts

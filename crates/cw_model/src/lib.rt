@@ -7,6 +7,5 @@ pub mod monoid;
 pub mod syntax;
 #[cfg(test)]
 mod tests;
-pub mod texts;
 pub mod token;
 pub mod trap;

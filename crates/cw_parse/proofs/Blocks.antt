@@ -1,5 +1,5 @@
 -- Statements with a block, and blocks.
-use Rattle.std.proofs.Common.{◌≡◌, ℕ, zero, suc, ◌+◌, ◌<◌, ◌≤◌, Bool, true, false, List, [], ◌∷◌, ◌++◌, length as len, Ok, Err, refl, sym, ap, subst, ◌∙◌, arith, ◌⊎◌, inl, inr}
+use Rattle.std.proofs.Common.{◌≡◌, ℕ, zero, suc, ◌<◌, Bool, true, false, List, [], ◌∷◌, length as len, Err, refl, sym, ap, ◌∙◌, arith, ◌⊎◌, inl, inr}
 use Rattle.cw_model.specs.declared.token.Token.{Token}
 use Rattle.cw_model.specs.declared.token.Kind.{Kind}
 use Rattle.cw_model.specs.declared.token.Kind.TheVariants as kind
@@ -9,10 +9,10 @@ use Rattle.cw_model.specs.Grammar as grammar
 use Rattle.cw_model.specs.Grammar.{name_of, ReadsStmt, ReadsStmtBy, ReadsBlock, ReadsStmts}
 use Rattle.cw_parse.specs.declared.marks.Mark.TheVariants as mark
 use Rattle.cw_parse.specs.Marks.{is_mark}
-use Rattle.cw_parse.specs.Reading.{Reader, ◌>>=◌, by_first, if_next}
+use Rattle.cw_parse.specs.Reading.{Reader, ◌>>=◌, by_first}
 use Rattle.cw_parse.specs.Parts.{simple, Opening, If, While, For, Scope, Cut, Region, opening, around, unanswered, framed_by, framed, stmt, Line, line_by, put_before, lines_of, line, lines}
-use Rattle.cw_parse.proofs.Reader.{Stops, IsUnique, SomeText, Seq, tok, Done, done, shorter}
-use Rattle.cw_parse.proofs.Exact.{Exact, Halts, Branch, First, Refuses, Against, any, mark as token_of, same_exact, given, zero_exact, one_way, guard_exact, guard_halts, perhaps_halts, map_halts, first_exact, at_first, differ}
+use Rattle.cw_parse.proofs.Reader.{Stops, IsUnique, SomeText, Seq, tok, Done, done}
+use Rattle.cw_parse.proofs.Exact.{Exact, Halts, Branch, First, Against, any, mark as token_of, same_exact, given, zero_exact, one_way, guard_exact, guard_halts, perhaps_halts, map_halts, first_exact, at_first, differ}
 use Rattle.cw_parse.proofs.Pieces.{Marked, Piece, ◌>>>◌, expect, give, perhaps, guard, but, against, branch_map, then_halts, row_by}
 use Rattle.cw_parse.proofs.Statements.{SimpleBy, simple_branch, simple_into, simple_out}
 use Rattle.cw_parse.proofs.Openings.{OpeningBy, opening_branch, Headed, headed, head_into, head_out}

@@ -1,14 +1,12 @@
 -- A call, or what is none: a call begins with a name and an opening parenthesis.
-use Rattle.std.proofs.Common.{◌≡◌, ℕ, ◌≤◌, Bool, true, false, cond, List, [], ◌∷◌, ◌++◌, length as len, Ok, Err, refl, sym, ap, subst, ◌∙◌, append_assoc, arith, ◌⊎◌, inl, inr}
-use Rattle.std.proofs.lemmas.List.{append-nil}
+use Rattle.std.proofs.Common.{◌≡◌, ℕ, ◌≤◌, Bool, true, false, cond, List, [], ◌∷◌, ◌++◌, length as len, Ok, Err, refl, sym, ap, ◌∙◌, ◌⊎◌, inl, inr}
 use Rattle.cw_model.specs.declared.token.Token.{Token}
-use Rattle.cw_model.specs.declared.token.Kind.{Kind}
 use Rattle.cw_model.specs.declared.token.Kind.TheVariants as kind
 use Rattle.cw_parse.specs.declared.marks.Mark.TheVariants as mark
 use Rattle.cw_parse.specs.Marks.{is_mark}
 use Rattle.cw_parse.specs.Reading.{Read, Reader}
 use Rattle.cw_parse.specs.Parts.{is_call}
-use Rattle.cw_parse.proofs.Reader.{Stops, Front, IsUnique, SomeText, Seq, tok, Stuck}
+use Rattle.cw_parse.proofs.Reader.{Stops, Front, SomeText, Seq, tok, Stuck}
 use Rattle.cw_parse.proofs.Exact.{Exact, any, any_stops, mark as token_of, differ}
 use Rattle.cw_parse.proofs.MarkKinds.{passes}
 use Rattle.cw_parse.proofs.Pieces.{Marked}

@@ -1,5 +1,5 @@
 -- Expressions.
-use Rattle.std.proofs.Common.{◌≡◌, ℕ, zero, suc, ◌<◌, ◌≤◌, pos, Bool, true, false, cond, List, [], ◌∷◌, ◌++◌, length as len, Option, Some, None, Ok, Err, refl, sym, ap, subst, ◌∙◌, arith, ◌⊎◌, inl, inr}
+use Rattle.std.proofs.Common.{◌≡◌, ℕ, zero, suc, ◌<◌, ◌≤◌, pos, Bool, true, false, cond, List, [], ◌∷◌, length as len, Option, Some, None, Ok, Err, refl, sym, ap, subst, ◌∙◌, arith, ◌⊎◌, inl, inr}
 use Rattle.std.specs.Prelude.{nat_le}
 use Rattle.std.proofs.lemmas.Bool.{leb-true, le-leb}
 use Rattle.cw_model.specs.declared.token.Token.{Token}
@@ -18,9 +18,9 @@ use Rattle.cw_parse.specs.Marks.{is_mark}
 use Rattle.cw_parse.specs.Reading.{Read, Reader, ◌>>=◌, by_first, if_next, unless_next}
 use Rattle.cw_parse.specs.Parts.{named, measured, atom, operand_after, at_level, beside, operator_at, chain_on, chain, level_over, operand, level, expr}
 use Rattle.cw_parse.proofs.Reader.{Stops, Front, IsUnique, SomeText, Seq, Tok, tok, Done, done, shorter, bind_ok, ok_is}
-use Rattle.cw_parse.proofs.Exact.{Exact, Halts, Passes, Against, Branch, First, any, mark as token_of, done_exact, done_rest, differ, seq_exact, after_part, narrow_exact, same_exact, same_reader, given, fewer_exact, zero_exact, one_way, guarded, guard_exact, guard_halts, perhaps_halts, map_halts, first_exact, at_first, if_next_exact}
+use Rattle.cw_parse.proofs.Exact.{Exact, Halts, Passes, Against, Branch, First, mark as token_of, done_exact, done_rest, differ, seq_exact, narrow_exact, same_exact, same_reader, given, fewer_exact, zero_exact, one_way, guard_halts, perhaps_halts, map_halts, first_exact, at_first, if_next_exact}
 use Rattle.cw_parse.proofs.MarkKinds.{kind_of, passes}
-use Rattle.cw_parse.proofs.Pieces.{Marked, Piece, ◌>>>◌, expect, give, before, narrow, perhaps, guard}
+use Rattle.cw_parse.proofs.Pieces.{Marked, Piece, ◌>>>◌, expect, give, before, perhaps, guard}
 use Rattle.cw_parse.proofs.Operators.{stops, stops_below, operator_stops, operator_on, stops_above, level_of, is_level, operator_ok, Operated, operated}
 
 -- an index goes on behind a name

@@ -8,12 +8,12 @@ use Rattle.cw_model.specs.Syntax.{Block, Param, Reducer, Function, Program}
 use Rattle.cw_model.specs.Grammar as grammar
 use Rattle.cw_model.specs.Grammar.{name_of, gives_int_of, ReadsParams, ReadsFunction, ReadsItems, Derives, HasSyntaxFault, CanBegin, first_line}
 use Rattle.cw_parse.specs.declared.marks.Mark.TheVariants as mark
-use Rattle.cw_parse.specs.Reading.{Read, Reader, ◌>>=◌, by_first}
+use Rattle.cw_parse.specs.Reading.{Read, Reader, by_first}
 use Rattle.cw_parse.specs.Parsed.{HasOneTree}
 use Rattle.cw_parse.specs.Parts.{list, param, lines, reducer, function, Item, Sum, Code, item, Items, put_item, items, whole}
-use Rattle.cw_parse.proofs.Reader.{Front, Stuck, IsUnique, SomeText, Seq, tok, Done, done, shorter, bind_ok, bind_err, ok_is}
+use Rattle.cw_parse.proofs.Reader.{Front, Stuck, IsUnique, SomeText, tok, done, bind_ok, bind_err, ok_is}
 use Rattle.cw_parse.proofs.Exact.{Exact, Branch, First, any, any_stops, mark as token_of, same_exact, fewer_exact, first_exact, at_first}
-use Rattle.cw_parse.proofs.Pieces.{Marked, Piece, ◌>>>◌, expect, give}
+use Rattle.cw_parse.proofs.Pieces.{Piece, ◌>>>◌, expect, give}
 use Rattle.cw_parse.proofs.Lists.{params_exact}
 use Rattle.cw_parse.proofs.Blocks.{Lines, lines_exact}
 

@@ -1,22 +1,20 @@
 -- Lists in commas.
-use Rattle.std.proofs.Common.{◌≡◌, ℕ, suc, ◌<◌, ◌≤◌, Bool, true, false, List, [], ◌∷◌, length as len, Ok, refl, sym, ap, ◌∙◌, arith, ◌⊎◌, inl, inr}
+use Rattle.std.proofs.Common.{◌≡◌, ℕ, ◌<◌, ◌≤◌, Bool, true, false, List, [], ◌∷◌, length as len, Ok, refl, sym, ◌∙◌, arith, ◌⊎◌, inl, inr}
 use Rattle.cw_model.specs.declared.token.Token.{Token}
 use Rattle.cw_model.specs.declared.token.Kind.{Kind}
 use Rattle.cw_model.specs.declared.token.Kind.TheVariants as kind
 use Rattle.cw_model.specs.Syntax.{Name, Expr, Param}
 use Rattle.cw_model.specs.Grammar as grammar
 use Rattle.cw_model.specs.Grammar.{name_of, ReadsWhole, ReadsMoreArguments, ReadsArguments, ReadsMoreNames, ReadsParam, ReadsMoreParams, ReadsParams}
-use Rattle.cw_parse.specs.declared.marks.Mark.{Mark}
 use Rattle.cw_parse.specs.declared.marks.Mark.TheVariants as mark
 use Rattle.cw_parse.specs.Marks.{is_mark}
-use Rattle.cw_parse.specs.Reading.{Reader, ◌>>=◌, token, if_next}
-use Rattle.cw_parse.specs.Parts.{marked, expr, add_front, further, others, some_of, list, name, param}
-use Rattle.cw_parse.proofs.Reader.{Stops, IsUnique, Seq, tok, Done, done, shorter, bind_ok}
-use Rattle.cw_parse.proofs.Exact.{Exact, Halts, Against, any, any_halts, done_exact, done_rest, seq_exact, after_part, same_exact, given, one_way, token_exact, guard_halts, perhaps_halts, narrow_exact, map_halts, differ}
-use Rattle.cw_parse.proofs.MarkKinds.{kind_of, Is, passes}
-use Rattle.cw_parse.proofs.Pieces.{Marked, Piece, ◌>>>◌, expect, give, narrow, choose, perhaps, guard, but, against, marked_stops, then_halts, row_by}
+use Rattle.cw_parse.specs.Reading.{Reader, ◌>>=◌, token}
+use Rattle.cw_parse.specs.Parts.{expr, add_front, further, others, some_of, list, name, param}
+use Rattle.cw_parse.proofs.Reader.{Stops, IsUnique, Seq, tok, Done, done, shorter}
+use Rattle.cw_parse.proofs.Exact.{Exact, Halts, Against, any, any_halts, done_exact, done_rest, seq_exact, after_part, same_exact, given, one_way, guard_halts, perhaps_halts, narrow_exact, map_halts}
+use Rattle.cw_parse.proofs.Pieces.{Marked, Piece, ◌>>>◌, expect, give, choose, perhaps, guard, but, against, marked_stops, then_halts, row_by}
 use Rattle.cw_parse.proofs.Operators.{stops}
-use Rattle.cw_parse.proofs.Expressions.{expr_exact, expr_halts, begins_not, expr_long}
+use Rattle.cw_parse.proofs.Expressions.{expr_exact, expr_halts, begins_not}
 
 abbrev pub alone : {A : Type 0} → A → A × Unit {0}
 alone a = (a, tt)

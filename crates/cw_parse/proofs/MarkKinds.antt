@@ -1,6 +1,5 @@
 -- The kinds that marks stand for.
-use Rattle.std.proofs.Common.{◌≡◌, Bool, true, refl, ap, ◌∙◌}
-use Rattle.cw_model.specs.declared.token.Token.{Token}
+use Rattle.std.proofs.Common.{◌≡◌, true, refl, ap, ◌∙◌}
 use Rattle.cw_model.specs.declared.token.Kind.{Kind}
 use Rattle.cw_model.specs.declared.token.Kind.TheVariants as kind
 use Rattle.cw_parse.specs.declared.marks.Mark.{Mark}

@@ -1,5 +1,5 @@
 -- What stands in front of a block, and the block's brace.
-use Rattle.std.proofs.Common.{◌≡◌, ℕ, suc, Bool, true, false, List, [], ◌∷◌, Ok, refl, sym, ap, subst, ◌∙◌, arith, ◌⊎◌, inl, inr}
+use Rattle.std.proofs.Common.{◌≡◌, ℕ, suc, List, [], ◌∷◌, Ok, refl, sym, ap, subst, ◌∙◌, arith, inl, inr}
 use Rattle.cw_model.specs.declared.token.Token.{Token}
 use Rattle.cw_model.specs.declared.token.Kind.{Kind}
 use Rattle.cw_model.specs.declared.token.Kind.TheVariants as kind
@@ -8,11 +8,11 @@ use Rattle.cw_model.specs.Grammar as grammar
 use Rattle.cw_model.specs.Grammar.{name_of, ReadsWhole, ReadsMoreNames, ReadsGrain, ReadsOver, ReadsHead, Head}
 use Rattle.cw_parse.specs.declared.marks.Mark.TheVariants as mark
 use Rattle.cw_parse.specs.Marks.{is_mark}
-use Rattle.cw_parse.specs.Reading.{Reader, ◌>>=◌, by_first, if_next}
+use Rattle.cw_parse.specs.Reading.{Reader, ◌>>=◌, by_first}
 use Rattle.cw_parse.specs.Parts.{marked, some_of, name, add_front, Opening, If, While, For, Scope, Cut, Region, condition, turns, grain, over, range_from, range_to, range_step, head, cut, region, opening}
 use Rattle.cw_parse.proofs.Reader.{SomeText, Seq, tok, Done, done}
 use Rattle.cw_parse.proofs.Exact.{Exact, Branch, First, any, mark as token_of, done_exact, same_reader, fewer_exact, first_exact, at_first}
-use Rattle.cw_parse.proofs.Pieces.{Marked, Piece, ◌>>>◌, expect, give, choose}
+use Rattle.cw_parse.proofs.Pieces.{Piece, ◌>>>◌, expect, give, choose}
 use Rattle.cw_parse.proofs.Expressions.{expr_before}
 use Rattle.cw_parse.proofs.Lists.{ReadsName, names_exact}
 use Rattle.cw_parse.proofs.Statements.{spread}

@@ -1,13 +1,13 @@
 -- Readers beside the relations that they read exactly, put together as the grammar is.
-use Rattle.std.proofs.Common.{◌≡◌, ℕ, zero, suc, ◌<◌, ◌≤◌, Bool, true, false, not, List, [], ◌∷◌, ◌++◌, length as len, Ok, Err, refl, sym, ap, subst, ◌∙◌, arith, ◌⊎◌, inl, inr}
+use Rattle.std.proofs.Common.{◌≡◌, ℕ, zero, suc, ◌<◌, ◌≤◌, Bool, true, not, List, [], ◌∷◌, ◌++◌, length as len, Ok, refl, ap, ◌∙◌, arith, ◌⊎◌, inl, inr}
 use Rattle.std.proofs.lemmas.List.{length-append}
 use Rattle.cw_model.specs.declared.token.Token.{Token}
 use Rattle.cw_model.specs.declared.token.Kind.{Kind}
 use Rattle.cw_parse.specs.declared.marks.Mark.{Mark}
 use Rattle.cw_parse.specs.Marks.{is_mark}
-use Rattle.cw_parse.specs.Reading.{Read, Reader, ◌>>=◌, token, by_first, if_next, unless_next, row}
-use Rattle.cw_parse.proofs.Reader.{Stops, Front, IsUnique, SomeText, Seq, Tok, tok, Done, done, Follows, shorter, bind_ok}
-use Rattle.cw_parse.proofs.Exact.{Exact, Halts, Passes, Against, Branch, First, any, any_stops, any_halts, token_exact, done_exact, done_rest, seq_exact, after_part, narrow_exact, same_exact, given, fewer_exact, zero_exact, guard_exact, differ, first_exact, if_next_exact}
+use Rattle.cw_parse.specs.Reading.{Reader, ◌>>=◌, token, if_next, unless_next, row}
+use Rattle.cw_parse.proofs.Reader.{Stops, Front, IsUnique, SomeText, Seq, Tok, tok, Done, done, shorter, bind_ok}
+use Rattle.cw_parse.proofs.Exact.{Exact, Halts, Against, Branch, any, token_exact, done_exact, done_rest, seq_exact, after_part, narrow_exact, same_exact, fewer_exact, zero_exact, guard_exact, differ, if_next_exact}
 use Rattle.cw_parse.proofs.MarkKinds.{kind_of, Is, passes}
 
 -- a token that a mark stands for

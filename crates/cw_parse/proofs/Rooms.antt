@@ -1,5 +1,5 @@
 -- What was read leaves room for the numbers of the call statements that follow.
-use Rattle.std.proofs.Common.{◌≡◌, ℕ, suc, ◌+◌, ◌<◌, ◌≤◌, Bool, true, false, cond, List, [], ◌∷◌, length as len, Option, Some, None, Ok, Err, refl, sym, ap, ◌∙◌, arith, inl, inr}
+use Rattle.std.proofs.Common.{◌≡◌, ℕ, suc, ◌+◌, ◌<◌, ◌≤◌, Bool, true, false, cond, List, [], ◌∷◌, length as len, Option, Some, None, Ok, sym, ap, ◌∙◌, arith, inl, inr}
 use Rattle.cw_model.specs.declared.token.Token.{Token}
 use Rattle.cw_model.specs.declared.token.Kind.{Kind}
 use Rattle.cw_model.specs.Syntax.{Name, Expr, Stmt, Block, Param}
@@ -10,7 +10,7 @@ use Rattle.cw_parse.specs.Marks.{is_mark, past}
 use Rattle.cw_parse.specs.Reading.{token, by_first}
 use Rattle.cw_parse.specs.Parts.{list, param, Opening, opening, Line, line, lines, Item, item}
 use Rattle.cw_parse.proofs.Reader.{tok, shorter}
-use Rattle.cw_parse.proofs.Exact.{Exact, Branch, any}
+use Rattle.cw_parse.proofs.Exact.{Branch, any}
 use Rattle.cw_parse.proofs.Pieces.{Marked, expect}
 use Rattle.cw_parse.proofs.Expressions.{expr_exact}
 use Rattle.cw_parse.proofs.Lists.{arguments_exact, params_exact}

@@ -1,5 +1,5 @@
 -- Statements without a block, and what stands in front of a block.
-use Rattle.std.proofs.Common.{◌≡◌, ℕ, suc, ◌+◌, ◌<◌, ◌≤◌, pos, Bool, true, false, cond, List, [], ◌∷◌, ◌++◌, length as len, Option, Some, None, Ok, Err, refl, sym, ap, subst, ◌∙◌, arith, add-one, ◌⊎◌, inl, inr}
+use Rattle.std.proofs.Common.{◌≡◌, ℕ, suc, ◌+◌, pos, Bool, true, false, cond, List, [], ◌∷◌, ◌++◌, Option, Some, None, refl, sym, ap, ◌∙◌, arith, add-one, ◌⊎◌, inl, inr}
 use Rattle.cw_model.specs.declared.token.Token.{Token}
 use Rattle.cw_model.specs.declared.token.Kind.{Kind}
 use Rattle.cw_model.specs.declared.token.Kind.TheVariants as kind
@@ -9,18 +9,15 @@ use Rattle.cw_model.specs.declared.syntax.CallKind.TheVariants.{Plain, Spawned}
 use Rattle.cw_model.specs.Syntax.{Name, Expr, Stmt, Block}
 use Rattle.cw_model.specs.Grammar as grammar
 use Rattle.cw_model.specs.Grammar.{name_of, ReadsWhole, ReadsArguments, ReadsMoreNames, ReadsCall, ReadsGrain, ReadsOver, ReadsHead, ReadsAssigned, ReadsNamed, ReadsDeclared, ReadsReturned, ReadsStmtBy, Head}
-use Rattle.cw_parse.specs.declared.marks.Mark.{Mark}
 use Rattle.cw_parse.specs.declared.marks.Mark.TheVariants as mark
-use Rattle.cw_parse.specs.Marks.{is_mark}
-use Rattle.cw_parse.specs.Reading.{Read, Reader, ◌>>=◌, token, by_first, if_next}
-use Rattle.cw_parse.specs.Parts.{marked, expr, list, some_of, name, called, call, ended, is_call, assigned, element_assigned, named_stmt, declared_as, declared, returned, printed, simple, Opening, If, While, For, Scope, Cut, Region, condition, turns, grain, over, range_from, range_to, range_step, head, cut, region, opening}
-use Rattle.cw_parse.proofs.Reader.{Stops, SomeText, Seq, tok, Done, done, shorter}
-use Rattle.cw_parse.proofs.Exact.{Exact, Branch, First, Refuses, any, mark as token_of, done_exact, same_exact, same_reader, fewer_exact, first_exact, at_first}
-use Rattle.cw_parse.proofs.MarkKinds.{kind_of, passes}
-use Rattle.cw_parse.proofs.Pieces.{Marked, Piece, ◌>>>◌, expect, give, choose}
+use Rattle.cw_parse.specs.Reading.{Read, Reader, ◌>>=◌, by_first, if_next}
+use Rattle.cw_parse.specs.Parts.{expr, list, called, call, ended, is_call, assigned, element_assigned, named_stmt, declared_as, declared, returned, printed, simple}
+use Rattle.cw_parse.proofs.Reader.{SomeText, tok, Done, done}
+use Rattle.cw_parse.proofs.Exact.{Exact, Branch, First, any, mark as token_of, fewer_exact, first_exact, at_first}
+use Rattle.cw_parse.proofs.Pieces.{Piece, ◌>>>◌, expect, give, choose}
 use Rattle.cw_parse.proofs.Operators.{stops}
-use Rattle.cw_parse.proofs.Expressions.{expr_exact, expr_before, begins, begins_not, expr_begins, expr_long}
-use Rattle.cw_parse.proofs.Lists.{arguments_exact, ReadsName, names_exact}
+use Rattle.cw_parse.proofs.Expressions.{expr_exact, expr_before, begins_not}
+use Rattle.cw_parse.proofs.Lists.{arguments_exact}
 use Rattle.cw_parse.proofs.Calls.{Opens, opens, call_or_exact}
 
 -- the number after that of a call

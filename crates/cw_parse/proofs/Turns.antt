@@ -1,5 +1,5 @@
 -- The turns of a loop that reads a row of parts.
-use Rattle.std.proofs.Common.{◌≡◌, ℕ, zero, suc, ◌+◌, ◌-◌, ◌<◌, ◌≤◌, Bool, true, false, cond, List, [], ◌∷◌, ◌++◌, length, Option, Some, None, Ok, Err, refl, sym, ap, ◌∙◌, append_assoc, arith}
+use Rattle.std.proofs.Common.{◌≡◌, ℕ, suc, ◌+◌, ◌-◌, ◌<◌, ◌≤◌, Bool, true, false, cond, List, [], ◌∷◌, ◌++◌, length, Option, Some, None, Ok, Err, refl, sym, ap, ◌∙◌, arith}
 use Rattle.cw_model.specs.declared.token.Token.{Token}
 use Rattle.cw_parse.specs.declared.stop.Stop.{Stop}
 use Rattle.cw_parse.specs.declared.stop.Stop.TheVariants as stop

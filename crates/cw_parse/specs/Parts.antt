@@ -13,7 +13,7 @@ use Rattle.cw_model.specs.Grammar.{name_of, infix_of, Head}
 use Rattle.cw_parse.specs.declared.marks.Mark.{Mark}
 use Rattle.cw_parse.specs.declared.marks.Mark.TheVariants as mark
 use Rattle.cw_parse.specs.Marks.{is_mark}
-use Rattle.cw_parse.specs.Reading.{Read, Reader, ◌>>=◌, token, by_first, if_next, unless_next, row}
+use Rattle.cw_parse.specs.Reading.{Read, Reader, ◌>>=◌, token, by_first, if_next, unless_next, row, with_front}
 
 -- a token that a mark stands for
 abbrev pub marked : Mark → Reader Token
@@ -100,6 +100,26 @@ level text n k = level_over (operand text n) n k
 abbrev pub expr : List ℕ → ℕ → Reader Expr
 expr text n = level text n 4
 
+-- an element of an array behind the opening bracket of its index, in which operands lie in one another at most so deep
+abbrev pub element : List ℕ → ℕ → Name → Reader Expr
+element text n x = closed mark.RightBracket (λ e. tree.Element x e) (expr text n)
+
+-- an operand without a sign and without a name in front after its first token, so deep
+abbrev pub atom_from : List ℕ → ℕ → Token → Reader Expr
+atom_from text n t = atom text (expr text n) t t.kind
+
+-- an operand after its first token, so deep
+abbrev pub operand_from : List ℕ → ℕ → Token → Reader Expr
+operand_from text n t = operand_after text (expr text n) (operand text n) t t.kind
+
+-- an operand in which others lie so deep
+abbrev pub operand_over : List ℕ → ℕ → Reader Expr
+operand_over text n = by_first (operand_after text (expr text n) (operand text n))
+
+-- the operators of the level above this one behind a left operand, so deep
+abbrev pub chain_above : List ℕ → ℕ → ℕ → Expr → Reader Expr
+chain_above text n below d = chain (level text n below) (below + 1) n d
+
 -- ---- lists in commas
 
 -- one more in front
@@ -113,6 +133,10 @@ further part s ts = marked mark.Comma ts >>= λ c. part c.1 >>= λ x. Ok ((x.0, 
 -- the further parts after one, and the parenthesis that closes them
 abbrev pub others : {A : Type 0} → Reader A → ℕ → Reader (List A)
 others part n ts = row (is_mark mark.RightParen) (λ _. []) add_front (further part) n tt ts
+
+-- further parts behind those that were read, and the parenthesis that closes them
+abbrev pub others_behind : {A : Type 0} → List A → Reader A → ℕ → Reader (List A)
+others_behind front part n ts = with_front add_front front (others part n ts)
 
 -- one part or more, and the parenthesis that closes them
 abbrev pub some_of : {A : Type 0} → Reader A → ℕ → Reader (List A)
@@ -329,6 +353,22 @@ line text (suc n) site ts = by_first (line_by text n (lines_of (line text n) n) 
 -- the statements of a block, in which others lie at most so deep, and its closing brace
 abbrev pub lines : List ℕ → ℕ → ℕ → Reader (Block × ℕ)
 lines text n = lines_of (line text n) n
+
+-- what may follow the block behind an opening, in which blocks lie so deep
+abbrev pub framed_in : List ℕ → ℕ → Opening → Block → ℕ → Reader (Stmt × ℕ)
+framed_in text n o b site = framed_by (lines text n) o b site
+
+-- a statement with a block after its first token, so deep
+abbrev pub framed_from : List ℕ → ℕ → ℕ → Token → Reader (Stmt × ℕ)
+framed_from text n site t = framed text n (lines text n) site t t.kind
+
+-- a statement after its first token, so deep
+abbrev pub stmt_from : List ℕ → ℕ → ℕ → Token → Reader (Stmt × ℕ)
+stmt_from text n site t = stmt text n (lines text n) site t t.kind
+
+-- a statement beside its line, in which others lie so deep
+abbrev pub line_over : List ℕ → ℕ → ℕ → Reader (Line × ℕ)
+line_over text n site = by_first (line_by text n (lines text n) site)
 
 -- ---- items
 

@@ -1,5 +1,6 @@
 -- Reading from left to right, which stops at the first token that does not fit.
 use Rattle.std.specs.Prelude.{◌≡◌, ℕ, zero, suc, Bool, if◌then◌else◌, List, [], ◌∷◌, length, Result, Ok, Err}
+use Rattle.std.specs.Borrow.{Bor}
 use Rattle.cw_model.specs.declared.token.Token.{Token}
 use Rattle.cw_model.specs.declared.token.Kind.{Kind}
 use Rattle.cw_parse.specs.declared.stop.Stop.{Stop}
@@ -28,6 +29,10 @@ Fails (stop.At n) read = read ≡ Err n
 abbrev pub Gives : {X Y : Type 0} → (X → Y) → Result X Stop → Result Y ℕ → Type 0
 Gives view (Ok x) read = read ≡ Ok (view x)
 Gives view (Err e) read = Fails e read
+
+-- a part that a function returned, seen by view, and the tokens after it are what reading gives, unless memory ran out
+abbrev pub Parses : {X Y : Type 0} → (X → Y) → Result (X × Bor (List Token)) Stop → Read Y → Type 0
+Parses view result read = Gives (λ x. (view x.0, x.1.now)) result read
 
 -- a token of a kind that passes
 abbrev pub token : (Kind → Bool) → Reader Token

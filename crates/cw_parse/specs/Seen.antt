@@ -1,6 +1,9 @@
 -- What the steps of the code stand for.
-use Rattle.std.specs.Prelude.{List, map}
+use Rattle.std.specs.Prelude.{◌≡◌, map}
 use Rattle.cw_model.specs.Grammar.{Head}
+use Rattle.cw_model.specs.Syntax as model
+use Rattle.cw_model.specs.Syntax.{Name}
+use Rattle.cw_parse.specs.declared.tree.Expr.{Expr}
 use Rattle.cw_parse.specs.declared.tree.Head as code
 use Rattle.cw_parse.specs.declared.tree.Ast.{Ast}
 use Rattle.cw_parse.specs.declared.opening.Opening.{Opening}
@@ -18,9 +21,9 @@ head_of h = record { variable = h.variable; tested = h.tested; stepped = h.stepp
 abbrev pub opening_of : Opening → part.Opening
 opening_of (opening.If e) = part.If (expr_of e)
 opening_of (opening.While e) = part.While (expr_of e)
-opening_of (opening.For h) = part.For (head_of h)
+opening_of (opening.For h) = part.For (head_of h.value)
 opening_of opening.Scope = part.Scope
-opening_of (opening.Cut c) = part.Cut c.array (expr_of c.at) c.left c.right
+opening_of (opening.Cut c) = part.Cut c.value.array (expr_of c.value.at) c.value.left c.value.right
 opening_of (opening.Region tag) = part.Region tag
 
 -- a reducer or a function
@@ -28,6 +31,14 @@ abbrev pub item_of : Item → part.Item
 item_of (item.Sum r) = part.Sum (reducer_of r)
 item_of (item.Code f) = part.Code (function_of f)
 
+-- a name beside what an expression stands for
+abbrev pub named_expr_of : Name × Expr → Name × model.Expr
+named_expr_of x = (x.0, expr_of x.1)
+
 -- the items of a source
 abbrev pub items_of : Ast → part.Items
 items_of ast = (map reducer_of ast.reducers.items, map function_of ast.functions.items)
+
+-- the items are those before, and one more behind them
+abbrev pub IsPushed : Ast → Item → Ast → Type 0
+IsPushed before found after = items_of after ≡ part.push_item (items_of before) (item_of found)

@@ -37,15 +37,15 @@ stmt_step (Stmt-F.DeclareArray x e) = model.DeclareArray x (expr_of e)
 stmt_step (Stmt-F.Assign x e) = model.Assign x (expr_of e)
 stmt_step (Stmt-F.AssignElement x i e) = model.AssignElement x (expr_of i) (expr_of e)
 stmt_step (Stmt-F.AddTo x e) = model.AddTo x (expr_of e)
-stmt_step (Stmt-F.Call c) = model.Call c.kind c.site c.target c.callee (exprs_of c.arguments.items)
+stmt_step (Stmt-F.Call c) = model.Call c.value.kind c.value.site c.value.target c.value.callee (exprs_of c.value.arguments.items)
 stmt_step Stmt-F.Sync = model.Sync
 stmt_step (Stmt-F.If e b) = model.If (expr_of e) (block_from b.items)
 stmt_step (Stmt-F.IfElse e b c) = model.IfElse (expr_of e) (block_from b.items) (block_from c.items)
 stmt_step (Stmt-F.While e b) = model.While (expr_of e) (block_from b.items)
 stmt_step (Stmt-F.For h b) =
-    model.For h.variable h.tested h.stepped (expr_of h.from) (expr_of h.to) h.grain h.over.items (block_from b.items)
+    model.For h.value.variable h.value.tested h.value.stepped (expr_of h.value.from) (expr_of h.value.to) h.value.grain h.value.over.items (block_from b.items)
 stmt_step (Stmt-F.Scope b) = model.Scope (block_from b.items)
-stmt_step (Stmt-F.Cut c b) = model.Cut c.array (expr_of c.at) c.left c.right (block_from b.items)
+stmt_step (Stmt-F.Cut c b) = model.Cut c.value.array (expr_of c.value.at) c.value.left c.value.right (block_from b.items)
 stmt_step (Stmt-F.Region tag b) = model.Region tag (block_from b.items)
 stmt_step (Stmt-F.Print e) = model.Print (expr_of e)
 stmt_step (Stmt-F.Return e) = model.Return (option_map expr_of e)
@@ -65,6 +65,10 @@ line_of = fold-Line model.Stmt (ℕ × model.Stmt) stmt_step line_step
 -- lines of the code as a block of the definitions
 abbrev pub block_of : List Line → model.Block
 block_of ls = block_from (map line_of ls)
+
+-- what is seen by view, beside the number of the next call statement
+abbrev pub numbered : {X Y : Type 0} → (X → Y) → X × ℕ → Y × ℕ
+numbered view x = (view x.0, x.1)
 
 -- a parameter of the code as one of the definitions
 abbrev pub param_of : Param → model.Param

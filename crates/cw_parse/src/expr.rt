@@ -1,12 +1,10 @@
 //! Expressions.
 
-ghost use Rattle.std.specs.Prelude.{◌≡◌, ◌+◌, ◌-◌, ◌<◌, option_map, IfOk};
+ghost use Rattle.std.specs.Prelude.{◌≡◌, ◌-◌, ◌<◌, option_map, IfOk};
 ghost use Rattle.cw_model.specs.Grammar.{name_of, infix_of};
 ghost use Rattle.cw_parse.specs.View.{expr_of};
-ghost use Rattle.cw_model.specs.Syntax as model;
-ghost use Rattle.cw_parse.specs.declared.marks.Mark.TheVariants.{RightBracket};
-ghost use Rattle.cw_parse.specs.Reading.{Gives, by_first};
-ghost use Rattle.cw_parse.specs.Parts.{unindexed, closed, named, measured, atom, operand_after, at_level, operator_at, chain, operand, level, expr};
+ghost use Rattle.cw_parse.specs.Reading.{Parses};
+ghost use Rattle.cw_parse.specs.Parts.{unindexed, element, named, measured, atom_from, operand_from, operand_over, operator_at, chain_above, operand, level, expr};
 
 use crate::input::{Read, Reading};
 use crate::marks::{Mark, expect, past};
@@ -63,7 +61,7 @@ fn operator_at(level: usize, tokens: &[Token]) -> Option<(Operator, &[Token])>
 
 // An operand that was read: an index stands behind a name alone.
 fn unindexed<'a>(value: Expr, tokens: &'a [Token]) -> Read<'a, Expr>
-    ensures { Gives (λ x. (expr_of x.0, x.1.now)) result (unindexed (expr_of value) tokens.now) }
+    ensures { Parses expr_of result (unindexed (expr_of value) tokens.now) }
 {
     match past(Mark::LeftBracket, tokens) {
         Some(_) => Err(Stop::At(tokens.len())),
@@ -79,8 +77,8 @@ fn indexed<'a>(
     array: Name,
     tokens: &'a [Token],
 ) -> Read<'a, Expr>
-    ensures { Gives (λ x. (expr_of x.0, x.1.now)) result
-        (closed RightBracket (λ e. model.Element array e) (expr reading.entry.text.now depth) tokens.now) }
+    ensures { Parses expr_of result
+        (element reading.entry.text.now depth array tokens.now) }
 {
     let (index, rest) = level(reading, depth, HIGHEST, tokens)?;
     let (_, rest) = expect(Mark::RightBracket, rest)?;
@@ -97,7 +95,7 @@ fn named<'a>(
     first: Token,
     tokens: &'a [Token],
 ) -> Read<'a, Expr>
-    ensures { Gives (λ x. (expr_of x.0, x.1.now)) result
+    ensures { Parses expr_of result
         (named reading.entry.text.now (expr reading.entry.text.now depth) first tokens.now) }
 {
     let name = name_of(reading, first)?;
@@ -113,7 +111,7 @@ fn named<'a>(
 // A length after its word.
 #[tactic(auto, unfolding(crate::specs::Parts::measured))]
 fn measured<'a>(reading: Reading<'_>, tokens: &'a [Token]) -> Read<'a, Expr>
-    ensures { Gives (λ x. (expr_of x.0, x.1.now)) result (measured reading.entry.text.now tokens.now) }
+    ensures { Parses expr_of result (measured reading.entry.text.now tokens.now) }
 {
     let (_, rest) = expect(Mark::LeftParen, tokens)?;
     let (array, rest) = expect(Mark::Name, rest)?;
@@ -125,8 +123,8 @@ fn measured<'a>(reading: Reading<'_>, tokens: &'a [Token]) -> Read<'a, Expr>
 #[cycle(expr)]
 #[tactic(auto, unfolding(crate::specs::Parts::atom))]
 fn atom<'a>(reading: Reading<'_>, depth: usize, first: Token, tokens: &'a [Token]) -> Read<'a, Expr>
-    ensures { Gives (λ x. (expr_of x.0, x.1.now)) result
-        (atom reading.entry.text.now (expr reading.entry.text.now depth) first first.kind tokens.now) }
+    ensures { Parses expr_of result
+        (atom_from reading.entry.text.now depth first tokens.now) }
 {
     match first.kind {
         Kind::Number(value) => match i64::try_from(value) {
@@ -152,8 +150,8 @@ fn operand_after<'a>(
     first: Token,
     tokens: &'a [Token],
 ) -> Read<'a, Expr>
-    ensures { Gives (λ x. (expr_of x.0, x.1.now)) result
-        (operand_after reading.entry.text.now (expr reading.entry.text.now depth) (operand reading.entry.text.now depth) first first.kind tokens.now) }
+    ensures { Parses expr_of result
+        (operand_from reading.entry.text.now depth first tokens.now) }
 {
     match first.kind {
         Kind::Minus => {
@@ -175,8 +173,8 @@ fn operand_after<'a>(
 // An operand.
 #[cycle(expr)]
 fn operand_by<'a>(reading: Reading<'_>, depth: usize, tokens: &'a [Token]) -> Read<'a, Expr>
-    ensures { Gives (λ x. (expr_of x.0, x.1.now)) result
-        (by_first (operand_after reading.entry.text.now (expr reading.entry.text.now depth) (operand reading.entry.text.now depth)) tokens.now) }
+    ensures { Parses expr_of result
+        (operand_over reading.entry.text.now depth tokens.now) }
 {
     match tokens {
         [] => Err(Stop::At(0)),
@@ -187,7 +185,7 @@ fn operand_by<'a>(reading: Reading<'_>, depth: usize, tokens: &'a [Token]) -> Re
 // An operand, in which operands lie in one another at most so deep.
 #[cycle(expr)]
 fn operand<'a>(reading: Reading<'_>, depth: usize, tokens: &'a [Token]) -> Read<'a, Expr>
-    ensures { Gives (λ x. (expr_of x.0, x.1.now)) result (operand reading.entry.text.now depth tokens.now) }
+    ensures { Parses expr_of result (operand reading.entry.text.now depth tokens.now) }
 {
     if depth == 0 {
         return Err(Stop::At(tokens.len()));
@@ -205,8 +203,8 @@ fn chain<'a>(
     tokens: &'a [Token],
 ) -> Read<'a, Expr>
     requires { below < 4 }
-    ensures { Gives (λ x. (expr_of x.0, x.1.now)) result
-        (chain (level reading.entry.text.now depth below) (below + 1) depth (expr_of first) tokens.now) }
+    ensures { Parses expr_of result
+        (chain_above reading.entry.text.now depth below (expr_of first) tokens.now) }
 {
     let mut left = first;
     let mut rest = tokens;
@@ -234,7 +232,7 @@ fn level<'a>(
     tokens: &'a [Token],
 ) -> Read<'a, Expr>
     requires { highest < 5 }
-    ensures { Gives (λ x. (expr_of x.0, x.1.now)) result
+    ensures { Parses expr_of result
         (level reading.entry.text.now depth highest tokens.now) }
 {
     let (mut value, mut rest) = operand(reading, depth, tokens)?;
@@ -246,7 +244,7 @@ fn level<'a>(
 
 /// An expression, in which operands lie in one another at most `depth` deep.
 pub(crate) fn expr<'a>(reading: Reading<'_>, depth: usize, tokens: &'a [Token]) -> Read<'a, Expr>
-    ensures { Gives (λ x. (expr_of x.0, x.1.now)) result (expr reading.entry.text.now depth tokens.now) }
+    ensures { Parses expr_of result (expr reading.entry.text.now depth tokens.now) }
 {
     level(reading, depth, HIGHEST, tokens)
 }

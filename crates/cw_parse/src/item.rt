@@ -3,10 +3,10 @@
 ghost use Rattle.std.specs.Prelude.{◌≡◌, ◌+◌, ◌<◌, ◌^◌, [], length, MatchResult};
 ghost use Rattle.cw_parse.specs.declared.stop.Stop.TheVariants.{Memory};
 ghost use Rattle.cw_model.specs.Syntax as model;
-ghost use Rattle.cw_parse.specs.View.{param_of, function_of, reducer_of};
-ghost use Rattle.cw_parse.specs.Seen.{item_of, items_of};
-ghost use Rattle.cw_parse.specs.Reading.{Gives, by_first};
-ghost use Rattle.cw_parse.specs.Parts.{array, single, behind_name, param, reducer, function, push_item, item, whole};
+ghost use Rattle.cw_parse.specs.View.{param_of, function_of, reducer_of, numbered};
+ghost use Rattle.cw_parse.specs.Seen.{item_of, items_of, IsPushed};
+ghost use Rattle.cw_parse.specs.Reading.{Gives, Parses, by_first};
+ghost use Rattle.cw_parse.specs.Parts.{array, single, behind_name, param, reducer, function, item, whole};
 
 use crate::expr::name_of;
 use crate::input::{Read, Reading};
@@ -19,7 +19,7 @@ use cw_model::token::{Kind, Token};
 
 // An array parameter behind its opening bracket.
 fn array<'a>(name: Name, tokens: &'a [Token]) -> Read<'a, Param>
-    ensures { Gives (λ x. (param_of x.0, x.1.now)) result (array name tokens.now) }
+    ensures { Parses param_of result (array name tokens.now) }
 {
     let (_, rest) = expect(Mark::RightBracket, tokens)?;
     let array = Param {
@@ -31,7 +31,7 @@ fn array<'a>(name: Name, tokens: &'a [Token]) -> Read<'a, Param>
 
 // An array parameter that was read: one pair of brackets makes an array.
 fn single<'a>(param: Param, tokens: &'a [Token]) -> Read<'a, Param>
-    ensures { Gives (λ x. (param_of x.0, x.1.now)) result (single (param_of param) tokens.now) }
+    ensures { Parses param_of result (single (param_of param) tokens.now) }
 {
     match past(Mark::LeftBracket, tokens) {
         Some(_) => Err(Stop::At(tokens.len())),
@@ -41,7 +41,7 @@ fn single<'a>(param: Param, tokens: &'a [Token]) -> Read<'a, Param>
 
 // A parameter behind its name.
 fn kind_of_param<'a>(name: Name, tokens: &'a [Token]) -> Read<'a, Param>
-    ensures { Gives (λ x. (param_of x.0, x.1.now)) result (behind_name name tokens.now) }
+    ensures { Parses param_of result (behind_name name tokens.now) }
 {
     match past(Mark::LeftBracket, tokens) {
         None => Ok((
@@ -78,7 +78,7 @@ impl Part for Param {
 // A reducer after its first token.
 #[tactic(auto, unfolding(crate::specs::Parts::reducer))]
 fn reducer<'a>(reading: Reading<'_>, first: Token, tokens: &'a [Token]) -> Read<'a, Reducer>
-    ensures { Gives (λ x. (reducer_of x.0, x.1.now)) result (reducer reading.entry.text.now first tokens.now) }
+    ensures { Parses reducer_of result (reducer reading.entry.text.now first tokens.now) }
 {
     let (_, rest) = expect(Mark::Sum, tokens)?;
     let (found, rest) = expect(Mark::Name, rest)?;
@@ -99,7 +99,7 @@ fn function<'a>(
     tokens: &'a [Token],
 ) -> Read<'a, (Function, u32)>
     requires { site + length tokens.now < 2 ^ 32 }
-    ensures { Gives (λ x. ((function_of x.0.0, x.0.1), x.1.now)) result
+    ensures { Parses (numbered function_of) result
         (function reading.entry.text.now reading.entry.limit gives_int site tokens.now) }
 {
     let (found, rest) = expect(Mark::Name, tokens)?;
@@ -133,7 +133,7 @@ fn next_item<'a>(
     tokens: &'a [Token],
 ) -> Read<'a, (Item, u32)>
     requires { site + length tokens.now < 2 ^ 32 }
-    ensures { Gives (λ x. ((item_of x.0.0, x.0.1), x.1.now)) result
+    ensures { Parses (numbered item_of) result
         (item reading.entry.text.now reading.entry.limit site first first.kind tokens.now) }
 {
     match first.kind {
@@ -156,7 +156,7 @@ fn next_item<'a>(
 // An item, and the number of the next call statement.
 fn item_by<'a>(reading: Reading<'_>, site: u32, tokens: &'a [Token]) -> Read<'a, (Item, u32)>
     requires { site + length tokens.now < 2 ^ 32 }
-    ensures { Gives (λ x. ((item_of x.0.0, x.0.1), x.1.now)) result
+    ensures { Parses (numbered item_of) result
         (by_first (item reading.entry.text.now reading.entry.limit site) tokens.now) }
 {
     match tokens {
@@ -167,7 +167,7 @@ fn item_by<'a>(reading: Reading<'_>, site: u32, tokens: &'a [Token]) -> Read<'a,
 
 // The items before, and one more behind them.
 fn push(mut ast: Ast, found: Item) -> Result<Ast, Stop>
-    ensures { MatchResult result (λ after. items_of after ≡ push_item (items_of ast) (item_of found))
+    ensures { MatchResult result (IsPushed ast found)
         (λ e. e ≡ Memory) }
 {
     match found {

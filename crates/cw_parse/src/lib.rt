@@ -16,8 +16,3 @@ mod stop;
 pub mod tree;
 
 pub use parser::parse;
-
-#[cfg(test)]
-mod productions;
-#[cfg(test)]
-mod tests;

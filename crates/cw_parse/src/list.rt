@@ -1,8 +1,8 @@
 //! Lists in commas, up to the parenthesis that closes them.
 
 ghost use Rattle.std.specs.Prelude.{ℕ, List, map};
-ghost use Rattle.cw_parse.specs.Reading.{Gives, Reader, with_front};
-ghost use Rattle.cw_parse.specs.Parts.{add_front, further, others, some_of, list, name, expr};
+ghost use Rattle.cw_parse.specs.Reading.{Gives, Parses, Reader};
+ghost use Rattle.cw_parse.specs.Parts.{further, others_behind, some_of, list, name, expr};
 ghost use Rattle.cw_parse.specs.View.{expr_of};
 ghost use Rattle.cw_model.specs.Syntax as model;
 
@@ -25,7 +25,7 @@ pub(crate) trait Part: Drop + Sized {
 
     /// One part.
     fn read<'a>(reading: Reading<'_>, depth: usize, tokens: &'a [Token]) -> Read<'a, Self>
-        ensures { Gives (λ x. (seen x.0, x.1.now)) result (part reading.entry.text.now depth tokens.now) };
+        ensures { Parses seen result (part reading.entry.text.now depth tokens.now) };
 }
 
 impl Part for Expr {
@@ -55,7 +55,7 @@ impl Part for Name {
 
 // A comma and a further part.
 fn further<'a, T: Part>(reading: Reading<'_>, depth: usize, tokens: &'a [Token]) -> Read<'a, T>
-    ensures { Gives (λ x. ((T.seen x.0, tt), x.1.now)) result
+    ensures { Parses (λ part. (T.seen part, tt)) result
         (further (T.part reading.entry.text.now depth) tt tokens.now) }
 {
     let (_, rest) = expect(Mark::Comma, tokens)?;
@@ -71,7 +71,8 @@ fn others<'a, T: Part>(
     tokens: &'a [Token],
 ) -> Read<'a, Vec<T>>
     ensures { Gives (λ x. (map T.seen x.0.items, x.1.now)) result
-        (with_front add_front (map T.seen done.items) (others (T.part reading.entry.text.now depth) depth tokens.now)) }
+        (others_behind (map T.seen done.items)
+        (T.part reading.entry.text.now depth) depth tokens.now) }
 {
     let mut rest = tokens;
     for _ in 0..depth {

@@ -2,7 +2,7 @@
 
 ghost use Rattle.std.specs.Prelude.{◌≡◌, option_map};
 ghost use Rattle.cw_parse.specs.Marks.{is_mark, past};
-ghost use Rattle.cw_parse.specs.Reading.{Gives, token};
+ghost use Rattle.cw_parse.specs.Reading.{Parses, token};
 
 use crate::input::Read;
 use crate::stop::Stop;
@@ -76,7 +76,7 @@ pub(crate) fn past(mark: Mark, tokens: &[Token]) -> Option<(Token, &[Token])>
 /// The first token, which is one that the mark stands for, and those after it; it stops there if
 /// it is not.
 pub(crate) fn expect(mark: Mark, tokens: &[Token]) -> Read<'_, Token>
-    ensures { Gives (λ x. (x.0, x.1.now)) result (token (is_mark mark) tokens.now) }
+    ensures { Parses (λ x. x) result (token (is_mark mark) tokens.now) }
 {
     match tokens {
         [first, rest @ ..] if mark.is(first.kind) => Ok((*first, rest)),

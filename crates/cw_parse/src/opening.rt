@@ -2,8 +2,8 @@
 
 ghost use Rattle.std.specs.Prelude.{map};
 ghost use Rattle.cw_parse.specs.View.{expr_of};
-ghost use Rattle.cw_parse.specs.Seen.{head_of, opening_of};
-ghost use Rattle.cw_parse.specs.Reading.{Gives, by_first};
+ghost use Rattle.cw_parse.specs.Seen.{head_of, named_expr_of, opening_of};
+ghost use Rattle.cw_parse.specs.Reading.{Gives, Parses};
 ghost use Rattle.cw_parse.specs.Parts.{condition, turns, grain, over, range_from, range_to, range_step, head, cut, region, opening};
 
 use crate::expr::{expr, name_of};
@@ -19,16 +19,16 @@ use cw_model::token::{Kind, Token};
 pub(crate) enum Opening {
     If(Expr),
     While(Expr),
-    For(Head),
+    For(Box<Head>),
     Scope,
-    Cut(Cut),
+    Cut(Box<Cut>),
     Region(Name),
 }
 
 // A condition in parentheses, and an opening brace.
 #[tactic(auto, unfolding(crate::specs::Parts::condition))]
 fn condition<'a>(reading: Reading<'_>, depth: usize, tokens: &'a [Token]) -> Read<'a, Expr>
-    ensures { Gives (λ x. (expr_of x.0, x.1.now)) result (condition reading.entry.text.now depth tokens.now) }
+    ensures { Parses expr_of result (condition reading.entry.text.now depth tokens.now) }
 {
     let (_, rest) = expect(Mark::LeftParen, tokens)?;
     let (value, rest) = expr(reading, depth, rest)?;
@@ -40,7 +40,7 @@ fn condition<'a>(reading: Reading<'_>, depth: usize, tokens: &'a [Token]) -> Rea
 // The most turns in a leaf of a loop: 64 where no number stands.
 #[tactic(auto, unfolding(crate::specs::Parts::grain))]
 fn grain(tokens: &[Token]) -> Read<'_, u64>
-    ensures { Gives (λ x. (x.0, x.1.now)) result (grain tokens.now) }
+    ensures { Parses (λ x. x) result (grain tokens.now) }
 {
     let Some((_, rest)) = past(Mark::Grain, tokens) else {
         return Ok((64, tokens));
@@ -57,7 +57,8 @@ fn grain(tokens: &[Token]) -> Read<'_, u64>
 // The arrays of a loop.
 #[tactic(auto, unfolding(crate::specs::Parts::over))]
 fn over<'a>(reading: Reading<'_>, depth: usize, tokens: &'a [Token]) -> Read<'a, Vec<Name>>
-    ensures { Gives (λ x. (x.0.items, x.1.now)) result (over reading.entry.text.now depth tokens.now) }
+    ensures { Gives (λ x. (x.0.items, x.1.now)) result
+        (over reading.entry.text.now depth tokens.now) }
 {
     let Some((_, rest)) = past(Mark::Over, tokens) else {
         return Ok((Vec::new(reading.alloc), tokens));
@@ -69,7 +70,7 @@ fn over<'a>(reading: Reading<'_>, depth: usize, tokens: &'a [Token]) -> Read<'a,
 // The variable of a loop, and its first value.
 #[tactic(auto, unfolding(crate::specs::Parts::range_from))]
 fn range_from<'a>(reading: Reading<'_>, depth: usize, tokens: &'a [Token]) -> Read<'a, (Name, Expr)>
-    ensures { Gives (λ x. ((x.0.0, expr_of x.0.1), x.1.now)) result (range_from reading.entry.text.now depth tokens.now) }
+    ensures { Parses named_expr_of result (range_from reading.entry.text.now depth tokens.now) }
 {
     let (_, rest) = expect(Mark::LeftParen, tokens)?;
     let (_, rest) = expect(Mark::Int, rest)?;
@@ -83,7 +84,7 @@ fn range_from<'a>(reading: Reading<'_>, depth: usize, tokens: &'a [Token]) -> Re
 // The name that a loop compares, and the upper bound.
 #[tactic(auto, unfolding(crate::specs::Parts::range_to))]
 fn range_to<'a>(reading: Reading<'_>, depth: usize, tokens: &'a [Token]) -> Read<'a, (Name, Expr)>
-    ensures { Gives (λ x. ((x.0.0, expr_of x.0.1), x.1.now)) result (range_to reading.entry.text.now depth tokens.now) }
+    ensures { Parses named_expr_of result (range_to reading.entry.text.now depth tokens.now) }
 {
     let (tested, rest) = expect(Mark::Name, tokens)?;
     let (_, rest) = expect(Mark::Less, rest)?;
@@ -95,7 +96,7 @@ fn range_to<'a>(reading: Reading<'_>, depth: usize, tokens: &'a [Token]) -> Read
 // The name that a loop raises.
 #[tactic(auto, unfolding(crate::specs::Parts::range_step))]
 fn range_step<'a>(reading: Reading<'_>, tokens: &'a [Token]) -> Read<'a, Name>
-    ensures { Gives (λ x. (x.0, x.1.now)) result (range_step reading.entry.text.now tokens.now) }
+    ensures { Parses (λ x. x) result (range_step reading.entry.text.now tokens.now) }
 {
     let (stepped, rest) = expect(Mark::Name, tokens)?;
     let (_, rest) = expect(Mark::Increment, rest)?;
@@ -106,7 +107,7 @@ fn range_step<'a>(reading: Reading<'_>, tokens: &'a [Token]) -> Read<'a, Name>
 // The head of a loop, and an opening brace.
 #[tactic(auto, unfolding(crate::specs::Parts::head))]
 fn head<'a>(reading: Reading<'_>, depth: usize, tokens: &'a [Token]) -> Read<'a, Head>
-    ensures { Gives (λ x. (head_of x.0, x.1.now)) result (head reading.entry.text.now depth tokens.now) }
+    ensures { Parses head_of result (head reading.entry.text.now depth tokens.now) }
 {
     let ((variable, from), rest) = range_from(reading, depth, tokens)?;
     let ((tested, to), rest) = range_to(reading, depth, rest)?;
@@ -129,7 +130,7 @@ fn head<'a>(reading: Reading<'_>, depth: usize, tokens: &'a [Token]) -> Read<'a,
 // What follows "cut", and an opening brace.
 #[tactic(auto, unfolding(crate::specs::Parts::cut))]
 fn cut<'a>(reading: Reading<'_>, depth: usize, tokens: &'a [Token]) -> Read<'a, Opening>
-    ensures { Gives (λ x. (opening_of x.0, x.1.now)) result (cut reading.entry.text.now depth tokens.now) }
+    ensures { Parses opening_of result (cut reading.entry.text.now depth tokens.now) }
 {
     let (array, rest) = expect(Mark::Name, tokens)?;
     let (_, rest) = expect(Mark::At, rest)?;
@@ -145,13 +146,13 @@ fn cut<'a>(reading: Reading<'_>, depth: usize, tokens: &'a [Token]) -> Read<'a, 
         left: name_of(reading, left)?,
         right: name_of(reading, right)?,
     };
-    Ok((Opening::Cut(cut), rest))
+    Ok((Opening::Cut(Box::new(reading.alloc, cut)?), rest))
 }
 
 // What follows "region", and an opening brace.
 #[tactic(auto, unfolding(crate::specs::Parts::region))]
 fn region<'a>(reading: Reading<'_>, tokens: &'a [Token]) -> Read<'a, Opening>
-    ensures { Gives (λ x. (opening_of x.0, x.1.now)) result (region reading.entry.text.now tokens.now) }
+    ensures { Parses opening_of result (region reading.entry.text.now tokens.now) }
 {
     let (tag, rest) = expect(Mark::Name, tokens)?;
     let (_, rest) = expect(Mark::LeftBrace, rest)?;
@@ -166,7 +167,7 @@ pub(crate) fn opened<'a>(
     first: Token,
     tokens: &'a [Token],
 ) -> Read<'a, Opening>
-    ensures { Gives (λ x. (opening_of x.0, x.1.now)) result
+    ensures { Parses opening_of result
         (opening reading.entry.text.now depth first first.kind tokens.now) }
 {
     match first.kind {
@@ -180,7 +181,7 @@ pub(crate) fn opened<'a>(
         }
         Kind::For => {
             let (head, rest) = head(reading, depth, tokens)?;
-            Ok((Opening::For(head), rest))
+            Ok((Opening::For(Box::new(reading.alloc, head)?), rest))
         }
         Kind::Scope => {
             let (_, rest) = expect(Mark::LeftBrace, tokens)?;

@@ -47,8 +47,8 @@ fn line_of(text: &[u8], tokens: &[Token], left: usize) -> u32
 ///
 /// The errors, in this order: `Size` at the least line of a token at which more than 64 brackets of
 /// any kind are open, or which is the 257th or a later one in a row without a semicolon or a brace;
-/// `Syntax` at the line of the first token that can continue no source, or at the line of the text's
-/// end where the source ends too early. `Memory` where there is none for the tree.
+/// `Syntax` at the line of the first token that can continue no source, or at the line of the
+/// text's end where the source ends too early. `Memory` where there is none for the tree.
 pub fn parse(alloc: Global, source: &Source, tokens: &[Token]) -> Result<Ast, Fault>
     requires { IsTokenCut source.now tokens.now }
     ensures { MatchResult result (λ ast. IsParsed source.now tokens.now (program_of ast))

@@ -1,8 +1,8 @@
 //! Statements without a block.
 
 ghost use Rattle.std.specs.Prelude.{◌≡◌, ◌+◌, ◌<◌, ◌^◌};
-ghost use Rattle.cw_parse.specs.View.{expr_of, stmt_of};
-ghost use Rattle.cw_parse.specs.Reading.{Gives, by_first};
+ghost use Rattle.cw_parse.specs.View.{numbered, stmt_of};
+ghost use Rattle.cw_parse.specs.Reading.{Parses, by_first};
 ghost use Rattle.cw_parse.specs.Parts.{is_call, called, call, assigned, element_assigned, named_stmt, declared_as, declared, returned, printed, simple};
 
 use crate::expr::{expr, name_of};
@@ -26,7 +26,7 @@ fn called<'a>(
     tokens: &'a [Token],
 ) -> Read<'a, (Stmt, u32)>
     requires { site + 1 < 2 ^ 32 }
-    ensures { Gives (λ x. ((stmt_of x.0.0, x.0.1), x.1.now)) result
+    ensures { Parses (numbered stmt_of) result
         (called reading.entry.text.now depth kind site target callee tokens.now) }
 {
     let (arguments, rest) = list(reading, depth, tokens)?;
@@ -38,7 +38,7 @@ fn called<'a>(
         callee: name_of(reading, callee)?,
         arguments,
     };
-    Ok(((Stmt::Call(call), site + 1), rest))
+    Ok(((Stmt::Call(Box::new(reading.alloc, call)?), site + 1), rest))
 }
 
 // A call after what stands in front of the name of its callee, and the number after its own.
@@ -52,7 +52,7 @@ fn call<'a>(
     tokens: &'a [Token],
 ) -> Read<'a, (Stmt, u32)>
     requires { site + 1 < 2 ^ 32 }
-    ensures { Gives (λ x. ((stmt_of x.0.0, x.0.1), x.1.now)) result
+    ensures { Parses (numbered stmt_of) result
         (call reading.entry.text.now depth kind site target tokens.now) }
 {
     let (callee, rest) = expect(Mark::Name, tokens)?;
@@ -80,7 +80,7 @@ fn assigned<'a>(
     tokens: &'a [Token],
 ) -> Read<'a, (Stmt, u32)>
     requires { site + 1 < 2 ^ 32 }
-    ensures { Gives (λ x. ((stmt_of x.0.0, x.0.1), x.1.now)) result
+    ensures { Parses (numbered stmt_of) result
         (assigned reading.entry.text.now depth site target tokens.now) }
 {
     if let Some((_, rest)) = past(Mark::Spawn, tokens) {
@@ -103,7 +103,7 @@ fn element_assigned<'a>(
     array: Name,
     tokens: &'a [Token],
 ) -> Read<'a, (Stmt, u32)>
-    ensures { Gives (λ x. ((stmt_of x.0.0, x.0.1), x.1.now)) result
+    ensures { Parses (numbered stmt_of) result
         (element_assigned reading.entry.text.now depth site array tokens.now) }
 {
     let (index, rest) = expr(reading, depth, tokens)?;
@@ -125,7 +125,7 @@ fn named_after<'a>(
     tokens: &'a [Token],
 ) -> Read<'a, (Stmt, u32)>
     requires { site + 1 < 2 ^ 32 }
-    ensures { Gives (λ x. ((stmt_of x.0.0, x.0.1), x.1.now)) result
+    ensures { Parses (numbered stmt_of) result
         (named_stmt reading.entry.text.now depth site first next next.kind tokens.now) }
 {
     match next.kind {
@@ -152,7 +152,7 @@ fn named<'a>(
     tokens: &'a [Token],
 ) -> Read<'a, (Stmt, u32)>
     requires { site + 1 < 2 ^ 32 }
-    ensures { Gives (λ x. ((stmt_of x.0.0, x.0.1), x.1.now)) result
+    ensures { Parses (numbered stmt_of) result
         (by_first (named_stmt reading.entry.text.now depth site first) tokens.now) }
 {
     match tokens {
@@ -171,7 +171,7 @@ fn declared_after<'a>(
     next: Token,
     tokens: &'a [Token],
 ) -> Read<'a, (Stmt, u32)>
-    ensures { Gives (λ x. ((stmt_of x.0.0, x.0.1), x.1.now)) result
+    ensures { Parses (numbered stmt_of) result
         (declared_as reading.entry.text.now depth site declared next next.kind tokens.now) }
 {
     match next.kind {
@@ -198,7 +198,7 @@ fn declared<'a>(
     site: u32,
     tokens: &'a [Token],
 ) -> Read<'a, (Stmt, u32)>
-    ensures { Gives (λ x. ((stmt_of x.0.0, x.0.1), x.1.now)) result
+    ensures { Parses (numbered stmt_of) result
         (declared reading.entry.text.now depth site tokens.now) }
 {
     let (found, rest) = expect(Mark::Name, tokens)?;
@@ -217,7 +217,7 @@ fn returned<'a>(
     site: u32,
     tokens: &'a [Token],
 ) -> Read<'a, (Stmt, u32)>
-    ensures { Gives (λ x. ((stmt_of x.0.0, x.0.1), x.1.now)) result
+    ensures { Parses (numbered stmt_of) result
         (returned reading.entry.text.now depth site tokens.now) }
 {
     if let Some((_, rest)) = past(Mark::Semicolon, tokens) {
@@ -236,7 +236,7 @@ fn printed<'a>(
     site: u32,
     tokens: &'a [Token],
 ) -> Read<'a, (Stmt, u32)>
-    ensures { Gives (λ x. ((stmt_of x.0.0, x.0.1), x.1.now)) result
+    ensures { Parses (numbered stmt_of) result
         (printed reading.entry.text.now depth site tokens.now) }
 {
     let (_, rest) = expect(Mark::LeftParen, tokens)?;
@@ -256,7 +256,7 @@ pub(crate) fn simple<'a>(
     tokens: &'a [Token],
 ) -> Read<'a, (Stmt, u32)>
     requires { site + 1 < 2 ^ 32 }
-    ensures { Gives (λ x. ((stmt_of x.0.0, x.0.1), x.1.now)) result
+    ensures { Parses (numbered stmt_of) result
         (simple reading.entry.text.now depth site first first.kind tokens.now) }
 {
     match first.kind {

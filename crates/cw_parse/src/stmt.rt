@@ -1,10 +1,10 @@
 //! Statements and blocks.
 
 ghost use Rattle.std.specs.Prelude.{◌+◌, ◌<◌, ◌^◌, length};
-ghost use Rattle.cw_parse.specs.View.{stmt_of, line_of, block_of};
+ghost use Rattle.cw_parse.specs.View.{stmt_of, line_of, block_of, numbered};
 ghost use Rattle.cw_parse.specs.Seen.{opening_of};
-ghost use Rattle.cw_parse.specs.Reading.{Gives, by_first};
-ghost use Rattle.cw_parse.specs.Parts.{unanswered, framed_by, framed, stmt, line_by, line, lines};
+ghost use Rattle.cw_parse.specs.Reading.{Parses};
+ghost use Rattle.cw_parse.specs.Parts.{unanswered, framed_in, framed_from, stmt_from, line_over, line, lines};
 
 use crate::input::{Read, Reading};
 use crate::marks::{Mark, expect, past};
@@ -16,7 +16,7 @@ use cw_model::token::{Kind, Token};
 
 // A statement that was read whole: an "else" stands behind the block of an "if" alone.
 fn unanswered<'a>(stmt: Stmt, site: u32, tokens: &'a [Token]) -> Read<'a, (Stmt, u32)>
-    ensures { Gives (λ x. ((stmt_of x.0.0, x.0.1), x.1.now)) result (unanswered (stmt_of stmt, site) tokens.now) }
+    ensures { Parses (numbered stmt_of) result (unanswered (stmt_of stmt, site) tokens.now) }
 {
     match past(Mark::Else, tokens) {
         Some(_) => Err(Stop::At(tokens.len())),
@@ -36,8 +36,9 @@ fn framed_by<'a>(
     tokens: &'a [Token],
 ) -> Read<'a, (Stmt, u32)>
     requires { site + length tokens.now < 2 ^ 32 }
-    ensures { Gives (λ x. ((stmt_of x.0.0, x.0.1), x.1.now)) result
-        (framed_by (lines reading.entry.text.now depth) (opening_of opening) (block_of block.items) site tokens.now) }
+    ensures { Parses (numbered stmt_of) result
+        (framed_in reading.entry.text.now depth
+        (opening_of opening) (block_of block.items) site tokens.now) }
 {
     let stmt = match opening {
         Opening::If(test) => match past(Mark::Else, tokens) {
@@ -68,8 +69,8 @@ fn framed<'a>(
     tokens: &'a [Token],
 ) -> Read<'a, (Stmt, u32)>
     requires { site + length tokens.now < 2 ^ 32 }
-    ensures { Gives (λ x. ((stmt_of x.0.0, x.0.1), x.1.now)) result
-        (framed reading.entry.text.now depth (lines reading.entry.text.now depth) site first first.kind tokens.now) }
+    ensures { Parses (numbered stmt_of) result
+        (framed_from reading.entry.text.now depth site first tokens.now) }
 {
     let (opening, rest) = opened(reading, depth, first, tokens)?;
     let ((block, site), rest) = lines(reading, depth, site, rest)?;
@@ -87,8 +88,8 @@ fn stmt<'a>(
     tokens: &'a [Token],
 ) -> Read<'a, (Stmt, u32)>
     requires { site + length tokens.now + 1 < 2 ^ 32 }
-    ensures { Gives (λ x. ((stmt_of x.0.0, x.0.1), x.1.now)) result
-        (stmt reading.entry.text.now depth (lines reading.entry.text.now depth) site first first.kind tokens.now) }
+    ensures { Parses (numbered stmt_of) result
+        (stmt_from reading.entry.text.now depth site first tokens.now) }
 {
     match first.kind {
         Kind::If | Kind::While | Kind::For | Kind::Scope | Kind::Cut | Kind::Region => {
@@ -110,8 +111,8 @@ fn line_by<'a>(
     tokens: &'a [Token],
 ) -> Read<'a, (Line, u32)>
     requires { site + length tokens.now < 2 ^ 32 }
-    ensures { Gives (λ x. ((line_of x.0.0, x.0.1), x.1.now)) result
-        (by_first (line_by reading.entry.text.now depth (lines reading.entry.text.now depth) site) tokens.now) }
+    ensures { Parses (numbered line_of) result
+        (line_over reading.entry.text.now depth site tokens.now) }
 {
     match tokens {
         [] => Err(Stop::At(0)),
@@ -132,7 +133,7 @@ fn line<'a>(
     tokens: &'a [Token],
 ) -> Read<'a, (Line, u32)>
     requires { site + length tokens.now < 2 ^ 32 }
-    ensures { Gives (λ x. ((line_of x.0.0, x.0.1), x.1.now)) result
+    ensures { Parses (numbered line_of) result
         (line reading.entry.text.now depth site tokens.now) }
 {
     if depth == 0 {
@@ -150,7 +151,7 @@ pub(crate) fn lines<'a>(
     tokens: &'a [Token],
 ) -> Read<'a, (Vec<Line>, u32)>
     requires { site + length tokens.now < 2 ^ 32 }
-    ensures { Gives (λ x. ((block_of x.0.0.items, x.0.1), x.1.now)) result
+    ensures { Parses (numbered (λ b. block_of b.items)) result
         (lines reading.entry.text.now depth site tokens.now) }
 {
     let mut done = Vec::new(reading.alloc);

@@ -128,7 +128,7 @@ pub enum Stmt {
     /// A reducer by its name, and what is added to it.
     AddTo(Name, Expr),
     /// A call, plain or spawned.
-    Call(Call),
+    Call(Box<Call>),
     /// A join of all that the innermost sync block has spawned.
     Sync,
     /// A condition, and what is done where it is not 0.
@@ -138,11 +138,11 @@ pub enum Stmt {
     /// A condition, and what is done again and again while it is not 0.
     While(Expr, Vec<Line>),
     /// A parallel loop.
-    For(Head, Vec<Line>),
+    For(Box<Head>, Vec<Line>),
     /// A block that joins what it has spawned.
     Scope(Vec<Line>),
     /// A cut, and the block in which the two parts have their names.
-    Cut(Cut, Vec<Line>),
+    Cut(Box<Cut>, Vec<Line>),
     /// A tag, and what is counted under it.
     Region(Name, Vec<Line>),
     /// What is printed.

@@ -1,6 +1,5 @@
-use Rattle.std.proofs.Common.{◌≡◌, arith, sym, ap, ◌∙◌, refl, subst}
+use Rattle.std.proofs.Common.{sym}
 use Rattle.std.proofs.lemmas.Result.{err_from_is_err_and}
-use Rattle.cw_parse.specs.Reading.{Fails}
 use Rattle.cw_parse.proofs.Steps.{chain_end, chain_stop, chain_on_turn, chain_fails, level_start, level_stops, level_turn, level_turn_fails, operand_step, operand_none, named_element}
 use Rattle.cw_parse.proofs.expr.+expr.Goals as goal
 

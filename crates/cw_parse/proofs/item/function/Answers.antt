@@ -1,4 +1,4 @@
-use Rattle.std.proofs.Common.{◌+◌, ◌<◌, length, map, arith}
+use Rattle.std.proofs.Common.{map, arith}
 use Rattle.cw_parse.specs.declared.marks.Mark.TheVariants as mark
 use Rattle.cw_parse.specs.View.{param_of}
 use Rattle.cw_parse.proofs.Rooms.{token_less, params_less}

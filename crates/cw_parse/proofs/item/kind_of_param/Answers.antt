@@ -1,4 +1,4 @@
-use Rattle.std.proofs.Common.{◌≡◌, sym}
+use Rattle.std.proofs.Common.{sym}
 use Rattle.cw_parse.proofs.Turns.{param_array}
 use Rattle.cw_parse.proofs.item.kind_of_param.Goals as goal
 

@@ -1,4 +1,4 @@
-use Rattle.std.proofs.Common.{◌≡◌, sym, ◌∙◌, ap, arith}
+use Rattle.std.proofs.Common.{sym, ◌∙◌, arith}
 use Rattle.std.proofs.lemmas.Result.{err_from_is_err_and}
 use Rattle.cw_parse.specs.Seen.{item_of}
 use Rattle.cw_parse.proofs.Wholes.{first_turn, whole_none, all_done, too_long, item_on, item_fails, empty_is, some_is}

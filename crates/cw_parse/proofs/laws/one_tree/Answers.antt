@@ -1,6 +1,4 @@
 use Rattle.cw_parse.proofs.Items.{one_tree}
-use Rattle.cw_parse.proofs.Rooms.{line_room}
-use Rattle.cw_parse.proofs.Turns.{closes}
 use Rattle.cw_parse.proofs.laws.one_tree.Goals as goal
 
 pub returns : goal.returns
