@@ -7,6 +7,7 @@ pub mod Plain
 pub mod Pushed
 pub mod Right
 pub mod Slotted
+pub mod Looked
 pub mod Few
 pub mod Heading
 pub mod Fitting

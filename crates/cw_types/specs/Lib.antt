@@ -11,5 +11,9 @@ pub mod Returned
 pub mod Declares
 pub mod Locals
 pub mod Heads
+pub mod Found
+pub mod Laws
 pub mod Named
+pub mod Noted
+pub mod Within
 pub mod Faults

@@ -1,6 +1,10 @@
 -- The regions of a program, as the code lists them.
-use Rattle.std.specs.Prelude.{ℕ, List, map}
+use Rattle.std.specs.Prelude.{◌≡◌, ℕ, List, ◌++◌, map, flat_map}
+use Rattle.std.specs.Global.{Vec}
+use Rattle.cw_model.specs.Sizes.{regions_in_block}
 use Rattle.cw_model.specs.Syntax.{Name}
+use Rattle.cw_parse.specs.declared.tree.Function.{Function}
+use Rattle.cw_parse.specs.View.{function_of}
 use Rattle.cw_types.specs.declared.regions.Marked.{Marked}
 
 -- a region by its tag and its line
@@ -14,3 +18,11 @@ regions_of ms = map region_of ms
 -- the tags of regions
 abbrev pub tags_of : List Marked → List Name
 tags_of ms = map (λ m. m.tag.now) ms
+
+-- the regions of functions
+abbrev pub regions_of_all : List Function → List (Name × ℕ)
+regions_of_all functions = flat_map (λ f. regions_in_block f.body) (map function_of functions)
+
+-- behind the regions found before there are these
+abbrev pub Adds : List (Name × ℕ) → (before after : Vec Marked) → Type 0
+Adds regions before after = regions_of after.items ≡ regions_of before.items ++ regions

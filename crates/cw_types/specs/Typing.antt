@@ -5,9 +5,10 @@ use Rattle.cw_model.specs.Names.{same_name}
 use Rattle.cw_model.specs.Typing.{Known, Returns, Nowhere, is_fine, is_new, is_int, is_array, is_reducer, is_call, called, is_head_of_loop, is_cut, may_return, block_returns, faults_in_block}
 use Rattle.std.specs.List.{list_any}
 use Rattle.cw_model.specs.Answers.{main_name}
+use Rattle.cw_parse.specs.declared.tree.Call.{Call as Made}
 use Rattle.cw_parse.specs.declared.tree.Head.{Head}
 use Rattle.cw_parse.specs.declared.tree.Cut.{Cut as Parts}
-use Rattle.cw_parse.specs.View.{expr_of}
+use Rattle.cw_parse.specs.View.{expr_of, exprs_of}
 
 -- the newest name that is spelled so is an array, or an integer, if there is one
 abbrev pub kind_of : Name → Known → Option Bool
@@ -22,6 +23,10 @@ oldest n known = drop (length known - n) known
 abbrev pub is_head : Program → Known → Head → Bool
 is_head program known h =
     is_head_of_loop program known h.variable h.tested h.stepped (expr_of h.from) (expr_of h.to) h.grain h.over.items
+
+-- a call of the code keeps the rules
+abbrev pub calls : Program → Known → Made → Bool
+calls program known c = is_call known c.target (called c.callee program.functions) (exprs_of c.arguments.items)
 
 -- a cut of the code keeps the rules
 abbrev pub cuts : Program → Known → Parts → Bool

@@ -1,11 +1,10 @@
 //! The rules of names and types in whole bodies.
 
 ghost use Rattle.std.specs.Prelude.{◌≡◌, not, ◌||◌, OnOk};
-ghost use Rattle.cw_model.specs.Lines.{lowest};
-ghost use Rattle.cw_model.specs.Typing.{faults_in_block, declares, surely_returns, ends_block};
-ghost use Rattle.cw_parse.specs.View.{program_of, stmt_of, block_of};
-ghost use Rattle.cw_types.specs.Returned.{returns_of};
-ghost use Rattle.cw_types.specs.Typing.{faults_inside};
+ghost use Rattle.cw_model.specs.Typing.{declares, surely_returns, ends_block};
+ghost use Rattle.cw_parse.specs.View.{stmt_of, block_of};
+ghost use Rattle.cw_types.specs.Noted.{Noted};
+ghost use Rattle.cw_types.specs.Within.{block_faults, inner_faults};
 
 use crate::globals::Globals;
 use crate::known::Known;
@@ -23,7 +22,7 @@ pub fn block<'a>(
     lines: &'a [Line],
     least: &mut LeastLine,
 ) -> Result<(), AllocError>
-    ensures lines { OnOk result (least.new.line ≡ lowest least.old.line (faults_in_block (program_of globals.now.ast.now) (returns_of returns) known.old (block_of lines.now))) }
+    ensures lines { OnOk result (Noted (block_faults globals.now returns known.old lines.now) least.old least.new) }
     ensures known { OnOk result (known.new ≡ known.old) }
 {
     let before = known.len();
@@ -47,7 +46,7 @@ fn inside<'a>(
     stmt: &'a Stmt,
     least: &mut LeastLine,
 ) -> Result<(), AllocError>
-    ensures lines { OnOk result (least.new.line ≡ lowest least.old.line (faults_inside (program_of globals.now.ast.now) (returns_of returns) known.old (stmt_of stmt.now))) }
+    ensures lines { OnOk result (Noted (inner_faults globals.now returns known.old stmt.now) least.old least.new) }
     ensures known { OnOk result (known.new ≡ known.old) }
 {
     match stmt {

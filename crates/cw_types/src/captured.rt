@@ -2,7 +2,9 @@
 #![tactic(auto, using(crate::proofs::Reading::uses, std::proofs::lemmas::Grind::common_steps))]
 
 ghost use Rattle.std.specs.Prelude.{◌≡◌, [], map, IfOk, OnOk};
-ghost use Rattle.cw_types.specs.Resolved.{reads, argument_reads, arguments_read, head_reads, reads_in, reads_in_block, first_uses, with_first, captured_in, is_slot_in};
+ghost use Rattle.cw_types.specs.Found.{Finds, FindsOne};
+ghost use Rattle.cw_types.specs.Resolved.{reads, argument_reads, arguments_read, head_reads};
+ghost use Rattle.cw_types.specs.Resolved.{reads_in, reads_in_block, captured_in, is_slot_in};
 ghost use Rattle.cw_types.specs.View.{use_of, expr_of, argument_of, head_of, stmt_of, block_of};
 
 use crate::tree::{Argument, Expr, Head, Line, Stmt, Use};
@@ -33,7 +35,7 @@ fn has_slot(found: &[Use], slot: u32) -> bool
 
 // One use more.
 fn note(alloc: Global, count: u32, found: &mut Vec<Use>, used: &Use) -> Result<(), AllocError>
-    ensures { OnOk result (map use_of found.new.items ≡ with_first count (map use_of found.old.items) (use_of used.now)) }
+    ensures { OnOk result (FindsOne count (use_of used.now) found.old found.new) }
 {
     if used.slot < count && !has_slot(found, used.slot) {
         let name = Name::new(alloc, used.name.as_bytes())?;
@@ -45,7 +47,7 @@ fn note(alloc: Global, count: u32, found: &mut Vec<Use>, used: &Use) -> Result<(
 
 // Uses in order.
 fn notes(alloc: Global, count: u32, found: &mut Vec<Use>, uses: &[Use]) -> Result<(), AllocError>
-    ensures { OnOk result (map use_of found.new.items ≡ first_uses count (map use_of found.old.items) (map use_of uses.now)) }
+    ensures { OnOk result (Finds count (map use_of uses.now) found.old found.new) }
 {
     for used in uses {
         note(alloc, count, found, used)?;
@@ -55,7 +57,7 @@ fn notes(alloc: Global, count: u32, found: &mut Vec<Use>, uses: &[Use]) -> Resul
 
 // What an expression reads.
 fn expression(alloc: Global, count: u32, found: &mut Vec<Use>, e: &Expr) -> Result<(), AllocError>
-    ensures { OnOk result (map use_of found.new.items ≡ first_uses count (map use_of found.old.items) (reads (expr_of e.now))) }
+    ensures { OnOk result (Finds count (reads (expr_of e.now)) found.old found.new) }
 {
     match e {
         Expr::Number(_) | Expr::Length(_) => Ok(()),
@@ -73,7 +75,7 @@ fn expression(alloc: Global, count: u32, found: &mut Vec<Use>, e: &Expr) -> Resu
 
 // What an argument reads.
 fn argument(alloc: Global, count: u32, found: &mut Vec<Use>, e: &Argument) -> Result<(), AllocError>
-    ensures { OnOk result (map use_of found.new.items ≡ first_uses count (map use_of found.old.items) (argument_reads (argument_of e.now))) }
+    ensures { OnOk result (Finds count (argument_reads (argument_of e.now)) found.old found.new) }
 {
     match e {
         Argument::Int(e) => expression(alloc, count, found, e),
@@ -88,7 +90,7 @@ fn arguments(
     found: &mut Vec<Use>,
     es: &[Argument],
 ) -> Result<(), AllocError>
-    ensures { OnOk result (map use_of found.new.items ≡ first_uses count (map use_of found.old.items) (arguments_read (map argument_of es.now))) }
+    ensures { OnOk result (Finds count (arguments_read (map argument_of es.now)) found.old found.new) }
 {
     for e in es {
         argument(alloc, count, found, e)?;
@@ -98,7 +100,7 @@ fn arguments(
 
 // What the head of a loop reads, and what its body takes from outside.
 fn head(alloc: Global, count: u32, found: &mut Vec<Use>, head: &Head) -> Result<(), AllocError>
-    ensures { OnOk result (map use_of found.new.items ≡ first_uses count (map use_of found.old.items) (head_reads (head_of head.now))) }
+    ensures { OnOk result (Finds count (head_reads (head_of head.now)) found.old found.new) }
 {
     expression(alloc, count, found, &head.from)?;
     expression(alloc, count, found, &head.to)?;
@@ -109,7 +111,7 @@ fn head(alloc: Global, count: u32, found: &mut Vec<Use>, head: &Head) -> Result<
 // What statements in order read.
 #[cycle(reading)]
 fn block(alloc: Global, count: u32, found: &mut Vec<Use>, lines: &[Line]) -> Result<(), AllocError>
-    ensures { OnOk result (map use_of found.new.items ≡ first_uses count (map use_of found.old.items) (reads_in_block (block_of lines.now))) }
+    ensures { OnOk result (Finds count (reads_in_block (block_of lines.now)) found.old found.new) }
 {
     for line in lines {
         statement(alloc, count, found, &line.stmt)?;
@@ -120,7 +122,7 @@ fn block(alloc: Global, count: u32, found: &mut Vec<Use>, lines: &[Line]) -> Res
 // What a statement reads.
 #[cycle(reading)]
 fn statement(alloc: Global, count: u32, found: &mut Vec<Use>, stmt: &Stmt) -> Result<(), AllocError>
-    ensures { OnOk result (map use_of found.new.items ≡ first_uses count (map use_of found.old.items) (reads_in (stmt_of stmt.now))) }
+    ensures { OnOk result (Finds count (reads_in (stmt_of stmt.now)) found.old found.new) }
 {
     match stmt {
         Stmt::Declare(_, e)

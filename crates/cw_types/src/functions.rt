@@ -1,12 +1,13 @@
 //! The rules of names and types in functions.
 
-ghost use Rattle.std.specs.Prelude.{◌≡◌, ◌++◌, ◌&&◌, if◌then◌else◌, map, flat_map, IfOk, OnOk};
+ghost use Rattle.std.specs.Prelude.{◌≡◌, ◌++◌, ◌&&◌, map, IfOk, OnOk};
 ghost use Rattle.std.specs.List.{list_any};
-ghost use Rattle.cw_model.specs.Lines.{lowest};
-ghost use Rattle.cw_model.specs.Typing.{faults_of, known_of, WithInt, Alone};
+ghost use Rattle.cw_model.specs.Typing.{known_of};
 ghost use Rattle.cw_parse.specs.View.{program_of, function_of, param_of};
+ghost use Rattle.cw_types.specs.Noted.{Noted};
 ghost use Rattle.cw_types.specs.Returned as returned;
 ghost use Rattle.cw_types.specs.Typing as spec;
+ghost use Rattle.cw_types.specs.Within.{faults_of_all, faults_in_function, params_are_new};
 
 use crate::bodies::block;
 use crate::globals::Globals;
@@ -22,7 +23,7 @@ pub fn functions_faults(
     globals: &Globals,
     least: &mut LeastLine,
 ) -> Result<(), AllocError>
-    ensures { OnOk result (least.new.line ≡ lowest least.old.line (flat_map (faults_of (program_of globals.now.ast.now)) (program_of globals.now.ast.now).functions)) }
+    ensures { OnOk result (Noted (faults_of_all (program_of globals.now.ast.now)) least.old least.new) }
 {
     for function in &globals.ast.functions {
         function_faults(alloc, globals, function, least)?;
@@ -37,7 +38,7 @@ fn function_faults(
     function: &Function,
     least: &mut LeastLine,
 ) -> Result<(), AllocError>
-    ensures { OnOk result (least.new.line ≡ lowest least.old.line (faults_of (program_of globals.now.ast.now) (function_of function.now))) }
+    ensures { OnOk result (Noted (faults_in_function globals.now function.now) least.old least.new) }
 {
     let mut known = Known::new(alloc);
     let are_new = declare_params(globals, &mut known, &function.params)?;
@@ -49,7 +50,7 @@ fn function_faults(
 
 // Which returns may stand in the body of a function.
 fn returns_of(function: &Function) -> Returns
-    ensures { returned.returns_of result ≡ (if (function_of function.now).gives_int then WithInt else Alone) }
+    ensures { returned.returns_of result ≡ returned.returns_in (function_of function.now) }
 {
     if function.gives_int {
         return Returns::WithInt;
@@ -64,7 +65,7 @@ fn declare_params<'a>(
     params: &'a [Param],
 ) -> Result<bool, AllocError>
     ensures known { OnOk result (known.new ≡ known_of (map param_of params.now) ++ known.old) }
-    ensures new { IfOk result (λ new. new ≡ spec.are_new (program_of globals.now.ast.now) known.old (map param_of params.now)) }
+    ensures new { IfOk result (λ new. new ≡ params_are_new globals.now known.old params.now) }
 {
     let mut new = true;
     for param in params {

@@ -1,32 +1,33 @@
 //! Laws of resolved trees, each the contract of a function that does nothing.
 
-ghost use Rattle.std.specs.Prelude.{◌≡◌, ◌≤◌, ◌+◌, max, length, true, ℕ, []};
-ghost use Rattle.cw_model.specs.Syntax.{Program, Block};
-ghost use Rattle.cw_model.specs.Sizes.{limit_faults};
-ghost use Rattle.cw_model.specs.Typing.{type_faults};
-ghost use Rattle.cw_types.specs.Bounds.{is_fitting};
-ghost use Rattle.cw_types.specs.Declares.{declares_in_block};
-ghost use Rattle.cw_types.specs.Resolved.{Resolved, Lists, Locals, resolved, plain, resolved_block, ints_in_block, arrays_in_block};
+ghost use Rattle.std.specs.Prelude.{◌≡◌, true};
+ghost use Rattle.cw_types.specs.Laws.{PlainOfResolved, ResolvedIsRight, ResolvedFits, FewInts, FewArrays};
+ghost use Rattle.cw_types.specs.Resolved.{Resolved, resolved, plain};
 ghost use Rattle.cw_types.specs.Slots.{is_resolved};
 
 /// A program that keeps the rules of names and types is its resolved tree without the slots.
 pub fn plain_of_resolved()
-    ensures { (program : Program) → type_faults program ≡ [] → plain (resolved program) ≡ program }
+    ensures { PlainOfResolved }
 {}
 
 /// And its resolved tree has each slot, each index and each count right.
 pub fn resolved_is_right()
-    ensures { (program : Program) → type_faults program ≡ [] → is_resolved (resolved program) ≡ true }
+    ensures { ResolvedIsRight }
 {}
 
 /// A body takes no more slots than there are names.
 pub fn few_slots()
-    ensures ints { (lists : Lists) (l : Locals) (n : ℕ) (b : Block) → ints_in_block n (resolved_block lists l b) ≤ max n (length l.ints + declares_in_block b) }
-    ensures arrays { (lists : Lists) (l : Locals) (n : ℕ) (b : Block) → arrays_in_block n (resolved_block lists l b) ≤ max n (length l.arrays + declares_in_block b) }
+    ensures ints { FewInts }
+    ensures arrays { FewArrays }
 {}
 
 /// Where the program also keeps the limits, each slot is below the count of its kind and each index below the length of
 /// its table, and no function has more slots of a kind than it may declare names.
 pub fn resolved_is_fitting()
-    ensures { (program : Program) → limit_faults program ≡ [] → type_faults program ≡ [] → is_fitting (resolved program) ≡ true }
+    ensures { ResolvedFits }
+{}
+
+/// A tree with each slot, each index and each count right is its program with each name looked up.
+pub fn slots_are_right()
+    ensures { (tree : Resolved) → is_resolved tree ≡ true → tree ≡ resolved (plain tree) }
 {}

@@ -25,6 +25,3 @@ mod typed;
 
 pub use checking::check;
 pub use typed::Typed;
-
-#[cfg(test)]
-mod tests;

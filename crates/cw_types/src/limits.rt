@@ -1,10 +1,13 @@
 //! The limits of a program.
 
-ghost use Rattle.std.specs.Prelude.{◌≡◌, ℕ, List, ◌++◌, ◌∷◌, [], None, map, flat_map, drop, nat_le, length, IfOk, OnOk};
-ghost use Rattle.cw_model.specs.Lines.{lowest, unless};
-ghost use Rattle.cw_model.specs.Sizes.{limit_faults, function_limits as limits_of, declaring_lines, declaring_lines_in, lines_beyond, regions_in_block, regions_in, first_places};
-ghost use Rattle.cw_model.specs.Limits.{most_functions, most_reducers, most_tags, most_tag_bytes};
-ghost use Rattle.cw_parse.specs.View.{program_of, function_of, reducer_of, block_of, stmt_of};
+ghost use Rattle.std.specs.Prelude.{◌≡◌, ◌∷◌, [], None, map, flat_map, IfOk, OnOk};
+ghost use Rattle.cw_model.specs.Lines.{lowest};
+ghost use Rattle.cw_model.specs.Sizes.{limit_faults, function_limits as limits_of, lines_beyond};
+ghost use Rattle.cw_model.specs.Sizes.{declaring_lines, declaring_lines_in};
+ghost use Rattle.cw_model.specs.Limits.{most_functions, most_reducers};
+ghost use Rattle.cw_parse.specs.View.{program_of, function_of, block_of, stmt_of};
+ghost use Rattle.cw_types.specs.Noted.{Noted, TakesRoom, TakesTag};
+ghost use Rattle.cw_types.specs.Noted.{function_lines, reducer_lines, long_tag, tags_past};
 ghost use Rattle.cw_types.specs.Regions.{region_of, regions_of};
 
 use crate::known::Known;
@@ -50,7 +53,7 @@ pub fn limits(alloc: Global, ast: &Ast) -> Result<LeastLine, AllocError>
 
 // Notes the lines of the functions behind the most of them.
 fn functions_beyond(functions: &[Function], least: &mut LeastLine)
-    ensures { least.new.line ≡ lowest least.old.line (lines_beyond most_functions (map (λ f. f.line) (map function_of functions.now))) }
+    ensures { Noted (lines_beyond most_functions (function_lines functions.now)) least.old least.new }
 {
     let mut room = MOST_FUNCTIONS;
     for function in functions {
@@ -60,7 +63,7 @@ fn functions_beyond(functions: &[Function], least: &mut LeastLine)
 
 // Notes the lines of the reducers behind the most of them.
 fn reducers_beyond(reducers: &[Reducer], least: &mut LeastLine)
-    ensures { least.new.line ≡ lowest least.old.line (lines_beyond most_reducers (map (λ r. r.line) (map reducer_of reducers.now))) }
+    ensures { Noted (lines_beyond most_reducers (reducer_lines reducers.now)) least.old least.new }
 {
     let mut room = MOST_REDUCERS;
     for reducer in reducers {
@@ -70,7 +73,7 @@ fn reducers_beyond(reducers: &[Reducer], least: &mut LeastLine)
 
 // Notes the lines that pass a limit of one function.
 fn functions_limits(functions: &[Function], least: &mut LeastLine)
-    ensures { least.new.line ≡ lowest least.old.line (flat_map limits_of (map function_of functions.now)) }
+    ensures { Noted (flat_map limits_of (map function_of functions.now)) least.old least.new }
 {
     for function in functions {
         function_limits(function, least);
@@ -88,8 +91,7 @@ fn function_limits(function: &Function, least: &mut LeastLine)
 
 // What room is left after the parameters.
 fn params_beyond(room: usize, line: u32, params: &[Param], least: &mut LeastLine) -> usize
-    // The lines to come give the least line past the room left that they give past `room` with the parameters' first.
-    ensures { (more : List ℕ) → lowest least.new.line (drop result more) ≡ lowest least.old.line (drop room (map (λ _. line) params.now ++ more)) }
+    ensures { TakesRoom room result (map (λ _. line) params.now) least.old least.new }
 {
     let mut left = room;
     for _param in params {
@@ -101,7 +103,7 @@ fn params_beyond(room: usize, line: u32, params: &[Param], least: &mut LeastLine
 // What room is left after what the statements declare; notes the line of what has no room.
 #[cycle(declaring)]
 fn block_beyond(room: usize, lines: &[Line], least: &mut LeastLine) -> usize
-    ensures { (more : List ℕ) → lowest least.new.line (drop result more) ≡ lowest least.old.line (drop room (declaring_lines_in (block_of lines.now) ++ more)) }
+    ensures { TakesRoom room result (declaring_lines_in (block_of lines.now)) least.old least.new }
 {
     let mut left = room;
     for line in lines {
@@ -113,7 +115,7 @@ fn block_beyond(room: usize, lines: &[Line], least: &mut LeastLine) -> usize
 // The same of a statement of a line.
 #[cycle(declaring)]
 fn statement_beyond(room: usize, line: u32, stmt: &Stmt, least: &mut LeastLine) -> usize
-    ensures { (more : List ℕ) → lowest least.new.line (drop result more) ≡ lowest least.old.line (drop room (declaring_lines line (stmt_of stmt.now) ++ more)) }
+    ensures { TakesRoom room result (declaring_lines line (stmt_of stmt.now)) least.old least.new }
 {
     match stmt {
         Stmt::Declare(_, _) | Stmt::DeclareArray(_, _) => beyond(room, line, least),
@@ -145,8 +147,7 @@ fn statement_beyond(room: usize, line: u32, stmt: &Stmt, least: &mut LeastLine) 
 
 // One line more, which breaks the limit where there is no room left for it; what room is left then.
 fn beyond(room: usize, line: u32, least: &mut LeastLine) -> usize
-    // The lines to come give the least line past the room left that they give past `room` with this one first.
-    ensures { (more : List ℕ) → lowest least.new.line (drop result more) ≡ lowest least.old.line (drop room (line ∷ more)) }
+    ensures { TakesRoom room result (line ∷ []) least.old least.new }
 {
     if room == 0 {
         least.note(false, line);
@@ -157,7 +158,7 @@ fn beyond(room: usize, line: u32, least: &mut LeastLine) -> usize
 
 // Notes the lines of regions whose tags are too long.
 fn long_tags(regions: &[Marked], least: &mut LeastLine)
-    ensures { least.new.line ≡ lowest least.old.line (flat_map (λ d. unless (nat_le (length d.0) most_tag_bytes) d.1) (regions_of regions.now)) }
+    ensures { Noted (flat_map long_tag (regions_of regions.now)) least.old least.new }
 {
     for region in regions {
         least.note(region.tag.len() <= MOST_TAG_BYTES, region.line);
@@ -166,7 +167,7 @@ fn long_tags(regions: &[Marked], least: &mut LeastLine)
 
 // Notes the lines of the first places of tags behind the most of them.
 fn tags_beyond(alloc: Global, regions: &[Marked], least: &mut LeastLine) -> Result<(), AllocError>
-    ensures { OnOk result (least.new.line ≡ lowest least.old.line (lines_beyond most_tags (map (λ d. d.1) (first_places (regions_of regions.now) [])))) }
+    ensures { OnOk result (Noted (tags_past (regions_of regions.now)) least.old least.new) }
 {
     let mut seen = Known::new(alloc);
     let mut room = MOST_TAGS;
@@ -183,8 +184,7 @@ fn tag_beyond<'a>(
     region: Marked<'a>,
     least: &mut LeastLine,
 ) -> Result<usize, AllocError>
-    // The regions to come give the least line past the room left that they give past `room` with this one first.
-    ensures { IfOk result (λ left. (more : List (List ℕ × ℕ)) → lowest least.new.line (drop left (map (λ d. d.1) (first_places more (map (λ k. k.0) seen.new)))) ≡ lowest least.old.line (drop room (map (λ d. d.1) (first_places (region_of region.entry ∷ more) (map (λ k. k.0) seen.old))))) }
+    ensures { IfOk result (TakesTag room (region_of region.entry) seen.old seen.new least.old least.new) }
 {
     if seen.has(region.tag) {
         return Ok(room);

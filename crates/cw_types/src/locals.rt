@@ -3,8 +3,8 @@
 ghost use Rattle.std.specs.Prelude.{◌≡◌, ◌<◌, ◌+◌, ◌^◌, [], OnOk};
 ghost use Rattle.cw_parse.specs.View.{stmt_of};
 ghost use Rattle.cw_types.specs.Declares.{declares_in};
-ghost use Rattle.cw_types.specs.Locals.{locals_view, locals_count};
-ghost use Rattle.cw_types.specs.Resolved.{locals_after};
+ghost use Rattle.cw_types.specs.Found.{Declared};
+ghost use Rattle.cw_types.specs.Locals.{locals_count};
 
 use crate::table::Table;
 use cw_parse::tree::Stmt;
@@ -33,7 +33,7 @@ impl<'a> Locals<'a> {
 /// Declares the local that the statement declares, if it declares one.
 pub fn declare<'a>(locals: &mut Locals<'a>, stmt: &'a Stmt) -> Result<(), AllocError>
     requires { locals_count locals.old + declares_in (stmt_of stmt.now) < 2 ^ 32 }
-    ensures { OnOk result (locals_view locals.new ≡ locals_after (locals_view locals.old) (stmt_of stmt.now)) }
+    ensures { OnOk result (Declared stmt.now locals.old locals.new) }
 {
     match stmt {
         Stmt::Declare(x, _) => locals.ints.add(x.as_bytes()),

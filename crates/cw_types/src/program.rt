@@ -1,12 +1,12 @@
 //! Names looked up in a whole program.
 
-ghost use Rattle.std.specs.Prelude.{◌≡◌, ◌≤◌, ◌<◌, ◌+◌, ◌++◌, ◌^◌, [], map, length, All, IfOk, OnOk};
+ghost use Rattle.std.specs.Prelude.{◌≡◌, ◌<◌, ◌+◌, ◌++◌, ◌^◌, [], map, length, All, IfOk, OnOk};
 ghost use Rattle.cw_model.specs.Sizes.{limit_faults};
 ghost use Rattle.cw_parse.specs.View as parsed;
-ghost use Rattle.cw_types.specs.Declares.{declares_in_block};
-ghost use Rattle.cw_types.specs.Locals.{lists_view, locals_count};
+ghost use Rattle.cw_types.specs.Found.{DeclaresFew, IsFunction, AreFunctions, int_params, array_params};
+ghost use Rattle.cw_types.specs.Locals.{locals_count};
 ghost use Rattle.cw_types.specs.Resolved as spec;
-ghost use Rattle.cw_types.specs.View.{resolved_of, function_of, param_of, reducer_of};
+ghost use Rattle.cw_types.specs.View.{resolved_of, param_of, reducer_of};
 
 use crate::frames::{arrays_of_block, ints_of_block};
 use crate::globals::{function_names, reducer_names};
@@ -67,8 +67,8 @@ fn functions(
     lists: &Lists,
     functions: &[Function],
 ) -> Result<Vec<tree::Function>, AllocError>
-    requires { All (λ f. length f.params.items + declares_in_block (parsed.block_of f.body.items) ≤ 256) functions.now }
-    ensures { IfOk result (λ found. map function_of found.items ≡ map (spec.resolved_function (lists_view lists.now)) (map parsed.function_of functions.now)) }
+    requires { All DeclaresFew functions.now }
+    ensures { IfOk result (λ found. AreFunctions lists.now functions.now found.items) }
 {
     let mut found = Vec::new(alloc);
     for f in functions {
@@ -80,8 +80,8 @@ fn functions(
 
 // One function, each name looked up.
 fn function(alloc: Global, lists: &Lists, f: &Function) -> Result<tree::Function, AllocError>
-    requires { length f.now.params.items + declares_in_block (parsed.block_of f.now.body.items) ≤ 256 }
-    ensures { IfOk result (λ found. function_of found ≡ spec.resolved_function (lists_view lists.now) (parsed.function_of f.now)) }
+    requires { DeclaresFew f.now }
+    ensures { IfOk result (IsFunction lists.now f.now) }
 {
     let mut locals = Locals::new(alloc);
     declare_params(&mut locals, &f.params)?;
@@ -106,8 +106,8 @@ fn function(alloc: Global, lists: &Lists, f: &Function) -> Result<tree::Function
 // Declares the parameters.
 fn declare_params<'a>(locals: &mut Locals<'a>, params: &'a [Param]) -> Result<(), AllocError>
     requires { locals_count locals.old + length params.now < 2 ^ 32 }
-    ensures ints { OnOk result (locals.new.ints ≡ locals.old.ints ++ (spec.locals_of (map parsed.param_of params.now)).ints) }
-    ensures arrays { OnOk result (locals.new.arrays ≡ locals.old.arrays ++ (spec.locals_of (map parsed.param_of params.now)).arrays) }
+    ensures ints { OnOk result (locals.new.ints ≡ locals.old.ints ++ int_params params.now) }
+    ensures arrays { OnOk result (locals.new.arrays ≡ locals.old.arrays ++ array_params params.now) }
 {
     for param in params {
         let name = param.name.as_bytes();

@@ -1,9 +1,9 @@
 //! The regions of a program in their order.
 
-ghost use Rattle.std.specs.Prelude.{◌≡◌, ◌++◌, map, flat_map, IfOk, OnOk};
+ghost use Rattle.std.specs.Prelude.{◌≡◌, IfOk, OnOk};
 ghost use Rattle.cw_model.specs.Sizes.{regions_in, regions_in_block};
-ghost use Rattle.cw_parse.specs.View.{block_of, stmt_of, function_of};
-ghost use Rattle.cw_types.specs.Regions.{regions_of};
+ghost use Rattle.cw_parse.specs.View.{block_of, stmt_of};
+ghost use Rattle.cw_types.specs.Regions.{regions_of, regions_of_all, Adds};
 
 use cw_parse::tree::{Function, Line, Stmt};
 use std::alloc::{AllocError, Global};
@@ -17,7 +17,7 @@ pub struct Marked<'a> {
 
 /// All regions of these functions.
 pub fn regions<'a>(alloc: Global, functions: &'a [Function]) -> Result<Vec<Marked<'a>>, AllocError>
-    ensures { IfOk result (λ found. regions_of found.items ≡ flat_map (λ f. regions_in_block f.body) (map function_of functions.now)) }
+    ensures { IfOk result (λ found. regions_of found.items ≡ regions_of_all functions.now) }
 {
     let mut found = Vec::new(alloc);
     for function in functions {
@@ -29,7 +29,7 @@ pub fn regions<'a>(alloc: Global, functions: &'a [Function]) -> Result<Vec<Marke
 // Adds the regions of statements in order.
 #[cycle(marking)]
 fn block<'a>(found: &mut Vec<Marked<'a>>, lines: &'a [Line]) -> Result<(), AllocError>
-    ensures { OnOk result (regions_of found.new.items ≡ regions_of found.old.items ++ regions_in_block (block_of lines.now)) }
+    ensures { OnOk result (Adds (regions_in_block (block_of lines.now)) found.old found.new) }
 {
     for line in lines {
         statement(found, line.line, &line.stmt)?;
@@ -40,7 +40,7 @@ fn block<'a>(found: &mut Vec<Marked<'a>>, lines: &'a [Line]) -> Result<(), Alloc
 // Adds the regions of a statement of a line.
 #[cycle(marking)]
 fn statement<'a>(found: &mut Vec<Marked<'a>>, line: u32, stmt: &'a Stmt) -> Result<(), AllocError>
-    ensures { OnOk result (regions_of found.new.items ≡ regions_of found.old.items ++ regions_in line (stmt_of stmt.now)) }
+    ensures { OnOk result (Adds (regions_in line (stmt_of stmt.now)) found.old found.new) }
 {
     match stmt {
         Stmt::If(_, b) | Stmt::While(_, b) | Stmt::For(_, b) | Stmt::Scope(b) | Stmt::Cut(_, b) =>

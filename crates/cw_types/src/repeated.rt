@@ -1,10 +1,9 @@
 //! Names of functions and reducers that are there twice.
 
-ghost use Rattle.std.specs.Prelude.{◌≡◌, [], nat_le, if◌then◌else◌, map, flat_map, OnOk};
-ghost use Rattle.cw_model.specs.Lines.{lowest};
-ghost use Rattle.cw_model.specs.Typing.{repeated, of_both_kinds};
-ghost use Rattle.cw_parse.specs.View.{function_of, reducer_of};
-ghost use Rattle.cw_types.specs.Named.{functions_named, reducers_named};
+ghost use Rattle.std.specs.Prelude.{◌≡◌, [], nat_le, if◌then◌else◌, OnOk};
+ghost use Rattle.cw_model.specs.Typing.{repeated};
+ghost use Rattle.cw_types.specs.Named.{listed_functions, listed_reducers, shared_lines, lines_shared_by};
+ghost use Rattle.cw_types.specs.Noted.{Noted};
 
 use crate::known::Known;
 use cw_parse::tree::{Function, Reducer};
@@ -17,7 +16,7 @@ pub fn repeated_functions(
     functions: &[Function],
     least: &mut LeastLine,
 ) -> Result<(), AllocError>
-    ensures { OnOk result (least.new.line ≡ lowest least.old.line (repeated (functions_named (map function_of functions.now)) [])) }
+    ensures { OnOk result (Noted (repeated (listed_functions functions.now) []) least.old least.new) }
 {
     let mut earlier = Known::new(alloc);
     for function in functions {
@@ -34,7 +33,7 @@ pub fn repeated_reducers(
     reducers: &[Reducer],
     least: &mut LeastLine,
 ) -> Result<(), AllocError>
-    ensures { OnOk result (least.new.line ≡ lowest least.old.line (repeated (reducers_named (map reducer_of reducers.now)) [])) }
+    ensures { OnOk result (Noted (repeated (listed_reducers reducers.now) []) least.old least.new) }
 {
     let mut earlier = Known::new(alloc);
     for reducer in reducers {
@@ -47,7 +46,7 @@ pub fn repeated_reducers(
 
 /// Notes of each reducer and each function of its name the later line.
 pub fn shared_names(functions: &[Function], reducers: &[Reducer], least: &mut LeastLine)
-    ensures { least.new.line ≡ lowest least.old.line (flat_map (of_both_kinds (functions_named (map function_of functions.now))) (reducers_named (map reducer_of reducers.now))) }
+    ensures { Noted (shared_lines functions.now reducers.now) least.old least.new }
 {
     for reducer in reducers {
         shared_name(functions, reducer, least);
@@ -56,7 +55,7 @@ pub fn shared_names(functions: &[Function], reducers: &[Reducer], least: &mut Le
 
 // The same of one reducer.
 fn shared_name(functions: &[Function], reducer: &Reducer, least: &mut LeastLine)
-    ensures { least.new.line ≡ lowest least.old.line (of_both_kinds (functions_named (map function_of functions.now)) (reducer.now.name, reducer.now.line)) }
+    ensures { Noted (lines_shared_by functions.now reducer.now) least.old least.new }
 {
     for function in functions {
         let differ = !(reducer.name.as_bytes() == function.name.as_bytes());

@@ -1,11 +1,9 @@
 //! Names looked up, in what stands in a statement beside its blocks.
 
-ghost use Rattle.std.specs.Prelude.{◌≡◌, ◌<◌, ◌+◌, ◌^◌, length, map, option_map, IfOk};
-ghost use Rattle.cw_parse.specs.View as parsed;
-ghost use Rattle.cw_types.specs.Heads as part;
-ghost use Rattle.cw_types.specs.Locals.{locals_view, lists_view};
+ghost use Rattle.std.specs.Prelude.{◌≡◌, ◌<◌, ◌+◌, ◌^◌, length, map, IfOk};
+ghost use Rattle.cw_types.specs.Found as looked;
 ghost use Rattle.cw_types.specs.Resolved as spec;
-ghost use Rattle.cw_types.specs.View.{use_of, listed_of, expr_of, argument_of, head_of, parts_of, block_of, stmt_of};
+ghost use Rattle.cw_types.specs.View.{use_of, listed_of};
 
 use crate::captured::captured;
 use crate::lists::Lists;
@@ -52,7 +50,7 @@ pub fn listed(alloc: Global, names: &Table, name: &Name) -> Result<tree::Listed,
 
 /// An expression with each name looked up.
 pub fn expression(alloc: Global, locals: &Locals, e: &Expr) -> Result<tree::Expr, AllocError>
-    ensures { IfOk result (λ found. expr_of found ≡ spec.resolved_expr (locals_view locals.now) (parsed.expr_of e.now)) }
+    ensures { IfOk result (looked.IsExpr locals.now e.now) }
 {
     match e {
         Expr::Number(n) => Ok(tree::Expr::Number(*n)),
@@ -89,7 +87,7 @@ pub fn expression(alloc: Global, locals: &Locals, e: &Expr) -> Result<tree::Expr
 
 // A name alone in the place of an argument.
 fn name_alone(alloc: Global, locals: &Locals, name: &Name) -> Result<tree::Argument, AllocError>
-    ensures { IfOk result (λ found. argument_of found ≡ spec.resolved_name (locals_view locals.now) name.now) }
+    ensures { IfOk result (looked.IsNameAlone locals.now name.now) }
 {
     if locals.arrays.has(name.as_bytes()) {
         let used = use_of(alloc, &locals.arrays, name)?;
@@ -101,7 +99,7 @@ fn name_alone(alloc: Global, locals: &Locals, name: &Name) -> Result<tree::Argum
 
 // An argument with each name looked up.
 fn argument(alloc: Global, locals: &Locals, e: &Expr) -> Result<tree::Argument, AllocError>
-    ensures { IfOk result (λ found. argument_of found ≡ spec.resolved_argument (locals_view locals.now) (parsed.expr_of e.now)) }
+    ensures { IfOk result (looked.IsArgument locals.now e.now) }
 {
     match e {
         Expr::Variable(x) => {
@@ -122,7 +120,7 @@ fn argument(alloc: Global, locals: &Locals, e: &Expr) -> Result<tree::Argument, 
 
 // The arguments in their order.
 fn arguments(alloc: Global, locals: &Locals, es: &[Expr]) -> Result<Vec<tree::Argument>, AllocError>
-    ensures { IfOk result (λ found. map argument_of found.items ≡ map (spec.resolved_argument (locals_view locals.now)) (map parsed.expr_of es.now)) }
+    ensures { IfOk result (λ found. looked.AreArguments locals.now es.now found.items) }
 {
     let mut found = Vec::new(alloc);
     for e in es {
@@ -138,7 +136,7 @@ fn target(
     names: &Table,
     name: &Option<Name>,
 ) -> Result<Option<tree::Use>, AllocError>
-    ensures { IfOk result (λ found. option_map use_of found ≡ option_map (spec.use_of names.now) name.now) }
+    ensures { IfOk result (looked.IsTarget names.now name.now) }
 {
     match name {
         None => Ok(None),
@@ -155,7 +153,7 @@ pub fn returned(
     locals: &Locals,
     e: &Option<Expr>,
 ) -> Result<Option<tree::Expr>, AllocError>
-    ensures { IfOk result (λ found. option_map expr_of found ≡ option_map (spec.resolved_expr (locals_view locals.now)) (option_map parsed.expr_of e.now)) }
+    ensures { IfOk result (looked.IsReturned locals.now e.now) }
 {
     match e {
         None => Ok(None),
@@ -173,7 +171,7 @@ pub fn call(
     locals: &Locals,
     c: &Call,
 ) -> Result<tree::Call, AllocError>
-    ensures { IfOk result (λ found. part.call_of found ≡ part.resolved_call (lists_view lists.now) (locals_view locals.now) c.now) }
+    ensures { IfOk result (looked.IsCall lists.now locals.now c.now) }
 {
     let target = target(alloc, &locals.ints, &c.target)?;
     let callee = listed(alloc, &lists.functions, &c.callee)?;
@@ -206,7 +204,7 @@ pub fn head(
     head: &Head,
     body: &[tree::Line],
 ) -> Result<tree::Head, AllocError>
-    ensures { IfOk result (λ found. head_of found ≡ part.resolved_head (locals_view locals.now) head.now (block_of body.now)) }
+    ensures { IfOk result (looked.IsHead locals.now head.now body.now) }
 {
     let variable = next_use(alloc, &locals.ints, &head.variable)?;
     let from = expression(alloc, locals, &head.from)?;
@@ -226,7 +224,7 @@ pub fn head(
 /// A cut with each name looked up.
 pub fn cut(alloc: Global, locals: &Locals, cut: &Cut) -> Result<tree::Cut, AllocError>
     requires { length locals.now.arrays + 1 < 2 ^ 32 }
-    ensures { IfOk result (λ found. parts_of found ≡ part.resolved_cut (locals_view locals.now) cut.now) }
+    ensures { IfOk result (looked.IsCut locals.now cut.now) }
 {
     let array = use_of(alloc, &locals.arrays, &cut.array)?;
     let at = expression(alloc, locals, &cut.at)?;

@@ -9,6 +9,7 @@ ghost use Rattle.cw_parse.specs.View.{program_of, function_of, param_of, expr_of
 ghost use Rattle.cw_parse.specs.declared.tree.Stmt.TheOpen.{Stmt-F};
 ghost use Rattle.cw_types.specs.Returned.{returns_of};
 ghost use Rattle.cw_types.specs.Typing as spec;
+ghost use Rattle.cw_types.specs.Within.{line_keeps};
 
 use crate::globals::Globals;
 use crate::known::Known;
@@ -119,7 +120,7 @@ pub fn is_main(function: &Function) -> bool
 
 // Whether a call is of a function that is there and is not main, and fits it.
 fn is_call(globals: &Globals, known: &Known, call: &Call) -> bool
-    ensures { result ≡ rule.is_call known.now call.now.target (rule.called call.now.callee (program_of globals.now.ast.now).functions) (map expr_of call.now.arguments.items) }
+    ensures { result ≡ spec.calls (program_of globals.now.ast.now) known.now call.now }
 {
     match globals.function(call.callee.as_bytes()) {
         None => false,
@@ -182,7 +183,7 @@ fn may_return(returns: Returns, known: &Known, value: &Option<Expr>) -> bool
 
 /// Whether what stands in the line of a statement itself keeps the rules, the blocks in it aside.
 pub fn keeps_rules(globals: &Globals, returns: Returns, known: &Known, stmt: &Stmt) -> bool
-    ensures { result ≡ spec.keeps_rules (program_of globals.now.ast.now) (returns_of returns) known.now (stmt_of stmt.now) }
+    ensures { result ≡ line_keeps globals.now returns known.now stmt.now }
 {
     match stmt {
         Stmt::Declare(x, e) | Stmt::DeclareArray(x, e) => {

@@ -3,9 +3,8 @@
 ghost use Rattle.std.specs.Prelude.{◌≡◌, ◌<◌, ◌+◌, ◌^◌, true, IfOk, OnOk};
 ghost use Rattle.cw_parse.specs.View as parsed;
 ghost use Rattle.cw_types.specs.Declares.{declares_in, declares_in_block, is_plain};
-ghost use Rattle.cw_types.specs.Locals.{locals_view, locals_count, lists_view};
-ghost use Rattle.cw_types.specs.Resolved as spec;
-ghost use Rattle.cw_types.specs.View.{block_of, stmt_of};
+ghost use Rattle.cw_types.specs.Found.{IsBlock, IsStmt};
+ghost use Rattle.cw_types.specs.Locals.{locals_count};
 
 use crate::lists::Lists;
 use crate::locals::{Locals, declare};
@@ -23,7 +22,7 @@ pub fn block<'a>(
     lines: &'a [Line],
 ) -> Result<Vec<tree::Line>, AllocError>
     requires { locals_count locals.old + declares_in_block (parsed.block_of lines.now) < 2 ^ 32 }
-    ensures tree { IfOk result (λ found. block_of found.items ≡ spec.resolved_block (lists_view lists.now) (locals_view locals.old) (parsed.block_of lines.now)) }
+    ensures tree { IfOk result (λ found. IsBlock lists.now locals.old lines.now found.items) }
     ensures ints { OnOk result (locals.new.ints ≡ locals.old.ints) }
     ensures arrays { OnOk result (locals.new.arrays ≡ locals.old.arrays) }
 {
@@ -52,7 +51,7 @@ fn statement<'a>(
     stmt: &'a Stmt,
 ) -> Result<tree::Stmt, AllocError>
     requires { locals_count locals.old + declares_in (parsed.stmt_of stmt.now) < 2 ^ 32 }
-    ensures tree { IfOk result (λ found. stmt_of found ≡ spec.resolved_stmt (lists_view lists.now) (locals_view locals.old) (parsed.stmt_of stmt.now)) }
+    ensures tree { IfOk result (IsStmt lists.now locals.old stmt.now) }
     ensures ints { OnOk result (locals.new.ints ≡ locals.old.ints) }
     ensures arrays { OnOk result (locals.new.arrays ≡ locals.old.arrays) }
 {
@@ -121,7 +120,7 @@ fn plain(
     stmt: &Stmt,
 ) -> Result<tree::Stmt, AllocError>
     requires { is_plain (parsed.stmt_of stmt.now) ≡ true }
-    ensures { IfOk result (λ found. stmt_of found ≡ spec.resolved_stmt (lists_view lists.now) (locals_view locals.now) (parsed.stmt_of stmt.now)) }
+    ensures { IfOk result (IsStmt lists.now locals.now stmt.now) }
 {
     match stmt {
         Stmt::Declare(x, e) => {

@@ -1,0 +1,110 @@
+-- What the code answers where it has looked names up.
+use Rattle.std.specs.Prelude.{◌≡◌, ◌≤◌, ◌+◌, ℕ, List, length, map, Option, option_map}
+use Rattle.std.specs.Global.{Vec}
+use Rattle.cw_model.specs.Limits.{most_declared}
+use Rattle.cw_model.specs.Syntax.{Name}
+use Rattle.cw_parse.specs.declared.tree.Call.{Call}
+use Rattle.cw_parse.specs.declared.tree.Cut.{Cut}
+use Rattle.cw_parse.specs.declared.tree.Expr.{Expr}
+use Rattle.cw_parse.specs.declared.tree.Function.{Function}
+use Rattle.cw_parse.specs.declared.tree.Head.{Head}
+use Rattle.cw_parse.specs.declared.tree.Line.{Line}
+use Rattle.cw_parse.specs.declared.tree.Param.{Param}
+use Rattle.cw_parse.specs.declared.tree.Stmt.{Stmt}
+use Rattle.cw_parse.specs.View as parsed
+use Rattle.cw_types.specs.declared.lists.Lists.{Lists}
+use Rattle.cw_types.specs.declared.locals.Locals.{Locals}
+use Rattle.cw_types.specs.declared.tree.Argument as made_argument
+use Rattle.cw_types.specs.declared.tree.Call as made_call
+use Rattle.cw_types.specs.declared.tree.Cut as made_cut
+use Rattle.cw_types.specs.declared.tree.Expr as made_expr
+use Rattle.cw_types.specs.declared.tree.Function as made_function
+use Rattle.cw_types.specs.declared.tree.Head as made_head
+use Rattle.cw_types.specs.declared.tree.Line as made_line
+use Rattle.cw_types.specs.declared.tree.Stmt as made_stmt
+use Rattle.cw_types.specs.declared.tree.Use as made_use
+use Rattle.cw_types.specs.Declares.{declares_in_block}
+use Rattle.cw_types.specs.Heads.{call_of, resolved_call, resolved_head, resolved_cut}
+use Rattle.cw_types.specs.Locals.{locals_view, lists_view}
+use Rattle.cw_types.specs.Resolved as spec
+use Rattle.cw_types.specs.View.{use_of, expr_of, argument_of, head_of, parts_of, stmt_of, block_of, function_of}
+
+-- an expression, where these locals are known
+abbrev pub IsExpr : Locals → Expr → made_expr.Expr → Type 0
+IsExpr locals e found = expr_of found ≡ spec.resolved_expr (locals_view locals) (parsed.expr_of e)
+
+-- a name alone as an argument
+abbrev pub IsNameAlone : Locals → Name → made_argument.Argument → Type 0
+IsNameAlone locals x found = argument_of found ≡ spec.resolved_name (locals_view locals) x
+
+-- an argument
+abbrev pub IsArgument : Locals → Expr → made_argument.Argument → Type 0
+IsArgument locals e found = argument_of found ≡ spec.resolved_argument (locals_view locals) (parsed.expr_of e)
+
+-- arguments in their order
+abbrev pub AreArguments : Locals → List Expr → List made_argument.Argument → Type 0
+AreArguments locals es found =
+    map argument_of found ≡ map (spec.resolved_argument (locals_view locals)) (map parsed.expr_of es)
+
+-- what takes a result, if anything does, among these names
+abbrev pub IsTarget : List Name → Option Name → Option made_use.Use → Type 0
+IsTarget names x found = option_map use_of found ≡ option_map (spec.use_of names) x
+
+-- what is returned, if anything is
+abbrev pub IsReturned : Locals → Option Expr → Option made_expr.Expr → Type 0
+IsReturned locals e found =
+    option_map expr_of found ≡ option_map (spec.resolved_expr (locals_view locals)) (option_map parsed.expr_of e)
+
+-- a call
+abbrev pub IsCall : Lists → Locals → Call → made_call.Call → Type 0
+IsCall lists locals c found = call_of found ≡ resolved_call (lists_view lists) (locals_view locals) c
+
+-- the head of a loop with this body
+abbrev pub IsHead : Locals → Head → List made_line.Line → made_head.Head → Type 0
+IsHead locals h body found = head_of found ≡ resolved_head (locals_view locals) h (block_of body)
+
+-- a cut
+abbrev pub IsCut : Locals → Cut → made_cut.Cut → Type 0
+IsCut locals c found = parts_of found ≡ resolved_cut (locals_view locals) c
+
+-- a statement
+abbrev pub IsStmt : Lists → Locals → Stmt → made_stmt.Stmt → Type 0
+IsStmt lists locals s found = stmt_of found ≡ spec.resolved_stmt (lists_view lists) (locals_view locals) (parsed.stmt_of s)
+
+-- the statements of a block
+abbrev pub IsBlock : Lists → Locals → List Line → List made_line.Line → Type 0
+IsBlock lists locals b found =
+    block_of found ≡ spec.resolved_block (lists_view lists) (locals_view locals) (parsed.block_of b)
+
+-- a function declares no more names than it may, its parameters included
+abbrev pub DeclaresFew : Function → Type 0
+DeclaresFew f = length f.params.items + declares_in_block (parsed.block_of f.body.items) ≤ most_declared
+
+-- a function
+abbrev pub IsFunction : Lists → Function → made_function.Function → Type 0
+IsFunction lists f found = function_of found ≡ spec.resolved_function (lists_view lists) (parsed.function_of f)
+
+-- functions in their order
+abbrev pub AreFunctions : Lists → List Function → List made_function.Function → Type 0
+AreFunctions lists fs found =
+    map function_of found ≡ map (spec.resolved_function (lists_view lists)) (map parsed.function_of fs)
+
+-- behind the uses found before there is this one, if it has one of the first so many slots and none has that slot
+abbrev pub FindsOne : ℕ → spec.Use → (before after : Vec made_use.Use) → Type 0
+FindsOne count used before after = map use_of after.items ≡ spec.with_first count (map use_of before.items) used
+
+-- and so for each of these
+abbrev pub Finds : ℕ → List spec.Use → (before after : Vec made_use.Use) → Type 0
+Finds count uses before after = map use_of after.items ≡ spec.first_uses count (map use_of before.items) uses
+
+-- the integers among parameters, in their order
+abbrev pub int_params : List Param → List Name
+int_params params = (spec.locals_of (map parsed.param_of params)).ints
+
+-- the arrays among them
+abbrev pub array_params : List Param → List Name
+array_params params = (spec.locals_of (map parsed.param_of params)).arrays
+
+-- the locals after a statement's own declaration
+abbrev pub Declared : Stmt → (before after : Locals) → Type 0
+Declared s before after = locals_view after ≡ spec.locals_after (locals_view before) (parsed.stmt_of s)

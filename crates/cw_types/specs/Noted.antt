@@ -1,0 +1,47 @@
+-- What noting lines leaves of the least one, and of the room under a limit.
+use Rattle.std.specs.Prelude.{◌≡◌, ℕ, nat_le, List, [], ◌∷◌, ◌++◌, length, map, drop}
+use Rattle.cw_model.specs.Limits.{most_tag_bytes, most_tags}
+use Rattle.cw_model.specs.Lines.{lowest, unless}
+use Rattle.cw_model.specs.Sizes.{first_places, lines_beyond}
+use Rattle.cw_model.specs.Syntax.{Name}
+use Rattle.cw_model.specs.Typing.{Known}
+use Rattle.cw_parse.specs.declared.tree.Function.{Function}
+use Rattle.cw_parse.specs.declared.tree.Reducer.{Reducer}
+use Rattle.cw_parse.specs.View.{function_of, reducer_of}
+use Rattle.cw_text.specs.declared.least.LeastLine.{LeastLine}
+
+-- these lines were noted
+abbrev pub Noted : List ℕ → (before after : LeastLine) → Type 0
+Noted lines before after = after.line ≡ lowest before.line lines
+
+-- the lines of functions
+abbrev pub function_lines : List Function → List ℕ
+function_lines functions = map (λ f. f.line) (map function_of functions)
+
+-- the lines of reducers
+abbrev pub reducer_lines : List Reducer → List ℕ
+reducer_lines reducers = map (λ r. r.line) (map reducer_of reducers)
+
+-- the line of a region whose tag is too long
+abbrev pub long_tag : Name × ℕ → List ℕ
+long_tag d = unless (nat_le (length d.0) most_tag_bytes) d.1
+
+-- the lines of the first places of tags behind the most of them
+abbrev pub tags_past : List (Name × ℕ) → List ℕ
+tags_past regions = lines_beyond most_tags (map (λ d. d.1) (first_places regions []))
+
+-- of these lines, before which there is this room, those past it were noted, and so much room is left for more
+abbrev pub TakesRoom : (room left : ℕ) → List ℕ → (before after : LeastLine) → Type 0
+TakesRoom room left lines before after =
+    (more : List ℕ) → lowest after.line (drop left more) ≡ lowest before.line (drop room (lines ++ more))
+
+-- the lines of the first places of tags behind those that were seen
+abbrev pub places_behind : Known → List (Name × ℕ) → List ℕ
+places_behind seen regions = map (λ d. d.1) (first_places regions (map (λ k. k.0) seen))
+
+-- of the first places of tags, before which there is this room, one region's was noted where it is past it
+abbrev pub TakesTag : (room : ℕ) → Name × ℕ → (seen after_seen : Known) → (before after : LeastLine) → (left : ℕ) → Type 0
+TakesTag room region seen after_seen before after left =
+    (more : List (Name × ℕ)) →
+    lowest after.line (drop left (places_behind after_seen more))
+    ≡ lowest before.line (drop room (places_behind seen (region ∷ more)))
