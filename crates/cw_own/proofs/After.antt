@@ -10,7 +10,7 @@ use Rattle.cw_model.specs.Answers.{main_name}
 use Rattle.cw_model.specs.Meaning.{function_of}
 use Rattle.cw_model.specs.Typing.{Known, Returns, Nowhere, is_int, is_array, is_new, globals, is_fine, is_argument, are_arguments, called, is_target, is_call, declares, surely_returns, block_returns, ends_block, is_head_of_loop, is_cut, faults_in, faults_in_block}
 use Rattle.cw_model.specs.Ownership.{Holder, SpawnIn, CutOf, Taken, freed, without, names_in, arrays_given, given, target_names, taken_by, where_it_goes_on, own_names, taken_after, taken_after_all}
-use Rattle.cw_types.specs.Resolved.{Locals, Lists, slot_of, use_of, resolved_expr, resolved_argument, resolved_name}
+use Rattle.cw_types.specs.Resolved.{Locals, Lists, slot_of, use_of, resolved_expr, resolved_argument}
 use Rattle.cw_types.specs.Resolved as spec
 use Rattle.cw_own.specs.Sets.{Slots, with_slot, Row, no_local, with_int, with_array, either_row, both_rows}
 use Rattle.cw_own.specs.Taken.{with_target, with_arrays, known_after, after, after_all, gain, cuts_after, cuts_after_all}

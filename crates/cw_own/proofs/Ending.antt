@@ -6,7 +6,7 @@ use Rattle.cw_model.specs.Lines.{unless}
 use Rattle.cw_model.specs.Names.{same_name, is_among}
 use Rattle.cw_model.specs.Typing.{Known, Returns, is_new, is_fine, surely_returns, ends_block, faults_in, faults_in_block}
 use Rattle.cw_model.specs.Ownership.{own_names}
-use Rattle.cw_types.specs.Resolved.{Locals, slot_of}
+use Rattle.cw_types.specs.Resolved.{Locals}
 use Rattle.cw_types.specs.Resolved as spec
 use Rattle.cw_own.specs.Sets.{Row, both_rows}
 use Rattle.cw_own.proofs.Small.{both_right, left_none, right_none, kept}

@@ -14,7 +14,7 @@ use Rattle.cw_own.specs.Sets.{no_slot, no_local}
 use Rattle.cw_own.specs.Taken.{nothing, with_params}
 use Rattle.cw_own.specs.Rules.{block_lines, function_lines}
 use Rattle.cw_own.proofs.Small.{both_left, both_right, left_none, right_none, kept}
-use Rattle.cw_own.proofs.Showing.{known_row, shows_none}
+use Rattle.cw_own.proofs.Showing.{shows_none}
 use Rattle.cw_own.proofs.Beginning.{head_row, head_known, head_names}
 use Rattle.cw_own.proofs.Lines.{Same, same_append, block_whole}
 use Rattle.cw_own.proofs.Lines as lines

@@ -6,11 +6,10 @@ use Rattle.cw_model.specs.Names.{same_name, is_among, differ}
 use Rattle.cw_model.specs.Answers.{main_name}
 use Rattle.cw_model.specs.Typing.{Known, is_int, is_array, is_argument, are_arguments, is_target, is_call, called}
 use Rattle.cw_model.specs.Ownership.{Taken, is_taken, names_in, arrays_given, given, target_names, Around, is_outer, may_read, may_write}
-use Rattle.cw_types.specs.Resolved.{Locals, slot_of, use_of, resolved_expr, resolved_argument}
+use Rattle.cw_types.specs.Resolved.{Locals, slot_of, use_of, resolved_argument}
 use Rattle.cw_types.specs.Resolved as spec
 use Rattle.cw_own.specs.Sets.{Slots, no_slot, with_slot, Row}
 use Rattle.cw_own.specs.Taken as rows
-use Rattle.cw_own.specs.Taken.{array_taken}
 use Rattle.cw_own.specs.Rules as rules
 use Rattle.cw_own.specs.Rules.{Loop, passed_once, named_once}
 use Rattle.cw_own.proofs.Small.{both_left, both_right}

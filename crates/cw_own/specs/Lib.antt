@@ -4,3 +4,4 @@ pub mod Grown
 pub mod Rules
 pub mod Bounds
 pub mod Faults
+pub mod Views

@@ -6,7 +6,7 @@ use Rattle.cw_model.specs.Ownership.{Closing, Joins, Leaves}
 use Rattle.cw_types.specs.Resolved.{Use, Expr, Number, Variable, Element, Length, Negative, Not, Binary, Argument, Int, Array, Stmt, Declare, DeclareArray, Assign, AssignElement, AddTo, Call, Sync, If, IfElse, While, For, Scope, Cut, Region, Print, Return, Head, Block, End, Then, Function}
 use Rattle.cw_own.specs.declared.around.Loop as code
 use Rattle.cw_own.specs.Sets.{Slots, no_slot, with_slot, slots_of, Row, no_local, with_int, either_row, row_of}
-use Rattle.cw_own.specs.Taken.{Taken, nothing, int_taken, array_taken, inside, inside_cut, with_parts, known_after, taken_after, taken_after_all, gain, with_params}
+use Rattle.cw_own.specs.Taken.{Taken, nothing, int_taken, array_taken, inside, inside_cut, joined, with_parts, known_after, taken_after, taken_after_all, gain, with_params}
 
 -- the innermost loop around: the locals from outside its body and its variable, the slot of that, and the arrays of the loop
 pub record Loop : Type 0 where
@@ -137,7 +137,7 @@ left_lines taken (Then line s b) = left_line taken line s ++ left_lines taken b
 
 -- a sync block joins its own spawns at its end, another block none
 abbrev pub at_end : Closing → Taken → Taken
-at_end Joins taken = record { outer = taken.outer; here = no_local; cuts = taken.cuts }
+at_end Joins taken = joined taken
 at_end Leaves taken = taken
 
 -- the lines of the declarations of a block that are still taken as it ends

@@ -34,6 +34,18 @@ inside taken = record { outer = either_row taken.outer taken.here; here = no_loc
 abbrev pub inside_cut : ℕ → Taken → Taken
 inside_cut a taken = record { outer = either_row taken.outer taken.here; here = no_local; cuts = with_slot a taken.cuts }
 
+-- after a join
+abbrev pub joined : Taken → Taken
+joined taken = record { outer = taken.outer; here = no_local; cuts = taken.cuts }
+
+-- after two branches that leave this much: what one of them leaves, of the locals that are known
+abbrev pub after_branches : (known : Row) → (branch other : Taken) → Taken
+after_branches known branch other = record {
+  outer = branch.outer;
+  here = either_row (both_rows known branch.here) (both_rows known other.here);
+  cuts = either branch.cuts other.cuts;
+}
+
 -- the integer that a result goes to, if it goes anywhere
 abbrev pub with_target : Option Use → Row → Row
 with_target None row = row

@@ -1,11 +1,13 @@
 //! The innermost loop around a statement.
 
-ghost use Rattle.std.specs.Prelude.{◌≡◌, option_map, map, true};
+ghost use Rattle.std.specs.Prelude.{◌≡◌, map, true};
 ghost use Rattle.std.specs.List.{list_all};
 ghost use Rattle.cw_types.specs.View.{use_of, head_of};
 ghost use Rattle.cw_own.specs.Bounds.{is_small};
-ghost use Rattle.cw_own.specs.Sets.{row_of, slots_of};
-ghost use Rattle.cw_own.specs.Rules.{loop_of, loop_in, with_uses, for_head, is_outer_int, is_outer_array};
+ghost use Rattle.cw_own.specs.Sets.{row_of};
+ghost use Rattle.cw_own.specs.Rules.{loop_of, loop_in, with_uses, for_head};
+ghost use Rattle.cw_own.specs.Rules.{is_outer_int, is_outer_array};
+ghost use Rattle.cw_own.specs.Views.{set_of, around_of};
 
 use crate::bits::Bits;
 use crate::row::Row;
@@ -39,7 +41,7 @@ impl Loop {
 // A set with the slots of these uses.
 fn with_uses(set: Bits, uses: &[Use]) -> Bits
     requires { list_all is_small (map use_of uses.now) ≡ true }
-    ensures { slots_of result.words ≡ with_uses (map use_of uses.now) (slots_of set.words) }
+    ensures { set_of result ≡ with_uses (map use_of uses.now) (set_of set) }
 {
     let mut set = set;
     for used in uses {
@@ -50,7 +52,7 @@ fn with_uses(set: Bits, uses: &[Use]) -> Bits
 
 /// What the head of a further loop sees of the loop around: it names none of its arrays.
 pub fn for_head(around: &Option<Loop>) -> Option<Loop>
-    ensures { option_map loop_of result ≡ for_head (option_map loop_of around.now) }
+    ensures { around_of result ≡ for_head (around_of around.now) }
 {
     match around {
         None => None,
@@ -64,7 +66,7 @@ pub fn for_head(around: &Option<Loop>) -> Option<Loop>
 
 /// Whether an integer is from outside the loop.
 pub fn is_outer_int(around: &Option<Loop>, slot: u32) -> bool
-    ensures { result ≡ is_outer_int (option_map loop_of around.now) slot }
+    ensures { result ≡ is_outer_int (around_of around.now) slot }
 {
     match around {
         None => false,
@@ -74,7 +76,7 @@ pub fn is_outer_int(around: &Option<Loop>, slot: u32) -> bool
 
 /// Whether an array is from outside the loop.
 pub fn is_outer_array(around: &Option<Loop>, slot: u32) -> bool
-    ensures { result ≡ is_outer_array (option_map loop_of around.now) slot }
+    ensures { result ≡ is_outer_array (around_of around.now) slot }
 {
     match around {
         None => false,

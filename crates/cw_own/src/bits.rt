@@ -2,7 +2,8 @@
 
 ghost use Rattle.std.specs.Prelude.{◌≡◌, ◌<◌};
 ghost use Rattle.cw_model.specs.Limits.{most_declared};
-ghost use Rattle.cw_own.specs.Sets.{no_slot, with_slot, without_slot, either, both, slots_of};
+ghost use Rattle.cw_own.specs.Sets.{no_slot, with_slot, without_slot, either, both};
+ghost use Rattle.cw_own.specs.Views.{set_of};
 
 /// A set of slots, each below 256, the most names that a function declares: slot `s` is bit `s % 64` of word `s / 64`.
 #[derive(Clone, Copy, Debug)]
@@ -13,14 +14,14 @@ pub struct Bits {
 impl Bits {
     /// No slot.
     pub fn none() -> Bits
-        ensures { slots_of result.words ≡ no_slot }
+        ensures { set_of result ≡ no_slot }
     {
         Bits { words: [0; 4] }
     }
 
     /// Whether a slot is there; none from 256 on is.
     pub fn has(&self, slot: u32) -> bool
-        ensures { result ≡ slots_of self.now.words slot }
+        ensures { result ≡ set_of self.now slot }
     {
         match self.words.get((slot / 64) as usize) {
             Some(word) => (*word >> (slot % 64)) & 1 == 1,
@@ -31,7 +32,7 @@ impl Bits {
     /// One slot more.
     pub fn add(&mut self, slot: u32)
         requires { slot < most_declared }
-        ensures { slots_of self.new.words ≡ with_slot slot (slots_of self.old.words) }
+        ensures { set_of self.new ≡ with_slot slot (set_of self.old) }
     {
         self.words[(slot / 64) as usize] |= 1 << (slot % 64);
     }
@@ -39,14 +40,14 @@ impl Bits {
     /// One slot less.
     pub fn remove(&mut self, slot: u32)
         requires { slot < most_declared }
-        ensures { slots_of self.new.words ≡ without_slot slot (slots_of self.old.words) }
+        ensures { set_of self.new ≡ without_slot slot (set_of self.old) }
     {
         self.words[(slot / 64) as usize] &= !(1 << (slot % 64));
     }
 
     /// The slots of one of two sets.
     pub fn either(&self, other: &Bits) -> Bits
-        ensures { slots_of result.words ≡ either (slots_of self.now.words) (slots_of other.now.words) }
+        ensures { set_of result ≡ either (set_of self.now) (set_of other.now) }
     {
         let (a, b) = (&self.words, &other.words);
         Bits {
@@ -56,7 +57,7 @@ impl Bits {
 
     /// The slots of both sets.
     pub fn both(&self, other: &Bits) -> Bits
-        ensures { slots_of result.words ≡ both (slots_of self.now.words) (slots_of other.now.words) }
+        ensures { set_of result ≡ both (set_of self.now) (set_of other.now) }
     {
         let (a, b) = (&self.words, &other.words);
         Bits {

@@ -4,13 +4,16 @@
 //! takes. So what any number of turns takes is what one turn takes that begins with nothing taken, beside what was taken
 //! before: each body is looked at once for it, and once more for its faults.
 
-ghost use Rattle.std.specs.Prelude.{◌≡◌, ◌∷◌, [], length, slice_set, map, option_map, true};
+ghost use Rattle.std.specs.Prelude.{◌≡◌, ◌∷◌, [], length, slice_set, map, true};
 ghost use Rattle.std.specs.List.{list_all};
-ghost use Rattle.cw_types.specs.View.{use_of, argument_of, stmt_of, block_of};
+ghost use Rattle.cw_types.specs.View.{argument_of, stmt_of, block_of};
 ghost use Rattle.cw_own.specs.Bounds.{small_target, small_argument, small_stmt, small_block};
-ghost use Rattle.cw_own.specs.Sets.{row_of, no_local, both_rows};
+ghost use Rattle.cw_own.specs.Sets.{row_of, no_local};
 ghost use Rattle.cw_own.specs.Grown.{Grown};
-ghost use Rattle.cw_own.specs.Taken.{other_of, with_target, with_arrays, taken_by_call, known_after, after, after_all, gain, turns, turns_in};
+ghost use Rattle.cw_own.specs.Taken.{with_target, with_arrays, known_after, after, after_all};
+ghost use Rattle.cw_own.specs.Taken.{gain, turns, turns_in};
+ghost use Rattle.cw_own.specs.Views.{used, after_call, after_lines, after_other};
+ghost use Rattle.cw_own.specs.Views.{turns_of_other, turns_of_while};
 
 use crate::row::Row;
 use cw_model::syntax::CallKind;
@@ -19,8 +22,8 @@ use std::alloc::Global;
 
 // With the integer that a result goes to, if there is one.
 fn with_target(row: Row, target: &Option<Use>) -> Row
-    requires { small_target (option_map use_of target.now) ≡ true }
-    ensures { row_of result ≡ with_target (option_map use_of target.now) (row_of row) }
+    requires { small_target (used target.now) ≡ true }
+    ensures { row_of result ≡ with_target (used target.now) (row_of row) }
 {
     let mut row = row;
     if let Some(used) = target {
@@ -45,9 +48,9 @@ fn with_arrays(row: Row, es: &[Argument]) -> Row
 
 /// What is taken by the spawns of a sync block after a call: a spawn takes its target and its arrays.
 pub fn after_call(here: Row, kind: CallKind, target: &Option<Use>, es: &[Argument]) -> Row
-    requires target { small_target (option_map use_of target.now) ≡ true }
+    requires target { small_target (used target.now) ≡ true }
     requires arguments { list_all small_argument (map argument_of es.now) ≡ true }
-    ensures { row_of result ≡ taken_by_call kind (option_map use_of target.now) (map argument_of es.now) (row_of here) }
+    ensures { row_of result ≡ after_call kind target.now es.now here }
 {
     match kind {
         CallKind::Plain => here,
@@ -133,7 +136,7 @@ fn after_all(known: Row, lines: &[Line], here: Row, gains: &mut Gains) -> Row
 #[cycle(gains)]
 fn after_block(known: &Row, lines: &[Line], here: Row, gains: &mut Gains) -> Row
     requires { small_block (block_of lines.now) ≡ true }
-    ensures row { row_of result ≡ both_rows (row_of known.now) (after_all (row_of known.now) (block_of lines.now) (row_of here)) }
+    ensures row { row_of result ≡ after_lines known.now lines.now here }
     ensures gains { Grown gains.old gains.new (turns_in (row_of known.now) (block_of lines.now)) }
 {
     let row = after_all(*known, lines, here, gains);
@@ -198,8 +201,8 @@ fn after(known: &Row, stmt: &Stmt, here: Row, gains: &mut Gains) -> Row
 #[cycle(gains)]
 fn after_other(known: &Row, stmt: &Stmt, here: Row, gains: &mut Gains) -> Row
     requires { small_stmt (stmt_of stmt.now) ≡ true }
-    ensures row { row_of result ≡ both_rows (row_of known.now) (after_all (row_of known.now) (other_of (stmt_of stmt.now)) (row_of here)) }
-    ensures gains { Grown gains.old gains.new (turns_in (row_of known.now) (other_of (stmt_of stmt.now))) }
+    ensures row { row_of result ≡ after_other known.now stmt.now here }
+    ensures gains { Grown gains.old gains.new (turns_of_other known.now stmt.now) }
 {
     match stmt {
         Stmt::IfElse(_, _, block) => after_block(known, block, here, gains),
@@ -226,7 +229,7 @@ fn after_other(known: &Row, stmt: &Stmt, here: Row, gains: &mut Gains) -> Row
 fn turn(known: &Row, block: &[Line], gains: &mut Gains) -> Row
     requires { small_block (block_of block.now) ≡ true }
     ensures row { row_of result ≡ gain (row_of known.now) (block_of block.now) }
-    ensures gains { Grown gains.old gains.new (gain (row_of known.now) (block_of block.now) ∷ turns_in (row_of known.now) (block_of block.now)) }
+    ensures gains { Grown gains.old gains.new (turns_of_while known.now block.now) }
 {
     let place = gains.keep();
     let gain = after_block(known, block, Row::none(), gains);

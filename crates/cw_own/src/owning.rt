@@ -1,15 +1,14 @@
 //! The test of ownership.
 
-ghost use Rattle.std.specs.Prelude.{◌≡◌, ◌≤◌, length, map, flat_map, true, MatchResult, OnOk};
+ghost use Rattle.std.specs.Prelude.{◌≡◌, ◌≤◌, length, map, true, MatchResult, OnOk};
 ghost use Rattle.std.specs.List.{list_all};
 ghost use Rattle.cw_model.specs.Limits.{most_parameters};
-ghost use Rattle.cw_model.specs.Lines.{lowest};
 ghost use Rattle.cw_types.specs.View.{program_of, param_of, function_of};
 ghost use Rattle.cw_own.specs.Bounds.{small_function};
 ghost use Rattle.cw_own.specs.Faults.{BreaksOwnership};
-ghost use Rattle.cw_own.specs.Rules.{function_lines};
 ghost use Rattle.cw_own.specs.Sets.{row_of, no_local};
 ghost use Rattle.cw_own.specs.Taken.{with_params};
+ghost use Rattle.cw_own.specs.Views.{lines_of, lines_of_all, Noted};
 
 use crate::gains::{Gains, turns};
 use crate::owned::Owned;
@@ -28,7 +27,8 @@ use std::alloc::{AllocError, Global};
 /// declaration whose name is still taken as its block ends. Answers `Memory` where there is none for a row of 64 bytes
 /// for each `while` of one function. The tree is let go then.
 pub fn own(alloc: Global, typed: Typed) -> Result<Owned, Fault>
-    ensures { MatchResult result (λ owned. owned.typed.tree ≡ typed.tree) (BreaksOwnership (program_of typed.tree)) }
+    ensures { MatchResult result (λ owned. owned.typed.tree ≡ typed.tree)
+        (BreaksOwnership (program_of typed.tree)) }
 {
     let mut least = LeastLine::new();
     note_functions(alloc, &typed.tree.functions, &mut least)?;
@@ -46,7 +46,7 @@ fn note_functions(
     least: &mut LeastLine,
 ) -> Result<(), AllocError>
     requires { list_all small_function (map function_of functions.now) ≡ true }
-    ensures { OnOk result (least.new.line ≡ lowest least.old.line (flat_map function_lines (map function_of functions.now))) }
+    ensures { OnOk result (Noted least.old least.new (lines_of_all functions.now)) }
 {
     for function in functions {
         note_function(alloc, function, least)?;
@@ -61,7 +61,7 @@ fn note_function(
     least: &mut LeastLine,
 ) -> Result<(), AllocError>
     requires { small_function (function_of function.now) ≡ true }
-    ensures { OnOk result (least.new.line ≡ lowest least.old.line (function_lines (function_of function.now))) }
+    ensures { OnOk result (Noted least.old least.new (lines_of function.now)) }
 {
     let known = with_params(&function.params);
     let mut gains = Gains::new(alloc);

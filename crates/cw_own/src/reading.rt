@@ -1,12 +1,15 @@
 //! What a statement may read, write and pass.
 
-ghost use Rattle.std.specs.Prelude.{◌≡◌, map, option_map, true};
+ghost use Rattle.std.specs.Prelude.{◌≡◌, map, true};
 ghost use Rattle.std.specs.List.{list_all};
 ghost use Rattle.cw_types.specs.View.{use_of, expr_of, argument_of, head_of, stmt_of};
 ghost use Rattle.cw_own.specs.Bounds.{is_small, small_argument, small_stmt};
-ghost use Rattle.cw_own.specs.Sets.{slots_of, no_slot};
+ghost use Rattle.cw_own.specs.Sets.{no_slot};
 ghost use Rattle.cw_own.specs.Taken.{taken_of};
-ghost use Rattle.cw_own.specs.Rules.{loop_of, is_variable, may_index, may_read, may_write, may_pass, may_target, may_give, may_return, passed_once, named_once, head_keeps, keeps};
+ghost use Rattle.cw_own.specs.Rules.{is_variable, may_index, may_read, may_write, may_pass};
+ghost use Rattle.cw_own.specs.Rules.{may_target, may_return, passed_once, named_once};
+ghost use Rattle.cw_own.specs.Rules.{head_keeps, keeps};
+ghost use Rattle.cw_own.specs.Views.{around_of, used, returned, may_give_all, may_pass_all};
 
 use crate::around::{Loop, for_head, is_outer_array, is_outer_int};
 use crate::bits::Bits;
@@ -25,7 +28,7 @@ fn is_variable(slot: u32, e: &Expr) -> bool
 
 // Whether an array may be indexed so: an outer one only where the loop is over it, and by the loop's variable.
 fn may_index(around: &Option<Loop>, slot: u32, e: &Expr) -> bool
-    ensures { result ≡ may_index (option_map loop_of around.now) slot (expr_of e.now) }
+    ensures { result ≡ may_index (around_of around.now) slot (expr_of e.now) }
 {
     match around {
         None => true,
@@ -38,7 +41,7 @@ fn may_index(around: &Option<Loop>, slot: u32, e: &Expr) -> bool
 
 // Whether an expression names nothing taken, and keeps the rule of the loop around.
 fn may_read(around: &Option<Loop>, taken: &Taken, e: &Expr) -> bool
-    ensures { result ≡ may_read (option_map loop_of around.now) (taken_of taken.now) (expr_of e.now) }
+    ensures { result ≡ may_read (around_of around.now) (taken_of taken.now) (expr_of e.now) }
 {
     match e {
         Expr::Number(_) => true,
@@ -57,21 +60,21 @@ fn may_read(around: &Option<Loop>, taken: &Taken, e: &Expr) -> bool
 
 // Whether an integer that is written is neither taken nor from outside the loop.
 fn may_write(around: &Option<Loop>, taken: &Taken, slot: u32) -> bool
-    ensures { result ≡ may_write (option_map loop_of around.now) (taken_of taken.now) slot }
+    ensures { result ≡ may_write (around_of around.now) (taken_of taken.now) slot }
 {
     !taken.has_int(slot) && !is_outer_int(around, slot)
 }
 
 // Whether an array that is passed or cut is neither taken nor from outside the loop.
 fn may_pass(around: &Option<Loop>, taken: &Taken, slot: u32) -> bool
-    ensures { result ≡ may_pass (option_map loop_of around.now) (taken_of taken.now) slot }
+    ensures { result ≡ may_pass (around_of around.now) (taken_of taken.now) slot }
 {
     !taken.has_array(slot) && !is_outer_array(around, slot)
 }
 
 // Whether the integer that a result goes to may be written, if there is one.
 fn may_target(around: &Option<Loop>, taken: &Taken, target: &Option<Use>) -> bool
-    ensures { result ≡ may_target (option_map loop_of around.now) (taken_of taken.now) (option_map use_of target.now) }
+    ensures { result ≡ may_target (around_of around.now) (taken_of taken.now) (used target.now) }
 {
     match target {
         None => true,
@@ -81,7 +84,7 @@ fn may_target(around: &Option<Loop>, taken: &Taken, target: &Option<Use>) -> boo
 
 // Whether each argument may be read, or passed.
 fn may_give(around: &Option<Loop>, taken: &Taken, es: &[Argument]) -> bool
-    ensures { result ≡ list_all (may_give (option_map loop_of around.now) (taken_of taken.now)) (map argument_of es.now) }
+    ensures { result ≡ may_give_all around.now taken.now es.now }
 {
     for e in es {
         let may = match e {
@@ -97,7 +100,7 @@ fn may_give(around: &Option<Loop>, taken: &Taken, es: &[Argument]) -> bool
 
 // Whether what is returned may be read, if anything is returned.
 fn may_return(around: &Option<Loop>, taken: &Taken, e: &Option<Expr>) -> bool
-    ensures { result ≡ may_return (option_map loop_of around.now) (taken_of taken.now) (option_map expr_of e.now) }
+    ensures { result ≡ may_return (around_of around.now) (taken_of taken.now) (returned e.now) }
 {
     match e {
         None => true,
@@ -139,7 +142,7 @@ fn named_once(uses: &[Use]) -> bool
 
 // Whether each array of a loop may be passed.
 fn may_pass_all(around: &Option<Loop>, taken: &Taken, uses: &[Use]) -> bool
-    ensures { result ≡ list_all (λ u. may_pass (option_map loop_of around.now) (taken_of taken.now) u.slot) (map use_of uses.now) }
+    ensures { result ≡ may_pass_all around.now taken.now uses.now }
 {
     for used in uses {
         if !may_pass(around, taken, used.slot) {
@@ -152,7 +155,7 @@ fn may_pass_all(around: &Option<Loop>, taken: &Taken, uses: &[Use]) -> bool
 // Whether the head of a loop keeps the rules.
 fn head_keeps(around: &Option<Loop>, taken: &Taken, head: &Head) -> bool
     requires { list_all is_small (map use_of head.now.over.items) ≡ true }
-    ensures { result ≡ head_keeps (option_map loop_of around.now) (taken_of taken.now) (head_of head.now) }
+    ensures { result ≡ head_keeps (around_of around.now) (taken_of taken.now) (head_of head.now) }
 {
     let inner = for_head(around);
     may_read(&inner, taken, &head.from)
@@ -164,7 +167,7 @@ fn head_keeps(around: &Option<Loop>, taken: &Taken, head: &Head) -> bool
 /// Whether a statement keeps the rules, but for what stands in its blocks.
 pub fn keeps(around: &Option<Loop>, taken: &Taken, stmt: &Stmt) -> bool
     requires { small_stmt (stmt_of stmt.now) ≡ true }
-    ensures { result ≡ keeps (option_map loop_of around.now) (taken_of taken.now) (stmt_of stmt.now) }
+    ensures { result ≡ keeps (around_of around.now) (taken_of taken.now) (stmt_of stmt.now) }
 {
     match stmt {
         Stmt::Declare(_, e) => may_read(around, taken, e),

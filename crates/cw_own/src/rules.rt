@@ -1,13 +1,16 @@
 //! Which lines break a rule of ownership.
 
-ghost use Rattle.std.specs.Prelude.{◌≡◌, ◌++◌, ◌∷◌, ◌<◌, length, drop, map, option_map, true};
-ghost use Rattle.cw_model.specs.Lines.{lowest, unless};
-ghost use Rattle.cw_model.specs.Ownership.{Joins, Leaves};
+ghost use Rattle.std.specs.Prelude.{◌≡◌, ◌∷◌, ◌<◌, length, drop, true};
 ghost use Rattle.cw_types.specs.View.{stmt_of, block_of};
 ghost use Rattle.cw_own.specs.Bounds.{small_stmt, small_block};
 ghost use Rattle.cw_own.specs.Sets.{row_of};
-ghost use Rattle.cw_own.specs.Taken.{taken_of, taken_after, taken_after_all, left_by, other_of, turns, turns_in, turns_within, BeginWith};
-ghost use Rattle.cw_own.specs.Rules.{loop_of, keeps, left_lines, at_end, seen_by, lines_within, lines_in, block_lines};
+ghost use Rattle.cw_own.specs.Taken.{taken_of, BeginWith};
+ghost use Rattle.cw_own.specs.Views.{rows_of, sees, left_after};
+ghost use Rattle.cw_own.specs.Views.{taken_after_lines, taken_after_other};
+ghost use Rattle.cw_own.specs.Views.{turns_of, turns_inside, turns_of_other, turns_of_lines, Past};
+ghost use Rattle.cw_own.specs.Views.{lines_among, lines_leaving, lines_joining};
+ghost use Rattle.cw_own.specs.Views.{lines_of_other, lines_inside};
+ghost use Rattle.cw_own.specs.Views.{still_taken, Noted};
 
 use crate::around::Loop;
 use crate::gains::{after_call, known_after};
@@ -27,7 +30,7 @@ impl<'a> Turns<'a> {
     // What a turn of the next `while` takes.
     fn next(&mut self) -> Row
         requires { 0 < length self.old.left.now }
-        ensures { map row_of self.old.left.now ≡ row_of result ∷ map row_of self.new.left.now }
+        ensures { rows_of self.old.left.now ≡ row_of result ∷ rows_of self.new.left.now }
     {
         let first = self.left[0];
         self.left = &self.left[1..];
@@ -37,11 +40,11 @@ impl<'a> Turns<'a> {
 
 // What the test and the body of a `while` see as taken: also what a turn takes. Another statement sees what is taken.
 fn seen_by(known: &Row, taken: Taken, stmt: &Stmt, rest: &mut Turns<'_>) -> Taken
-    requires { BeginWith (turns (row_of known.now) (stmt_of stmt.now)) (map row_of rest.old.left.now) }
-    ensures seen { taken_of result ≡ seen_by (row_of known.now) (taken_of taken) (stmt_of stmt.now) }
-    ensures begin { BeginWith (turns_within (row_of known.now) (stmt_of stmt.now)) (map row_of rest.new.left.now) }
-    ensures left { drop (length (turns_within (row_of known.now) (stmt_of stmt.now))) (map row_of rest.new.left.now)
-        ≡ drop (length (turns (row_of known.now) (stmt_of stmt.now))) (map row_of rest.old.left.now) }
+    requires { BeginWith (turns_of known.now stmt.now) (rows_of rest.old.left.now) }
+    ensures seen { taken_of result ≡ sees known.now taken stmt.now }
+    ensures begin { BeginWith (turns_inside known.now stmt.now) (rows_of rest.new.left.now) }
+    ensures left { drop (length (turns_inside known.now stmt.now)) (rows_of rest.new.left.now)
+        ≡ drop (length (turns_of known.now stmt.now)) (rows_of rest.old.left.now) }
 {
     match stmt {
         Stmt::While(_, _) => {
@@ -71,7 +74,7 @@ fn seen_by(known: &Row, taken: Taken, stmt: &Stmt, rest: &mut Turns<'_>) -> Take
 
 // Notes the declarations of a block whose names are taken as it ends.
 fn note_left(taken: &Taken, lines: &[Line], least: &mut LeastLine)
-    ensures { least.new.line ≡ lowest least.old.line (left_lines (taken_of taken.now) (block_of lines.now)) }
+    ensures { Noted least.old least.new (still_taken taken.now lines.now) }
 {
     for line in lines {
         match &line.stmt {
@@ -94,10 +97,10 @@ fn note_all(
     least: &mut LeastLine,
 ) -> Taken
     requires small { small_block (block_of lines.now) ≡ true }
-    requires turns { BeginWith (turns_in (row_of known) (block_of lines.now)) (map row_of rest.old.left.now) }
-    ensures taken { taken_of result ≡ taken_after_all (row_of known) (block_of lines.now) (taken_of taken) }
-    ensures lines { least.new.line ≡ lowest least.old.line (lines_in (option_map loop_of around.now) (row_of known) (taken_of taken) (block_of lines.now)) }
-    ensures turns { map row_of rest.new.left.now ≡ drop (length (turns_in (row_of known) (block_of lines.now))) (map row_of rest.old.left.now) }
+    requires turns { BeginWith (turns_of_lines known lines.now) (rows_of rest.old.left.now) }
+    ensures taken { taken_of result ≡ taken_after_lines known taken lines.now }
+    ensures lines { Noted least.old least.new (lines_among around.now known taken lines.now) }
+    ensures turns { Past (turns_of_lines known lines.now) rest.old.left.now rest.new.left.now }
 {
     let mut known = known;
     let mut taken = taken;
@@ -123,10 +126,10 @@ fn note_block(
     least: &mut LeastLine,
 ) -> Taken
     requires small { small_block (block_of lines.now) ≡ true }
-    requires turns { BeginWith (turns_in (row_of known) (block_of lines.now)) (map row_of rest.old.left.now) }
-    ensures taken { taken_of result ≡ taken_after_all (row_of known) (block_of lines.now) (taken_of taken) }
-    ensures lines { least.new.line ≡ lowest least.old.line (block_lines (option_map loop_of around.now) (row_of known) (taken_of taken) Leaves (block_of lines.now)) }
-    ensures turns { map row_of rest.new.left.now ≡ drop (length (turns_in (row_of known) (block_of lines.now))) (map row_of rest.old.left.now) }
+    requires turns { BeginWith (turns_of_lines known lines.now) (rows_of rest.old.left.now) }
+    ensures taken { taken_of result ≡ taken_after_lines known taken lines.now }
+    ensures lines { Noted least.old least.new (lines_leaving around.now known taken lines.now) }
+    ensures turns { Past (turns_of_lines known lines.now) rest.old.left.now rest.new.left.now }
 {
     let after = note_all(around, known, taken, lines, rest, least);
     note_left(&after, lines, least);
@@ -145,17 +148,13 @@ pub fn note_sync_block(
     least: &mut LeastLine,
 ) -> Taken
     requires small { small_block (block_of lines.now) ≡ true }
-    requires turns { BeginWith (turns_in (row_of known) (block_of lines.now)) (map row_of rest.old.left.now) }
-    ensures taken { taken_of result ≡ taken_after_all (row_of known) (block_of lines.now) (taken_of taken) }
-    ensures lines { least.new.line ≡ lowest least.old.line (block_lines (option_map loop_of around.now) (row_of known) (taken_of taken) Joins (block_of lines.now)) }
-    ensures turns { map row_of rest.new.left.now ≡ drop (length (turns_in (row_of known) (block_of lines.now))) (map row_of rest.old.left.now) }
+    requires turns { BeginWith (turns_of_lines known lines.now) (rows_of rest.old.left.now) }
+    ensures taken { taken_of result ≡ taken_after_lines known taken lines.now }
+    ensures lines { Noted least.old least.new (lines_joining around.now known taken lines.now) }
+    ensures turns { Past (turns_of_lines known lines.now) rest.old.left.now rest.new.left.now }
 {
     let after = note_all(around, known, taken, lines, rest, least);
-    let joined = Taken {
-        here: Row::none(),
-        ..after
-    };
-    note_left(&joined, lines, least);
+    note_left(&after.joined(), lines, least);
     after
 }
 
@@ -171,10 +170,10 @@ fn note_other(
     least: &mut LeastLine,
 ) -> Taken
     requires small { small_stmt (stmt_of stmt.now) ≡ true }
-    requires turns { BeginWith (turns_in (row_of known.now) (other_of (stmt_of stmt.now))) (map row_of rest.old.left.now) }
-    ensures taken { taken_of result ≡ taken_after_all (row_of known.now) (other_of (stmt_of stmt.now)) (taken_of taken) }
-    ensures lines { least.new.line ≡ lowest least.old.line (block_lines (option_map loop_of around.now) (row_of known.now) (taken_of taken) Leaves (other_of (stmt_of stmt.now))) }
-    ensures turns { map row_of rest.new.left.now ≡ drop (length (turns_in (row_of known.now) (other_of (stmt_of stmt.now)))) (map row_of rest.old.left.now) }
+    requires turns { BeginWith (turns_of_other known.now stmt.now) (rows_of rest.old.left.now) }
+    ensures taken { taken_of result ≡ taken_after_other known.now taken stmt.now }
+    ensures lines { Noted least.old least.new (lines_of_other around.now known.now taken stmt.now) }
+    ensures turns { Past (turns_of_other known.now stmt.now) rest.old.left.now rest.new.left.now }
 {
     match stmt {
         Stmt::IfElse(_, _, block) => note_block(around, *known, taken, block, rest, least),
@@ -208,24 +207,18 @@ fn note_within(
     least: &mut LeastLine,
 ) -> Taken
     requires small { small_stmt (stmt_of stmt.now) ≡ true }
-    requires turns { BeginWith (turns_within (row_of known.now) (stmt_of stmt.now)) (map row_of rest.old.left.now) }
-    ensures taken { taken_of result ≡ left_by (row_of known.now) (stmt_of stmt.now) (taken_of taken) }
-    ensures lines { least.new.line ≡ lowest least.old.line (lines_within (option_map loop_of around.now) (row_of known.now) (taken_of taken) (stmt_of stmt.now)) }
-    ensures turns { map row_of rest.new.left.now ≡ drop (length (turns_within (row_of known.now) (stmt_of stmt.now))) (map row_of rest.old.left.now) }
+    requires turns { BeginWith (turns_inside known.now stmt.now) (rows_of rest.old.left.now) }
+    ensures taken { taken_of result ≡ left_after known.now taken stmt.now }
+    ensures lines { Noted least.old least.new (lines_inside around.now known.now taken stmt.now) }
+    ensures turns { Past (turns_inside known.now stmt.now) rest.old.left.now rest.new.left.now }
 {
     match stmt {
         Stmt::Call(call) => Taken {
             here: after_call(taken.here, call.kind, &call.target, &call.arguments),
             ..taken
         },
-        Stmt::Sync => Taken {
-            here: Row::none(),
-            ..taken
-        },
-        Stmt::Return(_) => Taken {
-            here: Row::none(),
-            ..taken
-        },
+        Stmt::Sync => taken.joined(),
+        Stmt::Return(_) => taken.joined(),
         Stmt::If(_, block) => {
             let branch = note_block(around, *known, taken, block, rest, least);
             Taken {
@@ -236,11 +229,7 @@ fn note_within(
         Stmt::IfElse(_, block, _) => {
             let branch = note_block(around, *known, taken, block, rest, least);
             let other = note_other(around, known, taken, stmt, rest, least);
-            Taken {
-                outer: taken.outer,
-                here: known.both(&branch.here).either(&known.both(&other.here)),
-                cuts: branch.cuts.either(&other.cuts),
-            }
+            Taken::after_branches(known, &branch, &other)
         }
         Stmt::While(_, block) => {
             note_block(around, *known, taken, block, rest, least);

@@ -2,7 +2,9 @@
 
 ghost use Rattle.std.specs.Prelude.{◌≡◌, ◌<◌};
 ghost use Rattle.cw_model.specs.Limits.{most_declared};
-ghost use Rattle.cw_own.specs.Taken.{nothing, int_taken, array_taken, inside, inside_cut, taken_of};
+ghost use Rattle.cw_own.specs.Sets.{row_of};
+ghost use Rattle.cw_own.specs.Taken.{nothing, int_taken, array_taken, inside, inside_cut};
+ghost use Rattle.cw_own.specs.Taken.{joined, after_branches, taken_of};
 
 use crate::bits::Bits;
 use crate::row::Row;
@@ -53,6 +55,29 @@ impl Taken {
             outer: self.outer.either(&self.here),
             here: Row::none(),
             cuts: self.cuts,
+        }
+    }
+
+    /// What is taken after a join, and as a sync block ends: nothing by its own spawns.
+    pub fn joined(&self) -> Taken
+        ensures { taken_of result ≡ joined (taken_of self.now) }
+    {
+        Taken {
+            here: Row::none(),
+            ..*self
+        }
+    }
+
+    /// What is taken after two branches: what one of them leaves taken, of the locals that are known.
+    pub fn after_branches(known: &Row, branch: &Taken, other: &Taken) -> Taken
+        ensures { taken_of result
+            ≡ after_branches (row_of known.now) (taken_of branch.now) (taken_of other.now) }
+    {
+        let left = known.both(&branch.here);
+        Taken {
+            outer: branch.outer,
+            here: left.either(&known.both(&other.here)),
+            cuts: branch.cuts.either(&other.cuts),
         }
     }
 

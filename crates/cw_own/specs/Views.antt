@@ -1,0 +1,142 @@
+-- The definitions over what the code holds: its rows, its loop, its lines and its statements.
+use Rattle.std.specs.Prelude.{◌≡◌, ℕ, Bool, List, ◌∷◌, Option, map, option_map, flat_map, length, drop}
+use Rattle.std.specs.List.{list_all}
+use Rattle.cw_model.specs.declared.syntax.CallKind.{CallKind}
+use Rattle.cw_model.specs.Lines.{lowest}
+use Rattle.cw_model.specs.Ownership.{Joins, Leaves}
+use Rattle.cw_text.specs.declared.least.LeastLine.{LeastLine}
+use Rattle.cw_types.specs.declared.tree.Use as code_use
+use Rattle.cw_types.specs.declared.tree.Expr as code_expr
+use Rattle.cw_types.specs.declared.tree.Argument as code_argument
+use Rattle.cw_types.specs.declared.tree.Stmt as code_stmt
+use Rattle.cw_types.specs.declared.tree.Line as code_line
+use Rattle.cw_types.specs.declared.tree.Function as code_function
+use Rattle.cw_types.specs.Resolved.{Use, Expr, Block}
+use Rattle.cw_types.specs.View.{use_of, expr_of, argument_of, stmt_of, block_of, function_of}
+use Rattle.cw_own.specs.declared.bits.Bits as code_bits
+use Rattle.cw_own.specs.declared.row.Row as code_row
+use Rattle.cw_own.specs.declared.taken.Taken as code_taken
+use Rattle.cw_own.specs.declared.around.Loop as code_loop
+use Rattle.cw_own.specs.Sets.{Slots, slots_of, Row, both_rows, row_of}
+use Rattle.cw_own.specs.Taken.{Taken, taken_of, taken_by_call, other_of, after_all, gain, turns, turns_in, turns_within, left_by, taken_after_all}
+use Rattle.cw_own.specs.Rules.{Loop, loop_of, may_give, may_pass, seen_by, left_lines, lines_within, lines_in, block_lines, function_lines}
+
+-- the set of slots that the code holds
+abbrev pub set_of : code_bits.Bits → Slots
+set_of bits = slots_of bits.words
+
+-- the rows that the code holds
+abbrev pub rows_of : List code_row.Row → List Row
+rows_of rows = map row_of rows
+
+-- the loop around that the code holds, if it holds one
+abbrev pub around_of : Option code_loop.Loop → Option Loop
+around_of around = option_map loop_of around
+
+-- the use that the code holds, if it holds one
+abbrev pub used : Option code_use.Use → Option Use
+used target = option_map use_of target
+
+-- the expression that the code holds, if it holds one
+abbrev pub returned : Option code_expr.Expr → Option Expr
+returned e = option_map expr_of e
+
+-- what a statement does where its test does not hold
+abbrev pub other_block : code_stmt.Stmt → Block
+other_block stmt = other_of (stmt_of stmt)
+
+-- what the spawns of a sync block have taken after a call
+abbrev pub after_call : CallKind → Option code_use.Use → List code_argument.Argument → code_row.Row → Row
+after_call kind target es here = taken_by_call kind (used target) (map argument_of es) (row_of here)
+
+-- the same after these lines, without the locals that end with them
+abbrev pub after_lines : (known : code_row.Row) → List code_line.Line → code_row.Row → Row
+after_lines known lines here = both_rows (row_of known) (after_all (row_of known) (block_of lines) (row_of here))
+
+-- the same after what a statement does where its test does not hold
+abbrev pub after_other : (known : code_row.Row) → code_stmt.Stmt → code_row.Row → Row
+after_other known stmt here = both_rows (row_of known) (after_all (row_of known) (other_block stmt) (row_of here))
+
+-- each of these arguments may be read, or passed
+abbrev pub may_give_all : Option code_loop.Loop → code_taken.Taken → List code_argument.Argument → Bool
+may_give_all around taken es = list_all (may_give (around_of around) (taken_of taken)) (map argument_of es)
+
+-- each of these arrays may be passed
+abbrev pub may_pass_all : Option code_loop.Loop → code_taken.Taken → List code_use.Use → Bool
+may_pass_all around taken us = list_all (λ (u : Use). may_pass (around_of around) (taken_of taken) u.slot) (map use_of us)
+
+-- what the test and the blocks of a statement see as taken
+abbrev pub sees : (known : code_row.Row) → code_taken.Taken → code_stmt.Stmt → Taken
+sees known taken stmt = seen_by (row_of known) (taken_of taken) (stmt_of stmt)
+
+-- what is taken after a statement, whose blocks see this as taken
+abbrev pub left_after : (known : code_row.Row) → code_taken.Taken → code_stmt.Stmt → Taken
+left_after known taken stmt = left_by (row_of known) (stmt_of stmt) (taken_of taken)
+
+-- what is taken after these lines
+abbrev pub taken_after_lines : (known : code_row.Row) → code_taken.Taken → List code_line.Line → Taken
+taken_after_lines known taken lines = taken_after_all (row_of known) (block_of lines) (taken_of taken)
+
+-- what is taken after what a statement does where its test does not hold
+abbrev pub taken_after_other : (known : code_row.Row) → code_taken.Taken → code_stmt.Stmt → Taken
+taken_after_other known taken stmt = taken_after_all (row_of known) (other_block stmt) (taken_of taken)
+
+-- what one turn of each `while` takes, of a statement
+abbrev pub turns_of : (known : code_row.Row) → code_stmt.Stmt → List Row
+turns_of known stmt = turns (row_of known) (stmt_of stmt)
+
+-- the same, in the blocks of a statement
+abbrev pub turns_inside : (known : code_row.Row) → code_stmt.Stmt → List Row
+turns_inside known stmt = turns_within (row_of known) (stmt_of stmt)
+
+-- the same, in what a statement does where its test does not hold
+abbrev pub turns_of_other : (known : code_row.Row) → code_stmt.Stmt → List Row
+turns_of_other known stmt = turns_in (row_of known) (other_block stmt)
+
+-- the same, in these lines
+abbrev pub turns_of_lines : (known : code_row.Row) → List code_line.Line → List Row
+turns_of_lines known lines = turns_in (row_of known) (block_of lines)
+
+-- the same, of a `while` with these lines as its body
+abbrev pub turns_of_while : (known : code_row.Row) → List code_line.Line → List Row
+turns_of_while known lines = gain (row_of known) (block_of lines) ∷ turns_of_lines known lines
+
+-- the rows are left that come after these
+abbrev pub Past : List Row → (before after : List code_row.Row) → Type 0
+Past first before after = rows_of after ≡ drop (length first) (rows_of before)
+
+-- the lines of declarations whose names are taken as these lines end
+abbrev pub still_taken : code_taken.Taken → List code_line.Line → List ℕ
+still_taken taken lines = left_lines (taken_of taken) (block_of lines)
+
+-- the lines that break a rule, of these
+abbrev pub lines_among : Option code_loop.Loop → (known : code_row.Row) → code_taken.Taken → List code_line.Line → List ℕ
+lines_among around known taken lines = lines_in (around_of around) (row_of known) (taken_of taken) (block_of lines)
+
+-- the same, of a block that joins no spawn at its end
+abbrev pub lines_leaving : Option code_loop.Loop → (known : code_row.Row) → code_taken.Taken → List code_line.Line → List ℕ
+lines_leaving around known taken lines = block_lines (around_of around) (row_of known) (taken_of taken) Leaves (block_of lines)
+
+-- the same, of a sync block
+abbrev pub lines_joining : Option code_loop.Loop → (known : code_row.Row) → code_taken.Taken → List code_line.Line → List ℕ
+lines_joining around known taken lines = block_lines (around_of around) (row_of known) (taken_of taken) Joins (block_of lines)
+
+-- the same, of what a statement does where its test does not hold
+abbrev pub lines_of_other : Option code_loop.Loop → (known : code_row.Row) → code_taken.Taken → code_stmt.Stmt → List ℕ
+lines_of_other around known taken stmt = block_lines (around_of around) (row_of known) (taken_of taken) Leaves (other_block stmt)
+
+-- the same, in the blocks of a statement
+abbrev pub lines_inside : Option code_loop.Loop → (known : code_row.Row) → code_taken.Taken → code_stmt.Stmt → List ℕ
+lines_inside around known taken stmt = lines_within (around_of around) (row_of known) (taken_of taken) (stmt_of stmt)
+
+-- the same, of a function
+abbrev pub lines_of : code_function.Function → List ℕ
+lines_of f = function_lines (function_of f)
+
+-- the same, of all functions
+abbrev pub lines_of_all : List code_function.Function → List ℕ
+lines_of_all fs = flat_map function_lines (map function_of fs)
+
+-- the least line is kept of those so far and of these
+abbrev pub Noted : (before after : LeastLine) → List ℕ → Type 0
+Noted before after lines = after.line ≡ lowest before.line lines
