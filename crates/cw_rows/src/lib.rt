@@ -4,6 +4,10 @@
 #[cfg(test)]
 mod integers;
 #[cfg(test)]
+mod owning;
+#[cfg(test)]
+mod parsing;
+#[cfg(test)]
 mod program;
 #[cfg(test)]
 mod refusals;
@@ -11,5 +15,7 @@ mod refusals;
 mod rows;
 #[cfg(test)]
 mod sinks;
+#[cfg(test)]
+mod typing;
 #[cfg(test)]
 mod words;

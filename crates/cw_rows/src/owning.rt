@@ -1,0 +1,71 @@
+//! The rules of ownership on whole sources, with the lines by hand.
+//!
+//! Most tables hold statements, each with the line in which it breaks a rule. A test sets each between the text before
+//! it and the text behind it: once where it breaks the rule, and once where it just keeps it.
+
+mod arrays;
+mod branches;
+mod cuts;
+mod integers;
+mod joins;
+mod least;
+mod loops;
+mod names;
+mod turns;
+
+use cw_lex::lex;
+use cw_own::{Owned, own};
+use cw_parse::parse;
+use cw_text::{Fault, Place, Source};
+use cw_types::check;
+use std::alloc::Global;
+use std::process::Abort;
+
+// Line 1 of each source: a reducer, and functions of integers and arrays.
+const HEAD: &str =
+    "reducer sum total; int f(int v) { return v; } int two(int v, int w) { return v; } \
+void g(int a[]) { } void h(int a[], int b[]) { } int s(int a[]) { return len(a); } \
+int n(int a[], int v) { return v; } void three(int a[], int v, int b[]) { }\n";
+
+// The beginning of `main`: two integers and two arrays in line 3.
+const MAIN: &str = "int main() {\nint x = 0; int y = 0; int a[2]; int b[2];\n";
+
+// The end of `main`, where what it spawned is joined.
+const END: &str = "\ncilk_sync;\nreturn 0; }";
+
+// What ownership answers of line 1 and these parts.
+fn owned(alloc: Global, before: &str, text: &str, after: &str) -> Result<Owned, Fault> {
+    let whole = format!(in alloc; "{HEAD}{before}{text}{after}")?;
+    let source = Source::read(alloc, whole.as_bytes())?;
+    let tokens = lex(alloc, &source)?;
+    let ast = parse(alloc, &source, tokens.as_slice())?;
+    let typed = check(alloc, ast)?;
+    own(alloc, typed)
+}
+
+// The fault that tells this line.
+fn breaks(line: u32) -> Option<Fault> {
+    Some(Fault::Ownership(Place { line }))
+}
+
+// Each statement between these parts breaks ownership in its line.
+fn all_break(rt: &impl Abort, alloc: Global, before: &str, rows: &[(u32, &str)], after: &str) {
+    for (line, text) in rows {
+        let fault = owned(alloc, before, text, after).err();
+        assert_eq!(rt; fault, breaks(*line), "{text}");
+    }
+}
+
+// Each of these statements between these parts keeps ownership, whatever line stands beside it.
+fn all_keep(rt: &impl Abort, alloc: Global, before: &str, rows: &[(u32, &str)], after: &str) {
+    for (_, text) in rows {
+        assert_eq!(rt; owned(alloc, before, text, after).err(), None, "{text}");
+    }
+}
+
+// Each of these texts between these parts keeps ownership.
+fn keep(rt: &impl Abort, alloc: Global, before: &str, texts: &[&str], after: &str) {
+    for text in texts {
+        assert_eq!(rt; owned(alloc, before, text, after).err(), None, "{text}");
+    }
+}
