@@ -1,0 +1,37 @@
+pub mod Alike
+pub mod Chained
+pub mod Runs
+pub mod Numbers
+pub mod Tables
+pub mod Leaf
+pub mod Lags
+pub mod Pieces
+pub mod LeafCall
+pub mod Arguments
+pub mod Cuts
+pub mod HalvesCall
+pub mod Fitting
+pub mod Worlds
+pub mod Statements
+pub mod Blocks
+pub mod Control
+pub mod Slices
+pub mod Ranges
+pub mod Turn
+pub mod Fresh
+pub mod Loop
+pub mod For
+pub mod Calls
+pub mod Simulation
+pub mod Whole
+pub mod CutStatement
+pub mod Sizes
+pub mod Counts
+mod Grains
+mod Naming
+mod Knowing
+mod Seeing
+mod Declaring
+mod Lowering
+mod Accepting
+mod Deriving

@@ -1,0 +1,165 @@
+-- Names among others, and those that are new.
+use Rattle.std.proofs.Common.{◌≡◌, Bool, true, false, List, [], ◌∷◌, ◌++◌, refl, sym, ◌∙◌, ap}
+use Rattle.std.specs.Prelude.{if◌then◌else◌, not, ◌&&◌, ◌||◌}
+use Rattle.std.specs.List.{list_any, list_all}
+use Rattle.cw_model.specs.Syntax.{Name}
+use Rattle.cw_model.specs.Names.{same_name, is_among, differ, new_names}
+use Rattle.cw_loops.proofs.Tables.{same_are, same_itself, not_later}
+use Rattle.cw_loops.proofs.Worlds.{both_true}
+
+-- tests of two
+
+pub none_of : (a b : Bool) → (a || b) ≡ false → (a ≡ false) × (b ≡ false)
+none_of true b h = absurd cc
+none_of false b h = (refl, h)
+
+pub turned : (b : Bool) → not b ≡ true → b ≡ false
+turned true h = cc
+turned false h = refl
+
+pub turned_back : (b : Bool) → b ≡ false → not b ≡ true
+turned_back b h = ap not h
+
+pub all_of : (a b : Bool) → a ≡ true → b ≡ true → (a && b) ≡ true
+all_of a b h g = ap (λ x. x && b) h ∙ g
+
+pub either_left : (a b : Bool) → a ≡ true → (a || b) ≡ true
+either_left a b h = ap (λ x. x || b) h
+
+pub either_right : (a b : Bool) → b ≡ true → (a || b) ≡ true
+either_right true b h = refl
+either_right false b h = h
+
+pub never : {A : Type 0} (b : Bool) → b ≡ true → b ≡ false → A
+never true h g = absurd cc
+never false h g = absurd cc
+
+-- which of the two it is
+pub data Told (b : Bool) : Type 0 where
+  yes_is : b ≡ true → Told b
+  no_is : b ≡ false → Told b
+
+pub told : (b : Bool) → Told b
+told true = yes_is refl
+told false = no_is refl
+
+-- not so where that would be absurd
+pub refuted : (b : Bool) → (b ≡ true → ⊥) → b ≡ false
+refuted true h = absurd (h refl)
+refuted false h = refl
+
+-- names that are joined
+
+pub among_join : (x : Name) (xs ys : List Name) → is_among x (xs ++ ys) ≡ (is_among x xs || is_among x ys)
+among_join x [] ys = refl
+among_join x (y ∷ xs) ys = go (same_name x y) (among_join x xs ys)
+  where
+    go : (b : Bool) → is_among x (xs ++ ys) ≡ (is_among x xs || is_among x ys) → (if b then true else is_among x (xs ++ ys)) ≡ ((if b then true else is_among x xs) || is_among x ys)
+    go true h = refl
+    go false h = h
+
+pub among_left : (x : Name) (xs ys : List Name) → is_among x xs ≡ true → is_among x (xs ++ ys) ≡ true
+among_left x xs ys h = among_join x xs ys ∙ either_left (is_among x xs) (is_among x ys) h
+
+pub among_right : (x : Name) (xs ys : List Name) → is_among x ys ≡ true → is_among x (xs ++ ys) ≡ true
+among_right x xs ys h = among_join x xs ys ∙ either_right (is_among x xs) (is_among x ys) h
+
+pub front_among : (x : Name) (xs : List Name) → is_among x (x ∷ xs) ≡ true
+front_among x xs = ap (λ b. if b then true else is_among x xs) (same_itself x)
+
+pub later_among : (x y : Name) (xs : List Name) → is_among x xs ≡ true → is_among x (y ∷ xs) ≡ true
+later_among x y xs h = go (same_name x y)
+  where
+    go : (b : Bool) → (if b then true else is_among x xs) ≡ true
+    go true = refl
+    go false = h
+
+-- where a name of a list is
+pub data Placed (x y : Name) (xs : List Name) : Type 0 where
+  at_front : x ≡ y → Placed x y xs
+  after_it : same_name x y ≡ false → is_among x xs ≡ true → Placed x y xs
+
+pub placed : (x y : Name) (xs : List Name) → is_among x (y ∷ xs) ≡ true → Placed x y xs
+placed x y xs h = go (same_name x y) refl h
+  where
+    go : (b : Bool) → same_name x y ≡ b → (if b then true else is_among x xs) ≡ true → Placed x y xs
+    go true e o = at_front (same_are x y e)
+    go false e o = after_it e o
+
+pub data Side (x : Name) (xs ys : List Name) : Type 0 where
+  in_first : is_among x xs ≡ true → Side x xs ys
+  in_second : is_among x ys ≡ true → Side x xs ys
+
+pub side : (x : Name) (xs ys : List Name) → is_among x (xs ++ ys) ≡ true → Side x xs ys
+side x xs ys h = go (is_among x xs) refl (sym (among_join x xs ys) ∙ h)
+  where
+    go : (b : Bool) → is_among x xs ≡ b → (b || is_among x ys) ≡ true → Side x xs ys
+    go true e o = in_first e
+    go false e o = in_second o
+
+pub neither_among : (x : Name) (xs ys : List Name) → is_among x (xs ++ ys) ≡ false → (is_among x xs ≡ false) × (is_among x ys ≡ false)
+neither_among x xs ys h = none_of (is_among x xs) (is_among x ys) (sym (among_join x xs ys) ∙ h)
+
+pub same_turned : (x y : Name) → same_name x y ≡ same_name y x
+same_turned x y = go (same_name x y) (same_name y x) refl refl
+  where
+    go : (a b : Bool) → same_name x y ≡ a → same_name y x ≡ b → a ≡ b
+    go true true e f = refl
+    go false false e f = refl
+    go true false e f = sym (same_itself y) ∙ ap (λ z. same_name y z) (sym (same_are x y e)) ∙ f
+    go false true e f = sym e ∙ ap (λ z. same_name x z) (same_are y x f) ∙ same_itself x
+
+-- what is said of each name of a list
+
+pub each_of : (f : Name → Bool) (xs : List Name) → list_all f xs ≡ true → (x : Name) → is_among x xs ≡ true → f x ≡ true
+each_of f [] h x o = absurd cc
+each_of f (y ∷ xs) h x o = by (both_true (f y) (list_all f xs) h) (placed x y xs o) (λ g more. each_of f xs g x more)
+  where
+    by : (f y ≡ true) × (list_all f xs ≡ true) → Placed x y xs → (list_all f xs ≡ true → is_among x xs ≡ true → f x ≡ true) → f x ≡ true
+    by n (at_front same) more = ap f same ∙ n.0
+    by n (after_it other o) more = more n.1 o
+
+pub none_any : (f : Name → Bool) (xs : List Name) → list_any f xs ≡ false → (x : Name) → is_among x xs ≡ true → f x ≡ false
+none_any f [] h x o = absurd cc
+none_any f (y ∷ xs) h x o = by (none_of (f y) (list_any f xs) h) (placed x y xs o) (λ g more. none_any f xs g x more)
+  where
+    by : (f y ≡ false) × (list_any f xs ≡ false) → Placed x y xs → (list_any f xs ≡ false → is_among x xs ≡ true → f x ≡ false) → f x ≡ false
+    by n (at_front same) more = ap f same ∙ n.0
+    by n (after_it other o) more = more n.1 o
+
+-- names that are not known yet
+
+pub new_are_there : (x : Name) (xs known : List Name) → is_among x (new_names xs known) ≡ true → (is_among x xs ≡ true) × (is_among x known ≡ false)
+new_are_there x [] known h = absurd cc
+new_are_there x (y ∷ xs) known h = go (is_among y known) refl h (λ k o. new_are_there x xs k o)
+  where
+    go : (b : Bool) → is_among y known ≡ b → is_among x (if b then new_names xs known else y ∷ new_names xs (y ∷ known)) ≡ true →
+        ((k : List Name) → is_among x (new_names xs k) ≡ true → (is_among x xs ≡ true) × (is_among x k ≡ false)) → (is_among x (y ∷ xs) ≡ true) × (is_among x known ≡ false)
+    go true e o more = let m = more known o in (later_among x y xs m.0, m.1)
+    go false e o more = by (placed x y (new_names xs (y ∷ known)) o)
+      where
+        by : Placed x y (new_names xs (y ∷ known)) → (is_among x (y ∷ xs) ≡ true) × (is_among x known ≡ false)
+        by (at_front same) = (ap (λ z. is_among z (y ∷ xs)) same ∙ front_among y xs, ap (λ z. is_among z known) same ∙ e)
+        by (after_it other p) = let m = more (y ∷ known) p in (later_among x y xs m.0, not_later x y known m.1)
+
+pub new_are_all : (x : Name) (xs known : List Name) → is_among x xs ≡ true → is_among x known ≡ false → is_among x (new_names xs known) ≡ true
+new_are_all x [] known h n = absurd cc
+new_are_all x (y ∷ xs) known h n = go (is_among y known) refl (placed x y xs h) (λ k o m. new_are_all x xs k o m)
+  where
+    go : (b : Bool) → is_among y known ≡ b → Placed x y xs → ((k : List Name) → is_among x xs ≡ true → is_among x k ≡ false → is_among x (new_names xs k) ≡ true) →
+        is_among x (if b then new_names xs known else y ∷ new_names xs (y ∷ known)) ≡ true
+    go true e (at_front same) more = never (is_among y known) e (ap (λ z. is_among z known) (sym same) ∙ n)
+    go true e (after_it other o) more = more known o n
+    go false e (at_front same) more = ap (λ z. is_among z (y ∷ new_names xs (y ∷ known))) same ∙ front_among y (new_names xs (y ∷ known))
+    go false e (after_it other o) more = later_among x y (new_names xs (y ∷ known)) (more (y ∷ known) o (ap (λ b. if b then true else is_among x known) other ∙ n))
+
+pub new_differ : (xs known : List Name) → differ (new_names xs known) ≡ true
+new_differ [] known = refl
+new_differ (y ∷ xs) known = go (is_among y known) (λ k. new_differ xs k)
+  where
+    fresh : is_among y (new_names xs (y ∷ known)) ≡ false
+    fresh = refuted (is_among y (new_names xs (y ∷ known))) (λ o. never (is_among y (y ∷ known)) (front_among y known) (new_are_there y xs (y ∷ known) o).1)
+
+    go : (b : Bool) → ((k : List Name) → differ (new_names xs k) ≡ true) → differ (if b then new_names xs known else y ∷ new_names xs (y ∷ known)) ≡ true
+    go true more = more known
+    go false more = all_of (not (is_among y (new_names xs (y ∷ known)))) (differ (new_names xs (y ∷ known))) (ap not fresh) (more (y ∷ known))

@@ -1,0 +1,129 @@
+-- Worked examples: a lowered program answers as its source.
+use Rattle.std.specs.Prelude.{◌≡◌, ℕ, zero, suc, ◌+◌, ◌-◌, ◌*◌, ◌==◌, ◌&&◌, ℤ, pos, Bool, false, true, List, [], ◌∷◌, map, Option, Some, None}
+use Rattle.cw_model.specs.declared.trap.Trap.{Trap}
+use Rattle.cw_model.specs.declared.trap.Trap.TheVariants as trap
+use Rattle.cw_model.specs.Loops.{loop_cost}
+use Rattle.cw_model.specs.Answers.{Answer, Ended, TrappedAt, OverLimit}
+use Rattle.cw_model.specs.declared.syntax.Operator.TheVariants.{Plus, Times}
+use Rattle.cw_model.specs.declared.syntax.CallKind.TheVariants.{Spawned}
+use Rattle.cw_model.specs.Syntax.{Number, Variable, Element, Length, Binary, Declare, DeclareArray, AssignElement, AddTo, Call, For, Print, Return, Sync, End, Then, Program}
+use Rattle.cw_model.specs.ExamplePrograms as example
+use Rattle.cw_model.specs.Examples.{serial}
+use Rattle.cw_loops.specs.Lowered.{lowered}
+use Rattle.cw_loops.specs.Lowerable.{is_lowerable}
+
+-- the lowered program answers as its source within each of these limits
+abbrev pub Same : Program → (limits : List ℕ) → Type 0
+Same program limits = map (serial (lowered program) []) limits ≡ map (serial program []) limits
+
+-- a loop in a loop, over a new array of each turn, with prints, a spawn's result and a trap in the end
+abbrev pub nested : ℕ → Program
+nested trap_at = record {
+  reducers = record { name = example.s; line = 1 } ∷ [];
+  functions =
+      record { name = example.f; line = 2; gives_int = true; params = record { name = example.n; is_array = false } ∷ []; body = example.block (Return (Some (Binary Times (Variable example.n) (Variable example.n))) ∷ []) }
+      ∷ record {
+        name = example.main;
+        line = 3;
+        gives_int = true;
+        params = [];
+        body =
+            Then 4 (Declare example.t (Number (pos 5)))
+            (Then 5 (DeclareArray example.a (Number (pos 7)))
+            (Then 6 (For example.i example.i example.i (Number (pos 1)) (Number (pos 6)) 2 (example.a ∷ [])
+            (Then 7 (DeclareArray example.b (Binary Plus (Variable example.i) (Number (pos 2))))
+            (Then 8 (For example.p example.p example.p (Number (pos 0)) (Length example.b) 1 (example.b ∷ [])
+            (Then 9 (AssignElement example.b (Variable example.p) (Binary Plus (Variable example.t) (Binary Times (Variable example.p) (Variable example.i))))
+            (Then 10 (AddTo example.s (Element example.b (Variable example.p))) End)))
+            (Then 11 (Declare example.x (Number (pos 0)))
+            (Then 12 (Call Spawned 1 (Some example.x) example.f (Variable example.i ∷ []))
+            (Then 13 (Print (Element example.b (Number (pos trap_at))))
+            (Then 14 Sync
+            (Then 15 (AssignElement example.a (Variable example.i) (Binary Plus (Variable example.x) (Element example.b (Variable example.i)))) End))))))))
+            (Then 16 (Print (Element example.a (Number (pos 4))))
+            (Then 17 (Return (Some (Element example.a (Number (pos 5))))) End))));
+      }
+      ∷ [];
+}
+
+-- a loop of so many turns and this grain that adds its variable to a sum
+abbrev pub turns_program : (turns grain : ℕ) → Program
+turns_program turns grain =
+    example.with_sum (
+    example.main_of (
+    For example.i example.i example.i (Number (pos 0)) (Number (pos turns)) grain [] (example.block (AddTo example.s (Variable example.i) ∷ []))
+    ∷ Return (Some (Number (pos 0))) ∷ [])
+    ∷ [])
+
+-- what it costs: the two ends and the start, the halves with two more a turn, and the return
+abbrev pub turns_cost : (turns grain : ℕ) → ℕ
+turns_cost turns grain = 5 + loop_cost grain 0 0 turns + 2 * turns
+
+-- 0 + 1 + .. for so many turns
+abbrev pub sum_below : ℕ → ℕ
+sum_below zero = 0
+sum_below (suc n) = sum_below n + n
+
+-- it ends with this sum
+abbrev pub ends_with : ℕ → Answer → Bool
+ends_with sum (Ended v lines (pos n ∷ []) t) = n == sum
+ends_with sum _ = false
+
+abbrev pub is_over : Answer → Bool
+is_over OverLimit = true
+is_over _ = false
+
+-- the lowered loop gives the plain loop's sum within its cost, and within one less it is over
+abbrev pub has_cost : (grain turns : ℕ) → Bool
+has_cost grain turns =
+    ends_with (sum_below turns) (serial (lowered (turns_program turns grain)) [] (turns_cost turns grain))
+    && is_over (serial (lowered (turns_program turns grain)) [] (turns_cost turns grain - 1))
+
+-- each length below this one
+abbrev pub all_have_cost : (grain lengths : ℕ) → Bool
+all_have_cost grain zero = true
+all_have_cost grain (suc n) = all_have_cost grain n && has_cost grain n
+
+-- lowered, it ends with this value within so many instructions, and is over with one less
+abbrev pub value_of : Answer → Option ℤ
+value_of (Ended v lines sums t) = Some v
+value_of _ = None
+
+abbrev pub CostsLowered : Program → ℕ → ℤ → Type 0
+CostsLowered program cost v = (value_of (serial (lowered program) [] cost) ≡ Some v) × (serial (lowered program) [] (cost - 1) ≡ OverLimit)
+
+abbrev pub TrapsLowered : Program → (limit : ℕ) → Trap → Type 0
+TrapsLowered program limit trap = serial (lowered program) [] limit ≡ TrappedAt trap 1 []
+
+pub record LoweredExamples : Type 0 where
+  pub four_squares_cost : CostsLowered (example.square_program 4 0 4 3) 134 (pos 9)
+  pub past_the_end : TrapsLowered (example.square_program 4 0 5 3) 1000 trap.OutOfBounds
+  pub five_squares_cost : CostsLowered (example.square_program 5 0 5 4) 192 (pos 16)
+  pub from_9_cost : CostsLowered (example.square_program 4 9 4 3) 22 (pos 0)
+  pub too_many : TrapsLowered (example.idle_loop (Number (pos 0)) 2147483648) 1000 trap.TooManyTurns
+  pub too_many_at_3 : TrapsLowered (example.idle_loop (Number (pos 0)) 2147483648) 3 trap.TooManyTurns
+  pub most_at_3 : serial (lowered (example.idle_loop (Number (pos 0)) 2147483647)) [] 3 ≡ OverLimit
+  -- lengths from 0 to 7, odd and even, with each of these grains
+  pub grain_1 : all_have_cost 1 8 ≡ true
+  pub grain_2 : all_have_cost 2 8 ≡ true
+  pub grain_3 : all_have_cost 3 8 ≡ true
+  pub sums : Same (example.sum_program 0 4) (1000 ∷ 106 ∷ 105 ∷ 20 ∷ 5 ∷ [])
+  pub no_turn : Same (example.sum_program 5 3) (1000 ∷ 19 ∷ 18 ∷ [])
+  pub squares_printed : Same (example.square_print_program 4) (1000 ∷ 136 ∷ 135 ∷ 60 ∷ [])
+  pub squares_past : Same (example.square_print_program 5) (1000 ∷ 5 ∷ 4 ∷ [])
+  pub squares : Same (example.square_program 4 0 4 3) (1000 ∷ [])
+  pub five_squares : Same (example.square_program 5 0 5 4) (1000 ∷ 192 ∷ 191 ∷ [])
+  pub squares_from_9 : Same (example.square_program 4 9 4 3) (1000 ∷ [])
+  pub widest : Same (example.idle_loop (Number (pos 9223372036854775806)) 9223372036854775807) (1000 ∷ [])
+  pub most : Same (example.idle_loop (Number (pos 0)) 2147483647) (3 ∷ 300 ∷ [])
+  pub twice : Same (nested 2) (5000 ∷ 900 ∷ 700 ∷ 500 ∷ 300 ∷ 100 ∷ [])
+  pub twice_traps : Same (nested 4) (5000 ∷ 700 ∷ [])
+  -- these can be lowered, by the test
+  pub sums_can : is_lowerable (example.sum_program 0 4) ≡ true
+  pub squares_can : is_lowerable (example.square_program 5 0 5 4) ≡ true
+  pub fill_can : is_lowerable example.fill_program ≡ true
+  pub cut_can : is_lowerable (example.cut_program 3) ≡ true
+  pub fib_can : is_lowerable example.fib_program ≡ true
+  pub twice_can : is_lowerable (nested 2) ≡ true
+  -- an outer integer that is written in a turn is no program that can be lowered
+  pub outer_cannot : is_lowerable example.outer_program ≡ false

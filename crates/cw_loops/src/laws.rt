@@ -1,0 +1,45 @@
+//! The laws of lowering: each function has one as its contract, and does nothing.
+
+ghost use Rattle.cw_loops.specs.Examples.{LoweredExamples};
+ghost use Rattle.cw_loops.specs.LoweringLaws.{DerivedIsSourceLike, LoweredAnswersAsItsSource, LoweredHasItsCalls, LoweredHasNoLoop, LoweredIsAsLong, LoweringKeepsAnswers, LoweringKeepsDerivedAnswers, LoweringKeepsSize, OwnedIsLowerable};
+
+/// Worked examples, lowered: each answer is that of the source.
+pub fn lowered_examples()
+    ensures { LoweredExamples }
+{}
+
+/// A program whose loops are lowered answers as the program, on as many arguments of 64 bits as its main has parameters,
+/// within each limit: value, printed lines, sums, tree, trap with its line, and over the limit.
+pub fn lowered_answers_as_its_source()
+    ensures { LoweredAnswersAsItsSource }
+{}
+
+/// The static size counts the lowered text: that of a program is the size of the program with its loops lowered.
+pub fn lowered_is_as_long()
+    ensures { LoweredIsAsLong }
+{}
+
+/// No `cilk_for` is left, and there are as many call statements as in the source.
+pub fn lowered_has_no_loop()
+    ensures no_loop { LoweredHasNoLoop }
+    ensures calls { LoweredHasItsCalls }
+{}
+
+/// A derived program has the names and the numbers of a source: no name begins with `#`, each number fits 64 bits.
+pub fn derived_is_source_like()
+    ensures { DerivedIsSourceLike }
+{}
+
+/// Every program of a source that types and ownership accept can be lowered.
+pub fn owned_is_lowerable()
+    ensures { OwnedIsLowerable }
+{}
+
+/// Such a program, lowered, answers as it does by its own text, on as many arguments of 64 bits as its main takes and
+/// within each limit: value, printed lines, sums, tree, trap with its line, and over the limit. It is as long as its
+/// static size says. Of a program that a text derives nothing is asked but that types and ownership accept it.
+pub fn lowering_keeps_answers()
+    ensures answers { LoweringKeepsAnswers }
+    ensures derived { LoweringKeepsDerivedAnswers }
+    ensures size { LoweringKeepsSize }
+{}
