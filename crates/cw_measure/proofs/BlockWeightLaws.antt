@@ -1,0 +1,57 @@
+-- What a strand keeps of a block adds the burdened span of the tree of its events.
+use Rattle.std.specs.Prelude.{◌≡◌, ℕ, zero, suc, ◌+◌, max, List, [], ◌∷◌}
+use Rattle.std.proofs.Common.{sym, ◌∙◌, ap, subst, arith}
+use Rattle.cw_model.specs.Trees.{Event, Work, Series, Fork, Join, burdened_span, tree_of}
+use Rattle.cw_measure.specs.Counters.{exactly, Counters, Unsynced, Synced, later, onward, fresh, heaviest, of_event, of_events}
+use Rattle.cw_measure.specs.BlockWeights.{BlockWeight, Straight, Split, now_of, gone_on, child_ended, top_of, after, after_all, BlocksWeighTheirSpans}
+use Rattle.cw_measure.specs.SumLaws.{exactly_is}
+use Rattle.cw_measure.specs.CounterLaws.{onward-assoc, onward-fresh_first, onward-fresh_last, heaviest-of_events}
+
+-- it stands for counters whose continuation begins at a weight
+abbrev pub StandsAt : (floor longest continuation : ℕ) → BlockWeight → Type 0
+StandsAt f l k L = (now_of L ≡ f + k) × (top_of L ≡ f + max l k)
+
+abbrev pub StandsFor : (before : ℕ) → Counters → BlockWeight → Type 0
+StandsFor before (Unsynced l k) L = StandsAt before l k L
+StandsFor before (Synced p l k) L = StandsAt (before + p) l k L
+
+stands_gone_on : (f l k w : ℕ) (L : BlockWeight) → StandsAt f l k L → StandsAt f (max l 0) (k + w) (gone_on w L)
+stands_gone_on f l k w (Straight n) h = let a = h.0 in let b = h.1 in (omega arith, omega arith)
+stands_gone_on f l k w (Split m n) h = let a = h.0 in let b = h.1 in (omega arith, omega arith)
+
+stands_forked : (f l k burden c : ℕ) (L : BlockWeight) → StandsAt f l k L → StandsAt f (max l (later exactly k c)) (k + burden) (child_ended burden c L)
+stands_forked f l k burden zero (Straight n) h = let a = h.0 in let b = h.1 in (omega arith, omega arith)
+stands_forked f l k burden (suc c) (Straight n) h = let a = h.0 in let b = h.1 in (omega arith, omega arith)
+stands_forked f l k burden zero (Split m n) h = let a = h.0 in let b = h.1 in (omega arith, omega arith)
+stands_forked f l k burden (suc c) (Split m n) h = let a = h.0 in let b = h.1 in (omega arith, omega arith)
+
+one_more : (burden before : ℕ) (w : Counters) (L : BlockWeight) (e : Event) → StandsFor before w L → StandsFor before (onward exactly w (of_event burden e)) (after burden L e)
+one_more burden before (Unsynced l k) L (Work n) h = stands_gone_on before l k n L h
+one_more burden before (Synced p l k) L (Work n) h = stands_gone_on (before + p) l k n L h
+one_more burden before (Unsynced l k) L (Series t) h = stands_gone_on before l k (burdened_span burden t) L h
+one_more burden before (Synced p l k) L (Series t) h = stands_gone_on (before + p) l k (burdened_span burden t) L h
+one_more burden before (Unsynced l k) L (Fork t) h = stands_forked before l k burden (burdened_span burden t) L h
+one_more burden before (Synced p l k) L (Fork t) h = stands_forked (before + p) l k burden (burdened_span burden t) L h
+one_more burden before (Unsynced l k) L Join h = let a = h.1 in (omega arith, omega arith)
+one_more burden before (Synced p l k) L Join h = let a = h.1 in (omega arith, omega arith)
+
+all_more : (burden before : ℕ) (w : Counters) (L : BlockWeight) (es : List Event) → StandsFor before w L → StandsFor before (onward exactly w (of_events burden es)) (after_all burden L es)
+all_more burden before w L [] h = let P : Counters → Type 0 = λ x. StandsFor before x L in subst P (sym (onward-fresh_last exactly exactly_is w)) h
+all_more burden before w L (e ∷ es) h =
+    let P : Counters → Type 0 = λ x. StandsFor before x (after_all burden (after burden L e) es) in
+    subst P (onward-assoc exactly exactly_is w (of_event burden e) (of_events burden es)) (all_more burden before (onward exactly w (of_event burden e)) (after burden L e) es (one_more burden before w L e h))
+
+stands_top : (before : ℕ) (w : Counters) (L : BlockWeight) → StandsFor before w L → top_of L ≡ before + heaviest exactly w
+stands_top before (Unsynced l k) L h = let a = h.1 in omega arith
+stands_top before (Synced p l k) L h = let a = h.1 in omega arith
+
+-- THE LAW OF A BLOCK
+pub top-after_all : (burden before : ℕ) (es : List Event) → top_of (after_all burden (Straight before) es) ≡ before + burdened_span burden (tree_of es)
+top-after_all burden before es =
+    let begun : StandsFor before fresh (Straight before) = (omega arith, omega arith) in
+    stands_top before (onward exactly fresh (of_events burden es)) (after_all burden (Straight before) es) (all_more burden before fresh (Straight before) es begun)
+    ∙ ap (λ (w : Counters). before + heaviest exactly w) (onward-fresh_first exactly exactly_is (of_events burden es))
+    ∙ ap (λ (n : ℕ). before + n) (heaviest-of_events burden es)
+
+pub blocks_weigh_their_spans : BlocksWeighTheirSpans
+blocks_weigh_their_spans = top-after_all

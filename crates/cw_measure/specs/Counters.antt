@@ -1,0 +1,80 @@
+-- Counters of a piece of one sync block: how heavy its paths are so far.
+use Rattle.std.specs.Prelude.{◌≡◌, ℕ, zero, suc, ◌+◌, max, min, List, [], ◌∷◌, ◌++◌, Option, Some, None}
+use Rattle.cw_model.specs.Trees.{Event, Work, Series, Fork, Join, burdened_span, tree_of}
+
+-- the path into the longest child, which is 0 where there is none, and the continuation; after a join what the first join closed too
+pub data Counters : Type 0 where
+  Unsynced : (longest continuation : ℕ) → Counters
+  Synced : (prefix longest continuation : ℕ) → Counters
+
+-- counters as they are stored: nothing is closed before the first join
+abbrev pub counters_of : (prefix : Option ℕ) → (longest continuation : ℕ) → Counters
+counters_of None l k = Unsynced l k
+counters_of (Some p) l k = Synced p l k
+
+-- how two weights are added: numbers of a type stop at a greatest one
+abbrev pub Sum : Type 0
+Sum = ℕ → ℕ → ℕ
+
+abbrev pub exactly : Sum
+exactly a b = a + b
+
+abbrev pub up_to : (greatest : ℕ) → Sum
+up_to greatest a b = max (max a b) (min greatest (a + b))
+
+-- a longest child, after so much
+abbrev pub later : Sum → (by longest : ℕ) → ℕ
+later add by zero = zero
+later add by (suc longest) = add by (suc longest)
+
+-- one piece of a block, and the next
+abbrev pub onward : Sum → Counters → Counters → Counters
+onward add (Unsynced l k) (Unsynced l' k') = Unsynced (max l (later add k l')) (add k k')
+onward add (Unsynced l k) (Synced p l' k') = Synced (max l (add k p)) l' k'
+onward add (Synced p l k) (Unsynced l' k') = Synced p (max l (later add k l')) (add k k')
+onward add (Synced p l k) (Synced p' l' k') = let closed = max l (add k p') in Synced p (later add closed l') (add closed k')
+
+-- an empty piece
+abbrev pub fresh : Counters
+fresh = Unsynced 0 0
+
+-- so many instructions more
+abbrev pub ticked : Sum → ℕ → Counters → Counters
+ticked add n (Unsynced l k) = Unsynced l (add k n)
+ticked add n (Synced p l k) = Synced p l (add k n)
+
+-- a child of this span more: it is taken into the longest, and then the burden is added to the continuation
+abbrev pub forked : Sum → (burden child : ℕ) → Counters → Counters
+forked add burden child (Unsynced l k) = Unsynced (max l (later add k child)) (add k burden)
+forked add burden child (Synced p l k) = Synced p (max l (later add k child)) (add k burden)
+
+-- a join: what the first one closes is the prefix, and what a later one closes stays in the continuation
+abbrev pub synced : Counters → Counters
+synced (Unsynced l k) = Synced (max l k) 0 0
+synced (Synced p l k) = Synced p 0 (max l k)
+
+-- the weight of a heaviest path
+abbrev pub heaviest : Sum → Counters → ℕ
+heaviest add (Unsynced l k) = max l k
+heaviest add (Synced p l k) = add p (max l k)
+
+-- the same counters in numbers up to a greatest one
+abbrev pub held : (greatest : ℕ) → Counters → Counters
+held g (Unsynced l k) = Unsynced (min g l) (min g k)
+held g (Synced p l k) = Synced (min g p) (min g l) (min g k)
+
+-- the exact counters of one event, and of a list of events
+abbrev pub of_event : (burden : ℕ) → Event → Counters
+of_event burden (Work k) = Unsynced 0 k
+of_event burden (Series t) = Unsynced 0 (burdened_span burden t)
+of_event burden (Fork t) = Unsynced (burdened_span burden t) burden
+of_event burden Join = Synced 0 0 0
+
+abbrev pub of_events : (burden : ℕ) → List Event → Counters
+of_events burden [] = fresh
+of_events burden (e ∷ events) = onward exactly (of_event burden e) (of_events burden events)
+
+-- exact counters read the span of the tree of their events, and those of two pieces make those of the whole
+pub record CountersReadSpans : Type 0 where
+  pub reads : (burden : ℕ) (es : List Event) → heaviest exactly (of_events burden es) ≡ burdened_span burden (tree_of es)
+  pub pieces : (burden : ℕ) (es fs : List Event) → of_events burden (es ++ fs) ≡ onward exactly (of_events burden es) (of_events burden fs)

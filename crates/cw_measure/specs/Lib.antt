@@ -1,0 +1,9 @@
+pub mod Counters
+pub mod SumLaws
+pub mod CounterLaws
+pub mod Measured
+pub mod JoinLaws
+pub mod OpenParts
+pub mod Outermost
+pub mod BlockWeights
+pub mod StrandWeights

@@ -1,0 +1,101 @@
+-- What is summed over the parts with a mark that lie in no other part with it, over a run so far.
+use Rattle.std.specs.Prelude.{◌≡◌, ℕ, zero, suc, ◌+◌, ◌-◌, ◌==◌, Bool, true, false, List, [], ◌∷◌, ◌++◌, Option, Some, None, sum_by}
+use Rattle.cw_model.specs.Trees.{Mark, Marked, Tree, Event, Work, Series, Fork, Join, tree_of}
+use Rattle.cw_model.specs.Rows.{outermost}
+use Rattle.cw_measure.specs.OpenParts.{Open, in_series, closed, has_spawned}
+
+-- whether a part is one of those that are counted
+abbrev pub is_counted : (Mark → Bool) → Option Mark → Bool
+is_counted picks None = false
+is_counted picks (Some m) = picks m
+
+abbrev pub one_if : Bool → ℕ
+one_if true = 1
+one_if false = 0
+
+-- how many of them are open; `busy` is how many were open round the whole run
+abbrev pub active_in : (picks : Mark → Bool) → (busy : ℕ) → List Open → ℕ
+active_in picks busy [] = busy
+active_in picks busy (o ∷ os) = one_if (is_counted picks o.mark) + active_in picks busy os
+
+-- the sum over those of a tree that lie in no other one, where so many are open round the tree
+abbrev pub outer_sum : (Tree → ℕ) → (Mark → Bool) → (active : ℕ) → Tree → ℕ
+outer_sum f picks zero t = sum_by f (outermost picks t)
+outer_sum f picks (suc n) t = 0
+
+-- the sum over those that have ended and lie in no other one, ended or open
+abbrev pub outer_in : (Tree → ℕ) → (Mark → Bool) → (busy : ℕ) → List Open → List Event → ℕ
+outer_in f picks busy [] es = outer_sum f picks busy (tree_of es)
+outer_in f picks busy (o ∷ os) es = outer_sum f picks (active_in picks busy (o ∷ os)) (tree_of es) + outer_in f picks busy os o.outer
+
+-- a number that is read off a run so far
+abbrev pub Reading : Type 0
+Reading = List Open → List Event → ℕ
+
+-- along a part whose block has joined the reading grows by what is measured of the part's tree
+pub record Meters (f : Tree → ℕ) (read : Reading) : Type 0 where
+  pub in_mark : (m : Mark) (t : Tree) → f (Marked m t) ≡ f t
+  pub at_begin : (mark : Option Mark) (os : List Open) (es : List Event) → read (in_series mark es os) [] ≡ read os es
+  pub at_end : (o : Open) (os : List Open) (es : List Event) → has_spawned es ≡ false → read (o ∷ os) es ≡ read (o ∷ os) [] + f (tree_of es)
+
+-- the reading as the outermost open one began, where there is one
+abbrev pub BeganAt : (counted : Bool) → (active : ℕ) → (here before : Type 0) → Type 0
+BeganAt true zero here before = here
+BeganAt true (suc n) here before = before
+BeganAt false n here before = before
+
+abbrev pub Began : Reading → (Mark → Bool) → (busy : ℕ) → List Open → (began : ℕ) → Type 0
+Began read picks busy [] began = Unit {0}
+Began read picks busy (o ∷ os) began =
+    BeganAt (is_counted picks o.mark) (active_in picks busy os) (began ≡ read (o ∷ os) []) (Began read picks busy os began)
+
+-- the sum over those that ended, how many are open, and the reading as the outermost of these began
+pub record Tally : Type 0 where
+  pub sum : ℕ
+  pub active : ℕ
+  pub began : ℕ
+
+-- one more begins at this reading
+abbrev pub begun_at : (first : Bool) → (reading : ℕ) → Tally → Tally
+begun_at true reading t = record { sum = t.sum; active = t.active + 1; began = reading }
+begun_at false reading t = record { sum = t.sum; active = t.active + 1; began = t.began }
+
+abbrev pub begun : (reading : ℕ) → Tally → Tally
+begun reading t = begun_at (t.active == 0) reading t
+
+-- one ends at this reading: the outermost one is summed
+abbrev pub ended_at : (last : Bool) → (reading : ℕ) → Tally → Tally
+ended_at true reading t = record { sum = t.sum + (reading - t.began); active = t.active - 1; began = t.began }
+ended_at false reading t = record { sum = t.sum; active = t.active - 1; began = t.began }
+
+abbrev pub ended : (reading : ℕ) → Tally → Tally
+ended reading t = ended_at (t.active == 1) reading t
+
+-- a tally counts a run so far
+pub record Counts (f : Tree → ℕ) (read : Reading) (picks : Mark → Bool) (busy : ℕ) (os : List Open) (es : List Event) (t : Tally) : Type 0 where
+  pub sum_is : t.sum ≡ outer_in f picks busy os es
+  pub active_is : t.active ≡ active_in picks busy os
+  pub began_is : Began read picks busy os t.began
+
+-- the calls of a run keep a tally so, whatever is measured and whichever marks are counted
+pub record TalliesKeep (f : Tree → ℕ) (read : Reading) (picks : Mark → Bool) (busy : ℕ) : Type 0 where
+  pub work : (os : List Open) (es : List Event) (t : Tally) (k : ℕ) → Counts f read picks busy os es t → Counts f read picks busy os (es ++ Work k ∷ []) t
+  pub join : (os : List Open) (es : List Event) (t : Tally) → Counts f read picks busy os es t → Counts f read picks busy os (es ++ Join ∷ []) t
+  pub other_begins : (o : Open) (os : List Open) (t : Tally) → is_counted picks o.mark ≡ false → Counts f read picks busy os o.outer t → Counts f read picks busy (o ∷ os) [] t
+  pub other_ends : (o : Open) (os : List Open) (es : List Event) (t : Tally) → is_counted picks o.mark ≡ false → Counts f read picks busy (o ∷ os) es t → Counts f read picks busy os (closed o es) t
+  pub begins : (o : Open) (os : List Open) (t : Tally) → is_counted picks o.mark ≡ true → Counts f read picks busy os o.outer t → Counts f read picks busy (o ∷ os) [] (begun (read (o ∷ os) []) t)
+  pub ends : (o : Open) (os : List Open) (es : List Event) (t : Tally) → is_counted picks o.mark ≡ true → has_spawned es ≡ false → Counts f read picks busy (o ∷ os) es t → Counts f read picks busy os (closed o es) (ended (read (o ∷ os) es) t)
+  pub reads : (es : List Event) (t : Tally) → busy ≡ 0 → Counts f read picks busy [] es t → t.sum ≡ sum_by f (outermost picks (tree_of es))
+
+-- a tally, and that of a piece that ran apart and of which no counted part is open
+abbrev pub joined_tally : Tally → Tally → Tally
+joined_tally t u = record { sum = t.sum + u.sum; active = t.active; began = t.began }
+
+-- a piece that ran apart is told how many counted parts were open round it; its tally is then joined on, whether it is a
+-- further piece of the block that runs or a spawned part of it
+pub record PiecesTally (f : Tree → ℕ) (read there : Reading) (picks : Mark → Bool) (busy : ℕ) (os : List Open) : Type 0 where
+  pub further : (es fs : List Event) (t u : Tally) → Counts f read picks busy os es t → Counts f there picks (active_in picks busy os) [] fs u → Counts f read picks busy os (es ++ fs) (joined_tally t u)
+  pub spawned : (es : List Event) (child : Tree) (t u : Tally) → Counts f read picks busy os es t → Counts f there picks (active_in picks busy os) [] (Series child ∷ []) u → Counts f read picks busy os (es ++ Fork child ∷ []) (joined_tally t u)
+
+abbrev pub AllPiecesTally : Type 0
+AllPiecesTally = (f : Tree → ℕ) (read there : Reading) (picks : Mark → Bool) (busy : ℕ) (os : List Open) → PiecesTally f read there picks busy os

@@ -1,0 +1,130 @@
+-- The heaviest path of a strand with the blocks round it that have spawned, and which run so far it shows.
+use Rattle.std.specs.Prelude.{◌≡◌, ℕ, ◌+◌, ◌^◌, ◌<◌, max, Bool, true, false, not, List, [], ◌∷◌, ◌++◌, Option}
+use Rattle.cw_model.specs.Trees.{Mark, Event, Join, tree_of, burdened_span}
+use Rattle.cw_measure.specs.declared.burdened_path.BurdenedBlock.{BurdenedBlock}
+use Rattle.cw_measure.specs.declared.burdened_path.BurdenedPath.{BurdenedPath}
+use Rattle.cw_measure.specs.OpenParts.{Open, in_series, in_fork, closed, has_spawned, Since, work_in}
+use Rattle.cw_measure.specs.BlockWeights.{BlockWeight, Straight, Split, now_of, block_weight, burdened_work_in}
+
+-- the weight of the path of the strand that runs, and the blocks that have spawned, the innermost first
+pub record StrandWeight : Type 0 where
+  pub now : ℕ
+  pub blocks : List BurdenedBlock
+
+abbrev pub reversed : List BurdenedBlock → List BurdenedBlock → List BurdenedBlock
+reversed [] bs = bs
+reversed (b ∷ more) bs = reversed more (b ∷ bs)
+
+abbrev pub strand_weight : BurdenedPath → StrandWeight
+strand_weight path = record { now = path.weight; blocks = reversed path.blocks.items [] }
+
+-- so many instructions more
+abbrev pub goes_on : ℕ → StrandWeight → StrandWeight
+goes_on k v = record { now = v.now + k; blocks = v.blocks }
+
+abbrev pub HasGoneOn : BurdenedPath → BurdenedPath → ℕ → Type 0
+HasGoneOn old new k = old.weight + k < 2 ^ 128 → strand_weight new ≡ goes_on k (strand_weight old)
+
+-- a block's first spawn since its last join, and a further one
+abbrev pub begins : StrandWeight → StrandWeight
+begins v = record { now = 0; blocks = record { longest = 0; saved = v.now } ∷ v.blocks }
+
+abbrev pub begins_again : StrandWeight → StrandWeight
+begins_again v = at v.now v.blocks
+  where
+    at : ℕ → List BurdenedBlock → StrandWeight
+    at n [] = record { now = 0; blocks = [] }
+    at n (b ∷ bs) = record { now = 0; blocks = record { longest = b.longest; saved = n } ∷ bs }
+
+abbrev pub spawns : (first : Bool) → StrandWeight → StrandWeight
+spawns true v = begins v
+spawns false v = begins_again v
+
+-- the spawned child that ran has ended
+abbrev pub ends : (burden : ℕ) → StrandWeight → StrandWeight
+ends burden v = at v.now v.blocks
+  where
+    at : ℕ → List BurdenedBlock → StrandWeight
+    at n [] = record { now = n; blocks = [] }
+    at n (b ∷ bs) = record { now = b.saved + burden; blocks = record { longest = max b.longest (b.saved + n); saved = b.saved } ∷ bs }
+
+-- the block joins
+abbrev pub joins : StrandWeight → StrandWeight
+joins v = at v.now v.blocks
+  where
+    at : ℕ → List BurdenedBlock → StrandWeight
+    at n [] = record { now = n; blocks = [] }
+    at n (b ∷ bs) = record { now = max b.longest n; blocks = bs }
+
+-- the path of the strand that runs with that up to its spawn, and the latter with so much more, fit 128 bits
+abbrev pub saved_of : List BurdenedBlock → ℕ
+saved_of [] = 0
+saved_of (b ∷ bs) = b.saved
+
+abbrev pub Fits : StrandWeight → ℕ → Type 0
+Fits v more = (saved_of v.blocks + v.now < 2 ^ 128) × (saved_of v.blocks + more < 2 ^ 128)
+
+-- a block that runs, or that a part in series goes on with
+abbrev pub StandsOn : (below : List BurdenedBlock → Type 0) → BlockWeight → List BurdenedBlock → Type 0
+StandsOn below (Straight n) bs = below bs
+StandsOn below (Split l n) [] = ⊥
+StandsOn below (Split l n) (b ∷ bs) = (b.longest ≡ l) × below bs
+
+-- a block whose spawned child runs
+abbrev pub RestsOn : (below : List BurdenedBlock → Type 0) → BlockWeight → List BurdenedBlock → Type 0
+RestsOn below L [] = ⊥
+RestsOn below (Straight n) (b ∷ bs) = (b.longest ≡ 0) × (b.saved ≡ n) × below bs
+RestsOn below (Split l n) (b ∷ bs) = (b.longest ≡ l) × (b.saved ≡ n) × below bs
+
+abbrev pub LiesUnder : (spawned : Bool) → (below : List BurdenedBlock → Type 0) → BlockWeight → List BurdenedBlock → Type 0
+LiesUnder true below L bs = RestsOn below L bs
+LiesUnder false below L bs = StandsOn below L bs
+
+abbrev pub Under : (burden : ℕ) → List Open → List BurdenedBlock → Type 0
+Under burden [] bs = bs ≡ []
+Under burden (o ∷ os) bs = LiesUnder o.spawned (Under burden os) (block_weight burden os o.outer) bs
+
+-- a strand's weight shows a run so far
+pub record ShowsWeight (burden : ℕ) (os : List Open) (es : List Event) (v : StrandWeight) : Type 0 where
+  pub now_is : v.now ≡ now_of (block_weight burden os es)
+  pub blocks_are : StandsOn (Under burden os) (block_weight burden os es) v.blocks
+
+-- a burdened path tells of a run so far
+pub record TellsWeight (burden : ℕ) (os : List Open) (es : List Event) (path : BurdenedPath) : Type 0 where
+  pub shows : ShowsWeight burden os es (strand_weight path)
+  pub noted_is : path.noted ≡ work_in os es
+
+-- the weights of a run so far fit 128 bits
+abbrev pub FitsRun : (burden : ℕ) → List Open → List Event → Type 0
+FitsRun burden os es = burdened_work_in burden os es < 2 ^ 128
+
+-- what each call on a burdened path does: it told of a run, and tells of what the run has come to
+abbrev pub NotesWeight : BurdenedPath → BurdenedPath → (count : ℕ) → Type 0
+NotesWeight old new count =
+    (burden : ℕ) (os : List Open) (es fs : List Event) → Since old.noted count es fs → FitsRun burden os (es ++ fs)
+    → TellsWeight burden os es old → TellsWeight burden os (es ++ fs) new
+
+abbrev pub SpawnsWeight : BurdenedPath → BurdenedPath → (count : ℕ) → (first : Bool) → Type 0
+SpawnsWeight old new count first =
+    (burden : ℕ) (mark : Option Mark) (os : List Open) (es fs : List Event) → Since old.noted count es fs → FitsRun burden os (es ++ fs)
+    → has_spawned es ≡ not first → TellsWeight burden os es old → TellsWeight burden (in_fork mark (es ++ fs) os) [] new
+
+abbrev pub EndsChildWeight : BurdenedPath → BurdenedPath → (count burden : ℕ) → Type 0
+EndsChildWeight old new count burden =
+    (o : Open) (os : List Open) (es fs : List Event) → Since old.noted count es fs → FitsRun burden (o ∷ os) (es ++ fs)
+    → o.spawned ≡ true → has_spawned es ≡ false → TellsWeight burden (o ∷ os) es old → TellsWeight burden os (closed o (es ++ fs)) new
+
+abbrev pub JoinsWeight : BurdenedPath → BurdenedPath → (count : ℕ) → Type 0
+JoinsWeight old new count =
+    (burden : ℕ) (os : List Open) (es fs : List Event) → Since old.noted count es fs → FitsRun burden os (es ++ fs)
+    → has_spawned es ≡ true → TellsWeight burden os es old → TellsWeight burden os ((es ++ fs) ++ Join ∷ []) new
+
+-- parts in series begin and end without a call, once the instructions so far are noted
+pub record SeriesNeedNoCall (burden : ℕ) (path : BurdenedPath) : Type 0 where
+  pub begins : (mark : Option Mark) (os : List Open) (es : List Event) → TellsWeight burden os es path → TellsWeight burden (in_series mark es os) [] path
+  pub ends : (o : Open) (os : List Open) (es : List Event) → o.spawned ≡ false → has_spawned es ≡ false → TellsWeight burden (o ∷ os) es path → TellsWeight burden os (closed o es) path
+
+-- what a burdened path says at the end of a run
+abbrev pub ReadsWeight : BurdenedPath → (weight : ℕ) → Type 0
+ReadsWeight path weight =
+    (burden : ℕ) (es : List Event) → has_spawned es ≡ false → TellsWeight burden [] es path → weight ≡ burdened_span burden (tree_of es)

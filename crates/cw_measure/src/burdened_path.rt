@@ -1,0 +1,166 @@
+//! The weight of a heaviest path, with a burden for each spawn, as a strand keeps it: only a spawn pushes a block.
+
+ghost use Rattle.std.specs.Prelude.{◌≡◌, ℕ, ◌-◌, [], OnOk};
+ghost use Rattle.cw_measure.specs.StrandWeights.{begins, begins_again, ends, joins, spawns, strand_weight, Fits, HasGoneOn};
+ghost use Rattle.cw_measure.specs.StrandWeights.{EndsChildWeight, JoinsWeight, NotesWeight, ReadsWeight, SpawnsWeight, TellsWeight};
+
+use std::alloc::{AllocError, Global};
+
+/// A block that has spawned since its last join, from where its strand or child began.
+#[derive(Clone, Copy, Debug)]
+pub struct BurdenedBlock {
+    /// The weight of the heaviest path into a child that has ended; 0 where there is none.
+    pub longest: u128,
+    /// While a child runs: the weight of the path up to its spawn.
+    pub saved: u128,
+}
+
+/// The weight of the heaviest path of the strand that runs, in instructions and burdens, and of the blocks round it
+/// that have spawned.
+///
+/// Each call is told the count of instructions so far, those of children that others ran included.
+#[derive(Debug, Drop)]
+pub struct BurdenedPath {
+    /// From where the strand, or the spawned child that runs, began.
+    pub weight: u128,
+    /// The count up to which instructions are in it.
+    pub noted: u64,
+    /// The blocks that have spawned, the innermost last.
+    pub blocks: Vec<BurdenedBlock>,
+}
+
+impl BurdenedPath {
+    /// Nothing has run. Takes no memory.
+    pub fn new(alloc: Global) -> BurdenedPath
+        ensures { (burden : ℕ) → TellsWeight burden [] [] result }
+    {
+        BurdenedPath {
+            weight: 0,
+            noted: 0,
+            blocks: Vec::new(alloc),
+        }
+    }
+
+    /// The instructions up to this count are noted: to be called before the weight is read.
+    #[inline(always)]
+    pub fn note(&mut self, count: u64)
+        ensures tells { NotesWeight self.old self.new count }
+        ensures weight { HasGoneOn self.old self.new (count - self.old.noted) }
+        ensures noted { self.new.noted ≡ count }
+    {
+        let since = count.saturating_sub(self.noted);
+        self.weight = self.weight.saturating_add(since as u128);
+        self.noted = count;
+    }
+
+    /// A spawned part begins; `first` says that its block has not spawned since its last join.
+    pub fn spawn(&mut self, count: u64, first: bool) -> Result<(), AllocError>
+        ensures { OnOk result (SpawnsWeight self.old self.new count first) }
+    {
+        self.note(count);
+        self.begin(first)?;
+        Ok(())
+    }
+
+    /// The spawned part that runs ends, its block joined: its path may be the longest, and then the burden is added to
+    /// the path of the strand that goes on.
+    pub fn end_child(&mut self, count: u64, burden: u64)
+        ensures { EndsChildWeight self.old self.new count burden }
+    {
+        self.note(count);
+        self.end(burden);
+    }
+
+    /// A block joins that has spawned since its last join. Where it has not, there is nothing to call.
+    pub fn join(&mut self, count: u64)
+        ensures { JoinsWeight self.old self.new count }
+    {
+        self.note(count);
+        self.join_block();
+    }
+
+    /// The burdened span of a run, once no part is open and the block has joined.
+    pub fn weight(&self) -> u128
+        ensures value { result ≡ self.now.weight }
+        ensures reads { ReadsWeight self.now result }
+    {
+        self.weight
+    }
+
+    #[inline(always)]
+    fn begin(&mut self, first: bool) -> Result<(), AllocError>
+        ensures weight { OnOk result (strand_weight self.new ≡ spawns first (strand_weight self.old)) }
+        ensures noted { OnOk result (self.new.noted ≡ self.old.noted) }
+    {
+        if first {
+            self.begin_first()?;
+            Ok(())
+        } else {
+            self.begin_again();
+            Ok(())
+        }
+    }
+
+    // A block's first spawn since its last join.
+    #[inline(always)]
+    fn begin_first(&mut self) -> Result<(), AllocError>
+        ensures weight { OnOk result (strand_weight self.new ≡ begins (strand_weight self.old)) }
+        ensures noted { OnOk result (self.new.noted ≡ self.old.noted) }
+    {
+        self.blocks.push(BurdenedBlock {
+            longest: 0,
+            saved: self.weight,
+        })?;
+        self.weight = 0;
+        Ok(())
+    }
+
+    // A further spawn of the innermost block that has spawned.
+    #[inline(always)]
+    fn begin_again(&mut self)
+        ensures weight { strand_weight self.new ≡ begins_again (strand_weight self.old) }
+        ensures noted { self.new.noted ≡ self.old.noted }
+    {
+        let len = self.blocks.len();
+        if len == 0 {
+            self.weight = 0;
+            return;
+        }
+        let block = self.blocks[len - 1];
+        self.blocks[len - 1] = BurdenedBlock {
+            longest: block.longest,
+            saved: self.weight,
+        };
+        self.weight = 0;
+    }
+
+    // The spawned child that ran has ended.
+    #[inline(always)]
+    fn end(&mut self, burden: u64)
+        ensures weight { Fits (strand_weight self.old) burden → strand_weight self.new ≡ ends burden (strand_weight self.old) }
+        ensures noted { self.new.noted ≡ self.old.noted }
+    {
+        let len = self.blocks.len();
+        if len == 0 {
+            return;
+        }
+        let block = self.blocks[len - 1];
+        let child = block.saved.saturating_add(self.weight);
+        self.blocks[len - 1] = BurdenedBlock {
+            longest: block.longest.max(child),
+            saved: block.saved,
+        };
+        self.weight = block.saved.saturating_add(burden as u128);
+    }
+
+    // The innermost block that has spawned joins.
+    #[inline(always)]
+    fn join_block(&mut self)
+        ensures weight { strand_weight self.new ≡ joins (strand_weight self.old) }
+        ensures noted { self.new.noted ≡ self.old.noted }
+    {
+        if let Some(block) = self.blocks.pop() {
+            self.weight = block.longest.max(self.weight);
+        }
+    }
+}

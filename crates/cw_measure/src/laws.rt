@@ -1,0 +1,54 @@
+//! The laws of measures: each function has one as its contract, and does nothing.
+
+ghost use Rattle.std.specs.Prelude.{Bool, ℕ};
+ghost use Rattle.cw_model.specs.Trees.{Mark, Tree};
+ghost use Rattle.cw_measure.specs.BlockWeights.{BlocksWeighTheirSpans, WorkAndWeightAreMetered};
+ghost use Rattle.cw_measure.specs.Counters.{CountersReadSpans};
+ghost use Rattle.cw_measure.specs.Measured.{MeasuresReadTrees};
+ghost use Rattle.cw_measure.specs.Outermost.{Meters, AllPiecesTally, Reading, TalliesKeep};
+ghost use Rattle.cw_measure.specs.StrandWeights.{SeriesNeedNoCall};
+ghost use Rattle.cw_measure.specs.declared.burdened_path.BurdenedPath.{BurdenedPath};
+
+/// Exact counters read the burdened span of the tree of their events, and those of two pieces make those of the whole.
+#[tactic(auto, using(crate::proofs::MeasureLaws::counters_read_spans))]
+pub fn counters_read_spans()
+    ensures { CountersReadSpans }
+{}
+
+/// The measure of events reads their tree, and those of two pieces join to that of the whole.
+#[tactic(auto, using(crate::proofs::MeasureLaws::measures_read_trees))]
+pub fn measures_read_trees()
+    ensures { MeasuresReadTrees }
+{}
+
+/// What a strand keeps of a block adds the burdened span of the block's tree to what came before.
+#[tactic(auto, using(crate::proofs::BlockWeightLaws::blocks_weigh_their_spans))]
+pub fn blocks_weigh_their_spans()
+    ensures { BlocksWeighTheirSpans }
+{}
+
+/// Parts in series begin and end without a call on the burdened path, once the instructions so far are noted.
+#[tactic(auto, using(crate::proofs::StrandWeightLaws::series_need_no_call))]
+pub fn series_need_no_call()
+    ensures { (burden : ℕ) (path : BurdenedPath) → SeriesNeedNoCall burden path }
+{}
+
+/// The work of a run and the weight of a strand's heaviest path grow along each part, whose block has joined, by the
+/// part's work and burdened span.
+#[tactic(auto, using(crate::proofs::StrandWeightLaws::work_and_weight_are_metered))]
+pub fn work_and_weight_are_metered()
+    ensures { WorkAndWeightAreMetered }
+{}
+
+/// One theory for call sites and for region tags: whatever is metered and whichever marks are counted, a tally that
+/// is told where counted parts begin and end sums what is measured of those that lie in no other one.
+#[tactic(auto, using(crate::proofs::OutermostLaws::tallies_keep))]
+pub fn tallies_sum_outermost_parts()
+    ensures { (f : Tree → ℕ) (read : Reading) (picks : Mark → Bool) (busy : ℕ) → Meters f read → TalliesKeep f read picks busy }
+{}
+
+/// Sums of pieces that ran apart add, whatever is measured and whichever marks are counted.
+#[tactic(auto, using(crate::proofs::OutermostLaws::pieces_tally))]
+pub fn tallies_of_pieces_add()
+    ensures { AllPiecesTally }
+{}

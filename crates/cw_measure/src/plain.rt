@@ -1,0 +1,124 @@
+//! Counters in 64 bits, for weights without a burden.
+
+ghost use Rattle.std.specs.Prelude.{◌≡◌};
+ghost use Rattle.cw_measure.specs.Counters.{up_to, onward, fresh, ticked, forked, synced, heaviest};
+ghost use Rattle.cw_measure.specs.Measured.{most};
+
+use std::marker::Model;
+
+/// How heavy the paths of a piece of one sync block are so far. Sums stop at the greatest number.
+#[derive(Debug, Drop)]
+pub struct Plain {
+    // What the first join closed, if there was one.
+    prefix: Option<u64>,
+    // The path into the longest child since the last join; 0 where there is none.
+    longest: u64,
+    // The continuation since the first join, up to here.
+    continuation: u64,
+}
+
+impl Model for Plain {
+    ghost use Rattle.cw_measure.specs.Counters.{Counters, counters_of};
+
+    ghost Value = { Counters };
+
+    ghost view = { λ a. counters_of a.prefix a.longest a.continuation };
+}
+
+// The sum, or the greatest number.
+fn sum_of(a: u64, b: u64) -> u64
+    ensures { result ≡ up_to most a b }
+{
+    a.saturating_add(b)
+}
+
+// A longest child, after so much.
+fn later(by: u64, longest: u64) -> u64
+    ensures { result ≡ Rattle.cw_measure.specs.Counters.later (up_to most) by longest }
+{
+    if longest == 0 { 0 } else { sum_of(by, longest) }
+}
+
+impl Plain {
+    /// The counters of an empty piece.
+    pub fn new() -> Plain
+        ensures { result ≡ fresh }
+    {
+        Plain {
+            prefix: None,
+            longest: 0,
+            continuation: 0,
+        }
+    }
+
+    /// So many instructions more.
+    pub fn tick(&mut self, n: u64)
+        ensures { self.new ≡ ticked (up_to most) n self.old }
+    {
+        self.continuation = sum_of(self.continuation, n);
+    }
+
+    /// A spawned child of this span more.
+    pub fn fork(&mut self, burden: u64, child: u64)
+        ensures { self.new ≡ forked (up_to most) burden child self.old }
+    {
+        self.longest = self.longest.max(later(self.continuation, child));
+        self.continuation = sum_of(self.continuation, burden);
+    }
+
+    /// A join.
+    pub fn sync(&mut self)
+        ensures { self.new ≡ synced self.old }
+    {
+        let closed = self.longest.max(self.continuation);
+        self.longest = 0;
+        match self.prefix {
+            None => {
+                self.prefix = Some(closed);
+                self.continuation = 0;
+            }
+            Some(_) => {
+                self.continuation = closed;
+            }
+        }
+    }
+
+    /// This piece, and then the next of the same block.
+    pub fn onward(self, right: Plain) -> Plain
+        ensures { result ≡ onward (up_to most) self right }
+    {
+        match right.prefix {
+            None => Plain {
+                prefix: self.prefix,
+                longest: self.longest.max(later(self.continuation, right.longest)),
+                continuation: sum_of(self.continuation, right.continuation),
+            },
+            Some(first) => {
+                let closed = self.longest.max(sum_of(self.continuation, first));
+                match self.prefix {
+                    None => Plain {
+                        prefix: Some(closed),
+                        longest: right.longest,
+                        continuation: right.continuation,
+                    },
+                    Some(prefix) => Plain {
+                        prefix: Some(prefix),
+                        longest: later(closed, right.longest),
+                        continuation: sum_of(closed, right.continuation),
+                    },
+                }
+            }
+        }
+    }
+
+    /// The weight of a heaviest path.
+    pub fn heaviest(&self) -> u64
+        ensures { result ≡ heaviest (up_to most) self.now }
+    {
+        let last = self.longest.max(self.continuation);
+        match self.prefix {
+            None => last,
+            Some(prefix) => sum_of(prefix, last),
+        }
+    }
+}

@@ -1,0 +1,30 @@
+use Rattle.std.proofs.Common.{ℕ, nat_eq, sym, subst, ap, ◌∙◌}
+use Rattle.std.specs.Cmp.{nat_eq_equiv}
+use Rattle.indexmap.specs.IndexMap.{get, with_value_at}
+use Rattle.indexmap.proofs.CallerLemmas.{updates-with_value_at}
+use Rattle.cw_regions.specs.declared.rows.Row.{Row}
+use Rattle.cw_regions.specs.RegionRows.{FitsRow, left}
+use Rattle.cw_regions.proofs.RowLaws.{row_here, row_was, row_elsewhere}
+use Rattle.cw_regions.proofs.rows.Rows.end.Goals as goal
+
+pub returns-then-is_at_home-clause-own : goal.returns-then-is_at_home-clause-own
+returns-then-is_at_home-clause-own c = λ fits.
+    let e = c.pair_mut-slot.ensures in
+    let m = c.args.self.now.by_tag in
+    let w = c.left-row.result in
+    let u = updates-with_value_at m c.args.tag w nat_eq_equiv e.unique _ _ e.value in
+    let s = c.if-is_at_home.ensures.key _ _ e.value in
+    let was = row_was (get nat_eq m c.args.tag) _ (c.if-is_at_home.ensures.value _ _ e.value) in
+    let F : Row → Type 0 = λ r. FitsRow (left c.args.count c.args.span c.args.burdened r) in
+    row_here _ c.args.tag (λ (x : ℕ). get nat_eq (with_value_at m c.args.tag w) x) w s u.1
+    ∙ c.left-row.ensures (subst F was fits)
+    ∙ ap (left c.args.count c.args.span c.args.burdened) (sym was)
+
+pub returns-then-is_at_home-clause-others : goal.returns-then-is_at_home-clause-others
+returns-then-is_at_home-clause-others c = λ q n.
+    let e = c.pair_mut-slot.ensures in
+    let m = c.args.self.now.by_tag in
+    let w = c.left-row.result in
+    let u = updates-with_value_at m c.args.tag w nat_eq_equiv e.unique _ _ e.value in
+    let s = c.if-is_at_home.ensures.key _ _ e.value in
+    row_elsewhere _ c.args.tag q (get nat_eq m q) (get nat_eq (with_value_at m c.args.tag w) q) s n (u.2 q)

@@ -1,0 +1,2 @@
+pub mod RegionRows
+pub mod Regions

@@ -1,0 +1,77 @@
+-- What is counted of a region tag over a run so far.
+use Rattle.std.specs.Prelude.{◌≡◌, ℕ, ◌+◌, ◌-◌, ◌^◌, ◌<◌, ◌==◌, nat_eq, Bool, true, false, unwrap_or, if◌then◌else◌, Some, slice_get}
+use Rattle.cw_regions.specs.declared.rows.Row.{Row}
+use Rattle.cw_regions.specs.declared.rows.Rows.{Rows}
+use Rattle.cw_measure.specs.Outermost.{Tally}
+use Rattle.indexmap.specs.IndexMap.{get}
+
+abbrev pub zero_row : Row
+zero_row = record { work = 0; span = 0; burdened = 0; active = 0; at_work = 0; at_path = 0; at_burdened = 0 }
+
+-- the row of a tag; zeros where there is none
+abbrev pub row_of : Rows → ℕ → Row
+row_of rows tag = unwrap_or (get nat_eq rows.by_tag tag) zero_row
+
+-- an execution begins, at this work and on a path of this weight
+abbrev pub entered_at : (first : Bool) → (count span burdened : ℕ) → Row → Row
+entered_at true count span burdened r = record { work = r.work; span = r.span; burdened = r.burdened; active = r.active + 1; at_work = count; at_path = span; at_burdened = burdened }
+entered_at false count span burdened r = record { work = r.work; span = r.span; burdened = r.burdened; active = r.active + 1; at_work = r.at_work; at_path = r.at_path; at_burdened = r.at_burdened }
+
+abbrev pub entered : (count span burdened : ℕ) → Row → Row
+entered count span burdened r = entered_at (r.active == 0) count span burdened r
+
+-- it ends: the outermost one is summed
+abbrev pub left_at : (last : Bool) → (count span burdened : ℕ) → Row → Row
+left_at true count span burdened r = record { work = r.work + (count - r.at_work); span = r.span + (span - r.at_path); burdened = r.burdened + (burdened - r.at_burdened); active = r.active - 1; at_work = r.at_work; at_path = r.at_path; at_burdened = r.at_burdened }
+left_at false count span burdened r = record { work = r.work; span = r.span; burdened = r.burdened; active = r.active - 1; at_work = r.at_work; at_path = r.at_path; at_burdened = r.at_burdened }
+
+abbrev pub left : (count span burdened : ℕ) → Row → Row
+left count span burdened r = left_at (r.active == 1) count span burdened r
+
+-- the tallies of a row: the work, the span and the burdened span of its outermost executions
+abbrev pub work_tally : Row → Tally
+work_tally r = record { sum = r.work; active = r.active; began = r.at_work }
+
+abbrev pub span_tally : Row → Tally
+span_tally r = record { sum = r.span; active = r.active; began = r.at_path }
+
+abbrev pub burdened_tally : Row → Tally
+burdened_tally r = record { sum = r.burdened; active = r.active; began = r.at_burdened }
+
+-- the sums of a row fit their types
+pub record FitsRow (r : Row) : Type 0 where
+  pub work : r.work < 2 ^ 64
+  pub span : r.span < 2 ^ 64
+  pub burdened : r.burdened < 2 ^ 128
+  pub active : r.active < 2 ^ 64
+
+-- a row, and that of a piece that ran apart and of which no execution is open
+abbrev pub summed : Row → Row → Row
+summed a b = record { work = a.work + b.work; span = a.span + b.span; burdened = a.burdened + b.burdened; active = a.active; at_work = a.at_work; at_path = a.at_path; at_burdened = a.at_burdened }
+
+-- the row of a tag was taken out
+pub record Took (old new : Rows) (tag : ℕ) (row : Row) : Type 0 where
+  pub row_is : row_of old tag ≡ row
+  pub gone : row_of new tag ≡ zero_row
+  pub others : (q : ℕ) → (tag == q) ≡ false → row_of new q ≡ row_of old q
+
+-- each row whose sums fit has those of the piece
+abbrev pub JoinsRows : Rows → Rows → Rows → Type 0
+JoinsRows old right new = (q : ℕ) → FitsRow (summed (row_of old q) (row_of right q)) → row_of new q ≡ summed (row_of old q) (row_of right q)
+
+-- the row of one tag becomes this, where its sums fit, and the rows of the others stay
+abbrev pub Becomes : (Row → Row) → Rows → Rows → (tag : ℕ) → Type 0
+Becomes f old new tag = FitsRow (f (row_of old tag)) → row_of new tag ≡ f (row_of old tag)
+
+abbrev pub OthersStay : Rows → Rows → (tag : ℕ) → Type 0
+OthersStay old new tag = (q : ℕ) → (tag == q) ≡ false → row_of new q ≡ row_of old q
+
+abbrev pub IsGiven : Rows → Rows → (tag : ℕ) → Row → Type 0
+IsGiven old new tag row = (q : ℕ) → row_of new q ≡ (if tag == q then row else row_of old q)
+
+-- the entry at the index of the number, if there is one, is that of the tag
+abbrev pub KeyAtHome : Rows → (tag : ℕ) → Type 0
+KeyAtHome rows tag = (k : ℕ) (row : Row) → slice_get rows.by_tag.entries tag ≡ Some (k, row) → k ≡ tag
+
+abbrev pub ValueAtHome : Rows → (tag : ℕ) → Type 0
+ValueAtHome rows tag = (k : ℕ) (row : Row) → slice_get rows.by_tag.entries tag ≡ Some (k, row) → get nat_eq rows.by_tag tag ≡ Some row

@@ -1,0 +1,116 @@
+-- What a region table tells of a run so far.
+use Rattle.std.specs.Prelude.{◌≡◌, ℕ, ◌+◌, ◌==◌, ◌<◌, ◌^◌, if◌then◌else◌, true, false, List, [], ◌∷◌, ◌++◌, Option, Some, None}
+use Rattle.cw_model.specs.Syntax.{Name}
+use Rattle.cw_model.specs.Names.{same_name}
+use Rattle.cw_model.specs.Trees.{Mark, Invocation, Execution, Tree, Event, Work, Series, Fork, Join, tree_of, work, span, burdened_span}
+use Rattle.cw_model.specs.Rows.{is_tag, region_row}
+use Rattle.cw_model.specs.Rows as model
+use Rattle.cw_measure.specs.OpenParts.{Open, in_series, closed, has_spawned, work_in}
+use Rattle.cw_measure.specs.Outermost.{active_in, Reading, Meters, Counts}
+use Rattle.cw_measure.specs.StrandWeights.{FitsRun}
+use Rattle.cw_regions.specs.declared.rows.Row.{Row}
+use Rattle.cw_regions.specs.declared.table.RegionRow as declared
+use Rattle.cw_regions.specs.declared.table.RegionTable.{RegionTable}
+use Rattle.cw_regions.specs.RegionRows.{row_of, work_tally, span_tally, burdened_tally}
+
+-- how the weight of the path that runs is read, in instructions and with burdens
+pub record Readings (burden : ℕ) : Type 0 where
+  pub path : Reading
+  pub burdened : Reading
+  pub path_is : Meters span path
+  pub burdened_is : Meters (burdened_span burden) burdened
+
+-- the tags of a source by number, of which no two are the same
+pub record Tags : Type 0 where
+  pub count : ℕ
+  pub name : ℕ → Name
+  pub differ : (j k : ℕ) → j < count → k < count → same_name (name j) (name k) ≡ true → j ≡ k
+
+-- a row counts the executions of a tag over a run so far
+pub record CountsTag (burden : ℕ) (along : Readings burden) (tag : Name) (busy : ℕ) (os : List Open) (es : List Event) (r : Row) : Type 0 where
+  pub work_is : Counts work work_in (is_tag tag) busy os es (work_tally r)
+  pub span_is : Counts span along.path (is_tag tag) busy os es (span_tally r)
+  pub burdened_is : Counts (burdened_span burden) along.burdened (is_tag tag) busy os es (burdened_tally r)
+
+-- a table tells, for each tag, of a run so far; so many executions of each were open round it
+abbrev pub TellsRegions : (burden : ℕ) → Readings burden → Tags → (busy : ℕ → ℕ) → List Open → List Event → RegionTable → Type 0
+TellsRegions burden along tags busy os es table =
+    (k : ℕ) → k < tags.count → CountsTag burden along (tags.name k) (busy k) os es (row_of table.rows k)
+
+-- the numbers of a run fit their types
+pub record SmallRegions (burden : ℕ) (tags : Tags) (busy : ℕ → ℕ) (os : List Open) (es : List Event) : Type 0 where
+  pub work : work_in os es < 2 ^ 64
+  pub burdened : FitsRun burden os es
+  pub active : (k : ℕ) → active_in (is_tag (tags.name k)) (busy k) os < 2 ^ 64
+
+-- an execution of a tag begins after these events
+abbrev pub executed : Tags → (tag : ℕ) → List Event → List Open → List Open
+executed tags tag es os = in_series (Some (Execution (tags.name tag))) es os
+
+abbrev pub StartsRegions : RegionTable → Type 0
+StartsRegions table = (burden : ℕ) (along : Readings burden) (tags : Tags) → TellsRegions burden along tags (λ k. 0) [] [] table
+
+-- what each call on a table does: it told of a run, and tells of what the run has come to
+abbrev pub BeginsRegion : RegionTable → RegionTable → (tag count path heavy : ℕ) → Type 0
+BeginsRegion old new tag count path heavy =
+    (burden : ℕ) (along : Readings burden) (tags : Tags) (busy : ℕ → ℕ) (os : List Open) (es : List Event) → tag < tags.count
+    → count ≡ work_in os es → path ≡ along.path os es → heavy ≡ along.burdened os es
+    → SmallRegions burden tags busy (executed tags tag es os) [] → TellsRegions burden along tags busy os es old
+    → TellsRegions burden along tags busy (executed tags tag es os) [] new
+
+abbrev pub EndsRegion : RegionTable → RegionTable → (tag count path heavy : ℕ) → Type 0
+EndsRegion old new tag count path heavy =
+    (burden : ℕ) (along : Readings burden) (tags : Tags) (busy : ℕ → ℕ) (os : List Open) (before es : List Event) → tag < tags.count
+    → count ≡ work_in (executed tags tag before os) es → path ≡ along.path (executed tags tag before os) es
+    → heavy ≡ along.burdened (executed tags tag before os) es → has_spawned es ≡ false
+    → SmallRegions burden tags busy (executed tags tag before os) es → TellsRegions burden along tags busy (executed tags tag before os) es old
+    → TellsRegions burden along tags busy os (closed (record { spawned = false; mark = Some (Execution (tags.name tag)); outer = before }) es) new
+
+-- a row is the row of a tag in a tree
+pub record IsRow (row : declared.RegionRow) (of : model.RegionRow) : Type 0 where
+  pub work : row.work ≡ of.work
+  pub span : row.span ≡ of.span
+  pub burdened : row.burdened ≡ of.burdened
+
+-- a row that is read once no part is open
+abbrev pub ReadsRegion : RegionTable → (tag : ℕ) → declared.RegionRow → Type 0
+ReadsRegion table tag row =
+    (burden : ℕ) (along : Readings burden) (tags : Tags) (busy : ℕ → ℕ) (es : List Event) → tag < tags.count → busy tag ≡ 0
+    → TellsRegions burden along tags busy [] es table → IsRow row (region_row burden (tags.name tag) (tree_of es))
+
+-- a part that is no execution of a tag: a call, a scope, a cut, a loop's turn or half
+abbrev pub IsNoExecution : Option Mark → Type 0
+IsNoExecution None = Unit {0}
+IsNoExecution (Some (Invocation site)) = Unit {0}
+IsNoExecution (Some (Execution tag)) = ⊥
+
+-- what goes on, joins, begins and ends without a call of the table
+pub record RegionsNeedNoCall (burden : ℕ) (along : Readings burden) (tags : Tags) (busy : ℕ → ℕ) (os : List Open) (table : RegionTable) : Type 0 where
+  pub work : (es : List Event) (k : ℕ) → TellsRegions burden along tags busy os es table → TellsRegions burden along tags busy os (es ++ Work k ∷ []) table
+  pub join : (es : List Event) → TellsRegions burden along tags busy os es table → TellsRegions burden along tags busy os (es ++ Join ∷ []) table
+  pub begins : (o : Open) → IsNoExecution o.mark → TellsRegions burden along tags busy os o.outer table → TellsRegions burden along tags busy (o ∷ os) [] table
+  pub ends : (o : Open) (es : List Event) → IsNoExecution o.mark → TellsRegions burden along tags busy (o ∷ os) es table → TellsRegions burden along tags busy os (closed o es) table
+
+-- and so for every table
+abbrev pub RegionsKeep : Type 0
+RegionsKeep =
+    (burden : ℕ) (along : Readings burden) (tags : Tags) (busy : ℕ → ℕ) (os : List Open) (table : RegionTable)
+    → RegionsNeedNoCall burden along tags busy os table
+
+-- how many executions of each tag are open round what runs
+abbrev pub busy_in : Tags → (busy : ℕ → ℕ) → List Open → ℕ → ℕ
+busy_in tags busy os k = active_in (is_tag (tags.name k)) (busy k) os
+
+-- a piece that ran apart inside of the open parts is joined on: further events of the block that runs, or a spawned part of it
+pub record JoinsRegions (old right new : RegionTable) : Type 0 where
+  pub further : (burden : ℕ) (along there : Readings burden) (tags : Tags) (busy : ℕ → ℕ) (os : List Open) (es fs : List Event) → SmallRegions burden tags busy os (es ++ fs) → TellsRegions burden along tags busy os es old → TellsRegions burden there tags (busy_in tags busy os) [] fs right → TellsRegions burden along tags busy os (es ++ fs) new
+  pub spawned : (burden : ℕ) (along there : Readings burden) (tags : Tags) (busy : ℕ → ℕ) (os : List Open) (es : List Event) (child : Tree) → SmallRegions burden tags busy os (es ++ Fork child ∷ []) → TellsRegions burden along tags busy os es old → TellsRegions burden there tags (busy_in tags busy os) [] (Series child ∷ []) right → TellsRegions burden along tags busy os (es ++ Fork child ∷ []) new
+
+-- one more execution of a tag is open round a piece that begins
+abbrev pub one_more : (tag : ℕ) → (busy : ℕ → ℕ) → ℕ → ℕ
+one_more tag busy k = if tag == k then busy k + 1 else busy k
+
+abbrev pub StandsInRegion : RegionTable → RegionTable → (tag : ℕ) → Type 0
+StandsInRegion old new tag =
+    (burden : ℕ) (along : Readings burden) (tags : Tags) (busy : ℕ → ℕ) → busy tag + 1 < 2 ^ 64
+    → TellsRegions burden along tags busy [] [] old → TellsRegions burden along tags (one_more tag busy) [] [] new

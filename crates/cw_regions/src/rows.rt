@@ -1,0 +1,204 @@
+//! What is counted of each region tag, kept by the tag's number, in the order of the source.
+
+ghost use Rattle.std.specs.Prelude.{◌≡◌, ℕ, ◌==◌, ◌<◌, false, nat_eq, Some, None, IfSome, slice_get, OnOk, if◌then◌else◌};
+ghost use Rattle.std.specs.Bool.{OnTrue};
+ghost use Rattle.indexmap.specs.IndexMap.{index_map_len, get};
+ghost use Rattle.cw_regions.specs.RegionRows as rows;
+ghost use Rattle.cw_regions.specs.RegionRows.{row_of, zero_row, FitsRow, JoinsRows, Took, Becomes, IsGiven, KeyAtHome, OthersStay, ValueAtHome};
+
+use indexmap::IndexMap;
+use std::alloc::{AllocError, Global};
+
+/// What is counted of a tag so far.
+#[derive(Clone, Copy, Debug)]
+pub struct Row {
+    /// The work of its executions that ended and lie in no other execution of the tag.
+    pub work: u64,
+    /// Their span.
+    pub span: u64,
+    /// Their burdened span.
+    pub burdened: u128,
+    /// How many of its executions are open.
+    pub active: u64,
+    /// The work so far as the outermost open one began.
+    pub at_work: u64,
+    /// The weight of the strand's path as it began.
+    pub at_path: u64,
+    /// The same with burdens.
+    pub at_burdened: u128,
+}
+
+/// The rows by the tag's number. A tag without a row has a row of zeros.
+#[derive(Debug, Drop)]
+pub struct Rows {
+    pub by_tag: IndexMap<u32, Row>,
+}
+
+const ZERO: Row = Row {
+    work: 0,
+    span: 0,
+    burdened: 0,
+    active: 0,
+    at_work: 0,
+    at_path: 0,
+    at_burdened: 0,
+};
+
+impl Rows {
+    /// No rows. Takes no memory.
+    pub fn new(alloc: Global) -> Rows
+        ensures { (q : ℕ) → row_of result q ≡ zero_row }
+    {
+        Rows {
+            by_tag: IndexMap::new(alloc),
+        }
+    }
+
+    /// Whether the row of this tag stands at the index of its number.
+    #[inline(always)]
+    fn is_at_home(&self, tag: u32) -> bool
+        ensures within { OnTrue result (tag < index_map_len self.now.by_tag) }
+        ensures key { OnTrue result (KeyAtHome self.now tag) }
+        ensures value { OnTrue result (ValueAtHome self.now tag) }
+    {
+        match self.by_tag.get_index(tag as usize) {
+            Some((key, _)) => *key == tag,
+            None => false,
+        }
+    }
+
+    /// The row of a tag.
+    #[inline(always)]
+    pub fn row(&self, tag: u32) -> Row
+        ensures { result ≡ row_of self.now tag }
+    {
+        match self.by_tag.get_index(tag as usize) {
+            Some((key, row)) if *key == tag => *row,
+            _ => match self.by_tag.get(&tag) {
+                Some(row) => *row,
+                None => ZERO,
+            },
+        }
+    }
+
+    /// An execution of a tag begins, at this work and on a path of this weight, without burdens and with them.
+    #[inline(always)]
+    pub fn begin(
+        &mut self,
+        tag: u32,
+        count: u64,
+        span: u64,
+        burdened: u128,
+    ) -> Result<(), AllocError>
+        ensures own { OnOk result (Becomes (rows.entered count span burdened) self.old self.new tag) }
+        ensures others { OnOk result (OthersStay self.old self.new tag) }
+    {
+        if self.is_at_home(tag) {
+            let (_, slot) = self.by_tag.pair_mut(tag as usize);
+            let row = entered(*slot, count, span, burdened);
+            *slot = row;
+            return Ok(());
+        }
+        let row = entered(self.row(tag), count, span, burdened);
+        self.set(tag, row)?;
+        Ok(())
+    }
+
+    /// An execution of a tag ends, its body's block joined.
+    #[inline(always)]
+    pub fn end(&mut self, tag: u32, count: u64, span: u64, burdened: u128) -> Result<(), AllocError>
+        ensures own { OnOk result (Becomes (rows.left count span burdened) self.old self.new tag) }
+        ensures others { OnOk result (OthersStay self.old self.new tag) }
+    {
+        if self.is_at_home(tag) {
+            let (_, slot) = self.by_tag.pair_mut(tag as usize);
+            let row = left(*slot, count, span, burdened);
+            *slot = row;
+            return Ok(());
+        }
+        let row = left(self.row(tag), count, span, burdened);
+        self.set(tag, row)?;
+        Ok(())
+    }
+
+    /// Adds, for each tag, the sums of a piece that ran apart and of which no execution is open: one step for each row
+    /// of the piece.
+    pub fn join(&mut self, right: Rows) -> Result<(), AllocError>
+        ensures { OnOk result (JoinsRows self.old right self.new) }
+    {
+        let mut rest = right;
+        while let Some((tag, row)) = rest.take_last() {
+            let current = self.row(tag);
+            let sum = summed(current, row);
+            self.set(tag, sum)?;
+        }
+        Ok(())
+    }
+
+    // Takes some row out, where there is one.
+    fn take_last(&mut self) -> Option<(u32, Row)>
+        ensures took { IfSome result (λ p. Took self.old self.new p.0 p.1) }
+        ensures none { result ≡ None → (q : ℕ) → row_of self.old q ≡ zero_row }
+        ensures fewer { IfSome result (λ p. index_map_len self.new.by_tag < index_map_len self.old.by_tag) }
+    {
+        let (tag, row) = self.by_tag.pop()?;
+        Some((tag, row))
+    }
+
+    /// Gives a tag its row.
+    #[inline(always)]
+    pub fn set(&mut self, tag: u32, row: Row) -> Result<(), AllocError>
+        ensures { OnOk result (IsGiven self.old self.new tag row) }
+    {
+        if self.is_at_home(tag) {
+            let (_, slot) = self.by_tag.pair_mut(tag as usize);
+            *slot = row;
+            return Ok(());
+        }
+        self.by_tag.insert(tag, row)?;
+        Ok(())
+    }
+}
+
+/// The row after an execution of its tag began, at this work and on a path of this weight.
+#[inline(always)]
+pub fn entered(row: Row, count: u64, span: u64, burdened: u128) -> Row
+    ensures { FitsRow (rows.entered count span burdened row) → result ≡ rows.entered count span burdened row }
+{
+    let mut row = row;
+    if row.active == 0 {
+        row.at_work = count;
+        row.at_path = span;
+        row.at_burdened = burdened;
+    }
+    row.active = row.active.saturating_add(1);
+    row
+}
+
+/// The row after an execution of its tag ended: the outermost one is summed.
+#[inline(always)]
+pub fn left(row: Row, count: u64, span: u64, burdened: u128) -> Row
+    ensures { FitsRow (rows.left count span burdened row) → result ≡ rows.left count span burdened row }
+{
+    let mut row = row;
+    if row.active == 1 {
+        row.work = row.work.saturating_add(count.saturating_sub(row.at_work));
+        row.span = row.span.saturating_add(span.saturating_sub(row.at_path));
+        row.burdened = row
+            .burdened
+            .saturating_add(burdened.saturating_sub(row.at_burdened));
+    }
+    row.active = row.active.saturating_sub(1);
+    row
+}
+
+/// The row with the sums of a piece's row.
+pub fn summed(row: Row, piece: Row) -> Row
+    ensures { FitsRow (rows.summed row piece) → result ≡ rows.summed row piece }
+{
+    let mut row = row;
+    row.work = row.work.saturating_add(piece.work);
+    row.span = row.span.saturating_add(piece.span);
+    row.burdened = row.burdened.saturating_add(piece.burdened);
+    row
+}

@@ -1,0 +1,10 @@
+pub mod ChosenPathLaws
+pub mod BlockPathLaws
+pub mod StepSumLaws
+pub mod CompactingLaws
+pub mod OpenPathLaws
+pub mod RowLaws
+pub mod SiteRowLaws
+pub mod Bounds
+pub mod PathLaws
+pub mod TableLaws

@@ -1,0 +1,133 @@
+-- The first so many steps of a list that was changed.
+use Rattle.std.specs.Prelude.{◌≡◌, ℕ, zero, suc, ◌+◌, ◌-◌, ◌^◌, ◌≤◌, ◌<◌, ◌==◌, min, Bool, true, false, if◌then◌else◌, List, [], ◌∷◌, ◌++◌, length, take, drop, refl}
+use Rattle.std.proofs.Common.{sym, ◌∙◌, ap, set, get_or, arith}
+use Rattle.std.proofs.lemmas.List.{length-take-le}
+use Rattle.cw_sites.specs.declared.steps.Steps.{Steps}
+use Rattle.cw_sites.specs.StepSums.{if_site, upto, whole}
+
+pub upto-zero : (q : ℕ) (xs : List Steps) → upto q xs 0 ≡ 0
+upto-zero q [] = refl
+upto-zero q (x ∷ xs) = refl
+
+pub upto-mono : (q : ℕ) (xs : List Steps) (m n : ℕ) → m ≤ n → upto q xs m ≤ upto q xs n
+upto-mono q [] m n h = omega arith
+upto-mono q (x ∷ xs) zero n h = omega arith
+upto-mono q (x ∷ xs) (suc m) zero h = absurd (omega arith)
+upto-mono q (x ∷ xs) (suc m) (suc n) h = let i = upto-mono q xs m n (omega arith) in omega arith
+
+pub upto-append : (q : ℕ) (xs ys : List Steps) (n : ℕ) → n ≤ length xs → upto q (xs ++ ys) n ≡ upto q xs n
+upto-append q [] ys zero h = upto-zero q ys
+upto-append q [] ys (suc n) h = absurd (omega arith)
+upto-append q (x ∷ xs) ys zero h = refl
+upto-append q (x ∷ xs) ys (suc n) h = let i = upto-append q xs ys n (omega arith) in omega arith
+
+pub upto-push : (q : ℕ) (xs : List Steps) (y : Steps) → upto q (xs ++ y ∷ []) (length (xs ++ y ∷ [])) ≡ upto q xs (length xs) + if_site q y.site y.count
+upto-push q [] y = omega arith
+upto-push q (x ∷ xs) y = let i = upto-push q xs y in omega arith
+
+pub upto-take : (q : ℕ) (xs : List Steps) (m n : ℕ) → n ≤ m → upto q (take m xs) n ≡ upto q xs n
+upto-take q [] zero n h = refl
+upto-take q [] (suc m) n h = refl
+upto-take q (x ∷ xs) zero zero h = refl
+upto-take q (x ∷ xs) zero (suc n) h = absurd (omega arith)
+upto-take q (x ∷ xs) (suc m) zero h = refl
+upto-take q (x ∷ xs) (suc m) (suc n) h = let i = upto-take q xs m n (omega arith) in omega arith
+
+pub upto-set : (q : ℕ) (xs : List Steps) (i n : ℕ) (y : Steps) → n ≤ i → upto q (set xs i y) n ≡ upto q xs n
+upto-set q [] i n y h = refl
+upto-set q (x ∷ xs) zero zero y h = refl
+upto-set q (x ∷ xs) zero (suc n) y h = absurd (omega arith)
+upto-set q (x ∷ xs) (suc i) zero y h = refl
+upto-set q (x ∷ xs) (suc i) (suc n) y h = let k = upto-set q xs i n y (omega arith) in omega arith
+
+pub upto_all-set : (q : ℕ) (xs : List Steps) (i : ℕ) (y d : Steps) → i < length xs → upto q (set xs i y) (length (set xs i y)) + if_site q (get_or xs i d).site (get_or xs i d).count ≡ upto q xs (length xs) + if_site q y.site y.count
+upto_all-set q [] i y d h = absurd (omega arith)
+upto_all-set q (x ∷ xs) zero y d h = omega arith
+upto_all-set q (x ∷ xs) (suc i) y d h = let k = upto_all-set q xs i y d (omega arith) in omega arith
+
+-- with the part from a to b taken out: what lies before a, and what lay after b
+pub upto-drop : (q : ℕ) (xs : List Steps) (b n : ℕ) → upto q (drop b xs) n + upto q xs b ≡ upto q xs (n + b)
+upto-drop q [] zero n = refl
+upto-drop q [] (suc b) n = refl
+upto-drop q (x ∷ xs) zero n = let z : n + 0 ≡ n = omega arith in let e = ap (upto q (x ∷ xs)) z in omega arith
+upto-drop q (x ∷ xs) (suc b) n = let i = upto-drop q xs b n in let z : n + suc b ≡ suc (n + b) = omega arith in let e = ap (upto q (x ∷ xs)) z in omega arith
+
+pub upto-cut : (q : ℕ) (xs : List Steps) (a b n : ℕ) → a ≤ b → b ≤ length xs → upto q (take a xs ++ drop b xs) (a + n) + upto q xs b ≡ upto q xs a + upto q xs (n + b)
+upto-cut q [] zero zero n h k = refl
+upto-cut q [] zero (suc b) n h k = absurd (omega arith)
+upto-cut q [] (suc a) b n h k = absurd (omega arith)
+upto-cut q (x ∷ xs) zero b n h k = let e = upto-drop q (x ∷ xs) b n in let z : 0 + n ≡ n = omega arith in let f = ap (upto q (drop b (x ∷ xs))) z in omega arith
+upto-cut q (x ∷ xs) (suc a) zero n h k = absurd (omega arith)
+upto-cut q (x ∷ xs) (suc a) (suc b) n h k =
+    let i = upto-cut q xs a b n (omega arith) (omega arith) in
+    let z : suc a + n ≡ suc (a + n) = omega arith in
+    let y : n + suc b ≡ suc (n + b) = omega arith in
+    let e = ap (upto q (take (suc a) (x ∷ xs) ++ drop (suc b) (x ∷ xs))) z in
+    let f = ap (upto q (x ∷ xs)) y in omega arith
+
+pub length-cut : (xs : List Steps) (a b : ℕ) → a ≤ b → b ≤ length xs → length (take a xs ++ drop b xs) + (b - a) ≡ length xs
+length-cut [] zero zero h k = refl
+length-cut [] zero (suc b) h k = absurd (omega arith)
+length-cut [] (suc a) b h k = absurd (omega arith)
+length-cut (x ∷ xs) zero zero h k = omega arith
+length-cut (x ∷ xs) zero (suc b) h k = let i = length-cut xs zero b (omega arith) (omega arith) in omega arith
+length-cut (x ∷ xs) (suc a) zero h k = absurd (omega arith)
+length-cut (x ∷ xs) (suc a) (suc b) h k = let i = length-cut xs a b (omega arith) (omega arith) in omega arith
+
+pub upto-at : (q : ℕ) (xs : List Steps) (i : ℕ) (d : Steps) → i < length xs → if_site q (get_or xs i d).site (get_or xs i d).count ≤ upto q xs (length xs)
+upto-at q [] i d h = absurd (omega arith)
+upto-at q (x ∷ xs) zero d h = omega arith
+upto-at q (x ∷ xs) (suc i) d h = let k = upto-at q xs i d (omega arith) in omega arith
+
+abbrev steps_if : Bool → ℕ → ℕ
+steps_if b k = if b then k else 0
+
+-- the last steps, and those before them
+upto-last : (q : ℕ) (xs : List Steps) (i : ℕ) (d : Steps) → suc i ≡ length xs → upto q xs i + if_site q (get_or xs i d).site (get_or xs i d).count ≡ whole q xs
+upto-last q [] i d h = absurd (omega arith)
+upto-last q (x ∷ []) zero d h = omega arith
+upto-last q (x ∷ []) (suc i) d h = absurd (omega arith)
+upto-last q (x ∷ y ∷ xs) zero d h = absurd (omega arith)
+upto-last q (x ∷ y ∷ xs) (suc i) d h = let k = upto-last q (y ∷ xs) i d (omega arith) in omega arith
+
+by_site : (b : Bool) (before all new old count sum : ℕ) → new + steps_if b old ≡ all + steps_if b sum → before + steps_if b old ≤ all → (all - before) + steps_if b count < 2 ^ 64 → sum ≡ min (old + count) (2 ^ 64 - 1) → new ≡ all + steps_if b count
+by_site true before all new old count sum e f g h = omega arith
+by_site false before all new old count sum e f g h = omega arith
+
+-- the last steps are of the same site: they become more
+pub upto-more : (q : ℕ) (xs : List Steps) (i start : ℕ) (s : Steps) (site count sum : ℕ) → suc i ≡ length xs → start ≤ i → s ≡ get_or xs i s → s.site ≡ site → sum ≡ min (s.count + count) (2 ^ 64 - 1) → (whole q xs - upto q xs start) + if_site q site count < 2 ^ 64 → whole q (set xs i (record { site = site; count = sum })) ≡ whole q xs + if_site q site count
+upto-more q xs i start s site count sum h below g e m fits =
+    let a = upto_all-set q xs i (record { site = site; count = sum }) s (omega arith) in
+    let b = upto-last q xs i s h in
+    let u = upto-mono q xs start i below in
+    let c : if_site q (get_or xs i s).site (get_or xs i s).count ≡ if_site q site s.count = ap (λ (x : Steps). if_site q x.site x.count) (sym g) ∙ ap (λ (x : ℕ). if_site q x s.count) e in
+    by_site (site == q) (upto q xs start) (whole q xs) (whole q (set xs i (record { site = site; count = sum }))) s.count count sum (omega arith) (omega arith) fits m
+
+pub upto_below-cut : (q : ℕ) (xs : List Steps) (a b n : ℕ) → n ≤ a → a ≤ length xs → upto q (take a xs ++ drop b xs) n ≡ upto q xs n
+upto_below-cut q [] zero b zero h k = upto-zero q (take zero [] ++ drop b [])
+upto_below-cut q [] zero b (suc n) h k = absurd (omega arith)
+upto_below-cut q [] (suc a) b n h k = absurd (omega arith)
+upto_below-cut q (x ∷ xs) zero b zero h k = upto-zero q (drop b (x ∷ xs))
+upto_below-cut q (x ∷ xs) zero b (suc n) h k = absurd (omega arith)
+upto_below-cut q (x ∷ xs) (suc a) b zero h k = refl
+upto_below-cut q (x ∷ xs) (suc a) zero (suc n) h k =
+    let e = upto-take q xs a n (omega arith) in
+    let f = upto-append q (take (suc a) (x ∷ xs)) (x ∷ xs) (suc n) (omega (arith, length-take-le a xs (omega arith))) in omega arith
+upto_below-cut q (x ∷ xs) (suc a) (suc b) (suc n) h k = let i = upto_below-cut q xs a b n (omega arith) (omega arith) in omega arith
+
+pub upto-next : (q : ℕ) (xs : List Steps) (i : ℕ) (d : Steps) → i < length xs → upto q xs (i + 1) ≡ upto q xs i + if_site q (get_or xs i d).site (get_or xs i d).count
+upto-next q [] i d h = absurd (omega arith)
+upto-next q (x ∷ xs) zero d h = let z = upto-zero q xs in omega arith
+upto-next q (x ∷ xs) (suc i) d h = let k = upto-next q xs i d (omega arith) in let e : suc i + 1 ≡ suc (i + 1) = omega arith in let f = ap (upto q (x ∷ xs)) e in omega arith
+
+next_by : (b : Bool) (count sum next all from more : ℕ) → more ≡ all + steps_if b count → sum ≡ all - from → from ≤ all → more - from < 2 ^ 64 → next ≡ (if b then min (sum + count) (2 ^ 64 - 1) else sum) → next ≡ more - from
+next_by true count sum next all from more e f g h k = omega arith
+next_by false count sum next all from more e f g h k = omega arith
+
+pub own_next : (q : ℕ) (xs : List Steps) (start i : ℕ) (s : Steps) (sum next : ℕ) → start ≤ i → i < length xs → s ≡ get_or xs i s → sum ≡ upto q xs i - upto q xs start → whole q xs - upto q xs start < 2 ^ 64 → next ≡ (if s.site == q then min (sum + s.count) (2 ^ 64 - 1) else sum) → next ≡ upto q xs (i + 1) - upto q xs start
+own_next q xs start i s sum next le lt g e small n =
+    let a = upto-next q xs i s lt in
+    let c = ap (λ (x : Steps). if_site q x.site x.count) (sym g) in
+    let m = upto-mono q xs start i le in
+    let t = upto-mono q xs (i + 1) (length xs) (omega arith) in
+    next_by (s.site == q) s.count sum next (upto q xs i) (upto q xs start) (upto q xs (i + 1)) (omega arith) e m (omega arith) n

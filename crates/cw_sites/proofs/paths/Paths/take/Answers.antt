@@ -1,0 +1,22 @@
+use Rattle.std.proofs.Common.{rules, ◌+◌, ◌-◌, ◌≡◌, length, arith}
+use Rattle.cw_sites.proofs.PathLaws.{taken_laid, taken_strand_path}
+use Rattle.cw_sites.proofs.paths.Paths.take.Goals as goal
+
+pub returns-clause-laid : goal.returns-clause-laid
+returns-clause-laid c = λ laid. let l = laid in let o = laid.order in let o0 = o.0 in let o1 = o.1 in let o2 = o.2 in let o3 = o.3 in let c0 = laid.child in let b0 = laid.start in
+    let cut = c.take_out.ensures.cut (omega arith) (omega arith) in
+    let e : c.len-len.result ≡ length c.take_out.new.steps.items = search rules in
+    let m : c.saturating_add-mid.result ≡ c.args.f.mid + (c.args.f.child - c.args.f.at) = omega arith in
+    let h = taken_laid c.args.self.now.steps.items c.take_out.new.steps.items c.args.self.now.weight c.args.self.now.start c.len-len.result c.saturating_add-mid.result c.saturating_add.result c.args.self.now.blocks.items c.push.new.self.items c.args.f laid.blocks laid.order laid.child laid.start cut e m c.in_ok-push.ensures.items in
+    record { blocks = h.0; start = h.1 }
+
+pub returns-clause-strand_path : goal.returns-clause-strand_path
+returns-clause-strand_path c = λ laid q small. let l = laid in let o = laid.order in let o0 = o.0 in let o1 = o.1 in let o2 = o.2 in let o3 = o.3 in let c0 = laid.child in let b0 = laid.start in
+    let cut = c.take_out.ensures.cut (omega arith) (omega arith) in
+    let e : c.len-len.result ≡ length c.take_out.new.steps.items = search rules in
+    let m : c.saturating_add-mid.result ≡ c.args.f.mid + (c.args.f.child - c.args.f.at) = omega arith in
+    let w : c.saturating_add.result ≡ c.args.f.base + c.args.f.rest = omega arith in
+    taken_strand_path q c.args.self.now.steps.items c.take_out.new.steps.items c.args.self.now.weight c.args.self.now.start c.len-len.result c.saturating_add-mid.result c.saturating_add.result c.args.self.now.blocks.items c.push.new.self.items c.args.f laid.blocks laid.order laid.child laid.start cut e m w c.in_ok-push.ensures.items
+
+pub returns-clause-bounded : goal.returns-clause-bounded
+returns-clause-bounded c = λ most b. record { sites = c.take_out.ensures.kept most b.sites; limit = b.limit }

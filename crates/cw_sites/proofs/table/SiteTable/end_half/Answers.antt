@@ -1,0 +1,11 @@
+use Rattle.cw_sites.proofs.TableLaws.{half_ends}
+use Rattle.cw_sites.proofs.table.SiteTable.end_half.Goals as goal
+
+pub returns-clause-told : goal.returns-clause-told
+returns-clause-told c = λ base busy mark os before es fs quiet since n small h.
+    half_ends base busy mark os before es fs c.args.self.now c.flush.new.self c.end.new.self c.args.count quiet since n small h c.in_ok-flush.ensures.flushed c.in_ok-end.ensures.laid c.in_ok-end.ensures.strand_path
+
+pub returns-clause-bounded : goal.returns-clause-bounded
+returns-clause-bounded c = λ most h b.
+    let f = c.in_ok-flush.ensures.bounded most h b in
+    record { paths = c.in_ok-end.ensures.bounded most f.paths; here = f.here }

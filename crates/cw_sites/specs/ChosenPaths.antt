@@ -1,0 +1,80 @@
+-- The chosen path as it is known of a piece of one sync block, for one site.
+use Rattle.std.specs.Prelude.{ℕ, ◌+◌, Bool, true, false, nat_lt, ◌==◌, List, [], ◌∷◌, Option, Some, None, sum_by, if◌then◌else◌}
+use Rattle.cw_model.specs.Trees.{Tree, Leaf, Seq, Par, Marked, Event, Work, Series, Fork, Join}
+use Rattle.cw_model.specs.Rows.{site_inside, weight_of_site}
+
+-- a path's weight, and how much of it is a site's own
+pub record Path : Type 0 where
+  pub weight : ℕ
+  pub own : ℕ
+
+abbrev pub nowhere : Path
+nowhere = record { weight = 0; own = 0 }
+
+abbrev pub plus : Path → Path → Path
+plus a b = record { weight = a.weight + b.weight; own = a.own + b.own }
+
+abbrev pub choose : Bool → Path → Path → Path
+choose true a b = b
+choose false a b = a
+
+-- the first where it weighs as much
+abbrev pub heavier : Path → Path → Path
+heavier a b = choose (nat_lt a.weight b.weight) a b
+
+-- a path of leaves, each with the site that it belongs to
+abbrev pub path_of : (site : ℕ) → List (ℕ × ℕ) → Path
+path_of site leaves = record { weight = sum_by (λ leaf. leaf.1) leaves; own = weight_of_site site leaves }
+
+-- so many instructions of the site `here`
+abbrev pub steps_of : (site here : ℕ) → ℕ → Path
+steps_of site here k = record { weight = k; own = if here == site then k else 0 }
+
+-- the path through a tree that takes the child where it weighs as much as the rest; `here` is the site of the innermost invocation around the tree
+abbrev pub chosen : (site here : ℕ) → Tree → Path
+chosen site here (Leaf k) = steps_of site here k
+chosen site here (Seq a b) = plus (chosen site here a) (chosen site here b)
+chosen site here (Par child rest) = heavier (chosen site here child) (chosen site here rest)
+chosen site here (Marked mark t) = chosen site (site_inside mark here) t
+
+-- a piece of a block: its path along the continuation, into the longest child, and up to its first join
+pub data PathCounters : Type 0 where
+  Unsynced : (longest : Option Path) (continuation : Path) → PathCounters
+  Synced : (prefix : Path) (longest : Option Path) (continuation : Path) → PathCounters
+
+abbrev pub later : Path → Option Path → Option Path
+later by None = None
+later by (Some l) = Some (plus by l)
+
+abbrev pub either : Option Path → Option Path → Option Path
+either None m = m
+either (Some l) None = Some l
+either (Some l) (Some m) = Some (heavier l m)
+
+abbrev pub best : Option Path → Path → Path
+best None p = p
+best (Some l) p = heavier l p
+
+-- one piece, and the next
+abbrev pub onward : PathCounters → PathCounters → PathCounters
+onward (Unsynced l k) (Unsynced l' k') = Unsynced (either l (later k l')) (plus k k')
+onward (Unsynced l k) (Synced p l' k') = Synced (best l (plus k p)) l' k'
+onward (Synced p l k) (Unsynced l' k') = Synced p (either l (later k l')) (plus k k')
+onward (Synced p l k) (Synced p' l' k') = Synced p (later (best l (plus k p')) l') (plus (best l (plus k p')) k')
+
+abbrev pub fresh : PathCounters
+fresh = Unsynced None nowhere
+
+abbrev pub reading : PathCounters → Path
+reading (Unsynced l k) = best l k
+reading (Synced p l k) = plus p (best l k)
+
+abbrev pub of_event : (site here : ℕ) → Event → PathCounters
+of_event site here (Work k) = Unsynced None (steps_of site here k)
+of_event site here (Series t) = Unsynced None (chosen site here t)
+of_event site here (Fork t) = Unsynced (Some (chosen site here t)) nowhere
+of_event site here Join = Synced nowhere None nowhere
+
+abbrev pub of_events : (site here : ℕ) → List Event → PathCounters
+of_events site here [] = fresh
+of_events site here (e ∷ events) = onward (of_event site here e) (of_events site here events)

@@ -1,0 +1,9 @@
+pub mod ChosenPaths
+pub mod BlockPaths
+pub mod StepSums
+pub mod StrandPaths
+pub mod OpenPaths
+pub mod SiteRows
+pub mod StepLists
+pub mod Tables
+pub mod Laws

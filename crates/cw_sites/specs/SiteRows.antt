@@ -1,0 +1,88 @@
+-- What is counted of a site over a run so far.
+use Rattle.std.specs.Prelude.{◌≡◌, ℕ, ◌+◌, ◌-◌, ◌^◌, ◌<◌, ◌==◌, nat_eq, Bool, true, false, List, [], ◌∷◌, unwrap_or, if◌then◌else◌, Some, slice_get}
+use Rattle.cw_model.specs.Trees.{Tree, Event, tree_of, work, span}
+use Rattle.cw_model.specs.Rows.{is_site, leaves, weight_of_site, calls_of}
+use Rattle.cw_measure.specs.OpenParts.{Open, work_in}
+use Rattle.cw_measure.specs.Outermost.{is_counted, one_if, Tally, Counts}
+use Rattle.cw_sites.specs.declared.rows.Row.{Row}
+use Rattle.cw_sites.specs.declared.rows.Rows.{Rows}
+use Rattle.cw_sites.specs.OpenPaths.{here_in, path_in}
+use Rattle.indexmap.specs.IndexMap.{get}
+
+abbrev pub zero_row : Row
+zero_row = record { calls = 0; own = 0; work = 0; span = 0; active = 0; at_work = 0; at_path = 0 }
+
+-- the row of a site; zeros where there is none
+abbrev pub row_of : Rows → ℕ → Row
+row_of rows site = unwrap_or (get nat_eq rows.by_site site) zero_row
+
+-- so many of its own instructions more
+abbrev pub worked : ℕ → Row → Row
+worked k r = record { calls = r.calls; own = r.own + k; work = r.work; span = r.span; active = r.active; at_work = r.at_work; at_path = r.at_path }
+
+-- an invocation begins, at this work and on a path of this weight
+abbrev pub entered_at : (first : Bool) → (count path : ℕ) → Row → Row
+entered_at true count path r = record { calls = r.calls + 1; own = r.own; work = r.work; span = r.span; active = r.active + 1; at_work = count; at_path = path }
+entered_at false count path r = record { calls = r.calls + 1; own = r.own; work = r.work; span = r.span; active = r.active + 1; at_work = r.at_work; at_path = r.at_path }
+
+abbrev pub entered : (count path : ℕ) → Row → Row
+entered count path r = entered_at (r.active == 0) count path r
+
+-- it ends: the outermost one is summed
+abbrev pub left_at : (last : Bool) → (count path : ℕ) → Row → Row
+left_at true count path r = record { calls = r.calls; own = r.own; work = r.work + (count - r.at_work); span = r.span + (path - r.at_path); active = r.active - 1; at_work = r.at_work; at_path = r.at_path }
+left_at false count path r = record { calls = r.calls; own = r.own; work = r.work; span = r.span; active = r.active - 1; at_work = r.at_work; at_path = r.at_path }
+
+abbrev pub left : (count path : ℕ) → Row → Row
+left count path r = left_at (r.active == 1) count path r
+
+-- the invocations of a site, and its own instructions
+abbrev pub calls_in : (site : ℕ) → List Open → List Event → ℕ
+calls_in site [] es = calls_of site (tree_of es)
+calls_in site (o ∷ os) es = calls_of site (tree_of es) + (one_if (is_counted (is_site site) o.mark) + calls_in site os o.outer)
+
+abbrev pub own_tree : (site here : ℕ) → Tree → ℕ
+own_tree site here t = weight_of_site site (leaves here t)
+
+abbrev pub own_in : (site base : ℕ) → List Open → List Event → ℕ
+own_in site base [] es = own_tree site base (tree_of es)
+own_in site base (o ∷ os) es = own_tree site (here_in base (o ∷ os)) (tree_of es) + own_in site base os o.outer
+
+-- the tallies of a row: the work and the span of its outermost invocations
+abbrev pub work_tally : Row → Tally
+work_tally r = record { sum = r.work; active = r.active; began = r.at_work }
+
+abbrev pub span_tally : Row → Tally
+span_tally r = record { sum = r.span; active = r.active; began = r.at_path }
+
+-- a row counts a run so far
+pub record CountsSite (site base busy : ℕ) (os : List Open) (es : List Event) (r : Row) : Type 0 where
+  pub calls_is : r.calls ≡ calls_in site os es
+  pub own_is : r.own ≡ own_in site base os es
+  pub work_is : Counts work work_in (is_site site) busy os es (work_tally r)
+  pub span_is : Counts span (path_in site base) (is_site site) busy os es (span_tally r)
+
+-- the sums of a row fit 64 bits
+pub record FitsRow (r : Row) : Type 0 where
+  pub calls : r.calls < 2 ^ 64
+  pub own : r.own < 2 ^ 64
+  pub work : r.work < 2 ^ 64
+  pub span : r.span < 2 ^ 64
+  pub active : r.active < 2 ^ 64
+
+-- the row of one site becomes this, where its sums fit, and the rows of the others stay
+abbrev pub Becomes : (Row → Row) → Rows → Rows → (site : ℕ) → Type 0
+Becomes f old new site = FitsRow (f (row_of old site)) → row_of new site ≡ f (row_of old site)
+
+abbrev pub OthersStay : Rows → Rows → (site : ℕ) → Type 0
+OthersStay old new site = (q : ℕ) → (site == q) ≡ false → row_of new q ≡ row_of old q
+
+abbrev pub IsGiven : Rows → Rows → (site : ℕ) → Row → Type 0
+IsGiven old new site row = (q : ℕ) → row_of new q ≡ (if site == q then row else row_of old q)
+
+-- the entry at the index of the number, if there is one, is that of the site
+abbrev pub KeyAtHome : Rows → (site : ℕ) → Type 0
+KeyAtHome rows site = (k : ℕ) (row : Row) → slice_get rows.by_site.entries site ≡ Some (k, row) → k ≡ site
+
+abbrev pub ValueAtHome : Rows → (site : ℕ) → Type 0
+ValueAtHome rows site = (k : ℕ) (row : Row) → slice_get rows.by_site.entries site ≡ Some (k, row) → get nat_eq rows.by_site site ≡ Some row

@@ -1,0 +1,90 @@
+-- The open blocks of a strand, whose paths are parts of one list, as one site sees them.
+use Rattle.std.specs.Prelude.{◌≡◌, ℕ, ◌+◌, ◌-◌, ◌*◌, ◌^◌, ◌≤◌, ◌<◌, List, [], ◌∷◌, length, option_map}
+use Rattle.cw_sites.specs.ChosenPaths.{Path, plus, best, steps_of}
+use Rattle.cw_sites.specs.declared.steps.Steps.{Steps}
+use Rattle.cw_sites.specs.declared.paths.Block.{Block}
+use Rattle.cw_sites.specs.declared.paths.Paths.{Paths}
+use Rattle.cw_sites.specs.StepSums.{upto, AllBelow, Fits}
+use Rattle.cw_sites.specs.StrandPaths.{SeenBlock, StrandPath, takes, goes_on, longest_path, whole as all_of}
+
+-- the path of this weight whose steps lie from a place to another
+abbrev pub part : (site : ℕ) → List Steps → (from to weight : ℕ) → Path
+part site steps from to weight = record { weight = weight; own = upto site steps to - upto site steps from }
+
+abbrev pub seen : (site : ℕ) → List Steps → Block → SeenBlock
+seen site steps f = record { base = part site steps f.from f.mid f.base; longest = option_map (part site steps f.mid f.end) f.longest; rest = part site steps f.at f.child f.rest }
+
+abbrev pub seen_blocks : (site : ℕ) → List Steps → List Block → List SeenBlock → List SeenBlock
+seen_blocks site steps [] ps = ps
+seen_blocks site steps (f ∷ fs) ps = seen_blocks site steps fs (seen site steps f ∷ ps)
+
+abbrev pub strand_path : (site : ℕ) → Paths → StrandPath
+strand_path site r = record { now = part site r.steps.items r.start (length r.steps.items) r.weight; blocks = seen_blocks site r.steps.items r.blocks.items [] }
+
+-- the parts of blocks lie in order, each block's after those of the one round it
+abbrev pub InOrder : Block → Type 0
+InOrder f = (f.from ≤ f.mid) × (f.mid ≤ f.end) × (f.end ≤ f.at) × (f.at ≤ f.child)
+
+abbrev pub LaidFrom : ℕ → List Block → ℕ → Type 0
+LaidFrom lo [] hi = lo ≡ hi
+LaidFrom lo (f ∷ fs) hi = (lo ≡ f.from) × InOrder f × LaidFrom f.child fs hi
+
+pub record Laid (r : Paths) : Type 0 where
+  pub blocks : LaidFrom 0 r.blocks.items r.start
+  pub start : r.start ≤ length r.steps.items
+
+-- the same, where this block is the innermost one and is not in the list
+pub record LaidWith (r : Paths) (f : Block) : Type 0 where
+  pub blocks : LaidFrom 0 r.blocks.items f.from
+  pub order : InOrder f
+  pub child : f.child ≡ r.start
+  pub start : r.start ≤ length r.steps.items
+
+-- all steps are of sites below a number, and no path may be longer than twice that and a constant before it is added up
+pub record IsBounded (most : ℕ) (paths : Paths) : Type 0 where
+  pub sites : AllBelow most paths.steps.items
+  pub limit : paths.limit ≤ 2 * most + 64
+
+-- what is bounded stays so
+abbrev pub StaysBounded : Paths → Paths → Type 0
+StaysBounded old new = (most : ℕ) → IsBounded most old → IsBounded most new
+
+-- the path of the strand that runs has no more steps than that and one
+abbrev pub IsShort : Paths → Type 0
+IsShort paths = length paths.steps.items ≤ paths.start + paths.limit + 1
+
+-- the same is said of each site whose steps fit 64 bits
+abbrev pub SaysTheSame : Paths → Paths → Type 0
+SaysTheSame old new = Laid old → (q : ℕ) → (strand_path q old).now.own < 2 ^ 64 → strand_path q new ≡ strand_path q old
+
+-- so many instructions of a site more
+abbrev pub Extends : Paths → Paths → (site count : ℕ) → Type 0
+Extends old new site count =
+    Laid old → (q : ℕ) → Fits (plus (strand_path q old).now (steps_of q site count))
+    → strand_path q new ≡ record { now = plus (strand_path q old).now (steps_of q site count); blocks = (strand_path q old).blocks }
+
+-- what a call does to the paths of each site
+abbrev pub Comes : (StrandPath → StrandPath) → Paths → Paths → Type 0
+Comes f old new = Laid old → (q : ℕ) → strand_path q new ≡ f (strand_path q old)
+
+abbrev pub ComesWithin : (StrandPath → StrandPath) → Paths → Paths → Type 0
+ComesWithin f old new = Laid old → (q : ℕ) → Fits (all_of (strand_path q old)) → strand_path q new ≡ f (strand_path q old)
+
+-- the same, where the innermost block is not in the list
+abbrev pub TakesChild : Paths → Paths → Block → Type 0
+TakesChild old new f =
+    LaidWith old f → (q : ℕ) → f.base + f.rest < 2 ^ 64
+    → strand_path q new ≡ takes (seen q old.steps.items f).base (seen q old.steps.items f).rest (strand_path q old).now (strand_path q old).blocks
+
+abbrev pub LetsChildGo : Paths → Paths → Block → Type 0
+LetsChildGo old new f = LaidWith old f → (q : ℕ) → strand_path q new ≡ goes_on (seen q old.steps.items f) (strand_path q old).blocks
+
+abbrev pub JoinsBlock : Paths → Paths → Block → Type 0
+JoinsBlock old new f =
+    LaidWith old f → (q : ℕ) → f.base + old.weight < 2 ^ 64 → f.base + (longest_path (seen q old.steps.items f).longest).weight < 2 ^ 64
+    → strand_path q new ≡ record { now = plus (seen q old.steps.items f).base (best (seen q old.steps.items f).longest (strand_path q old).now); blocks = (strand_path q old).blocks }
+
+abbrev pub ClosesBlock : Paths → Paths → Block → Type 0
+ClosesBlock old new f =
+    LaidWith old f → (q : ℕ) → f.base + old.weight < 2 ^ 64
+    → strand_path q new ≡ record { now = plus (seen q old.steps.items f).base (strand_path q old).now; blocks = (strand_path q old).blocks }

@@ -1,0 +1,87 @@
+-- The open blocks of a strand, as one site sees them.
+use Rattle.std.specs.Prelude.{ℕ, ◌+◌, nat_lt, Bool, true, false, List, [], ◌∷◌, Option, Some, None}
+use Rattle.cw_sites.specs.ChosenPaths.{Path, nowhere, plus, best}
+
+-- an open block: the path up to where its longest child was spawned, that child, and, while a child runs, the path from there to its spawn
+pub record SeenBlock : Type 0 where
+  pub base : Path
+  pub longest : Option Path
+  pub rest : Path
+
+-- the path of the strand that runs, and the blocks that have spawned, the innermost first
+pub record StrandPath : Type 0 where
+  pub now : Path
+  pub blocks : List SeenBlock
+
+-- nothing has run
+abbrev pub nothing_run : StrandPath
+nothing_run = record { now = nowhere; blocks = [] }
+
+-- all the paths together, which are what has to fit
+abbrev pub longest_path : Option Path → Path
+longest_path None = nowhere
+longest_path (Some l) = l
+
+abbrev pub sum_of : List SeenBlock → Path
+sum_of [] = nowhere
+sum_of (p ∷ ps) = plus (plus p.base (plus (longest_path p.longest) p.rest)) (sum_of ps)
+
+abbrev pub whole : StrandPath → Path
+whole t = plus t.now (sum_of t.blocks)
+
+-- a block's first spawn since its last join
+abbrev pub begins : StrandPath → StrandPath
+begins t = record { now = nowhere; blocks = record { base = t.now; longest = None; rest = nowhere } ∷ t.blocks }
+
+-- a further one
+abbrev pub resting : Path → List SeenBlock → List SeenBlock
+resting n [] = []
+resting n (p ∷ ps) = record { base = p.base; longest = p.longest; rest = n } ∷ ps
+
+abbrev pub again : StrandPath → StrandPath
+again t = record { now = nowhere; blocks = resting t.now t.blocks }
+
+-- a spawn, the first of its block since the last join or a further one
+abbrev pub spawns : (first : Bool) → StrandPath → StrandPath
+spawns true t = begins t
+spawns false t = again t
+
+-- the child that ran is the longest: the base reaches up to its spawn
+abbrev pub takes : (base rest child : Path) → List SeenBlock → StrandPath
+takes base rest child ps = record { now = nowhere; blocks = record { base = plus base rest; longest = Some child; rest = nowhere } ∷ ps }
+
+abbrev pub keeps : (base longest rest : Path) → List SeenBlock → StrandPath
+keeps base longest rest ps = record { now = rest; blocks = record { base = base; longest = Some longest; rest = nowhere } ∷ ps }
+
+abbrev pub chooses : Bool → (base longest rest child : Path) → List SeenBlock → StrandPath
+chooses true base l rest child ps = takes base rest child ps
+chooses false base l rest child ps = keeps base l rest ps
+
+abbrev pub ends_at : (base : Path) → Option Path → (rest child : Path) → List SeenBlock → StrandPath
+ends_at base None rest child ps = takes base rest child ps
+ends_at base (Some l) rest child ps = chooses (nat_lt l.weight (rest.weight + child.weight)) base l rest child ps
+
+-- the spawned child that ran has ended
+abbrev pub ends : StrandPath → StrandPath
+ends t = at t.now t.blocks
+  where
+    at : Path → List SeenBlock → StrandPath
+    at n [] = record { now = n; blocks = [] }
+    at n (p ∷ ps) = ends_at p.base p.longest p.rest n ps
+
+-- the block joins
+abbrev pub joins : StrandPath → StrandPath
+joins t = at t.now t.blocks
+  where
+    at : Path → List SeenBlock → StrandPath
+    at n [] = record { now = n; blocks = [] }
+    at n (p ∷ ps) = record { now = plus p.base (best p.longest n); blocks = ps }
+
+-- whether a child of this weight beside the longest is heavier
+abbrev pub is_longer : Option ℕ → ℕ → Bool
+is_longer None w = true
+is_longer (Some l) w = nat_lt l w
+
+-- the strand goes on beside a child that is not the longest
+abbrev pub goes_on : SeenBlock → List SeenBlock → StrandPath
+goes_on p ps = record { now = p.rest; blocks = record { base = p.base; longest = p.longest; rest = nowhere } ∷ ps }

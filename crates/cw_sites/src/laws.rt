@@ -1,0 +1,36 @@
+//! The laws of the chosen path: each function has one as its contract, and does nothing.
+
+ghost use Rattle.cw_sites.specs.Laws.{AllRunsAreShown, BlocksReadChosenPaths, PathsAreMetered, PiecesJoin, QuietPartsNeedNoCall};
+
+/// What a run keeps of a block adds the chosen path of the block's tree to what came before, for each site.
+#[tactic(auto, using(crate::proofs::TableLaws::blocks_read_chosen_paths))]
+pub fn blocks_read_chosen_paths()
+    ensures { BlocksReadChosenPaths }
+{}
+
+/// The calls of a run keep a path that shows it, for each site; at its end it is the chosen path.
+#[tactic(auto, using(crate::proofs::TableLaws::all_runs_are_shown))]
+pub fn runs_are_shown()
+    ensures { AllRunsAreShown }
+{}
+
+/// A scope, a cut, a loop's turn and a region begin and end without a call of the table, once the instructions so far
+/// are noted.
+#[tactic(auto, using(crate::proofs::TableLaws::quiet_parts))]
+pub fn quiet_parts_need_no_call()
+    ensures { QuietPartsNeedNoCall }
+{}
+
+/// The weight of the path that runs grows along each part, whose block has joined, by the part's span: so it can be
+/// told to a region table.
+#[tactic(auto, using(crate::proofs::SiteRowLaws::path_meters))]
+pub fn paths_are_metered()
+    ensures { PathsAreMetered }
+{}
+
+/// A piece of a block that has no join, kept apart, is joined to what is kept of the block before it by the same few
+/// steps; whatever then follows, the block adds the chosen path of the tree of all its events.
+#[tactic(auto, using(crate::proofs::TableLaws::pieces_join))]
+pub fn pieces_join()
+    ensures { PiecesJoin }
+{}

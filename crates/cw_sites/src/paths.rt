@@ -1,0 +1,326 @@
+//! The path of the strand that runs, and of the blocks round it that have spawned.
+
+ghost use Rattle.std.specs.Prelude.{◌≡◌, ℕ, ◌+◌, ◌-◌, ◌^◌, ◌<◌, ◌==◌, ◌≤◌, length, min, if◌then◌else◌, OnOk};
+ghost use Rattle.cw_sites.specs.StepLists.{strand_path, Extends, IsBounded, IsShort, Laid, LaidWith, SaysTheSame, StaysBounded, Comes, ComesWithin, TakesChild, LetsChildGo, JoinsBlock, ClosesBlock};
+ghost use Rattle.cw_sites.specs.StrandPaths.{nothing_run, begins, again, spawns, is_longer, ends, joins};
+
+use crate::compacting::add_up;
+use crate::steps::{Steps, add_steps, take_out};
+use std::alloc::{AllocError, Global};
+
+/// A block that has spawned since its last join: weights of paths, and where their steps lie in the list.
+#[derive(Clone, Copy, Debug)]
+pub struct Block {
+    /// The path up to the spawn of the longest child: its steps lie from `from` to `mid`.
+    pub base: u64,
+    /// The longest child that has ended, from its spawn on: from `mid` to `end`.
+    pub longest: Option<u64>,
+    /// While a child runs, the path from that spawn to the child's: from `at` to `child`.
+    pub rest: u64,
+    pub from: usize,
+    pub mid: usize,
+    pub end: usize,
+    pub at: usize,
+    pub child: usize,
+}
+
+/// The chosen path so far, in parts of which none is copied.
+#[derive(Debug, Drop)]
+pub struct Paths {
+    /// The steps of all paths, those of the strand that runs last.
+    pub steps: Vec<Steps>,
+    /// The weight of the path of the strand that runs, from its beginning, or from the spawn of the longest child on.
+    pub weight: u64,
+    /// Where its steps begin.
+    pub start: usize,
+    /// The blocks that have spawned, the innermost last.
+    pub blocks: Vec<Block>,
+    /// How many steps a path may have before those of the same sites are added up.
+    pub limit: usize,
+    /// Room to add steps up in.
+    pub sums: Vec<u64>,
+}
+
+// How many steps a path may have at first, and beside twice the sites.
+const LEAST: usize = 64;
+
+impl Paths {
+    /// A path of nothing. Takes no memory.
+    pub fn new(alloc: Global) -> Paths
+        ensures laid { Laid result }
+        ensures nothing { (q : ℕ) → strand_path q result ≡ nothing_run }
+        ensures bounded { (most : ℕ) → IsBounded most result }
+    {
+        Paths {
+            steps: Vec::new(alloc),
+            weight: 0,
+            start: 0,
+            blocks: Vec::new(alloc),
+            limit: LEAST,
+            sums: Vec::new(alloc),
+        }
+    }
+
+    /// So many instructions of a site more.
+    #[inline(always)]
+    pub fn extend(&mut self, site: u32, count: u64) -> Result<(), AllocError>
+        ensures laid { OnOk result (Laid self.old → Laid self.new) }
+        ensures strand_path { OnOk result (Extends self.old self.new site count) }
+        ensures short { OnOk result (IsShort self.new) }
+        ensures bounded { OnOk result ((most : ℕ) → site < most → IsBounded most self.old → IsBounded most self.new) }
+    {
+        if self.steps.len().saturating_sub(self.start) > self.limit {
+            self.compact()?;
+        }
+        self.add(site, count)?;
+        Ok(())
+    }
+
+    // The same, however long the path is.
+    #[inline(always)]
+    fn add(&mut self, site: u32, count: u64) -> Result<(), AllocError>
+        ensures laid { OnOk result (Laid self.old → Laid self.new) }
+        ensures strand_path { OnOk result (Extends self.old self.new site count) }
+        ensures short { OnOk result (length self.new.steps.items ≤ length self.old.steps.items + 1) }
+        ensures limit { OnOk result (self.new.limit ≡ self.old.limit) }
+        ensures start { OnOk result (self.new.start ≡ self.old.start) }
+        ensures bounded { OnOk result ((most : ℕ) → site < most → IsBounded most self.old → IsBounded most self.new) }
+    {
+        add_steps(&mut self.steps, self.start, site, count)?;
+        self.weight = self.weight.saturating_add(count);
+        Ok(())
+    }
+
+    // The steps of the path that runs are added up by site.
+    #[cold]
+    #[inline(never)]
+    fn compact(&mut self) -> Result<(), AllocError>
+        ensures laid { OnOk result (Laid self.old → Laid self.new) }
+        ensures same { OnOk result (SaysTheSame self.old self.new) }
+        ensures short { OnOk result (length self.new.steps.items ≤ self.new.start + self.new.limit) }
+        ensures bounded { OnOk result (StaysBounded self.old self.new) }
+    {
+        add_up(&mut self.steps, self.start, &mut self.sums)?;
+        let twice = self.sums.len().saturating_mul(2);
+        self.limit = self.limit.max(twice.saturating_add(LEAST));
+        Ok(())
+    }
+
+    /// A block's first spawn since its last join.
+    #[inline(always)]
+    pub fn begin(&mut self) -> Result<(), AllocError>
+        ensures laid { OnOk result (Laid self.old → Laid self.new) }
+        ensures bounded { OnOk result (StaysBounded self.old self.new) }
+        ensures strand_path { OnOk result (Comes begins self.old self.new) }
+    {
+        let len = self.steps.len();
+        self.blocks.push(Block {
+            base: self.weight,
+            longest: None,
+            rest: 0,
+            from: self.start,
+            mid: len,
+            end: len,
+            at: len,
+            child: len,
+        })?;
+        self.weight = 0;
+        self.start = len;
+        Ok(())
+    }
+
+    /// A further spawn of the innermost block that has spawned.
+    #[inline(always)]
+    pub fn begin_again(&mut self) -> Result<(), AllocError>
+        ensures laid { OnOk result (Laid self.old → Laid self.new) }
+        ensures bounded { OnOk result (StaysBounded self.old self.new) }
+        ensures strand_path { OnOk result (Comes again self.old self.new) }
+    {
+        let len = self.steps.len();
+        match self.blocks.pop() {
+            None => {
+                self.steps.clear();
+                self.weight = 0;
+                self.start = 0;
+                Ok(())
+            }
+            Some(f) => {
+                self.blocks.push(Block {
+                    base: f.base,
+                    longest: f.longest,
+                    rest: self.weight,
+                    from: f.from,
+                    mid: f.mid,
+                    end: f.end,
+                    at: self.start,
+                    child: len,
+                })?;
+                self.weight = 0;
+                self.start = len;
+                Ok(())
+            }
+        }
+    }
+
+    /// A spawn: the first of its block since the last join, or a further one.
+    #[inline(always)]
+    pub fn spawn(&mut self, first: bool) -> Result<(), AllocError>
+        ensures laid { OnOk result (Laid self.old → Laid self.new) }
+        ensures bounded { OnOk result (StaysBounded self.old self.new) }
+        ensures strand_path { OnOk result (Comes (spawns first) self.old self.new) }
+    {
+        if first {
+            self.begin()?;
+            Ok(())
+        } else {
+            self.begin_again()?;
+            Ok(())
+        }
+    }
+
+    /// The spawned child that ran has ended.
+    #[inline(always)]
+    pub fn end(&mut self) -> Result<(), AllocError>
+        ensures laid { OnOk result (Laid self.old → Laid self.new) }
+        ensures bounded { OnOk result (StaysBounded self.old self.new) }
+        ensures strand_path { OnOk result (ComesWithin ends self.old self.new) }
+    {
+        match self.blocks.pop() {
+            None => Ok(()),
+            Some(f) => {
+                if is_longest(f, self.weight) {
+                    self.take(f)?;
+                    Ok(())
+                } else {
+                    self.let_go(f)?;
+                    Ok(())
+                }
+            }
+        }
+    }
+
+    // The child that ran is the longest of this block: what was the longest is taken out.
+    #[inline(always)]
+    fn take(&mut self, f: Block) -> Result<(), AllocError>
+        ensures laid { OnOk result (LaidWith self.old f → Laid self.new) }
+        ensures bounded { OnOk result (StaysBounded self.old self.new) }
+        ensures strand_path { OnOk result (TakesChild self.old self.new f) }
+    {
+        let mid = f.mid.saturating_add(f.child.saturating_sub(f.at));
+        take_out(&mut self.steps, f.mid, f.at);
+        let len = self.steps.len();
+        self.blocks.push(Block {
+            base: f.base.saturating_add(f.rest),
+            longest: Some(self.weight),
+            rest: 0,
+            from: f.from,
+            mid,
+            end: len,
+            at: len,
+            child: len,
+        })?;
+        self.weight = 0;
+        self.start = len;
+        Ok(())
+    }
+
+    // The child that ran is not the longest of this block: its steps are dropped.
+    #[inline(always)]
+    fn let_go(&mut self, f: Block) -> Result<(), AllocError>
+        ensures laid { OnOk result (LaidWith self.old f → Laid self.new) }
+        ensures bounded { OnOk result (StaysBounded self.old self.new) }
+        ensures strand_path { OnOk result (LetsChildGo self.old self.new f) }
+    {
+        self.steps.truncate(f.child);
+        self.blocks.push(Block {
+            base: f.base,
+            longest: f.longest,
+            rest: 0,
+            from: f.from,
+            mid: f.mid,
+            end: f.end,
+            at: f.at,
+            child: f.at,
+        })?;
+        self.weight = f.rest;
+        self.start = f.at;
+        Ok(())
+    }
+
+    /// The innermost block that has spawned joins.
+    #[inline(always)]
+    pub fn join(&mut self)
+        ensures laid { Laid self.old → Laid self.new }
+        ensures bounded { StaysBounded self.old self.new }
+        ensures strand_path { ComesWithin joins self.old self.new }
+    {
+        if let Some(f) = self.blocks.pop() {
+            self.join_block(f);
+        }
+    }
+
+    /// How much of the path of the strand that runs is a site's own.
+    pub fn own(&self, site: u32) -> u64
+        ensures { Laid self.now → (strand_path site self.now).now.own < 2 ^ 64 → result ≡ (strand_path site self.now).now.own }
+    {
+        let mut sum = 0u64;
+        for i in self.start..self.steps.len() {
+            let steps = self.steps[i];
+            sum = with_steps(sum, steps, site);
+        }
+        sum
+    }
+
+    // This block joins.
+    #[inline(always)]
+    fn join_block(&mut self, f: Block)
+        ensures laid { LaidWith self.old f → Laid self.new }
+        ensures bounded { StaysBounded self.old self.new }
+        ensures strand_path { JoinsBlock self.old self.new f }
+    {
+        match f.longest {
+            Some(l) if l >= self.weight => {
+                self.steps.truncate(f.end);
+                self.weight = f.base.saturating_add(l);
+                self.start = f.from;
+            }
+            _ => {
+                self.close(f);
+            }
+        }
+    }
+
+    // This block joins, and its longest child is taken out.
+    #[inline(always)]
+    fn close(&mut self, f: Block)
+        ensures laid { LaidWith self.old f → Laid self.new }
+        ensures bounded { StaysBounded self.old self.new }
+        ensures strand_path { ClosesBlock self.old self.new f }
+    {
+        take_out(&mut self.steps, f.mid, self.start);
+        self.weight = f.base.saturating_add(self.weight);
+        self.start = f.from;
+    }
+}
+
+// Whether the child that ran on a path of this weight is the longest of its block.
+#[inline(always)]
+fn is_longest(f: Block, child: u64) -> bool
+    ensures { f.rest + child < 2 ^ 64 → result ≡ is_longer f.longest (f.rest + child) }
+{
+    match f.longest {
+        None => true,
+        Some(l) => l < f.rest.saturating_add(child),
+    }
+}
+
+// The sum, and these steps where they are the site's.
+fn with_steps(sum: u64, steps: Steps, site: u32) -> u64
+    ensures { result ≡ (if steps.site == site then min (sum + steps.count) (2 ^ 64 - 1) else sum) }
+{
+    if steps.site == site {
+        sum.saturating_add(steps.count)
+    } else {
+        sum
+    }
+}

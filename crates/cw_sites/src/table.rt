@@ -1,0 +1,200 @@
+//! The table of a strand: the rows of the sites, and the chosen path so far.
+
+ghost use Rattle.std.specs.Prelude.{◌<◌, ℕ, [], OnOk};
+ghost use Rattle.cw_sites.specs.StepLists.{IsShort};
+ghost use Rattle.cw_sites.specs.Tables.{Flushed, IsBoundedTable, RowBegun, RowLeft, StaysBoundedIn, Tells};
+ghost use Rattle.cw_sites.specs.Tables.{EndsChild, EndsHalf, Enters, Joins, Leaves, Notes};
+ghost use Rattle.cw_sites.specs.Tables.{ReadsPath, ReadsSite, Spawns, SpawnsHalf};
+
+use crate::paths::Paths;
+use crate::rows::Rows;
+use std::alloc::{AllocError, Global};
+
+/// What is counted of each site over a run so far.
+///
+/// Each call is told the count of instructions so far, those of children that others ran included.
+#[derive(Debug, Drop)]
+pub struct SiteTable {
+    pub rows: Rows,
+    pub paths: Paths,
+    /// The count up to which instructions have been given to their sites.
+    pub noted: u64,
+    /// The site of the innermost invocation.
+    pub here: u32,
+}
+
+impl SiteTable {
+    /// The table of a run that begins in an invocation of this site. Takes no memory.
+    pub fn new(alloc: Global, here: u32) -> SiteTable
+        ensures told { Tells here (λ q. 0) [] [] result }
+        ensures bounded { (most : ℕ) → here < most → IsBoundedTable most result }
+    {
+        SiteTable {
+            rows: Rows::new(alloc),
+            paths: Paths::new(alloc),
+            noted: 0,
+            here,
+        }
+    }
+
+    // The instructions since the last call go to the innermost invocation's site.
+    #[inline(always)]
+    fn flush(&mut self, count: u64) -> Result<(), AllocError>
+        ensures flushed { OnOk result (Flushed self.old self.new count) }
+        ensures bounded { OnOk result (StaysBoundedIn self.old.here self.old self.new) }
+        ensures short { OnOk result (IsShort self.new.paths) }
+    {
+        let since = count.saturating_sub(self.noted);
+        self.rows.work(self.here, since)?;
+        self.paths.extend(self.here, since)?;
+        self.noted = count;
+        Ok(())
+    }
+
+    // An invocation begins on a path of this weight.
+    #[inline(always)]
+    fn begin_row(&mut self, site: u32, path: u64) -> Result<(), AllocError>
+        ensures begun { OnOk result (RowBegun self.old self.new site path) }
+    {
+        self.rows.begin(site, self.noted, path)?;
+        self.here = site;
+        Ok(())
+    }
+
+    // The innermost invocation ends, inside one of this site.
+    #[inline(always)]
+    fn end_row(&mut self, outer: u32) -> Result<(), AllocError>
+        ensures left { OnOk result (RowLeft self.old self.new outer) }
+    {
+        self.rows.end(self.here, self.noted, self.paths.weight)?;
+        self.here = outer;
+        Ok(())
+    }
+
+    /// The instructions so far are given to their sites: to be called before a scope or a region begins or ends.
+    pub fn note(&mut self, count: u64) -> Result<(), AllocError>
+        ensures told { OnOk result (Notes self.old self.new count) }
+        ensures bounded { OnOk result (StaysBoundedIn self.old.here self.old self.new) }
+        ensures short { OnOk result (IsShort self.new.paths) }
+    {
+        self.flush(count)?;
+        Ok(())
+    }
+
+    /// A call in place of this site begins.
+    #[inline(never)]
+    pub fn enter(&mut self, count: u64, site: u32) -> Result<(), AllocError>
+        ensures told { OnOk result (Enters self.old self.new count site) }
+        ensures bounded { OnOk result (StaysBoundedIn site self.old self.new) }
+    {
+        self.flush(count)?;
+        let path = self.paths.weight;
+        self.begin_row(site, path)?;
+        Ok(())
+    }
+
+    /// A spawned call of this site begins, in this strand; `first` tells that its block has not spawned since its last join.
+    #[inline(never)]
+    pub fn spawn(&mut self, count: u64, site: u32, first: bool) -> Result<(), AllocError>
+        ensures told { OnOk result (Spawns self.old self.new count site first) }
+        ensures bounded { OnOk result (StaysBoundedIn site self.old self.new) }
+    {
+        self.flush(count)?;
+        self.paths.spawn(first)?;
+        self.begin_row(site, 0)?;
+        Ok(())
+    }
+
+    /// The innermost invocation, a call in place whose block has joined, ends inside one of the site `outer`.
+    #[inline(never)]
+    pub fn leave(&mut self, count: u64, outer: u32) -> Result<(), AllocError>
+        ensures told { OnOk result (Leaves self.old self.new count outer) }
+        ensures bounded { OnOk result (StaysBoundedIn outer self.old self.new) }
+    {
+        self.flush(count)?;
+        self.end_row(outer)?;
+        Ok(())
+    }
+
+    /// The innermost invocation, a spawned call whose block has joined, ends inside one of the site `outer`.
+    #[inline(never)]
+    pub fn end_child(&mut self, count: u64, outer: u32) -> Result<(), AllocError>
+        ensures told { OnOk result (EndsChild self.old self.new count outer) }
+        ensures bounded { OnOk result (StaysBoundedIn outer self.old self.new) }
+    {
+        self.flush(count)?;
+        self.end_row(outer)?;
+        self.paths.end()?;
+        Ok(())
+    }
+
+    /// A block joins that has spawned since its last join. Where it has not, there is nothing to call.
+    #[inline(never)]
+    pub fn join(&mut self, count: u64) -> Result<(), AllocError>
+        ensures told { OnOk result (Joins self.old self.new count) }
+        ensures bounded { OnOk result (StaysBoundedIn self.old.here self.old self.new) }
+    {
+        self.flush(count)?;
+        self.paths.join();
+        Ok(())
+    }
+
+    /// A spawned part that is no call begins, in this strand: half of a loop. `first` as for `spawn`.
+    #[inline(never)]
+    pub fn spawn_half(&mut self, count: u64, first: bool) -> Result<(), AllocError>
+        ensures told { OnOk result (SpawnsHalf self.old self.new count first) }
+        ensures bounded { OnOk result (StaysBoundedIn self.old.here self.old self.new) }
+    {
+        self.flush(count)?;
+        self.paths.spawn(first)?;
+        Ok(())
+    }
+
+    /// The innermost open part, a spawned one that is no call and whose block has joined, ends.
+    #[inline(never)]
+    pub fn end_half(&mut self, count: u64) -> Result<(), AllocError>
+        ensures told { OnOk result (EndsHalf self.old self.new count) }
+        ensures bounded { OnOk result (StaysBoundedIn self.old.here self.old self.new) }
+    {
+        self.flush(count)?;
+        self.paths.end()?;
+        Ok(())
+    }
+
+    /// The weight of the path of the strand that runs, in instructions, once they are noted: what regions are told.
+    #[inline(always)]
+    pub fn path(&self) -> u64
+        ensures { ReadsPath self.now result }
+    {
+        self.paths.weight
+    }
+
+    /// What is counted of a site, once no part is open and the block has joined.
+    pub fn site(&self, site: u32) -> SiteRow
+        ensures { ReadsSite self.now site result }
+    {
+        let row = self.rows.row(site);
+        SiteRow {
+            calls: row.calls,
+            own_work: row.own,
+            own_span: self.paths.own(site),
+            work: row.work,
+            span: row.span,
+        }
+    }
+}
+
+/// What is counted of a site.
+#[derive(Clone, Copy, Debug, PartialEq, Eq)]
+pub struct SiteRow {
+    /// Its invocations.
+    pub calls: u64,
+    /// Their own instructions.
+    pub own_work: u64,
+    /// Those of them on the chosen path of the whole run.
+    pub own_span: u64,
+    /// The work of its invocations that lie in no other invocation of it.
+    pub work: u64,
+    /// Their span.
+    pub span: u64,
+}

@@ -1,0 +1,134 @@
+//! Small runs, by hand.
+
+use crate::table::{SiteRow, SiteTable};
+use std::alloc::AllocError;
+
+fn row(calls: u64, own_work: u64, own_span: u64, work: u64, span: u64) -> SiteRow {
+    SiteRow {
+        calls,
+        own_work,
+        own_span,
+        work,
+        span,
+    }
+}
+
+// A short child of 2 instructions beside a rest of 4, one instruction before and three after.
+#[test]
+fn a_longer_rest(rt: HostRuntime) -> Result<(), AllocError> {
+    let mut table = SiteTable::new(rt.alloc(), 0);
+    table.enter(0, 0)?;
+    table.spawn(1, 1, true)?;
+    table.end_child(3, 0)?;
+    table.join(7)?;
+    table.leave(10, 0)?;
+    assert_eq!(rt; table.site(0), row(1, 8, 8, 10, 8));
+    assert_eq!(rt; table.site(1), row(1, 2, 0, 2, 2));
+    assert_eq!(rt; table.site(2), row(0, 0, 0, 0, 0));
+    assert_eq!(rt; table.path(), 8);
+    Ok(())
+}
+
+// A child that weighs as much as the rest is chosen.
+#[test]
+fn a_tie_of_child_and_rest(rt: HostRuntime) -> Result<(), AllocError> {
+    let mut table = SiteTable::new(rt.alloc(), 0);
+    table.enter(0, 0)?;
+    table.spawn(1, 1, true)?;
+    table.end_child(5, 0)?;
+    table.join(9)?;
+    table.leave(10, 0)?;
+    assert_eq!(rt; table.site(0), row(1, 6, 2, 10, 6));
+    assert_eq!(rt; table.site(1), row(1, 4, 4, 4, 4));
+    Ok(())
+}
+
+// Of two children whose paths weigh the same from the first spawn on, the earlier one is chosen.
+#[test]
+fn a_tie_of_children(rt: HostRuntime) -> Result<(), AllocError> {
+    let mut table = SiteTable::new(rt.alloc(), 0);
+    table.enter(0, 0)?;
+    table.spawn(1, 1, true)?;
+    table.end_child(7, 0)?;
+    table.spawn(9, 2, false)?;
+    table.end_child(13, 0)?;
+    table.join(13)?;
+    table.leave(13, 0)?;
+    assert_eq!(rt; table.site(0), row(1, 3, 1, 13, 7));
+    assert_eq!(rt; table.site(1), row(1, 6, 6, 6, 6));
+    assert_eq!(rt; table.site(2), row(1, 4, 0, 4, 4));
+    Ok(())
+}
+
+// The later of two children is longer by one instruction between the spawns: what lies between is on the path.
+#[test]
+fn a_later_child(rt: HostRuntime) -> Result<(), AllocError> {
+    let mut table = SiteTable::new(rt.alloc(), 0);
+    table.enter(0, 0)?;
+    table.spawn(1, 1, true)?;
+    table.end_child(7, 0)?;
+    table.spawn(10, 2, false)?;
+    table.end_child(14, 0)?;
+    table.join(14)?;
+    table.leave(14, 0)?;
+    assert_eq!(rt; table.site(0), row(1, 4, 4, 14, 8));
+    assert_eq!(rt; table.site(1), row(1, 6, 0, 6, 6));
+    assert_eq!(rt; table.site(2), row(1, 4, 4, 4, 4));
+    Ok(())
+}
+
+// A function that calls itself twice more from one site: only the outermost call of the site is summed.
+#[test]
+fn a_recursion(rt: HostRuntime) -> Result<(), AllocError> {
+    let mut table = SiteTable::new(rt.alloc(), 0);
+    table.enter(0, 0)?;
+    table.enter(4, 2)?;
+    table.enter(15, 1)?;
+    table.enter(26, 1)?;
+    table.leave(32, 1)?;
+    table.leave(35, 2)?;
+    table.leave(38, 0)?;
+    table.leave(40, 0)?;
+    assert_eq!(rt; table.site(0), row(1, 6, 6, 40, 40));
+    assert_eq!(rt; table.site(1), row(2, 20, 20, 20, 20));
+    assert_eq!(rt; table.site(2), row(1, 14, 14, 34, 34));
+    Ok(())
+}
+
+// Halves of a loop belong to the invocation round the loop: 1 instruction, a half of 3 beside one of 5, 1 instruction.
+#[test]
+fn halves_of_a_loop(rt: HostRuntime) -> Result<(), AllocError> {
+    let mut table = SiteTable::new(rt.alloc(), 0);
+    table.enter(0, 0)?;
+    table.spawn_half(1, true)?;
+    table.enter(2, 1)?;
+    table.leave(3, 0)?;
+    table.end_half(4)?;
+    table.enter(5, 1)?;
+    table.leave(8, 0)?;
+    table.join(9)?;
+    table.leave(10, 0)?;
+    assert_eq!(rt; table.site(0), row(1, 6, 4, 10, 7));
+    assert_eq!(rt; table.site(1), row(2, 4, 3, 4, 4));
+    Ok(())
+}
+
+// A path through many calls of two sites stays as short as twice the sites and a constant.
+#[test]
+fn a_long_loop_of_calls(rt: HostRuntime) -> Result<(), AllocError> {
+    let mut table = SiteTable::new(rt.alloc(), 0);
+    table.enter(0, 0)?;
+    for turn in 0..2_000u64 {
+        let count = turn * 15;
+        table.enter(count + 1, 1)?;
+        table.enter(count + 3, 2)?;
+        table.leave(count + 6, 1)?;
+        table.leave(count + 10, 0)?;
+        assert!(rt; table.paths.steps.len() <= 71);
+    }
+    table.leave(30_000, 0)?;
+    assert_eq!(rt; table.site(0), row(1, 12_000, 12_000, 30_000, 30_000));
+    assert_eq!(rt; table.site(1), row(2_000, 12_000, 12_000, 18_000, 18_000));
+    assert_eq!(rt; table.site(2), row(2_000, 6_000, 6_000, 6_000, 6_000));
+    Ok(())
+}
