@@ -19,6 +19,7 @@ STATEMENTS = {
     "short_calls": "f();",
     "syncs": "cilk_sync;",
     "blocks": "cilk_scope{" * 60 + "}" * 60,
+    "deepest": "cilk_scope{" * 63 + "x=" + "-" * 253 + "y;" + "}" * 63,
     "choices": "if(x){x=1;}else{x=2;}",
     "loops": "cilk_for(int i=0;i<n;i++)grain 8 over(" + ",".join(["a"] * 100) + "){}",
     "cuts": "cut a at 1 as l,r{}",
