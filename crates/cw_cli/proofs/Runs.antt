@@ -7,7 +7,7 @@ use Rattle.cw_model.specs.Limits.{most_limit, most_burden}
 use Rattle.cw_model.specs.Trees.{Tree}
 use Rattle.cw_model.specs.Answers.{Answer, Ended, TrappedAt, OverLimit}
 use Rattle.cw_model.specs.declared.trap.Trap.{Trap}
-use Rattle.cw_model.specs.Report.{check_text, value_line, run_text, sum_lines, report_text}
+use Rattle.cw_model.specs.Report.{check_text, value_line, sum_lines, report_text}
 use Rattle.cw_code.specs.Code.{Code}
 use Rattle.cw_code.specs.Run.{code_serial}
 use Rattle.cw_code.specs.Fits.{main_params}
@@ -18,7 +18,8 @@ use Rattle.cw_text.specs.declared.fault.Fault.TheVariants as fault
 use Rattle.cw_report.specs.Seen.{Seen}
 use Rattle.cw_report.specs.Sinks.{Writes, WritesAll, WritesPart}
 use Rattle.cw_report.specs.Answers.{AnswersLess}
-use Rattle.cw_report.specs.Texts.{ended_text, handed_text}
+use Rattle.cw_report.specs.Texts.{sums_text, ended_text, handed_text}
+use Rattle.cw_types.specs.Resolved.{reducer_names}
 use Rattle.cw_cli.specs.Compiled.{IsCompiled}
 use Rattle.cw_cli.specs.Sources.{IsRefused}
 use Rattle.cw_cli.specs.Analyses as analyses
@@ -47,18 +48,11 @@ true_both true true p q = refl
 true_both true false p q = q
 true_both false b p q = p
 
-no_reducers : (reducers : List Reducer) → map (λ r. r.line) reducers ≡ [] → reducers ≡ []
-no_reducers [] h = refl
-no_reducers (r ∷ rs) h = cc
-
-front : (xs ys : List ℕ) → xs ++ ys ≡ [] → xs ≡ []
-front [] ys h = refl
-front (x ∷ xs) ys h = cc
-
--- the report of a run of a program without reducers
-ended_report : (program : Program) (v : ℤ) (lines sums : List ℤ) (tree : Tree) → program.reducers ≡ [] → run_text program (Ended v lines sums tree) ≡ ended_text lines v
-ended_report program v lines sums tree none =
-    ap (λ rs. flat_map value_line lines ++ (sum_lines rs sums ++ (codes "return " ++ value_line v))) none
+-- reducers by their names alone have the same lines
+named_lines : (reducers : List Reducer) (sums : List ℤ) → sums_text (reducer_names reducers) sums ≡ sum_lines reducers sums
+named_lines [] sums = refl
+named_lines (r ∷ rs) [] = refl
+named_lines (r ∷ rs) (v ∷ vs) = ap (λ lines. codes "sum " ++ (r.name ++ (codes " = " ++ (value_line v ++ lines)))) (named_lines rs vs)
 
 some_is : {A : Type 0} (a b : A) → Some a ≡ Some b → a ≡ b
 some_is a b e = cc
@@ -72,10 +66,12 @@ not_over e = cc
 trap_not_over : {trap : Trap} {line : ℕ} {lines : List ℤ} → TrappedAt trap line lines ≡ OverLimit → ⊥
 trap_not_over e = cc
 
--- the report that is asked for
-report_is : (m : Mode) (program : Program) (burden : ℕ) (v : ℤ) (lines sums : List ℤ) (tree : Tree) → m ≡ mode.Run → program.reducers ≡ [] → report_text (analyses.mode_of m) program burden (Ended v lines sums tree) ≡ ended_text lines v
-report_is mode.Check program burden v lines sums tree is none = cc
-report_is mode.Run program burden v lines sums tree is none = ended_report program v lines sums tree none
+-- the report that is asked for, of code that has the program's reducers
+report_is : (m : Mode) (program : Program) (code : Code) (burden : ℕ) (v : ℤ) (lines sums : List ℤ) (tree : Tree) → m ≡ mode.Run → code.reducers ≡ reducer_names program.reducers
+    → report_text (analyses.mode_of m) program burden (Ended v lines sums tree) ≡ ended_text code lines sums v
+report_is mode.Check program code burden v lines sums tree is same = cc
+report_is mode.Run program code burden v lines sums tree is same =
+    ap (λ sum_part. flat_map value_line lines ++ (sum_part ++ (codes "return " ++ value_line v))) (sym (ap (λ names. sums_text names sums) same ∙ named_lines program.reducers sums))
 
 printed_is : (m : Mode) (program : Program) (burden : ℕ) (trap : Trap) (line : ℕ) (lines : List ℤ) → m ≡ mode.Run → report_text (analyses.mode_of m) program burden (TrappedAt trap line lines) ≡ flat_map value_line lines
 printed_is mode.Check program burden trap line lines is = cc
@@ -108,15 +104,12 @@ module _ (bytes : List ℕ) (args : List ℤ) (options : Options) (is_run : opti
   answer_is : analyses.MayRun compiled.program args options → (a : Answer) → code_serial code args options.limit ≡ Some a → analyses.answer_to compiled.program args options ≡ a
   answer_is m a e = some_is _ _ (sym (compiled.generates.serial args m.count options.limit) ∙ e)
 
-  none : compiled.program.reducers ≡ []
-  none = no_reducers compiled.program.reducers (front (map (λ (r : Reducer). r.line) compiled.program.reducers) _ compiled.compiles.taken)
+  ended_is : (v : ℤ) (lines sums : List ℤ) (r : Runs code args options.limit options.burden v lines sums) → analyses.answer_to compiled.program args options ≡ Ended v lines sums r.tree
+  ended_is v lines sums r = answer_is (may r.asked) (Ended v lines sums r.tree) r.answer
 
-  ended_is : (v : ℤ) (lines : List ℤ) (r : Runs code args options.limit options.burden v lines) → analyses.answer_to compiled.program args options ≡ Ended v lines r.sums r.tree
-  ended_is v lines r = answer_is (may r.asked) (Ended v lines r.sums r.tree) r.answer
-
-  ended_text_is : (v : ℤ) (lines : List ℤ) (r : Runs code args options.limit options.burden v lines) → ended_text lines v ≡ analyses.text_of compiled.program args options
-  ended_text_is v lines r =
-      sym (ap (λ a. report_text (analyses.mode_of options.mode) compiled.program options.burden a) (ended_is v lines r) ∙ report_is options.mode compiled.program options.burden v lines r.sums r.tree is_run none)
+  ended_text_is : (v : ℤ) (lines sums : List ℤ) (r : Runs code args options.limit options.burden v lines sums) → ended_text code lines sums v ≡ analyses.text_of compiled.program args options
+  ended_text_is v lines sums r =
+      sym (ap (λ a. report_text (analyses.mode_of options.mode) compiled.program options.burden a) (ended_is v lines sums r) ∙ report_is options.mode compiled.program code options.burden v lines sums r.tree is_run compiled.generates.reducers)
 
   printed_text_is : (trap : Trap) (line : ℕ) (lines : List ℤ) → analyses.answer_to compiled.program args options ≡ TrappedAt trap line lines → flat_map value_line lines ≡ analyses.text_of compiled.program args options
   printed_text_is trap line lines e =
@@ -124,16 +117,16 @@ module _ (bytes : List ℕ) (args : List ℤ) (options : Options) (is_run : opti
 
   module _ {W : Type 0} (seen : W → Seen) (old new : W) where
     -- a run that ended, and its text was written
-    reported : (v : ℤ) (lines : List ℤ) → Runs code args options.limit options.burden v lines → WritesAll (seen old) (seen new) (ended_text lines v) → analyses.IsReported seen old new bytes args options
-    reported v lines r took = record {
+    reported : (v : ℤ) (lines sums : List ℤ) → Runs code args options.limit options.burden v lines sums → WritesAll (seen old) (seen new) (ended_text code lines sums v) → analyses.IsReported seen old new bytes args options
+    reported v lines sums r took = record {
       program = compiled.program;
       run = run_of (may r.asked);
-      ended = subst analyses.HasEnded (sym (ended_is v lines r)) tt;
-      took = subst (λ text. WritesAll (seen old) (seen new) text) (ended_text_is v lines r) took;
+      ended = subst analyses.HasEnded (sym (ended_is v lines sums r)) tt;
+      took = subst (λ text. WritesAll (seen old) (seen new) text) (ended_text_is v lines sums r) took;
     }
 
     -- a run that did not end, and what it printed was written
-    unreported : (f : Fault) → Why code args options.limit options.burden f → WritesAll (seen old) (seen new) (handed_text (Err f)) → (handed_text (Err f) ≡ [] → new ≡ old) → analyses.IsUnreported seen old new bytes args options f
+    unreported : (f : Fault) → Why code args options.limit options.burden f → WritesAll (seen old) (seen new) (handed_text code (Err f)) → (handed_text code (Err f) ≡ [] → new ≡ old) → analyses.IsUnreported seen old new bytes args options f
     unreported fault.OverLimit h took idle =
         record { program = compiled.program; run = run_of (may h.0); over = answer_is (may h.0) OverLimit h.1; untouched = idle refl }
     unreported (fault.Trap trap line lines) h took idle =
@@ -149,22 +142,22 @@ module _ (bytes : List ℕ) (args : List ℤ) (options : Options) (is_run : opti
         record { program = compiled.program; compiles = compiled.compiles; misused = λ m. false_true (sym h ∙ must m); untouched = idle refl }
     unreported _ h took idle = absurd h
 
-    finished_itself : (ended : Result run.Ended Fault) → RunsAsCode code args options.limit options.burden ended → WritesAll (seen old) (seen new) (handed_text ended) → (handed_text ended ≡ [] → new ≡ old) → MatchResult ended (λ _. analyses.IsReported seen old new bytes args options) (analyses.IsUnreported seen old new bytes args options)
-    finished_itself (Ok e) r took idle = reported e.value e.lines.items r took
+    finished_itself : (ended : Result run.Ended Fault) → RunsAsCode code args options.limit options.burden ended → WritesAll (seen old) (seen new) (handed_text code ended) → (handed_text code ended ≡ [] → new ≡ old) → MatchResult ended (λ _. analyses.IsReported seen old new bytes args options) (analyses.IsUnreported seen old new bytes args options)
+    finished_itself (Ok e) r took idle = reported e.value e.lines.items e.sums.items r took
     finished_itself (Err f) h took idle = unreported f h took idle
 
     -- a run whose text was written
-    pub finished : (ended other : Result run.Ended Fault) → ended ≡ other → RunsAsCode code args options.limit options.burden ended → WritesAll (seen old) (seen new) (handed_text ended) → (handed_text ended ≡ [] → new ≡ old) → MatchResult other (λ _. analyses.IsReported seen old new bytes args options) (analyses.IsUnreported seen old new bytes args options)
+    pub finished : (ended other : Result run.Ended Fault) → ended ≡ other → RunsAsCode code args options.limit options.burden ended → WritesAll (seen old) (seen new) (handed_text code ended) → (handed_text code ended ≡ [] → new ≡ old) → MatchResult other (λ _. analyses.IsReported seen old new bytes args options) (analyses.IsUnreported seen old new bytes args options)
     finished ended other same h took idle =
         subst (λ r. MatchResult r (λ _. analyses.IsReported seen old new bytes args options) (analyses.IsUnreported seen old new bytes args options)) same (finished_itself ended h took idle)
 
     -- a write that failed
-    cut_short : (ended : Result run.Ended Fault) → RunsAsCode code args options.limit options.burden ended → WritesPart (seen old) (seen new) (handed_text ended) → (handed_text ended ≡ [] → new ≡ old) → analyses.IsCutShort seen old new bytes args options
+    cut_short : (ended : Result run.Ended Fault) → RunsAsCode code args options.limit options.burden ended → WritesPart (seen old) (seen new) (handed_text code ended) → (handed_text code ended ≡ [] → new ≡ old) → analyses.IsCutShort seen old new bytes args options
     cut_short (Ok e) r part idle = record {
       program = compiled.program;
       run = run_of (may r.asked);
-      within = λ over. not_over (sym (ended_is e.value e.lines.items r) ∙ over);
-      took = subst (λ text. WritesPart (seen old) (seen new) text) (ended_text_is e.value e.lines.items r) part;
+      within = λ over. not_over (sym (ended_is e.value e.lines.items e.sums.items r) ∙ over);
+      took = subst (λ text. WritesPart (seen old) (seen new) text) (ended_text_is e.value e.lines.items e.sums.items r) part;
     }
     cut_short (Err (fault.Trap trap line lines)) h part idle =
         let e = answer_is (may h.0) (TrappedAt trap line lines.items) h.1 in
@@ -177,7 +170,7 @@ module _ (bytes : List ℕ) (args : List ℤ) (options : Options) (is_run : opti
     cut_short (Err _) h part idle = absurd (no_part seen old new [] (idle refl) part)
 
     -- a text that was not written
-    pub unwritten : (ended : Result run.Ended Fault) → RunsAsCode code args options.limit options.burden ended → (handed_text ended ≡ [] → new ≡ old) → (f : Fault) → AnswersLess seen old new (handed_text ended) f → analyses.IsUnreported seen old new bytes args options f
+    pub unwritten : (ended : Result run.Ended Fault) → RunsAsCode code args options.limit options.burden ended → (handed_text code ended ≡ [] → new ≡ old) → (f : Fault) → AnswersLess seen old new (handed_text code ended) f → analyses.IsUnreported seen old new bytes args options f
     unwritten ended r idle fault.Memory h = h
     unwritten ended r idle fault.Write h = cut_short ended r h idle
     unwritten ended r idle _ h = absurd h

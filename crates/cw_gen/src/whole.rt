@@ -7,6 +7,7 @@ ghost use Rattle.cw_types.specs.Resolved.{reducer_names};
 ghost use Rattle.cw_types.specs.View as view;
 
 use crate::emit::functions;
+use crate::passed::passed_of;
 use crate::sites::sites_of;
 use cw_code::code::Code;
 use cw_parse::tree::Name;
@@ -24,6 +25,7 @@ pub(crate) fn emit(alloc: Global, tree: &Tree) -> Result<Code, AllocError>
     sites_of(alloc, &mut sites, &tree.functions)?;
     let reducers = reducers_of(alloc, &tree.reducers)?;
     let tags = tags_of(alloc, &tree.tags)?;
+    let passed = passed_of(alloc, &tree.functions)?;
     Ok(Code {
         instrs,
         funcs,
@@ -31,6 +33,7 @@ pub(crate) fn emit(alloc: Global, tree: &Tree) -> Result<Code, AllocError>
         sites,
         reducers,
         tags,
+        passed,
     })
 }
 

@@ -24,12 +24,14 @@ pub struct Ended {
     pub value: i64,
     /// The values printed, in order.
     pub lines: Vec<i64>,
+    /// For each reducer the sum of what was added to it, in source order.
+    pub sums: Vec<i128>,
 }
 
-/// Runs code on these arguments within `n` instructions: its value and the values printed, exactly where the code's
-/// meaning gives them.
+/// Runs code on these arguments within `n` instructions: its value, the values printed and the sum of each reducer,
+/// exactly where the code's meaning gives them.
 ///
-/// `burden` is the cost of a spawn in instructions; neither depends on it.
+/// `burden` is the cost of a spawn in instructions; none of them depends on it.
 ///
 /// The error is `Arguments` exactly where the count of the arguments is not that of `main`'s parameters, or `n` is not
 /// in 1..=2^62, or `burden` is above 1,000,000,000; otherwise `OverLimit` exactly where the run costs more than `n`,
@@ -49,11 +51,18 @@ pub fn run_alone(
     if !is_asked(f.params, args.len(), n, burden) {
         return Err(Fault::Arguments);
     }
-    let mut machine = Machine::new(alloc, f, verified.room(main), args)?;
+    let mut machine = Machine::new(
+        alloc,
+        f,
+        verified.room(main),
+        args,
+        verified.code.reducers.len(),
+    )?;
     match machine.run(verified, n) {
         Moved::Gave(value) => Ok(Ended {
             value: int_given(value),
             lines: machine.lines,
+            sums: machine.sums,
         }),
         Moved::On => Err(Fault::OverLimit),
         Moved::Trapped(trap, line) => Err(Fault::Trap {

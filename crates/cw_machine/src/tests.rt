@@ -1,10 +1,10 @@
 //! What small codes give, by hand: each at its cost, and over its limit at one less.
 
 use crate::alone::{Ended, run_alone};
+use cw_verify::verify::verify;
 use cw_code::code::{BlockKind, Callee, Code, Func, Instr, Site, UnaryOperator};
 use cw_model::syntax::{CallKind, Operator};
 use cw_text::Fault;
-use cw_verify::verify::verify;
 use std::alloc::{AllocError, Global};
 use std::sync::Arc;
 
@@ -26,6 +26,8 @@ fn place(
         gives_int,
         params,
         slots,
+        array_params: 0,
+        arrays: 0,
     })?;
     Ok(())
 }
@@ -59,7 +61,9 @@ fn code_of(alloc: Global, main: &[Instr]) -> Result<Code, AllocError> {
         sites: Vec::new(alloc),
         reducers: Vec::new(alloc),
         tags: Vec::new(alloc),
+        passed: Vec::new(alloc),
     };
+    code.passed.push(Vec::new(alloc))?;
     code.reducers.push(Vec::new(alloc))?;
     code.tags.push(Vec::new(alloc))?;
     place(&mut code, true, 1, 3, main)?;
@@ -103,6 +107,7 @@ fn callee(function: u32, site: u32, target: Option<u32>) -> Callee {
         site,
         line: 9,
         target,
+        passed: 0,
     }
 }
 

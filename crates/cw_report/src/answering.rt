@@ -1,6 +1,7 @@
 //! What a check and a run are answered with.
 
 ghost use Rattle.std.specs.Prelude.{◌≡◌, [], ◌<◌, ◌-◌, ◌^◌};
+ghost use Rattle.cw_code.specs.Code.{code_view};
 ghost use Rattle.cw_model.specs.Report.{check_text};
 ghost use Rattle.cw_report.specs.Sinks.{Writes};
 ghost use Rattle.cw_report.specs.Texts.{handed_text};
@@ -26,29 +27,29 @@ pub fn ok<W: Sink>(to: &mut W) -> Result<(), Fault>
     write_text(to, b"ok\n")
 }
 
-/// Writes the report of a run: the values that it printed, each on a line, and the line of its value,
-/// or, where it trapped, the values that it printed before. Of any other fault nothing is written, and the sink is left
-/// alone; the line of the fault itself is for `write_fault`.
+/// Writes the report of a run: the values that it printed, the sum of each reducer of the code, and the
+/// value of `main`, each on a line, or, where it trapped, the values that it printed before. Of any
+/// other fault nothing is written, and the sink is left alone; the line of the fault itself is for
+/// `write_fault`.
 ///
 /// The error is `Memory` where there is none for the text: nothing was written then. It is `Write`
 /// where a write failed or took no byte: the sink took a beginning of the text, and counts one more
 /// failed write.
 ///
-/// It asks that fewer than 2^64 - 1 writes to the sink failed before. The code has the call sites,
-/// for the reports that will tell of them.
+/// It asks that fewer than 2^64 - 1 writes to the sink failed before.
 pub fn answer<W: Sink>(
     alloc: Global,
-    _code: &Verified,
+    code: &Verified,
     ended: &Result<Ended, Fault>,
     to: &mut W,
 ) -> Result<(), Fault>
     requires { (W.seen to.old).failures < 2 ^ 64 - 1 }
-    ensures idle { handed_text ended.now ≡ [] → to.new ≡ to.old }
-    ensures answers { AnswersText W.seen to.old to.new (handed_text ended.now) result }
+    ensures idle { handed_text (code_view code.now.code) ended.now ≡ [] → to.new ≡ to.old }
+    ensures answers { AnswersText W.seen to.old to.new (handed_text (code_view code.now.code) ended.now) result }
 {
     match ended {
         Ok(ended) => {
-            let text = ended_text(alloc, ended.lines.as_slice(), ended.value)?;
+            let text = ended_text(alloc, &code.code, ended)?;
             write_text(to, text.as_slice())
         }
         Err(Fault::Trap { output, .. }) => {

@@ -4,6 +4,8 @@ use crate::counted::Counted;
 use crate::sink::Sink;
 use crate::text::{ended_text, printed_text};
 use crate::writing::{write_fault, write_text};
+use cw_code::code::Code;
+use cw_machine::alone::Ended;
 use cw_model::trap::Trap;
 use cw_text::{Fault, Place};
 use std::alloc::Global;
@@ -67,10 +69,33 @@ fn a_flush_that_fails_is_told_and_not_counted(rt: HostRuntime) -> Result<(), Fai
     Ok(())
 }
 
+// A code of no function that has these reducers.
+fn code_with(alloc: Global, names: &[&[u8]]) -> Result<Code, Fail> {
+    let mut reducers = Vec::new(alloc);
+    for name in names {
+        reducers.push(Vec::from_slice(alloc, name)?)?;
+    }
+    Ok(Code {
+        instrs: Vec::new(alloc),
+        funcs: Vec::new(alloc),
+        main: 0,
+        sites: Vec::new(alloc),
+        reducers,
+        tags: Vec::new(alloc),
+        passed: Vec::new(alloc),
+    })
+}
+
 #[test]
 fn prints_numbers(rt: HostRuntime) -> Result<(), Fail> {
     let alloc = rt.alloc();
-    let least = ended_text(alloc, &[], -9223372036854775808)?;
+    let code = code_with(alloc, &[])?;
+    let ended = Ended {
+        value: -9223372036854775808,
+        lines: Vec::new(alloc),
+        sums: Vec::new(alloc),
+    };
+    let least = ended_text(alloc, &code, &ended)?;
     assert_eq!(rt;
         least.as_slice(),
         b"return -9223372036854775808\n".as_slice()
@@ -79,6 +104,26 @@ fn prints_numbers(rt: HostRuntime) -> Result<(), Fail> {
     assert_eq!(rt;
         printed.as_slice(),
         b"0\n-1\n9223372036854775807\n".as_slice()
+    );
+    Ok(())
+}
+
+#[test]
+fn prints_sums_of_more_than_64_bits(rt: HostRuntime) -> Result<(), Fail> {
+    let alloc = rt.alloc();
+    let code = code_with(alloc, &[b"total", b"least"])?;
+    let ended = Ended {
+        value: 3,
+        lines: Vec::from_slice(alloc, &[7])?,
+        sums: Vec::from_slice(
+            alloc,
+            &[9223372036854775808, -42535295865117307932921825928971026432],
+        )?,
+    };
+    let text = ended_text(alloc, &code, &ended)?;
+    assert_eq!(rt;
+        text.as_slice(),
+        b"7\nsum total = 9223372036854775808\nsum least = -42535295865117307932921825928971026432\nreturn 3\n".as_slice()
     );
     Ok(())
 }

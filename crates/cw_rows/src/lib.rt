@@ -2,6 +2,10 @@
 #![tactic(auto)]
 
 #[cfg(test)]
+mod arrays;
+#[cfg(test)]
+mod examples;
+#[cfg(test)]
 mod integers;
 #[cfg(test)]
 mod owning;

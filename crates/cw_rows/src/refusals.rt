@@ -114,22 +114,9 @@ const NO_PROGRAMS: &[(&str, &str)] = &[
         "int main() {\nregion t01234567890123456789012345678901 { }\nreturn 0; }",
         "refused 5 line 2\n",
     ),
-    // what is not taken so far: arrays, parallel loops and reducers, after ownership
-    ("int main() {\nint a[1];\nreturn 0; }", "refused 5 line 2\n"),
-    (
-        "int main() { return 0; }\nint f(int a[]) { return 0; }",
-        "refused 5 line 2\n",
-    ),
+    // what is not taken so far: parallel loops, after ownership
     (
         "int main() {\ncilk_for (int i = 0; i < 2; i++) { }\nreturn 0; }",
-        "refused 5 line 2\n",
-    ),
-    (
-        "int main() { return 0; }\nreducer sum s;",
-        "refused 5 line 2\n",
-    ),
-    (
-        "int main() {\ns += 1;\nreturn 0; }\nreducer sum s;",
         "refused 5 line 2\n",
     ),
     (

@@ -2,6 +2,7 @@
 
 ghost use Rattle.std.specs.Prelude.{◌≡◌, ℕ, ◌+◌, ◌-◌, ◌^◌, ◌<◌, ◌==◌, ◌≤◌, length, min, if◌then◌else◌, OnOk};
 ghost use Rattle.cw_sites.specs.StepLists.{strand_path, Extends, IsBounded, IsShort, Laid, LaidWith, SaysTheSame, StaysBounded, Comes, ComesWithin, TakesChild, LetsChildGo, JoinsBlock, ClosesBlock};
+ghost use Rattle.cw_sites.specs.StepLists.{AddsStep, Appends, AppendsBlock, AppendsChild, ExtendsBy, ForksBy, StaysBoundedWith};
 ghost use Rattle.cw_sites.specs.StrandPaths.{nothing_run, begins, again, spawns, is_longer, ends, joins};
 
 use crate::compacting::add_up;
@@ -300,6 +301,116 @@ impl Paths {
         take_out(&mut self.steps, f.mid, self.start);
         self.weight = f.base.saturating_add(self.weight);
         self.start = f.from;
+    }
+
+    /// Joins the path of a piece of the block that runs, which ran apart and of which nothing is open; `first` tells that
+    /// the block has not spawned since its last join.
+    pub fn append(&mut self, piece: Paths, first: bool) -> Result<(), AllocError>
+        ensures laid { OnOk result (Laid self.old → Laid self.new) }
+        ensures bounded { OnOk result (StaysBoundedWith piece.steps.items self.old self.new) }
+        ensures strand_path { OnOk result (Appends self.old piece self.new first) }
+    {
+        let mut piece = piece;
+        match piece.blocks.pop() {
+            None => {
+                let end = piece.steps.len();
+                self.extend_by(&piece.steps, piece.start, end, piece.weight)?;
+                Ok(())
+            }
+            Some(f) => {
+                self.append_block(&piece, f, first)?;
+                Ok(())
+            }
+        }
+    }
+
+    // Joins the path of a piece that has spawned since its last join.
+    fn append_block(&mut self, piece: &Paths, f: Block, first: bool) -> Result<(), AllocError>
+        ensures laid { OnOk result (Laid self.old → Laid self.new) }
+        ensures bounded { OnOk result (StaysBoundedWith piece.now.steps.items self.old self.new) }
+        ensures strand_path { OnOk result (AppendsBlock self.old piece.now self.new f first) }
+    {
+        self.extend_by(&piece.steps, f.from, f.mid, f.base)?;
+        if let Some(child) = f.longest {
+            self.fork_by(first, &piece.steps, f.mid, f.end, child)?;
+        }
+        let end = piece.steps.len();
+        self.extend_by(&piece.steps, piece.start, end, piece.weight)?;
+        Ok(())
+    }
+
+    /// Joins the path of a spawned part that ran apart and of which nothing is open; `first` as for `append`.
+    pub fn append_child(&mut self, child: Paths, first: bool) -> Result<(), AllocError>
+        ensures laid { OnOk result (Laid self.old → Laid self.new) }
+        ensures bounded { OnOk result (StaysBoundedWith child.steps.items self.old self.new) }
+        ensures strand_path { OnOk result (AppendsChild self.old child self.new first) }
+    {
+        let end = child.steps.len();
+        self.fork_by(first, &child.steps, child.start, end, child.weight)?;
+        Ok(())
+    }
+
+    // A spawned child that ran apart: its path is these steps of a list.
+    fn fork_by(
+        &mut self,
+        first: bool,
+        steps: &Vec<Steps>,
+        from: usize,
+        to: usize,
+        weight: u64,
+    ) -> Result<(), AllocError>
+        ensures laid { OnOk result (Laid self.old → Laid self.new) }
+        ensures bounded { OnOk result (StaysBoundedWith steps.now.items self.old self.new) }
+        ensures strand_path { OnOk result (ForksBy self.old self.new first steps.now.items from to weight) }
+    {
+        self.spawn(first)?;
+        self.extend_by(steps, from, to, weight)?;
+        self.end()?;
+        Ok(())
+    }
+
+    // The steps of a list from a place to another, which weigh so much.
+    fn extend_by(
+        &mut self,
+        steps: &Vec<Steps>,
+        from: usize,
+        to: usize,
+        weight: u64,
+    ) -> Result<(), AllocError>
+        ensures laid { OnOk result (Laid self.old → Laid self.new) }
+        ensures bounded { OnOk result (StaysBoundedWith steps.now.items self.old self.new) }
+        ensures strand_path { OnOk result (ExtendsBy self.old self.new steps.now.items from to weight) }
+    {
+        let end = to.min(steps.len());
+        for i in from..end {
+            let one = steps[i];
+            self.step(one)?;
+        }
+        self.weight = self.weight.saturating_add(weight);
+        Ok(())
+    }
+
+    // These steps more, whose weight is added apart.
+    fn step(&mut self, one: Steps) -> Result<(), AllocError>
+        ensures laid { OnOk result (Laid self.old → Laid self.new) }
+        ensures bounded { OnOk result ((most : ℕ) → one.site < most → IsBounded most self.old → IsBounded most self.new) }
+        ensures strand_path { OnOk result (AddsStep self.old self.new one) }
+    {
+        if self.steps.len().saturating_sub(self.start) > self.limit {
+            self.compact()?;
+        }
+        self.add_step(one)?;
+        Ok(())
+    }
+
+    // The same, however long the path is.
+    fn add_step(&mut self, one: Steps) -> Result<(), AllocError>
+        ensures laid { OnOk result (Laid self.old → Laid self.new) }
+        ensures bounded { OnOk result ((most : ℕ) → one.site < most → IsBounded most self.old → IsBounded most self.new) }
+        ensures strand_path { OnOk result (AddsStep self.old self.new one) }
+    {
+        add_steps(&mut self.steps, self.start, one.site, one.count)?;
+        Ok(())
     }
 }
 

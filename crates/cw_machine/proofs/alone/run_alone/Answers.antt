@@ -1,19 +1,23 @@
-use Rattle.std.proofs.Common.{rules, arith, ◌≡◌, ◌≤◌, ◌-◌, ◌++◌, pos, ◌∙◌, length, true, sym, ap, subst, w64, of_z, to_z}
-use Rattle.std.specs.Prelude.{replicate}
+use Rattle.std.proofs.Common.{rules, arith, ◌≡◌, ℕ, ℤ, List, ◌≤◌, [], ◌∙◌, length, true, sym, subst, w64, of_z, to_z}
 use Rattle.std.specs.Coded.{le_prop}
 use Rattle.std.proofs.Math.Bool.{Bool-set}
 use Rattle.std.proofs.Math.Logic.{∥∥₁_elim, ∥∥₁_map}
-use Rattle.std.proofs.lemmas.Int.{to_z-of_z}
 use Rattle.cw_model.specs.Answers.{int_given}
+use Rattle.cw_code.specs.declared.code.Func.{Func}
 use Rattle.cw_code.specs.Code.{code_view}
 use Rattle.cw_code.specs.Run.{first_state, code_serial}
 use Rattle.cw_text.specs.declared.fault.Fault.TheVariants as fault
 use Rattle.cw_verify.specs.declared.verified.Verified.{Verified}
 use Rattle.cw_verify.specs.Resolved.{room_of}
-use Rattle.cw_machine.specs.Shows.{Reaches}
+use Rattle.cw_machine.specs.declared.machine.Machine.{Machine}
+use Rattle.cw_machine.specs.Shows.{IsNew, Reaches}
 use Rattle.cw_machine.specs.Runs.{is_asked, Runs, Why}
 use Rattle.cw_machine.proofs.FromMain.{IsEnded-prop, is_ended, is_over, was_over, IsTrapped-prop, was_trapped, requested, asked_count, main_there, main_has_room, main_room, main_frame, first_shows, ended, over, trapped}
 use Rattle.cw_machine.proofs.alone.run_alone.Goals as goal
+
+-- a new machine has main's room and a sum for each reducer
+is_new : {f : Func} {args : List ℤ} {room room' reducers reducers' : ℕ} {m : Machine} → room ≡ room' → reducers ≡ reducers' → IsNew f args room reducers m → IsNew f args room' reducers' m
+is_new {f} {args} {room} {room'} {reducers} {reducers'} {m} e e' new = subst (λ k. IsNew f args k reducers' m) e (subst (λ k. IsNew f args room k m) e' new)
 
 pub func-f-requires : goal.func-f-requires
 func-f-requires c = let v = c.deref-verified.result.now in ∥∥₁_elim v.ok le_prop (λ ok. main_there v ok)
@@ -39,8 +43,8 @@ run-requires c =
     let burden = c.args.burden in
     let asked : is_asked f.params (length args) n burden ≡ true = sym c.is_asked.ensures ∙ c.if-not-is_asked.false in
     let count = asked_count f args n burden asked in
-    let made = c.in_ok-machine.ensures in
-    ∥∥₁_map v.ok (λ ok. record { ok = ok; state = first_state f args; shows = first_shows v ok f args c.in_ok-machine.machine c.func-f.ensures count made.place made.first made.frames made.lines (made.cells ∙ ap (λ k. args ++ replicate (k - length args) (pos 0)) c.room.ensures) })
+    let made : IsNew f args (room_of v.rooms.items v.code.main) (length v.code.reducers.items) c.in_ok-machine.machine = is_new c.room.ensures (c.len.ensures ∙ v.code.reducers.ok.0) c.in_ok-machine.ensures in
+    ∥∥₁_map v.ok (λ ok. record { ok = ok; state = first_state f args []; shows = first_shows v ok f args c.in_ok-machine.machine c.func-f.ensures count made })
 
 pub returns-in-Gave : goal.returns-in-Gave
 returns-in-Gave c =
@@ -53,15 +57,15 @@ returns-in-Gave c =
     let m = c.run.new.self in
     let asked : is_asked f.params (length args) n burden ≡ true = sym c.is_asked.ensures ∙ c.if-not-is_asked.false in
     let count = asked_count f args n burden asked in
-    let made = c.in_ok-machine.ensures in
+    let made : IsNew f args (room_of v.rooms.items v.code.main) (length v.code.reducers.items) c.in_ok-machine.machine = is_new c.room.ensures (c.len.ensures ∙ v.code.reducers.ok.0) c.in_ok-machine.ensures in
     let given = c.in-Gave.value in
     let x = c.int_given.result in
     let serial = code_serial code args n in
-    let e = is_ended (int_given given) m.lines.items serial (∥∥₁_elim v.ok (IsEnded-prop (int_given given) m.lines.items serial) (λ ok.
-    ended v f args n burden m c.func-f.ensures asked ok given (subst (λ r. Reaches v ok r m n (first_state f args)) c.in-Gave.is (c.run.ensures ok (first_state f args) (first_shows v ok f args c.in_ok-machine.machine c.func-f.ensures count made.place made.first made.frames made.lines (made.cells ∙ ap (λ k. args ++ replicate (k - length args) (pos 0)) c.room.ensures)))))) in
-    let same : to_z w64 (of_z w64 x) ≡ int_given given = search (rules, to_z-of_z) in
-    subst (λ (w : Verified). Runs (code_view w.code) args n burden (to_z w64 (of_z w64 x)) m.lines.items) c.deref-verified.ensures
-    (subst (λ y. Runs code args n burden y m.lines.items) (sym same) (record { asked = requested code f args n burden c.func-f.ensures asked; sums = e.0; tree = e.1; answer = e.2 }))
+    let e = is_ended (int_given given) m.lines.items m.sums.items serial (∥∥₁_elim v.ok (IsEnded-prop (int_given given) m.lines.items m.sums.items serial) (λ ok.
+    ended v f args n burden m c.func-f.ensures asked ok given (subst (λ r. Reaches v ok r m n (first_state f args [])) c.in-Gave.is (c.run.ensures ok (first_state f args []) (first_shows v ok f args c.in_ok-machine.machine c.func-f.ensures count made))))) in
+    let same : to_z w64 (of_z w64 x) ≡ int_given given = search rules in
+    subst (λ (w : Verified). Runs (code_view w.code) args n burden (to_z w64 (of_z w64 x)) m.lines.items m.sums.items) c.deref-verified.ensures
+    (subst (λ y. Runs code args n burden y m.lines.items m.sums.items) (sym same) (record { asked = requested code f args n burden c.func-f.ensures asked; tree = e.0; answer = e.1 }))
 
 pub returns-in-On : goal.returns-in-On
 returns-in-On c =
@@ -74,8 +78,8 @@ returns-in-On c =
     let m = c.run.new.self in
     let asked : is_asked f.params (length args) n burden ≡ true = sym c.is_asked.ensures ∙ c.if-not-is_asked.false in
     let count = asked_count f args n burden asked in
-    let made = c.in_ok-machine.ensures in
-    let e : is_over (code_serial code args n) ≡ true = ∥∥₁_elim v.ok (hlevel Bool-set) (λ ok. over v f args n burden m c.func-f.ensures asked ok (subst (λ r. Reaches v ok r m n (first_state f args)) c.in-On.is (c.run.ensures ok (first_state f args) (first_shows v ok f args c.in_ok-machine.machine c.func-f.ensures count made.place made.first made.frames made.lines (made.cells ∙ ap (λ k. args ++ replicate (k - length args) (pos 0)) c.room.ensures))))) in
+    let made : IsNew f args (room_of v.rooms.items v.code.main) (length v.code.reducers.items) c.in_ok-machine.machine = is_new c.room.ensures (c.len.ensures ∙ v.code.reducers.ok.0) c.in_ok-machine.ensures in
+    let e : is_over (code_serial code args n) ≡ true = ∥∥₁_elim v.ok (hlevel Bool-set) (λ ok. over v f args n burden m c.func-f.ensures asked ok (subst (λ r. Reaches v ok r m n (first_state f args [])) c.in-On.is (c.run.ensures ok (first_state f args []) (first_shows v ok f args c.in_ok-machine.machine c.func-f.ensures count made)))) in
     subst (λ (w : Verified). Why (code_view w.code) args n burden fault.OverLimit) c.deref-verified.ensures
     (requested code f args n burden c.func-f.ensures asked, was_over (code_serial code args n) e)
 
@@ -90,11 +94,11 @@ returns-in-Trapped c =
     let m = c.run.new.self in
     let asked : is_asked f.params (length args) n burden ≡ true = sym c.is_asked.ensures ∙ c.if-not-is_asked.false in
     let count = asked_count f args n burden asked in
-    let made = c.in_ok-machine.ensures in
+    let made : IsNew f args (room_of v.rooms.items v.code.main) (length v.code.reducers.items) c.in_ok-machine.machine = is_new c.room.ensures (c.len.ensures ∙ v.code.reducers.ok.0) c.in_ok-machine.ensures in
     let trap = c.in-Trapped.trap in
     let line = c.in-Trapped.line in
     let serial = code_serial code args n in
     let e = was_trapped trap line m.lines.items serial (∥∥₁_elim v.ok (IsTrapped-prop trap line m.lines.items serial) (λ ok.
-    trapped v f args n burden m c.func-f.ensures asked ok trap line (subst (λ r. Reaches v ok r m n (first_state f args)) c.in-Trapped.is (c.run.ensures ok (first_state f args) (first_shows v ok f args c.in_ok-machine.machine c.func-f.ensures count made.place made.first made.frames made.lines (made.cells ∙ ap (λ k. args ++ replicate (k - length args) (pos 0)) c.room.ensures)))))) in
+    trapped v f args n burden m c.func-f.ensures asked ok trap line (subst (λ r. Reaches v ok r m n (first_state f args [])) c.in-Trapped.is (c.run.ensures ok (first_state f args []) (first_shows v ok f args c.in_ok-machine.machine c.func-f.ensures count made))))) in
     subst (λ (w : Verified). Why (code_view w.code) args n burden (fault.Trap trap line m.lines)) c.deref-verified.ensures
     (requested code f args n burden c.func-f.ensures asked, e)
