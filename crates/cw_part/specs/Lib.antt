@@ -1,0 +1,14 @@
+pub mod Parts
+pub mod PartFacts
+pub mod PartLaws
+pub mod Read
+pub mod ReadLaws
+pub mod ChildFacts
+pub mod Outcomes
+pub mod RunParts
+pub mod RunPartLaws
+pub mod BothTables
+pub mod Pieces
+pub mod Runs
+pub mod ModelRuns
+pub mod RunsHaveParts

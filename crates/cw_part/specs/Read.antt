@@ -1,0 +1,29 @@
+-- What is read of a part of a run: its views and its measure.
+use Rattle.std.specs.Prelude.{ℕ}
+use Rattle.cw_reduce.specs.Shown.{nothing_shown, shown_joined}
+use Rattle.cw_measure.specs.Measured.{nothing, joined, after_child, after_part}
+use Rattle.cw_part.specs.declared.read.Read.{Read}
+use Rattle.cw_part.specs.Parts.{Readings, PartsJoin}
+
+-- of nothing
+abbrev pub nothing_read : Read
+nothing_read = record { views = nothing_shown; measure = nothing }
+
+-- the views and the measure of a part, and then those of the next one
+abbrev pub read_joined : Read → Read → Read
+read_joined a b = record { views = shown_joined a.views b.views; measure = joined a.measure b.measure }
+
+-- what is read of a spawned child, as a piece of the block that spawned it: its views as they are, its measure as that of one child
+abbrev pub child_read : (burden : ℕ) → Read → Read
+child_read burden a = record { views = a.views; measure = after_child burden a.measure nothing }
+
+-- and of a call, as a piece of the block that made it
+abbrev pub call_read : Read → Read
+call_read a = record { views = a.views; measure = after_part a.measure nothing }
+
+abbrev pub readings : Readings Read
+readings = record { none = nothing_read; joined = read_joined; work = λ a. a.measure.work }
+
+-- parts with views and a measure make a monoid
+abbrev pub PartsOfRunsJoin : Type 0
+PartsOfRunsJoin = PartsJoin Read readings

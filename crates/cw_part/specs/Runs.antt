@@ -1,0 +1,108 @@
+-- The run of a frame, step by step, and the parts of pieces that it may be cut into.
+use Rattle.std.specs.Prelude.{◌≡◌, ℕ, ℤ, ◌+◌, ◌-◌, ◌<◌, ◌≤◌, ◌==◌, ◌^◌, nat_lt, min, Bool, true, false, if◌then◌else◌, List, [], ◌∷◌, Option, ◌⊎◌}
+use Rattle.cw_model.specs.declared.trap.Trap.{Trap}
+use Rattle.cw_model.specs.Syntax.{Name}
+use Rattle.cw_model.specs.Trees.{Mark, tree_of, work}
+use Rattle.cw_model.specs.Outcome.{Trace, quiet, joined}
+use Rattle.cw_measure.specs.Measured.{most, Measures}
+use Rattle.cw_measure.specs.OpenParts.{marked, part_of}
+use Rattle.cw_reduce.specs.Shown.{sum_of}
+use Rattle.cw_reduce.specs.Words.{Word, nothing, plus, word_of}
+use Rattle.cw_part.specs.declared.read.Read.{Read}
+use Rattle.cw_part.specs.Parts.{Readings, Came, Ran, Trapped, Over, Memory, followed, seen, over_if}
+use Rattle.cw_part.specs.RunParts.{RunPart, run_joined, as_child, as_call}
+
+-- the work of a trace, and traces as what is read of parts
+abbrev pub cost : Trace → ℕ
+cost t = work (tree_of t.events)
+
+abbrev pub traces : Readings Trace
+traces = record { none = quiet; joined = joined; work = cost }
+
+-- the run of a frame: instructions and joins, with what they show; one that traps in a line; and a part inside, a call, a region or a
+-- spawned child, which may be marked
+pub data Run : Type 0 where
+  Ends : Run
+  Shows : Trace → Run → Run
+  Traps : (trap : Trap) (line : ℕ) → Trace → Run
+  Inside : (spawned : Bool) → Option Mark → (inner rest : Run) → Run
+
+-- one run and then another
+abbrev pub then_run : Run → Run → Run
+then_run Ends later = later
+then_run (Shows t rest) later = Shows t (then_run rest later)
+then_run (Traps trap line t) later = Traps trap line t
+then_run (Inside spawned mark inner rest) later = Inside spawned mark inner (then_run rest later)
+
+-- the events of a part inside stand as one event, made of their tree
+abbrev pub as_event : (spawned : Bool) → Option Mark → Trace → Trace
+as_event spawned mark t = record { lines = t.lines; additions = t.additions; events = part_of spawned (marked mark (tree_of t.events)) ∷ [] }
+
+-- what goes on where a part inside ran to its end
+abbrev pub goes_on : Came Trace → (Trace → Came Trace) → Came Trace
+goes_on (Ran t) go = followed traces (Ran t) (go t)
+goes_on (Trapped trap line t) go = Trapped trap line t
+goes_on Over go = Over
+goes_on Memory go = Memory
+
+-- the serial run, within what is left of a limit: it stops before the instruction that passes it
+abbrev pub serial : (left : ℕ) → Run → Came Trace
+serial left Ends = Ran quiet
+serial left (Shows t rest) = over_if (nat_lt left (cost t)) (followed traces (Ran t) (serial (left - cost t) rest))
+serial left (Traps trap line t) = over_if (nat_lt left (cost t)) (Trapped trap line t)
+serial left (Inside spawned mark inner rest) = goes_on (seen (as_event spawned mark) (serial left inner)) (λ t. serial (left - cost t) rest)
+
+-- what is added to one reducer, by the number of its name
+abbrev pub added : (number : Name → ℕ) → (reducer : ℕ) → List (Name × ℤ) → Word
+added number reducer [] = nothing
+added number reducer (addition ∷ more) =
+    let rest = added number reducer more in
+    if number addition.0 == reducer then plus (word_of addition.1) rest else rest
+
+-- what is read tells of a trace: its lines, the sum of each reducer, and the measure of its events
+pub record TellsTrace (burden : ℕ) (number : Name → ℕ) (t : Trace) (a : Read) : Type 0 where
+  pub lines : a.views.lines ≡ t.lines
+  pub sums : (reducer : ℕ) → sum_of a.views.sums reducer ≡ added number reducer t.additions
+  pub measure : Measures burden a.measure t.events
+
+-- what is read of a trap tells the lines before it, and the work
+pub record TellsTrap (t : Trace) (a : Read) : Type 0 where
+  pub lines : a.views.lines ≡ t.lines
+  pub work : a.measure.work ≡ min most (cost t)
+
+-- how a part came out tells how a run did
+pub data TellsCame (burden : ℕ) (number : Name → ℕ) : Came Trace → Came Read → Type 0 where
+  RanAlike : (t : Trace) (a : Read) → TellsTrace burden number t a → TellsCame burden number (Ran t) (Ran a)
+  TrappedAlike : (trap : Trap) (line : ℕ) (t : Trace) (a : Read) → TellsTrap t a → TellsCame burden number (Trapped trap line t) (Trapped trap line a)
+  OverAlike : TellsCame burden number Over Over
+
+-- what is counted before a later piece is no more than what was before the first one and what that spent, where it ran to its end
+abbrev pub IsCountedAfter : (before : ℕ) → Came Trace → (between : ℕ) → Type 0
+IsCountedAfter before (Ran t) between = between ≤ before + cost t
+IsCountedAfter before (Trapped trap line t) between = Unit {0}
+IsCountedAfter before Over between = Unit {0}
+IsCountedAfter before Memory between = Unit {0}
+
+-- the part of a run, joined of pieces, each of which counts a cost before it: one strand ran it all, and stopped no earlier than the
+-- limit with that cost before it, or memory was refused to it; it was cut, and the pieces of what came first and of what came later
+-- were joined; or a part at its beginning, a spawned child or a call, was joined of pieces of its own
+pub data IsJoinedOf (burden : ℕ) (number : Name → ℕ) (limit : ℕ) : (before : ℕ) → Run → RunPart → Type 0 where
+  Alone : (before left : ℕ) (run : Run) (p : RunPart) → p.limit ≡ limit → left ≤ limit → limit ≤ before + left
+      → TellsCame burden number (serial left run) p.came → IsJoinedOf burden number limit before run p
+  Refused : (before : ℕ) (run : Run) (p : RunPart) → p.limit ≡ limit → p.came ≡ Memory → IsJoinedOf burden number limit before run p
+  Cut : (before between : ℕ) (first later : Run) (p q : RunPart) → IsCountedAfter before (serial limit first) between
+      → IsJoinedOf burden number limit before first p → IsJoinedOf burden number limit between later q
+      → IsJoinedOf burden number limit before (then_run first later) (run_joined p q)
+  Apart : (before between : ℕ) (mark : Option Mark) (child rest : Run) (p q : RunPart) → IsCountedAfter before (serial limit child) between
+      → IsJoinedOf burden number limit before child p → IsJoinedOf burden number limit between rest q
+      → IsJoinedOf burden number limit before (Inside true mark child rest) (run_joined (as_child burden p) q)
+  Called : (before between : ℕ) (mark : Option Mark) (call rest : Run) (p q : RunPart) → IsCountedAfter before (serial limit call) between
+      → IsJoinedOf burden number limit before call p → IsJoinedOf burden number limit between rest q
+      → IsJoinedOf burden number limit before (Inside false mark call rest) (run_joined (as_call p) q)
+
+-- however a run is cut at its spawns, and whatever each piece met: the joined part tells of the serial run within the limit, or
+-- memory was refused
+abbrev pub PiecesAreTheRun : Type 0
+PiecesAreTheRun =
+    (burden : ℕ) (number : Name → ℕ) (limit : ℕ) (run : Run) (p : RunPart) → burden < 2 ^ 64 → IsJoinedOf burden number limit 0 run p
+    → (p.limit ≡ limit) × ((p.came ≡ Memory) ⊎ TellsCame burden number (serial limit run) p.came)

@@ -1,0 +1,129 @@
+//! Parts of runs.
+
+ghost use Rattle.std.specs.Prelude.{◌≡◌, ℕ, ◌≤◌, nat_lt, false, IfOk};
+ghost use Rattle.cw_part.specs.Outcomes.{came_of};
+ghost use Rattle.cw_part.specs.Parts.{greatest_limit, has_run, is_above};
+ghost use Rattle.cw_part.specs.Read.{readings};
+ghost use Rattle.cw_part.specs.RunParts.{IsMade, as_call, as_child, nothing_part, run_joined};
+
+use crate::outcome::Outcome;
+use crate::read::Read;
+use cw_model::monoid::Monoid;
+use std::alloc::{AllocError, Global};
+use std::marker::Model;
+
+/// The greatest limit, in instructions.
+pub const GREATEST_LIMIT: u64 = 4_611_686_018_427_387_904;
+
+/// How a part of a run came out, and the limit of its work in instructions. Work above the limit is over, and work of
+/// just the limit is not.
+#[derive(Debug, Drop)]
+pub struct Part {
+    limit: u64,
+    outcome: Outcome,
+    ghost limited: { nat_lt greatest_limit limit ≡ false },
+    ghost tested: { is_above readings limit (came_of outcome) ≡ false },
+}
+
+impl Model for Part {
+    ghost use Rattle.cw_part.specs.Outcomes.{came_of};
+    ghost use Rattle.cw_part.specs.RunParts.{RunPart};
+
+    ghost Value = { RunPart };
+
+    ghost view = { λ p. record { limit = p.limit; came = came_of p.outcome; limited = p.limited; tested = p.tested } };
+}
+
+impl Part {
+    /// A part that came out so, within this limit of its work.
+    pub fn new(limit: u64, outcome: Outcome) -> Part
+        requires { limit ≤ greatest_limit }
+        ensures { IsMade limit (came_of outcome) result }
+    {
+        let outcome = outcome.within(limit);
+        Part { limit, outcome }
+    }
+
+    /// The limit of its work, in instructions.
+    pub fn limit(&self) -> u64
+        ensures { result ≡ self.now.limit }
+    {
+        self.limit
+    }
+
+    /// How it came out.
+    pub fn outcome(&self) -> &Outcome
+        ensures { came_of result.now ≡ self.now.came }
+    {
+        &self.outcome
+    }
+
+    /// Whether it ran to its end, so that what follows counts.
+    pub fn has_run(&self) -> bool
+        ensures { result ≡ has_run self.now.came }
+    {
+        self.outcome.has_run()
+    }
+
+    /// A spawned child's part, as a piece of the block that spawned it: a child's measure is never joined as it is.
+    pub fn into_child(self, burden: u64) -> Part
+        ensures { result ≡ as_child burden self }
+    {
+        let outcome = self.outcome.into_child(burden);
+        Part {
+            limit: self.limit,
+            outcome,
+        }
+    }
+
+    /// The part of a call, or of another part in series, as a piece of the block that made it.
+    pub fn into_call(self) -> Part
+        ensures { result ≡ as_call self }
+    {
+        let outcome = self.outcome.into_call();
+        Part {
+            limit: self.limit,
+            outcome,
+        }
+    }
+
+    /// How it came out, without the limit.
+    pub fn into_outcome(self) -> Outcome
+        ensures { came_of result ≡ self.came }
+    {
+        self.outcome
+    }
+}
+
+impl Monoid for Part {
+    ghost use Rattle.cw_part.specs.RunParts.{nothing_part, run_joined};
+    ghost use Rattle.cw_part.specs.RunPartLaws.{run-first, run-last, run-assoc};
+
+    ghost empty = { nothing_part };
+
+    ghost joined = { run_joined };
+
+    fn unit(alloc: Global) -> Self
+        ensures value { result ≡ nothing_part }
+    {
+        Part {
+            limit: GREATEST_LIMIT,
+            outcome: Outcome::Ran(Read::unit(alloc)),
+        }
+    }
+
+    fn join(self, right: Self) -> Result<Self, AllocError>
+        ensures value { IfOk result (λ whole. whole ≡ run_joined self right) }
+    {
+        let limit = self.limit.min(right.limit);
+        let both = self.outcome.then(right.outcome)?;
+        let outcome = both.within(limit);
+        Ok(Part { limit, outcome })
+    }
+
+    ghost unit_first = { run-first };
+
+    ghost unit_last = { run-last };
+
+    ghost associative = { run-assoc };
+}

@@ -1,0 +1,3 @@
+pub mod IntegerLaws
+pub mod SumLaws
+pub mod ShownAddLaws

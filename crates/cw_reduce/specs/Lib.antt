@@ -1,0 +1,7 @@
+pub mod Remainders
+pub mod Words
+pub mod WordLaws
+pub mod ListLaws
+pub mod SumsOfIntegers
+pub mod Shown
+pub mod ShownLaws
