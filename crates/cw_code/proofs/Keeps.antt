@@ -1,136 +1,132 @@
--- What keeps that a call has what a shape says.
-use Rattle.std.proofs.Common.{◌≡◌, ℕ, ◌-◌, ◌<◌, ◌≤◌, ℤ, pos, true, Some, None, List, [], ◌∷◌, ◌++◌, length, refl, sym, ap, ◌∙◌, subst, arith, length-append, append_assoc}
-use Rattle.std.specs.Prelude.{reverse, take, replicate, slice_get, slice_set}
-use Rattle.std.proofs.lemmas.List.{length-set, length-map, length-reverse, length-take, length-replicate, append-nil}
-use Rattle.cw_code.specs.declared.code.Func.{Func}
-use Rattle.cw_code.specs.Run.{Slots, Results, Around, Block, Opened, is_full, settled, full, slots_of}
-use Rattle.cw_code.specs.Fits.{Row, Shape, is_full_in, full_in_all, has_slot, none_empty, first_shape, CoversEach}
-use Rattle.cw_code.specs.Good.{IsNotAmong, IsOnce, slots_in, slots_round, awaited_in, RowsHold, Good, FitSettles}
-use Rattle.cw_code.proofs.Tests.{first_true, second_true}
-use Rattle.cw_code.proofs.Slots.{covered_row, covered_rows, set_full, was_full, set_other, full_apart, row_apart, row_there, not_in_both, once_in_second, AllFull, AllApart, settled_full, settled_apart, count_settled, full_is_full, none_waits, empty_row, fewer_wait, slots_in_both}
+-- What keeps that slots are as their rows say.
+use Rattle.std.proofs.Common.{◌≡◌, ℕ, ◌<◌, Bool, true, false, Some, None, List, [], ◌∷◌, ◌++◌, length, refl, sym, ap, ◌∙◌, subst, arith, append_assoc}
+use Rattle.std.specs.Prelude.{slice_get, slice_set, not, nat_eq}
+use Rattle.std.proofs.lemmas.List.{length-set, length-map, append-nil}
+use Rattle.cw_code.specs.Run.{Slots, Results, is_full, settled, full, moved_out}
+use Rattle.cw_code.specs.Fits.{Row, is_full_in, full_in_all, none_empty, is_none_of, with_gone}
+use Rattle.cw_code.specs.Good.{IsNotAmong, IsOnce, slots_in, all_of, RowHolds, RowsHold, Holds}
+use Rattle.cw_code.proofs.Tests.{first_true, second_true, ne_of}
+use Rattle.cw_code.proofs.Slots.{set_full, was_full, set_other, full_apart, row_apart, row_there, not_in_both, not_in_first, AllFull, AllApart, settled_full, settled_apart, count_settled, full_is_full, none_waits, empty_row, fewer_wait, filled_row, once_in_second}
 
-module _ (f : Func) where
-  -- what the shape has as full is full
-  pub finds : (shape : Shape) (operands : List ℤ) (slots : Slots) (results : Results) (around : List Around) → Good f shape operands slots results around → (a : ℕ) → has_slot shape a ≡ true → is_full (slice_get slots a) ≡ true
-  finds shape operands slots results around g a h =
-      let own = first_true (is_full_in (slice_get shape.empty a)) (full_in_all shape.outer a) h in
-      g.awaited a (omega (arith, row_there shape.empty a own, g.row.as_wide, g.as_wide))
-      (not_in_both a (slots_in results) (slots_round around) (g.row.apart a own) (none_waits f.slots shape.outer around a g.rows (second_true (is_full_in (slice_get shape.empty a)) (full_in_all shape.outer a) h)))
+-- a slot is none of those that the test says
+pub none_of : (a : ℕ) (bs : List ℕ) → is_none_of a bs ≡ true → IsNotAmong a bs
+none_of a [] h = tt
+none_of a (b ∷ bs) h = (λ e. differs (nat_eq a b) (first_true (not (nat_eq a b)) (is_none_of a bs) h) refl e, none_of a bs (second_true (not (nat_eq a b)) (is_none_of a bs) h))
+  where
+    differs : (c : Bool) → not c ≡ true → nat_eq a b ≡ c → a ≡ b → ⊥
+    differs true k same e = cc
+    differs false k same e = ne_of a b same e
 
-  -- what a place takes
-  pub covered : (there out : Shape) (operands : List ℤ) (slots : Slots) (results : Results) (around : List Around) → there.operands ≡ out.operands → CoversEach (there.empty ∷ there.outer) (out.empty ∷ out.outer) → Good f out operands slots results around → Good f there operands slots results around
-  covered there out operands slots results around e c g = record {
-    as_many = e ∙ g.as_many;
-    as_wide = g.as_wide;
-    row = covered_row f.slots there.empty out.empty results c.0 g.row;
-    rows = covered_rows f.slots there.outer out.outer around c.1 g.rows;
-    awaited = g.awaited;
-    apart = g.apart;
-    once = g.once;
-  }
+module _ {A : Type 0} where
+  -- a slot beside those that were emptied is as it was
+  pub still_full : (passed : List ℕ) (slots : Slots A) (a : ℕ) → IsNotAmong a passed → is_full (slice_get slots a) ≡ true → is_full (slice_get (moved_out passed slots) a) ≡ true
+  still_full [] slots a n h = h
+  still_full (b ∷ passed) slots a n h = ap is_full (set_other (moved_out passed slots) b a None n.0) ∙ still_full passed slots a n.1 h
 
-  -- other operands
-  pub with_operands : (shape : Shape) (operands operands' : List ℤ) (slots : Slots) (results : Results) (around : List Around) (n : ℕ) → n ≡ length operands' → Good f shape operands slots results around → Good f (record shape { operands = n }) operands' slots results around
-  with_operands shape operands operands' slots results around n e g = record { as_many = e; as_wide = g.as_wide; row = g.row; rows = g.rows; awaited = g.awaited; apart = g.apart; once = g.once }
+  -- these are full, and no slot twice
+  abbrev pub AllThere : List ℕ → Slots A → Type 0
+  AllThere [] slots = Unit {0}
+  AllThere (a ∷ passed) slots = IsNotAmong a passed × (is_full (slice_get slots a) ≡ true) × AllThere passed slots
+
+module _ {A : Type 0} (width : ℕ) where
+  -- what the rows have as full is full
+  pub finds : (row : Row) (rows : List Row) (slots : Slots A) (waits : List ℕ) (others : List (List ℕ)) → Holds width row rows slots waits others → (a : ℕ) → full_in_all (row ∷ rows) a ≡ true → is_full (slice_get slots a) ≡ true
+  finds row rows slots waits others g a h =
+      let own = first_true (is_full_in (slice_get row a)) (full_in_all rows a) h in
+      g.awaited a (omega (arith, row_there row a own, g.row_holds.as_wide, g.as_wide))
+      (not_in_both a waits (all_of others) (g.row_holds.apart a own) (none_waits width rows others a g.rows_hold (second_true (is_full_in (slice_get row a)) (full_in_all rows a) h)))
+
+  -- other rows
+  pub with_rows : (row row' : Row) (rows rows' : List Row) (slots : Slots A) (waits : List ℕ) (others : List (List ℕ)) → RowHolds width row' waits → RowsHold width rows' others → Holds width row rows slots waits others → Holds width row' rows' slots waits others
+  with_rows row row' rows rows' slots waits others h k g = record { as_wide = g.as_wide; row_holds = h; rows_hold = k; awaited = g.awaited; apart = g.apart; once = g.once }
 
   -- a full slot is written
-  pub with_slot : (shape : Shape) (operands : List ℤ) (slots : Slots) (results : Results) (around : List Around) (a : ℕ) (v : ℤ) → is_full (slice_get slots a) ≡ true → Good f shape operands slots results around → Good f shape operands (slice_set slots a (Some v)) results around
-  with_slot shape operands slots results around a v h g = record {
-    as_many = g.as_many;
+  pub with_slot : (row : Row) (rows : List Row) (slots : Slots A) (waits : List ℕ) (others : List (List ℕ)) (a : ℕ) (v : A) → is_full (slice_get slots a) ≡ true → Holds width row rows slots waits others → Holds width row rows (slice_set slots a (Some v)) waits others
+  with_slot row rows slots waits others a v h g = record {
     as_wide = omega (arith, g.as_wide, length-set slots a (Some v));
-    row = g.row;
-    rows = g.rows;
+    row_holds = g.row_holds;
+    rows_hold = g.rows_hold;
     awaited = λ b lt none. let lt' : b < length slots = omega (arith, lt, length-set slots a (Some v)) in set_full slots a b v lt' (λ n. g.awaited b lt' none);
     apart = λ b k. g.apart b (was_full slots a b v h k);
     once = g.once;
   }
 
-  -- a spawned call has taken a full slot, and its result waits
-  pub with_taken : (shape : Shape) (operands : List ℤ) (slots : Slots) (results : Results) (around : List Around) (a : ℕ) (v : ℤ) → is_full (slice_get slots a) ≡ true → Good f shape operands slots results around
-      → Good f (record shape { empty = slice_set shape.empty a true }) operands (slice_set slots a None) ((a, v) ∷ results) around
-  with_taken shape operands slots results around a v h g = record {
-    as_many = g.as_many;
+  -- a full slot was emptied, and is waited for
+  pub with_taken : (row : Row) (rows : List Row) (slots : Slots A) (waits : List ℕ) (others : List (List ℕ)) (a : ℕ) → is_full (slice_get slots a) ≡ true → Holds width row rows slots waits others
+      → Holds width (slice_set row a true) rows (slice_set slots a None) (a ∷ waits) others
+  with_taken row rows slots waits others a h g = record {
     as_wide = omega (arith, g.as_wide, length-set slots a None);
-    row = record {
-      as_wide = length-set shape.empty a true ∙ g.row.as_wide;
-      apart = λ b k. let r = row_apart shape.empty a b k in (r.0, g.row.apart b r.1);
+    row_holds = record {
+      as_wide = length-set row a true ∙ g.row_holds.as_wide;
+      apart = λ b k. let r = row_apart row a b k in (r.0, g.row_holds.apart b r.1);
     };
-    rows = g.rows;
+    rows_hold = g.rows_hold;
     awaited = λ b lt none. ap is_full (set_other slots a b None none.0) ∙ g.awaited b (omega (arith, lt, length-set slots a None)) none.1;
     apart = λ b k. let r = full_apart slots a b k in (r.0, g.apart b r.1);
     once = (g.apart a h, g.once);
   }
 
+  -- several slots were emptied, and are waited for
+  pub with_all_taken : (passed : List ℕ) (row : Row) (rows : List Row) (slots : Slots A) (waits : List ℕ) (others : List (List ℕ)) → AllThere passed slots → Holds width row rows slots waits others
+      → Holds width (with_gone passed row) rows (moved_out passed slots) (passed ++ waits) others
+  with_all_taken [] row rows slots waits others h g = g
+  with_all_taken (a ∷ passed) row rows slots waits others h g =
+      with_taken (with_gone passed row) rows (moved_out passed slots) (passed ++ waits) others a (still_full passed slots a h.0 h.1) (with_all_taken passed row rows slots waits others h.2 g)
+
   -- a sync block begins
-  pub with_block : (shape : Shape) (operands : List ℤ) (slots : Slots) (o : Opened) (around : List Around) → Good f shape operands slots o.results around
-      → Good f (record shape { empty = none_empty (length shape.empty); outer = shape.empty ∷ shape.outer }) operands slots [] (Block o ∷ around)
-  with_block shape operands slots o around g = record {
-    as_many = g.as_many;
+  pub with_block : (row : Row) (rows : List Row) (slots : Slots A) (waits : List ℕ) (others : List (List ℕ)) (count : ℕ) → count ≡ width → Holds width row rows slots waits others → Holds width (none_empty count) (row ∷ rows) slots [] (waits ∷ others)
+  with_block row rows slots waits others count e g = record {
     as_wide = g.as_wide;
-    row = empty_row f.slots (length shape.empty) g.row.as_wide;
-    rows = (g.row, g.rows);
+    row_holds = empty_row width count e;
+    rows_hold = (g.row_holds, g.rows_hold);
     awaited = g.awaited;
     apart = g.apart;
     once = g.once;
   }
 
   -- a block ends
-  pub with_outer : (operands : List ℤ) (slots : Slots) (n : ℕ) (empty row : Row) (rows : List Row) (o : Opened) (around : List Around) → Good f (record { operands = n; empty = empty; outer = row ∷ rows }) operands slots [] (Block o ∷ around)
-      → Good f (record { operands = n; empty = row; outer = rows }) operands slots o.results around
-  with_outer operands slots n empty row rows o around g = record {
-    as_many = g.as_many;
+  pub with_outer : (row row' : Row) (rows : List Row) (slots : Slots A) (waits : List ℕ) (others : List (List ℕ)) → Holds width row (row' ∷ rows) slots [] (waits ∷ others) → Holds width row' rows slots waits others
+  with_outer row row' rows slots waits others g = record {
     as_wide = g.as_wide;
-    row = g.rows.0;
-    rows = g.rows.1;
+    row_holds = g.rows_hold.0;
+    rows_hold = g.rows_hold.1;
     awaited = g.awaited;
     apart = g.apart;
     once = g.once;
   }
 
-  -- the newest results have gone back
-  pub with_settled : (shape : Shape) (operands : List ℤ) (slots : Slots) (newest others : Results) (around : List Around) → Good f shape operands slots (newest ++ others) around → Good f shape operands (settled newest slots) others around
-  with_settled shape operands slots newest others around g =
-      let same : awaited_in (newest ++ others) around ≡ (slots_in newest ++ awaited_in others around) =
-      ap (λ xs. xs ++ slots_round around) (slots_in_both newest others) ∙ append_assoc (slots_in newest) (slots_in others) (slots_round around) in
+  -- some results have gone back
+  pub with_settled : (row : Row) (rows : List Row) (slots : Slots A) (newest : Results A) (waits : List ℕ) (others : List (List ℕ)) → Holds width row rows slots (slots_in newest ++ waits) others → Holds width row rows (settled newest slots) waits others
+  with_settled row rows slots newest waits others g =
+      let same = append_assoc (slots_in newest) waits (all_of others) in
       record {
-        as_many = g.as_many;
         as_wide = omega (arith, g.as_wide, count_settled newest slots);
-        row = fewer_wait f.slots shape.empty newest others g.row;
-        rows = g.rows;
-        awaited = settled_full newest (awaited_in others around) slots (subst (λ xs. AllFull xs slots) same g.awaited);
-        apart = settled_apart newest (awaited_in others around) slots (subst (λ xs. AllApart xs slots) same g.apart) (subst IsOnce same g.once);
-        once = once_in_second (slots_in newest) (awaited_in others around) (subst IsOnce same g.once);
+        row_holds = fewer_wait width row (slots_in newest) waits g.row_holds;
+        rows_hold = g.rows_hold;
+        awaited = settled_full newest (waits ++ all_of others) slots (subst (λ xs. AllFull xs slots) same g.awaited);
+        apart = settled_apart newest (waits ++ all_of others) slots (subst (λ xs. AllApart xs slots) same g.apart) (subst IsOnce same g.once);
+        once = once_in_second (slots_in newest) (waits ++ all_of others) (subst IsOnce same g.once);
       }
 
   -- a join: all results have gone back
-  pub with_joined : (shape : Shape) (operands : List ℤ) (slots : Slots) (results : Results) (around : List Around) → Good f shape operands slots results around → Good f (record shape { empty = none_empty (length shape.empty) }) operands (settled results slots) [] around
-  with_joined shape operands slots results around g =
-      let h = with_settled shape operands slots results [] around (subst (λ rs. Good f shape operands slots rs around) (sym (append-nil results)) g) in
-      record {
-        as_many = h.as_many;
-        as_wide = h.as_wide;
-        row = empty_row f.slots (length shape.empty) g.row.as_wide;
-        rows = h.rows;
-        awaited = h.awaited;
-        apart = h.apart;
-        once = h.once;
-      }
+  pub with_joined : (row : Row) (rows : List Row) (slots : Slots A) (results : Results A) (others : List (List ℕ)) (count : ℕ) → count ≡ width → Holds width row rows slots (slots_in results) others → Holds width (none_empty count) rows (settled results slots) [] others
+  with_joined row rows slots results others count e g =
+      let h = with_settled row rows slots results [] others (subst (λ ws. Holds width row rows slots ws others) (sym (append-nil (slots_in results))) g) in
+      with_rows row (none_empty count) rows rows (settled results slots) [] others (empty_row width count e) h.rows_hold h
+
+  -- the one slot that a cut had is full again
+  pub with_filled : (row : Row) (rows : List Row) (slots : Slots A) (a : ℕ) (v : A) (waits : List ℕ) (others : List (List ℕ)) → Holds width row rows slots (a ∷ waits) others → Holds width (slice_set row a false) rows (slice_set slots a (Some v)) waits others
+  with_filled row rows slots a v waits others g =
+      let h = with_settled row rows slots ((a, v) ∷ []) waits others g in
+      with_rows row (slice_set row a false) rows rows (slice_set slots a (Some v)) waits others (filled_row width row a waits (not_in_first a waits (all_of others) g.once.0) h.row_holds) h.rows_hold h
 
   -- a call that begins
-  pub begins_well : (operands : List ℤ) (around : List Around) → RowsHold f.slots [] around → slots_round around ≡ [] → f.params ≤ f.slots → f.params ≤ length operands → Good f (first_shape f) [] (slots_of f operands) [] around
-  begins_well operands around none none' room enough =
-      let vs = reverse (take f.params operands) ++ replicate (f.slots - f.params) (pos 0) in
-      let n : length vs ≡ f.slots = length-append (reverse (take f.params operands)) (replicate (f.slots - f.params) (pos 0)) ∙ omega (arith, length-reverse (take f.params operands), length-take f.params operands, length-replicate (f.slots - f.params) (pos 0), enough, room) in
-      let m : length (full vs) ≡ f.slots = length-map vs (λ v. Some v) ∙ n in
-      record {
-        as_many = refl;
-        as_wide = sym m;
-        row = empty_row f.slots f.slots refl;
-        rows = none;
-        awaited = λ a lt free. full_is_full vs a (omega (arith, lt, length-map vs (λ v. Some v)));
-        apart = λ a h. subst (IsNotAmong a) (sym none') tt;
-        once = subst IsOnce (sym none') tt;
-      }
-
-pub settles : FitSettles
-settles f shape operands slots newest others around g = with_settled f shape operands slots newest others around g
+  pub begins_full : (xs : List A) → length xs ≡ width → Holds width (none_empty width) [] (full xs) [] []
+  begins_full xs n = record {
+    as_wide = sym (length-map xs (λ x. Some x) ∙ n);
+    row_holds = empty_row width width refl;
+    rows_hold = tt;
+    awaited = λ a lt free. full_is_full xs a (omega (arith, lt, length-map xs (λ x. Some x)));
+    apart = λ a h. tt;
+    once = tt;
+  }

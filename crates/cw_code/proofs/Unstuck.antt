@@ -1,12 +1,14 @@
 -- Code that fits never gets stuck.
-use Rattle.std.proofs.Common.{◌≡◌, ℕ, zero, suc, ◌+◌, ◌-◌, ◌<◌, ◌≤◌, ℤ, Bool, true, false, not, ◌&&◌, nat_lt, if◌then◌else◌, Option, Some, None, List, [], ◌∷◌, length, refl, sym, ap, ◌∙◌, subst, arith}
-use Rattle.std.specs.Prelude.{drop, reverse, slice_get, slice_set, is_none, option_map, nat_eq, nat_le}
-use Rattle.std.proofs.lemmas.List.{length-drop, length-reverse}
+use Rattle.std.proofs.Common.{◌≡◌, ◌≢◌, ℕ, zero, suc, ◌+◌, ◌-◌, ◌<◌, ◌≤◌, ℤ, pos, ◌+ℤ◌, Bool, true, false, not, ◌&&◌, nat_lt, if◌then◌else◌, Option, Some, None, List, [], ◌∷◌, ◌++◌, length, refl, sym, ap, ◌∙◌, subst, arith, length-append}
+use Rattle.std.specs.Prelude.{take, drop, map, replicate, slice_get, slice_set, is_none, option_map, nat_eq, nat_le}
+use Rattle.std.proofs.lemmas.List.{length-drop, length-reverse, length-take, length-map, length-replicate}
 use Rattle.cw_model.specs.declared.trap.Trap.TheVariants as trap
 use Rattle.cw_model.specs.Limits.{most_depth}
 use Rattle.cw_model.specs.Syntax.{Name}
-use Rattle.cw_model.specs.Ints.{Result, Value, Fails, is_zero}
-use Rattle.cw_model.specs.Expressions.{apply}
+use Rattle.cw_model.specs.Ints.{Result, Value, Fails, is_zero, natural}
+use Rattle.cw_model.specs.Expressions.{apply, element, in_bounds, written}
+use Rattle.cw_model.specs.Loops.{loop_turns}
+use Rattle.cw_model.specs.Meaning.{new_length, cut_place}
 use Rattle.cw_model.specs.declared.syntax.CallKind.{CallKind}
 use Rattle.cw_model.specs.declared.syntax.CallKind.TheVariants.{Plain, Spawned}
 use Rattle.cw_model.specs.Outcome.{Trace}
@@ -14,45 +16,29 @@ use Rattle.cw_model.specs.Answers.{answer_of}
 use Rattle.cw_code.specs.declared.code.BlockKind.TheVariants.{Scope, Region}
 use Rattle.cw_code.specs.declared.code.Callee.{Callee}
 use Rattle.cw_code.specs.declared.code.Func.{Func}
+use Rattle.cw_code.specs.declared.code.Halves.{Halves}
+use Rattle.cw_code.specs.declared.code.Inner.{Inner}
 use Rattle.cw_code.specs.declared.code.Instr.{Instr}
 use Rattle.cw_code.specs.declared.code.Instr.TheVariants as instr
 use Rattle.cw_code.specs.Code.{Code}
-use Rattle.cw_code.specs.Run.{Slots, Around, Caller, Block, State, Went, On, Ends, Stops, Stuck, Ran, ticked, synced, inside, on_top, on_two, is_full, loaded, operated, apply_unary, adds, settled, put_in, slots_of, may_take, taken_from, has_room, may_keep, waiting_at, begun, enter, given, awaited, going_on, back, opened_at, opened, opened_region, closed, jumped, act, step, go_on, steps, first_state, first_went, reducers_of, code_serial}
-use Rattle.cw_code.specs.Fits.{params_of, gives_value, NeverStuck, is_site, names_target, names_callee, names_well, Row, Shape, has_slot, has_target, none_open, is_ready, with_target, none_empty, first_shape, closed_shape, popped, leaves, nexts, CoversEach, Table, Leads, AllLead, LieFrom, Fits}
-use Rattle.cw_code.specs.Good.{slots_round, RowsHold, Seat, Good, IsGiven, Resumed, Resumes, AllResume, GoodState, GoodWent, Facts, FitBegins, FitFacts, FitSteps, NeverStuckFrom}
+use Rattle.cw_code.specs.Run.{Slots, Results, Whole, Waiting, Around, Caller, Block, State, Went, On, Ends, Stops, Stuck, Ran, ticked, synced, inside, on_top, on_two, on_slot, is_full, operated, set_array, apply_unary, adds, settled, put_in, slots_of, arrays_of, may_take, slot_taken, moved_out, Entering, arguments_of, has_room, may_keep, may_begin, waiting_at, begun, begins, call_of, on_arrays, enter, recur, parts_of, looped, on_range, start, given, going_on, returns_to, back, opened_at, opened, opened_region, cut_arrays, may_cut, cuts, resumes, closed, uncut, cut_ends, passed_by, jumped, act, step, go_on, steps, first_state, first_went, reducers_of, code_serial}
+use Rattle.cw_code.specs.Fits.{params_of, array_params_of, gives_value, NeverStuck, is_site, names_target, names_callee, is_none_of, names_arrays, names_passed, names_well, Outer, Shape, empty_rows, gone_rows, full_in_all, is_full_in, has_slot, has_array, has_arrays, has_target, has_arguments, none_open, can_close, has_parts, can_uncut, is_no_part, are_no_parts, is_ready, with_target, with_gone, with_passed, none_empty, first_shape, closed_shape, with_uncut, uncut_shape, opened_shape, outer_of, cut_outer, popped, leaves, nexts, Table, Leads, AllLead, Fits}
+use Rattle.cw_code.specs.Good.{IsNotAmong, slots_in, slot_cut, ints_round, arrays_round, all_of, Holds, CutsAgree, Seat, Good, IsGiven, Resumed, Resumes, AllResume, GoodState, GoodWent, Facts, FitBegins, FitFacts, FitSteps, NeverStuckFrom}
 use Rattle.cw_code.proofs.Tests.{taken, both_true, first_true, second_true, at_most, equal, le_of, lt_of, eq_of}
-use Rattle.cw_code.proofs.Keeps.{finds, covered, with_operands, with_slot, with_taken, with_block, with_outer, with_joined, begins_well}
-
--- a place among functions that lie one after another
-lie_within : (from : ℕ) (fs : List Func) (to k : ℕ) (f : Func) → LieFrom from fs to → slice_get fs k ≡ Some f → f.end ≤ to
-lie_within from [] to k f h e = cc
-lie_within from (g ∷ fs) to zero f h e = let same : g ≡ f = cc in omega (arith, lie_up g.end fs to h.2, ap (λ (x : Func). x.end) same)
-  where
-    lie_up : (from : ℕ) (fs : List Func) (to : ℕ) → LieFrom from fs to → from ≤ to
-    lie_up from [] to h = omega (arith, h)
-    lie_up from (g ∷ fs) to h = omega (arith, h.1, lie_up g.end fs to h.2)
-lie_within from (g ∷ fs) to (suc k) f h e = lie_within g.end fs to k f h.2 e
-
-missing : {A : Type 0} (xs : List A) (k : ℕ) → k < length xs → slice_get xs k ≡ None → ⊥
-missing [] k lt e = omega (arith, lt)
-missing (x ∷ xs) zero lt e = cc
-missing (x ∷ xs) (suc k) lt e = missing xs k (omega (arith, lt)) e
-
--- what is there in a list
-there : {A : Type 0} (xs : List A) (k : ℕ) → k < length xs → (a : A) × (slice_get xs k ≡ Some a)
-there {A = A} xs k lt = cases (slice_get xs k) refl
-  where
-    cases : (o : Option A) → slice_get xs k ≡ o → (a : A) × (slice_get xs k ≡ Some a)
-    cases None e = absurd (missing xs k lt e)
-    cases (Some a) e = (a, e)
+use Rattle.cw_code.proofs.Slots.{set_full, full_there, row_there, set_other, slots_in_both, none_waits}
+use Rattle.cw_code.proofs.Keeps.{none_of, AllThere, finds, with_rows, with_slot, with_taken, with_all_taken, with_block, with_outer, with_settled, with_filled, begins_full}
+use Rattle.cw_code.proofs.Taken.{lie_within, missing, there, gives_back, there_arrays, whole_slots, part_slots, covered, joined}
 
 module _ (code : Code) (fits : Fits code) where
-  goes_back : (gives : Bool) (width : ℕ) (around : List Around) (v : Option ℤ) (t : Trace) → IsGiven gives v → RowsHold width [] around → AllResume code fits gives around → GoodWent code fits (back around v t)
-  goes_back gives width [] v t i c h = tt
-  goes_back gives width (Caller w ∷ around) v t i c h =
-      let r = h.0.on v i _ in
-      subst (GoodWent code fits) (sym r.went) (record { seat = h.0.seat; call = r.good; others = h.1 })
-  goes_back gives width (Block o ∷ around) v t i c h = absurd c
+  goes_back : (callee : Func) (around : List Around) (v : Option ℤ) (arrays : Slots (List ℤ)) (t : Trace) → IsGiven callee.gives_int v → CutsAgree [] around → callee.arrays ≡ length arrays → ((a : ℕ) → a < length arrays → is_full (slice_get arrays a) ≡ true)
+      → AllResume code fits callee around → GoodWent code fits (back around v arrays t)
+  goes_back callee [] v arrays t i c n all h = tt
+  goes_back callee (Caller w ∷ around) v arrays t i c n all h =
+      let b = gives_back w.taken arrays (let le = h.0.enough in omega (arith, n, le)) all in
+      let r = h.0.on v i b.0 b.2 _ in
+      subst (λ o. GoodWent code fits (returns_to w around v o t)) (sym b.1)
+      (subst (GoodWent code fits) (sym r.went) (record { seat = h.0.seat; call = r.good; others = h.1 }))
+  goes_back callee (Block o ∷ around) v arrays t i c n all h = absurd c
 
   abbrev table_at : (place : ℕ) → Seat code fits place → Table
   table_at place seat = (fits.each seat.index seat.func seat.is_func).table
@@ -61,23 +47,32 @@ module _ (code : Code) (fits : Fits code) where
   abbrev next_seat : (place : ℕ) (seat : Seat code fits place) (next : ℕ) (out : Shape) → Leads (table_at place seat) next out → Seat code fits next
   next_seat place seat next out l = record { index = seat.index; func = seat.func; is_func = seat.is_func; shape = l.there; at = l.found }
 
-  arrives : (place : ℕ) (seat : Seat code fits place) (out : Shape) (s : State) (l : Leads (table_at place seat) s.place out) →
-      Good seat.func out s.operands s.slots s.results s.around → AllResume code fits seat.func.gives_int s.around → GoodState code fits s
-  arrives place seat out s l g others = record {
-    seat = next_seat place seat s.place out l;
-    call = covered seat.func l.there out s.operands s.slots s.results s.around l.as_many l.covers g;
-    others = others;
-  }
+  takes : (place : ℕ) (seat : Seat code fits place) (out : Shape) (s : State) (next : ℕ) (l : Leads (table_at place seat) next out) → Good seat.func out s → Good seat.func l.there s
+  takes place seat out s next l g = covered seat.func l.there out s l.as_many (l.covers, l.covers_gone, refl, l.covers_outer) g
+
+  arrives : (place : ℕ) (seat : Seat code fits place) (out : Shape) (s : State) (l : Leads (table_at place seat) s.place out) → Good seat.func out s → AllResume code fits seat.func s.around → GoodState code fits s
+  arrives place seat out s l g others = record { seat = next_seat place seat s.place out l; call = takes place seat out s s.place l g; others = others }
 
   -- a function begins
-  starts_well : (k : ℕ) (f : Func) → slice_get code.funcs k ≡ Some f → (operands : List ℤ) (depth : ℕ) (around : List Around) (t : Trace) → f.params ≤ length operands → RowsHold f.slots [] around → slots_round around ≡ [] → AllResume code fits f.gives_int around
-      → GoodState code fits (record { place = f.start; operands = []; slots = slots_of f operands; results = []; depth = depth; around = around; trace = t })
-  starts_well k f is operands depth around t enough none none' others =
+  starts_well : (k : ℕ) (f : Func) → slice_get code.funcs k ≡ Some f → (arguments : List ℤ) (given : List (List ℤ)) (depth : ℕ) (around : List Around) (t : Trace) → length arguments ≡ f.params → length given ≡ f.array_params
+      → ints_round around ≡ [] → arrays_round around ≡ [] → CutsAgree [] around → AllResume code fits f around
+      → GoodState code fits (record { place = f.start; operands = []; slots = slots_of f arguments; arrays = arrays_of f given; results = []; arrived = []; depth = depth; around = around; trace = t })
+  starts_well k f is arguments given depth around t n n' e e' c others =
       let h = fits.each k f is in
       let l = h.is_table.starts in
+      let room = h.room in
+      let room' = h.array_room in
+      let s : State = record { place = f.start; operands = []; slots = slots_of f arguments; arrays = arrays_of f given; results = []; arrived = []; depth = depth; around = around; trace = t } in
+      let ints = begins_full f.slots (arguments ++ replicate (f.slots - f.params) (pos 0)) (length-append arguments (replicate (f.slots - f.params) (pos 0)) ∙ omega (arith, n, room, length-replicate (f.slots - f.params) (pos 0))) in
+      let arrays = begins_full f.arrays (given ++ replicate (f.arrays - f.array_params) []) (length-append given (replicate (f.arrays - f.array_params) []) ∙ (let m : length {A = List ℤ} (replicate (f.arrays - f.array_params) []) ≡ f.arrays - f.array_params = length-replicate (f.arrays - f.array_params) [] in omega (arith, n', room', m))) in
       record {
         seat = record { index = k; func = f; is_func = is; shape = l.there; at = l.found };
-        call = covered f l.there (first_shape f) [] (slots_of f operands) [] around l.as_many l.covers (begins_well f operands around none none' h.room enough);
+        call = covered f l.there (first_shape f) s l.as_many (l.covers, l.covers_gone, refl, l.covers_outer) (record {
+          as_many = refl;
+          ints = subst (λ os. Holds f.slots (none_empty f.slots) [] (slots_of f arguments) [] os) (sym e) ints;
+          arrays = subst (λ os. Holds f.arrays (none_empty f.arrays) [] (arrays_of f given) [] os) (sym e') arrays;
+          cuts = c;
+        });
         others = others;
       }
 
@@ -88,131 +83,340 @@ module _ (code : Code) (fits : Fits code) where
     abbrev shape : Shape
     shape = good.seat.shape
 
-    abbrev g : Good seat.func shape s.operands s.slots s.results s.around
+    abbrev g : Good seat.func shape s
     g = good.call
 
     abbrev table : Table
     table = table_at s.place seat
 
-    full : (a : ℕ) → has_slot shape a ≡ true → is_full (slice_get s.slots a) ≡ true
-    full a h = finds seat.func shape s.operands s.slots s.results s.around g a h
+    full_slot : (a : ℕ) → has_slot shape a ≡ true → is_full (slice_get s.slots a) ≡ true
+    full_slot a h = finds seat.func.slots shape.empty (empty_rows shape.outer) s.slots (slots_in s.results) (ints_round s.around) g.ints a h
 
-    -- a call in place goes on when its result has come
-    resumes_plain : (c : Callee) (f : Func) → has_target shape c.target ≡ true → ((a : ℕ) → c.target ≡ Some a → f.gives_int ≡ true) → (l : Leads table (s.place + 1) (record shape { operands = shape.operands - f.params }))
-        → (v : Option ℤ) → IsGiven f.gives_int v → (t : Trace) → Resumed seat.func l.there (waiting_at s Plain c f) v s.around t
-    resumes_plain c f target gives l v i t = cases c.target refl target v i t
-      where
-        left : Good seat.func (record shape { operands = shape.operands - f.params }) (drop f.params s.operands) s.slots s.results s.around
-        left = with_operands seat.func shape s.operands (drop f.params s.operands) s.slots s.results s.around (shape.operands - f.params) (omega (arith, length-drop f.params s.operands, g.as_many)) g
+    full_array : (a : ℕ) → has_array shape a ≡ true → is_full (slice_get s.arrays a) ≡ true
+    full_array a h = finds seat.func.arrays shape.gone (gone_rows shape.outer) s.arrays (slots_in s.arrived) (arrays_round s.around) g.arrays a h
 
-        takes : (slots : Slots) → Good seat.func (record shape { operands = shape.operands - f.params }) (drop f.params s.operands) slots s.results s.around → Good seat.func l.there (drop f.params s.operands) slots s.results s.around
-        takes slots h = covered seat.func l.there (record shape { operands = shape.operands - f.params }) (drop f.params s.operands) slots s.results s.around l.as_many l.covers h
+    -- the arrays that an instruction names can be taken
+    all_there : (width : ℕ) (passed : List ℕ) → names_arrays width passed ≡ true → has_arrays shape passed ≡ true → AllThere passed s.arrays
+    all_there width [] n h = tt
+    all_there width (a ∷ passed) n h =
+        let rest = second_true (nat_lt a width) (is_none_of a passed && names_arrays width passed) n in
+        (none_of a passed (first_true (is_none_of a passed) (names_arrays width passed) rest), full_array a (first_true (has_array shape a) (has_arrays shape passed) h), all_there width passed (second_true (is_none_of a passed) (names_arrays width passed) rest) (second_true (has_array shape a) (has_arrays shape passed) h))
 
-        cases : (o : Option ℕ) → c.target ≡ o → has_target shape o ≡ true → (v : Option ℤ) → IsGiven f.gives_int v → (t : Trace) → Resumed seat.func l.there (waiting_at s Plain c f) v s.around t
-        cases None e h v i t = record {
-          slots = s.slots;
-          results = s.results;
-          went = ap (λ x. given x v (going_on (waiting_at s Plain c f) s.around t)) e;
-          good = takes s.slots left;
-        }
-        cases (Some a) e h None i t = absurd (subst (λ b. IsGiven b None) (gives a e) i)
-        cases (Some a) e h (Some v) i t = record {
-          slots = slice_set s.slots a (Some v);
-          results = s.results;
-          went =
-              ap (λ x. given x (Some v) (going_on (waiting_at s Plain c f) s.around t)) e
-              ∙ taken (is_full (slice_get s.slots a)) (On (record (going_on (waiting_at s Plain c f) s.around t) { slots = slice_set s.slots a (Some v) })) Stuck (full a h);
-          good = takes (slice_set s.slots a (Some v)) (with_slot seat.func (record shape { operands = shape.operands - f.params }) (drop f.params s.operands) s.slots s.results s.around a v (full a h) left);
-        }
+    -- what a call that begins must find, and what its caller leaves
+    record Enters (e : Entering) : Type 0 where
+      pub index : ℕ
+      pub is : slice_get code.funcs index ≡ Some e.func
+      pub enough : e.func.params ≤ length s.operands
+      pub arguments : length e.arguments ≡ e.func.params
+      pub given : length e.given ≡ e.func.array_params
+      pub many : length e.taken ≡ e.func.array_params
+      pub there : AllThere (map slot_taken e.taken) s.arrays
+      pub target : has_target shape e.target ≡ true
+      pub gives : (a : ℕ) → e.target ≡ Some a → e.func.gives_int ≡ true
+      pub keeps : has_arguments e.kind e.func.params shape.operands ≡ true
+      pub leads : Leads table (s.place + 1) (record shape {
+        operands = shape.operands - e.func.params;
+        empty = with_target e.kind e.target shape.empty;
+        gone = with_passed e.kind (map slot_taken e.taken) shape.gone;
+      })
 
-    -- a spawned call's result waits, and its slot is empty
-    resumes_spawned : (c : Callee) (f : Func) → has_target shape c.target ≡ true → ((a : ℕ) → c.target ≡ Some a → f.gives_int ≡ true) → shape.operands - f.params ≡ 0
-        → (l : Leads table (s.place + 1) (record shape { operands = shape.operands - f.params; empty = with_target Spawned c.target shape.empty }))
-        → (v : Option ℤ) → IsGiven f.gives_int v → (t : Trace) → Resumed seat.func l.there (waiting_at s Spawned c f) v s.around t
-    resumes_spawned c f target gives none l v i t = cases c.target refl target v i t
-      where
-        left : Good seat.func (record shape { operands = shape.operands - f.params }) [] s.slots s.results s.around
-        left = with_operands seat.func shape s.operands [] s.slots s.results s.around (shape.operands - f.params) none g
+    module _ (e : Entering) (h : Enters e) where
+      -- the arrays of the caller once the call has begun, and after what it gives back
+      arrays_gone : Holds seat.func.arrays (with_gone (map slot_taken e.taken) shape.gone) (gone_rows shape.outer) (moved_out (map slot_taken e.taken) s.arrays) (map slot_taken e.taken ++ slots_in s.arrived) (arrays_round s.around)
+      arrays_gone = with_all_taken seat.func.arrays (map slot_taken e.taken) shape.gone (gone_rows shape.outer) s.arrays (slots_in s.arrived) (arrays_round s.around) h.there g.arrays
 
-        covers_as : (o : Option ℕ) → c.target ≡ o → CoversEach (l.there.empty ∷ l.there.outer) (with_target Spawned o shape.empty ∷ shape.outer)
-        covers_as o e = subst (λ x. CoversEach (l.there.empty ∷ l.there.outer) (with_target Spawned x shape.empty ∷ shape.outer)) e l.covers
+      arrays_back : (results : Results (List ℤ)) → slots_in results ≡ map slot_taken e.taken → Holds seat.func.arrays shape.gone (gone_rows shape.outer) (settled results (moved_out (map slot_taken e.taken) s.arrays)) (slots_in s.arrived) (arrays_round s.around)
+      arrays_back results same =
+          let k = with_settled seat.func.arrays (with_gone (map slot_taken e.taken) shape.gone) (gone_rows shape.outer) (moved_out (map slot_taken e.taken) s.arrays) results (slots_in s.arrived) (arrays_round s.around)
+          (subst (λ ws. Holds seat.func.arrays (with_gone (map slot_taken e.taken) shape.gone) (gone_rows shape.outer) (moved_out (map slot_taken e.taken) s.arrays) (ws ++ slots_in s.arrived) (arrays_round s.around)) (sym same) arrays_gone) in
+          with_rows seat.func.arrays (with_gone (map slot_taken e.taken) shape.gone) shape.gone (gone_rows shape.outer) (gone_rows shape.outer) (settled results (moved_out (map slot_taken e.taken) s.arrays)) (slots_in s.arrived) (arrays_round s.around) g.arrays.row_holds g.arrays.rows_hold k
 
-        gone : Option ℕ → Trace → State
-        gone o t = record (going_on (waiting_at s Spawned c f) s.around t) { slots = taken_from Spawned o s.slots }
+      arrays_wait : (results : Results (List ℤ)) → slots_in results ≡ map slot_taken e.taken → Holds seat.func.arrays (with_gone (map slot_taken e.taken) shape.gone) (gone_rows shape.outer) (moved_out (map slot_taken e.taken) s.arrays) (slots_in (results ++ s.arrived)) (arrays_round s.around)
+      arrays_wait results same =
+          subst (λ ws. Holds seat.func.arrays (with_gone (map slot_taken e.taken) shape.gone) (gone_rows shape.outer) (moved_out (map slot_taken e.taken) s.arrays) ws (arrays_round s.around))
+          (ap (λ ws. ws ++ slots_in s.arrived) (sym same) ∙ sym (slots_in_both results s.arrived)) arrays_gone
 
-        cases : (o : Option ℕ) → c.target ≡ o → has_target shape o ≡ true → (v : Option ℤ) → IsGiven f.gives_int v → (t : Trace) → Resumed seat.func l.there (waiting_at s Spawned c f) v s.around t
-        cases None e h v i t = record {
-          slots = s.slots;
-          results = s.results;
-          went = ap (λ x. awaited x v (record (going_on (waiting_at s Spawned c f) s.around t) { slots = taken_from Spawned x s.slots })) e;
-          good = covered seat.func l.there (record shape { operands = shape.operands - f.params }) [] s.slots s.results s.around l.as_many (covers_as None e) left;
-        }
-        cases (Some a) e h None i t = absurd (subst (λ b. IsGiven b None) (gives a e) i)
-        cases (Some a) e h (Some v) i t = record {
-          slots = slice_set s.slots a None;
-          results = (a, v) ∷ s.results;
-          went = ap (λ x. awaited x (Some v) (record (going_on (waiting_at s Spawned c f) s.around t) { slots = taken_from Spawned x s.slots })) e;
-          good = covered seat.func l.there (record shape { operands = shape.operands - f.params; empty = slice_set shape.empty a true }) [] (slice_set s.slots a None) ((a, v) ∷ s.results) s.around l.as_many (covers_as (Some a) e)
-              (with_taken seat.func (record shape { operands = shape.operands - f.params }) [] s.slots s.results s.around a v (full a h) left);
-        }
+      -- what the caller leaves, for a kind of call and a slot for its result
+      abbrev left_by : CallKind → Option ℕ → Shape
+      left_by kind target = record shape {
+        operands = shape.operands - e.func.params;
+        empty = with_target kind target shape.empty;
+        gone = with_passed kind (map slot_taken e.taken) shape.gone;
+      }
 
-    takes_well : (o : Option ℕ) → has_target shape o ≡ true → may_take Spawned o s.slots ≡ true
-    takes_well None h = refl
-    takes_well (Some a) h = full a h
+      abbrev called_by : CallKind → Option ℕ → Waiting
+      called_by kind target = waiting_at s (record e { kind = kind; target = target })
 
-    keeps_well : (n : ℕ) → length s.operands ≡ n → may_keep Spawned (drop n s.operands) ≡ true
-    keeps_well n e = none (drop n s.operands) (length-drop n s.operands ∙ omega (arith, e))
-      where
-        none : (ops : List ℤ) → length ops ≡ 0 → may_keep Spawned ops ≡ true
-        none [] k = refl
-        none (v ∷ ops) k = absurd (omega (arith, k))
+      plain_count : shape.operands - e.func.params ≡ length (drop e.func.params s.operands)
+      plain_count = let n = g.as_many in omega (arith, n, length-drop e.func.params s.operands)
 
-    -- a call that fits begins, or is too deep
-    enters_well : (kind : CallKind) (c : Callee) (f : Func) → slice_get code.funcs c.function ≡ Some f → f.params ≤ length s.operands → (out : Shape) (l : Leads table (s.place + 1) out)
-        → ((v : Option ℤ) → IsGiven f.gives_int v → (t : Trace) → Resumed seat.func l.there (waiting_at s kind c f) v s.around t) →
-        may_take kind c.target s.slots ≡ true → may_keep kind (drop f.params s.operands) ≡ true → GoodWent code fits (enter s kind c (slice_get code.funcs c.function))
-    enters_well kind c f is enough out l resumes takes keeps =
-        let waits : Resumes code fits f.gives_int (waiting_at s kind c f) s.around = record { seat = next_seat s.place seat (s.place + 1) out l; on = resumes } in
-        let room = both_true (nat_le f.params (length s.operands)) (nat_le f.params f.slots) (at_most f.params (length s.operands) enough) (at_most f.params f.slots (fits.each c.function f is).room) in
-        let may = both_true (has_room f s.operands) (may_take kind c.target s.slots && may_keep kind (drop f.params s.operands)) room (both_true (may_take kind c.target s.slots) (may_keep kind (drop f.params s.operands)) takes keeps) in
-        let begins : GoodWent code fits (On (begun s kind c f)) = starts_well c.function f is s.operands (s.depth + 1) (Caller (waiting_at s kind c f) ∷ s.around) (inside (ticked s.trace)) enough tt refl (waits, good.others) in
-        subst (λ o. GoodWent code fits (enter s kind c o)) (sym is)
-        (subst (λ b. GoodWent code fits (if nat_lt most_depth (s.depth + 1) then Stops trap.TooDeep c.line s.trace.lines else (if b then On (begun s kind c f) else Stuck))) (sym may)
-        (either (nat_lt most_depth (s.depth + 1)) (On (begun s kind c f)) begins))
-      where
-        either : (b : Bool) (w : Went) → GoodWent code fits w → GoodWent code fits (if b then Stops trap.TooDeep c.line s.trace.lines else w)
-        either true w h = tt
-        either false w h = h
+      spawned_count : has_arguments Spawned e.func.params shape.operands ≡ true → shape.operands - e.func.params ≡ 0
+      spawned_count k = let n = eq_of e.func.params shape.operands k in omega (arith, n)
 
-    -- the function that a call names
-    record Called (c : Callee) : Type 0 where
+      waits : (kind : CallKind) (target : Option ℕ) → has_arguments kind e.func.params shape.operands ≡ true → has_target shape target ≡ true → ((a : ℕ) → target ≡ Some a → e.func.gives_int ≡ true) → (l : Leads table (s.place + 1) (left_by kind target))
+          → (v : Option ℤ) → IsGiven e.func.gives_int v → (results : Results (List ℤ)) → slots_in results ≡ map slot_taken e.taken → (t : Trace) → Resumed seat.func l.there (called_by kind target) v results s.around t
+      waits Plain None k there gives l v i results same t = record {
+        slots = s.slots;
+        arrays = settled results (moved_out (map slot_taken e.taken) s.arrays);
+        results = s.results;
+        arrived = s.arrived;
+        went = refl;
+        good = takes s.place seat (left_by Plain None) (record (going_on (called_by Plain None) s.around t) { arrays = settled results (moved_out (map slot_taken e.taken) s.arrays) }) (s.place + 1) l
+            (record { as_many = plain_count; ints = g.ints; arrays = arrays_back results same; cuts = g.cuts });
+      }
+      waits Plain (Some a) k there gives l None i results same t = absurd (subst (λ b. IsGiven b None) (gives a refl) i)
+      waits Plain (Some a) k there gives l (Some v) i results same t = record {
+        slots = slice_set s.slots a (Some v);
+        arrays = settled results (moved_out (map slot_taken e.taken) s.arrays);
+        results = s.results;
+        arrived = s.arrived;
+        went = taken (is_full (slice_get s.slots a)) (On (record (going_on (called_by Plain (Some a)) s.around t) { slots = slice_set s.slots a (Some v); arrays = settled results (moved_out (map slot_taken e.taken) s.arrays) })) Stuck (full_slot a there);
+        good = takes s.place seat (left_by Plain (Some a)) (record (going_on (called_by Plain (Some a)) s.around t) { slots = slice_set s.slots a (Some v); arrays = settled results (moved_out (map slot_taken e.taken) s.arrays) }) (s.place + 1) l
+            (record {
+              as_many = plain_count;
+              ints = with_slot seat.func.slots shape.empty (empty_rows shape.outer) s.slots (slots_in s.results) (ints_round s.around) a v (full_slot a there) g.ints;
+              arrays = arrays_back results same;
+              cuts = g.cuts;
+            });
+      }
+      waits Spawned None k there gives l v i results same t = record {
+        slots = s.slots;
+        arrays = moved_out (map slot_taken e.taken) s.arrays;
+        results = s.results;
+        arrived = results ++ s.arrived;
+        went = refl;
+        good = takes s.place seat (left_by Spawned None) (record (going_on (called_by Spawned None) s.around t) { arrived = results ++ s.arrived }) (s.place + 1) l
+            (record { as_many = spawned_count k; ints = g.ints; arrays = arrays_wait results same; cuts = g.cuts });
+      }
+      waits Spawned (Some a) k there gives l None i results same t = absurd (subst (λ b. IsGiven b None) (gives a refl) i)
+      waits Spawned (Some a) k there gives l (Some v) i results same t = record {
+        slots = slice_set s.slots a None;
+        arrays = moved_out (map slot_taken e.taken) s.arrays;
+        results = (a, v) ∷ s.results;
+        arrived = results ++ s.arrived;
+        went = refl;
+        good = takes s.place seat (left_by Spawned (Some a)) (record (going_on (called_by Spawned (Some a)) s.around t) { results = (a, v) ∷ s.results; arrived = results ++ s.arrived }) (s.place + 1) l
+            (record {
+              as_many = spawned_count k;
+              ints = with_taken seat.func.slots shape.empty (empty_rows shape.outer) s.slots (slots_in s.results) (ints_round s.around) a (full_slot a there) g.ints;
+              arrays = arrays_wait results same;
+              cuts = g.cuts;
+            });
+      }
+
+      may_take_it : (kind : CallKind) (target : Option ℕ) → has_target shape target ≡ true → may_take kind target s.slots ≡ true
+      may_take_it Plain target k = refl
+      may_take_it Spawned None k = refl
+      may_take_it Spawned (Some a) k = full_slot a k
+
+      may_keep_it : (kind : CallKind) → has_arguments kind e.func.params shape.operands ≡ true → may_keep kind (drop e.func.params s.operands) ≡ true
+      may_keep_it Plain k = refl
+      may_keep_it Spawned k = none (drop e.func.params s.operands) (sym plain_count ∙ spawned_count k)
+        where
+          none : (ops : List ℤ) → length ops ≡ 0 → may_keep Spawned ops ≡ true
+          none [] n = refl
+          none (v ∷ ops) n = absurd (omega (arith, n))
+
+      -- a call that finds what it must begins
+      begins_well : GoodWent code fits (begins s e)
+      begins_well =
+          let f = fits.each h.index e.func h.is in
+          let enough = h.enough in
+          let many = h.many in
+          let room' = f.array_room in
+          let some = both_true (nat_eq (length e.given) e.func.array_params) (nat_le e.func.array_params e.func.arrays) (equal (length e.given) e.func.array_params h.given) (at_most e.func.array_params e.func.arrays room') in
+          let room = both_true (nat_le e.func.params (length s.operands)) (nat_le e.func.params e.func.slots && (nat_eq (length e.given) e.func.array_params && nat_le e.func.array_params e.func.arrays)) (at_most e.func.params (length s.operands) enough)
+          (both_true (nat_le e.func.params e.func.slots) (nat_eq (length e.given) e.func.array_params && nat_le e.func.array_params e.func.arrays) (at_most e.func.params e.func.slots f.room) some) in
+          let may = both_true (has_room e.func s.operands e.given) (may_take e.kind e.target s.slots && may_keep e.kind (drop e.func.params s.operands)) room
+          (both_true (may_take e.kind e.target s.slots) (may_keep e.kind (drop e.func.params s.operands)) (may_take_it e.kind e.target h.target) (may_keep_it e.kind h.keeps)) in
+          let resumes : Resumes code fits e.func (waiting_at s e) s.around = record {
+            seat = next_seat s.place seat (s.place + 1) (left_by e.kind e.target) h.leads;
+            enough = omega (arith, many, room');
+            on = waits e.kind e.target h.keeps h.target h.gives h.leads;
+          } in
+          subst (GoodWent code fits) (sym (taken (may_begin s e) (On (begun s e)) Stuck may))
+          (starts_well h.index e.func h.is e.arguments e.given e.depth (Caller (waiting_at s e) ∷ s.around) (inside (ticked s.trace)) h.arguments h.given refl refl tt (resumes, good.others))
+
+    -- the function that a call names, and the slots of the arrays that it takes
+    record Named (function : ℕ) (passed : List ℕ) : Type 0 where
       pub func : Func
-      pub is : slice_get code.funcs c.function ≡ Some func
-      pub gives : (a : ℕ) → c.target ≡ Some a → func.gives_int ≡ true
+      pub is : slice_get code.funcs function ≡ Some func
+      pub many : length passed ≡ func.array_params
+      pub slots : names_arrays seat.func.arrays passed ≡ true
 
-    called : (kind : CallKind) (c : Callee) → names_callee code seat.func kind c ≡ true → Called c
-    called kind c n =
-        let f = there code.funcs c.function (lt_of c.function (length code.funcs) (first_true _ _ n)) in
-        let target = second_true _ _ (second_true (nat_lt 0 c.site) (is_site kind c (slice_get code.sites (c.site - 1)) && names_target code seat.func c c.target) (second_true (nat_lt c.function (length code.funcs)) _ n)) in
-        record { func = f.0; is = f.1; gives = λ a e. gives f.0 f.1 a (subst (λ o. names_target code seat.func c o ≡ true) e target) }
+    named : (function : ℕ) (passed : List ℕ) → names_passed code seat.func function passed ≡ true → Named function passed
+    named function passed n =
+        let f = there code.funcs function (lt_of function (length code.funcs) (first_true _ _ n)) in
+        let rest = second_true (nat_lt function (length code.funcs)) (nat_eq (length passed) (array_params_of (slice_get code.funcs function)) && names_arrays seat.func.arrays passed) n in
+        record {
+          func = f.0;
+          is = f.1;
+          many = eq_of (length passed) (array_params_of (slice_get code.funcs function)) (first_true _ _ rest) ∙ ap array_params_of f.1;
+          slots = second_true (nat_eq (length passed) (array_params_of (slice_get code.funcs function))) (names_arrays seat.func.arrays passed) rest;
+        }
+
+    arguments_count : (f : Func) → f.params ≤ length s.operands → length (arguments_of f s.operands) ≡ f.params
+    arguments_count f le = length-reverse (take f.params s.operands) ∙ omega (arith, length-take f.params s.operands, le)
+
+    enough_so : (kind : CallKind) (params : ℕ) → has_arguments kind params shape.operands ≡ true → params ≤ length s.operands
+    enough_so Plain params k = let n = g.as_many in omega (arith, n, le_of params shape.operands k)
+    enough_so Spawned params k = let n = g.as_many in omega (arith, n, eq_of params shape.operands k)
+
+    -- a call with the arrays in these slots, whole
+    whole_enters : (kind : CallKind) (site target : Option ℕ) (depth : ℕ) (function : ℕ) (passed : List ℕ) (n : Named function passed) (given : List (List ℤ)) → length given ≡ length passed → AllThere passed s.arrays
+        → has_arguments kind n.func.params shape.operands ≡ true → has_target shape target ≡ true → ((a : ℕ) → target ≡ Some a → n.func.gives_int ≡ true)
+        → Leads table (s.place + 1) (record shape { operands = shape.operands - n.func.params; empty = with_target kind target shape.empty; gone = with_passed kind passed shape.gone })
+        → Enters (record { kind = kind; site = site; target = target; depth = depth; func = n.func; arguments = arguments_of n.func s.operands; given = given; taken = map (λ a. Whole a) passed })
+    whole_enters kind site target depth function passed n given e there keeps has gives l = record {
+      index = function;
+      is = n.is;
+      enough = enough_so kind n.func.params keeps;
+      arguments = arguments_count n.func (enough_so kind n.func.params keeps);
+      given = e ∙ n.many;
+      many = length-map passed (λ a. Whole a) ∙ n.many;
+      there = subst (λ p. AllThere p s.arrays) (sym (whole_slots passed)) there;
+      target = has;
+      gives = gives;
+      keeps = keeps;
+      leads = subst (λ p. Leads table (s.place + 1) (record shape { operands = shape.operands - n.func.params; empty = with_target kind target shape.empty; gone = with_passed kind p shape.gone })) (sym (whole_slots passed)) l;
+    }
+
+    -- the same, by the name of its function
+    params_are : (function : ℕ) (passed : List ℕ) (n : Named function passed) → params_of (slice_get code.funcs function) ≡ n.func.params
+    params_are function passed n = ap params_of n.is
+
+    enters_well : (kind : CallKind) (c : Callee) → names_callee code seat.func kind c ≡ true
+        → (has_arguments kind (params_of (slice_get code.funcs c.function)) shape.operands && (has_target shape c.target && has_arrays shape (passed_by code c.passed))) ≡ true
+        → Leads table (s.place + 1) (record shape { operands = shape.operands - params_of (slice_get code.funcs c.function); empty = with_target kind c.target shape.empty; gone = with_passed kind (passed_by code c.passed) shape.gone })
+        → GoodWent code fits (enter s kind c (passed_by code c.passed) (slice_get code.funcs c.function))
+    enters_well kind c n r l =
+        let passed = passed_by code c.passed in
+        let params = params_of (slice_get code.funcs c.function) in
+        let f = named c.function passed (first_true (names_passed code seat.func c.function passed) _ n) in
+        let target = second_true (is_site kind c (slice_get code.sites (c.site - 1))) (names_target code seat.func c c.target) (second_true (nat_lt 0 c.site) (is_site kind c (slice_get code.sites (c.site - 1)) && names_target code seat.func c c.target) (second_true (names_passed code seat.func c.function passed) _ n)) in
+        let keeps = subst (λ k. has_arguments kind k shape.operands ≡ true) (params_are c.function passed f) (first_true (has_arguments kind params shape.operands) (has_target shape c.target && has_arrays shape passed) r) in
+        let rest = second_true (has_arguments kind params shape.operands) (has_target shape c.target && has_arrays shape passed) r in
+        let there = all_there seat.func.arrays passed f.slots (second_true (has_target shape c.target) (has_arrays shape passed) rest) in
+        let given = there_arrays passed s.arrays there in
+        let lead = subst (λ k. Leads table (s.place + 1) (record shape { operands = shape.operands - k; empty = with_target kind c.target shape.empty; gone = with_passed kind passed shape.gone })) (params_are c.function passed f) l in
+        let enters = whole_enters kind (Some c.site) c.target (s.depth + 1) c.function passed f given.0 given.2 there keeps (first_true (has_target shape c.target) (has_arrays shape passed) rest) (λ a e. gives f.func f.is a (subst (λ o. names_target code seat.func c o ≡ true) e target)) lead in
+        subst (λ o. GoodWent code fits (enter s kind c passed o)) (sym f.is)
+        (subst (λ o. GoodWent code fits (if nat_lt most_depth (s.depth + 1) then Stops trap.TooDeep c.line s.trace.lines else on_arrays o (λ xs. begins s (call_of s kind c passed f.func xs)))) (sym given.1)
+        (either (nat_lt most_depth (s.depth + 1)) _ (begins_well _ enters)))
       where
         gives : (f : Func) → slice_get code.funcs c.function ≡ Some f → (a : ℕ) → names_target code seat.func c (Some a) ≡ true → f.gives_int ≡ true
         gives f is a h = sym (ap gives_value is) ∙ second_true (nat_lt a seat.func.slots) (gives_value (slice_get code.funcs c.function)) h
 
+        either : (b : Bool) (w : Went) → GoodWent code fits w → GoodWent code fits (if b then Stops trap.TooDeep c.line s.trace.lines else w)
+        either true w h = tt
+        either false w h = h
+
+    recurs_well : (kind : CallKind) (c : Inner) → names_passed code seat.func c.function (passed_by code c.passed) ≡ true → (has_arguments kind (params_of (slice_get code.funcs c.function)) shape.operands && has_arrays shape (passed_by code c.passed)) ≡ true
+        → Leads table (s.place + 1) (record shape { operands = shape.operands - params_of (slice_get code.funcs c.function); empty = with_target kind None shape.empty; gone = with_passed kind (passed_by code c.passed) shape.gone })
+        → GoodWent code fits (recur s kind (passed_by code c.passed) (slice_get code.funcs c.function))
+    recurs_well kind c n r l =
+        let passed = passed_by code c.passed in
+        let params = params_of (slice_get code.funcs c.function) in
+        let f = named c.function passed n in
+        let keeps = subst (λ k. has_arguments kind k shape.operands ≡ true) (params_are c.function passed f) (first_true (has_arguments kind params shape.operands) (has_arrays shape passed) r) in
+        let there = all_there seat.func.arrays passed f.slots (second_true (has_arguments kind params shape.operands) (has_arrays shape passed) r) in
+        let given = there_arrays passed s.arrays there in
+        let lead = subst (λ k. Leads table (s.place + 1) (record shape { operands = shape.operands - k; empty = with_target kind None shape.empty; gone = with_passed kind passed shape.gone })) (params_are c.function passed f) l in
+        let enters = whole_enters kind None None s.depth c.function passed f given.0 given.2 there keeps refl (λ a e. absurd (none a e)) lead in
+        subst (λ o. GoodWent code fits (recur s kind passed o)) (sym f.is)
+        (subst (λ o. GoodWent code fits (on_arrays o (λ xs. begins s (record { kind = kind; site = None; target = None; depth = s.depth; func = f.func; arguments = arguments_of f.func s.operands; given = xs; taken = map (λ a. Whole a) passed })))) (sym given.1)
+        (begins_well _ enters))
+      where
+        none : (a : ℕ) → None ≡ Some a → ⊥
+        none a e = cc
+
+    starts_loop : (c : Inner) (line : ℕ) → (names_passed code seat.func c.function (passed_by code c.passed) && nat_le 2 (params_of (slice_get code.funcs c.function))) ≡ true
+        → (nat_le (params_of (slice_get code.funcs c.function)) shape.operands && has_arrays shape (passed_by code c.passed)) ≡ true
+        → Leads table (s.place + 1) (record shape { operands = shape.operands - params_of (slice_get code.funcs c.function) })
+        → GoodWent code fits (start s line (passed_by code c.passed) (slice_get code.funcs c.function))
+    starts_loop c line n r l =
+        let passed = passed_by code c.passed in
+        let params = params_of (slice_get code.funcs c.function) in
+        let f = named c.function passed (first_true (names_passed code seat.func c.function passed) (nat_le 2 params) n) in
+        let two = le_of 2 params (second_true (names_passed code seat.func c.function passed) (nat_le 2 params) n) in
+        let same = params_are c.function passed f in
+        let keeps = subst (λ k. nat_le k shape.operands ≡ true) same (first_true (nat_le params shape.operands) (has_arrays shape passed) r) in
+        let there = all_there seat.func.arrays passed f.slots (second_true (nat_le params shape.operands) (has_arrays shape passed) r) in
+        let given = there_arrays passed s.arrays there in
+        let lead = subst (λ k. Leads table (s.place + 1) (record shape { operands = shape.operands - k })) same l in
+        subst (λ o. GoodWent code fits (start s line passed o)) (sym f.is)
+        (subst (λ o. GoodWent code fits (on_arrays o (λ xs. on_range (arguments_of f.func s.operands) (λ low high captured. looped s line passed f.func xs low captured (loop_turns low high xs))))) (sym given.1)
+        (ranges f.func f.is f.many keeps given.0 given.2 there lead (arguments_of f.func s.operands) (arguments_count f.func (enough_so Plain f.func.params keeps)) (omega (arith, two, same))))
+      where
+        none : (a : ℕ) → None ≡ Some a → ⊥
+        none a e = cc
+
+        loops : (f : Func) → slice_get code.funcs c.function ≡ Some f → length (passed_by code c.passed) ≡ f.array_params → nat_le f.params shape.operands ≡ true → (given : List (List ℤ)) → length given ≡ length (passed_by code c.passed) → AllThere (passed_by code c.passed) s.arrays
+            → Leads table (s.place + 1) (record shape { operands = shape.operands - f.params }) → (low : ℤ) (captured : List ℤ) → length captured + 2 ≡ f.params → (turns : Result) → GoodWent code fits (looped s line (passed_by code c.passed) f given low captured turns)
+        loops f is many keeps given e there lead low captured count (Fails trap) = tt
+        loops f is many keeps given e there lead low captured count (Value m) =
+            let same = part_slots (natural low) (passed_by code c.passed) given e in
+            let n : length (low ∷ (low +ℤ m) ∷ captured) ≡ f.params = omega (arith, count) in
+            let enter : Entering = record {
+              kind = Plain;
+              site = None;
+              target = None;
+              depth = s.depth;
+              func = f;
+              arguments = low ∷ (low +ℤ m) ∷ captured;
+              given = map (λ xs. take (natural m) (drop (natural low) xs)) given;
+              taken = parts_of (natural low) (passed_by code c.passed) given;
+            } in
+            begins_well enter (record {
+              index = c.function;
+              is = is;
+              enough = enough_so Plain f.params keeps;
+              arguments = n;
+              given = length-map given (λ xs. take (natural m) (drop (natural low) xs)) ∙ e ∙ many;
+              many = sym (length-map (parts_of (natural low) (passed_by code c.passed) given) slot_taken) ∙ ap length same ∙ many;
+              there = subst (λ p. AllThere p s.arrays) (sym same) there;
+              target = refl;
+              gives = λ a k. absurd (none a k);
+              keeps = keeps;
+              leads = lead;
+            })
+
+        ranges : (f : Func) → slice_get code.funcs c.function ≡ Some f → length (passed_by code c.passed) ≡ f.array_params → nat_le f.params shape.operands ≡ true → (given : List (List ℤ)) → length given ≡ length (passed_by code c.passed) → AllThere (passed_by code c.passed) s.arrays
+            → Leads table (s.place + 1) (record shape { operands = shape.operands - f.params }) → (arguments : List ℤ) → length arguments ≡ f.params → 2 ≤ f.params
+            → GoodWent code fits (on_range arguments (λ low high captured. looped s line (passed_by code c.passed) f given low captured (loop_turns low high given)))
+        ranges f is many keeps given e there lead [] n two = absurd (omega (arith, n, two))
+        ranges f is many keeps given e there lead (low ∷ []) n two = absurd (omega (arith, n, two))
+        ranges f is many keeps given e there lead (low ∷ high ∷ captured) n two = loops f is many keeps given e there lead low captured (omega (arith, n)) (loop_turns low high given)
+
     -- the same call goes on, with so many operands
     more : (n : ℕ) (to : State) → to ≡ record s { place = to.place; operands = to.operands; trace = to.trace } → n ≡ length to.operands → Leads table to.place (record shape { operands = n }) → GoodState code fits to
     more n to same e l = subst (GoodState code fits) (sym same)
-        (arrives s.place seat (record shape { operands = n }) (record s { place = to.place; operands = to.operands; trace = to.trace }) l
-        (with_operands seat.func shape s.operands to.operands s.slots s.results s.around n e g) good.others)
+        (arrives s.place seat (record shape { operands = n }) (record s { place = to.place; operands = to.operands; trace = to.trace }) l (record { as_many = e; ints = g.ints; arrays = g.arrays; cuts = g.cuts }) good.others)
 
-    loads_well : (o : Option (Option ℤ)) → is_full o ≡ true → Leads table (s.place + 1) (record shape { operands = shape.operands + 1 }) → GoodWent code fits (loaded s o)
-    loads_well None h l = cc
-    loads_well (Some None) h l = cc
-    loads_well (Some (Some v)) h l = more (shape.operands + 1) _ refl (omega (arith, g.as_many)) l
+    -- a full array slot is written
+    more_array : (n a : ℕ) (xs : List ℤ) (rest : List ℤ) → is_full (slice_get s.arrays a) ≡ true → n ≡ length rest → Leads table (s.place + 1) (record shape { operands = n })
+        → GoodState code fits (record s { place = s.place + 1; operands = rest; arrays = slice_set s.arrays a (Some xs); trace = ticked s.trace })
+    more_array n a xs rest there e l =
+        arrives s.place seat (record shape { operands = n }) (record s { place = s.place + 1; operands = rest; arrays = slice_set s.arrays a (Some xs); trace = ticked s.trace }) l
+        (record {
+          as_many = e;
+          ints = g.ints;
+          arrays = with_slot seat.func.arrays shape.gone (gone_rows shape.outer) s.arrays (slots_in s.arrived) (arrays_round s.around) a xs there g.arrays;
+          cuts = g.cuts;
+        }) good.others
+
+    slot_well : {A : Type 0} (o : Option (Option A)) (go : A → Went) → is_full o ≡ true → ((x : A) → GoodWent code fits (go x)) → GoodWent code fits (on_slot o go)
+    slot_well None go h k = cc
+    slot_well (Some None) go h k = cc
+    slot_well (Some (Some x)) go h k = k x
 
     operates_well : (line : ℕ) (rest : List ℤ) (r : Result) (n : ℕ) → Leads table (s.place + 1) (record shape { operands = n }) → n ≡ length rest + 1 → GoodWent code fits (operated s line rest r)
     operates_well line rest (Value v) n l e = more n _ refl (omega (arith, e)) l
     operates_well line rest (Fails trap) n l e = tt
+
+    sets_well : (a line : ℕ) (rest : List ℤ) (make : ℤ → List ℤ) (r : Result) (n : ℕ) → is_full (slice_get s.arrays a) ≡ true → Leads table (s.place + 1) (record shape { operands = n }) → n ≡ length rest → GoodWent code fits (set_array s a line rest make r)
+    sets_well a line rest make (Value v) n there l e = more_array n a (make v) rest there e l
+    sets_well a line rest make (Fails trap) n there l e = tt
 
     top_well : (go : ℤ → List ℤ → Went) → nat_le 1 shape.operands ≡ true → ((v : ℤ) (rest : List ℤ) → shape.operands ≡ length rest + 1 → GoodWent code fits (go v rest)) → GoodWent code fits (on_top s go)
     top_well go enough k = cases s.operands g.as_many
@@ -236,40 +440,158 @@ module _ (code : Code) (fits : Fits code) where
         none name k = cc
     adds_well (Some name) v rest h e l = more (shape.operands - 1) _ refl (omega (arith, e)) l
 
-    opens_well : (tag : Option Name) → Leads table (s.place + 1) (record shape { empty = none_empty (length shape.empty); outer = shape.empty ∷ shape.outer }) → GoodWent code fits (opened s tag)
+    opens_well : (tag : Option Name) → Leads table (s.place + 1) (opened_shape shape (outer_of shape)) → GoodWent code fits (opened s tag None)
     opens_well tag l =
-        arrives s.place seat (record shape { empty = none_empty (length shape.empty); outer = shape.empty ∷ shape.outer })
-        (record s { place = s.place + 1; results = []; around = Block (opened_at s tag) ∷ s.around; trace = inside (ticked s.trace) }) l
-        (with_block seat.func shape s.operands s.slots (opened_at s tag) s.around g) good.others
+        arrives s.place seat (opened_shape shape (outer_of shape)) (record s { place = s.place + 1; results = []; arrived = []; around = Block (opened_at s tag None) ∷ s.around; trace = inside (ticked s.trace) }) l
+        (record {
+          as_many = g.as_many;
+          ints = with_block seat.func.slots shape.empty (empty_rows shape.outer) s.slots (slots_in s.results) (ints_round s.around) (length shape.empty) g.ints.row_holds.as_wide g.ints;
+          arrays = with_block seat.func.arrays shape.gone (gone_rows shape.outer) s.arrays (slots_in s.arrived) (arrays_round s.around) (length shape.gone) g.arrays.row_holds.as_wide g.arrays;
+          cuts = (refl, g.cuts);
+        }) good.others
 
-    region_well : (o : Option Name) → (name : Name) × (o ≡ Some name) → Leads table (s.place + 1) (record shape { empty = none_empty (length shape.empty); outer = shape.empty ∷ shape.outer }) → GoodWent code fits (opened_region s o)
+    region_well : (o : Option Name) → (name : Name) × (o ≡ Some name) → Leads table (s.place + 1) (opened_shape shape (outer_of shape)) → GoodWent code fits (opened_region s o)
     region_well None h l = absurd (none h.0 h.1)
       where
         none : (name : Name) → None ≡ Some name → ⊥
         none name k = cc
     region_well (Some name) h l = opens_well (Some name) l
 
-    closes_well : (rows : List Row) (around : List Around) → not (none_open rows) ≡ true → Good seat.func (record { operands = shape.operands; empty = none_empty (length shape.empty); outer = rows }) s.operands (settled s.results s.slots) [] around
-        → AllResume code fits seat.func.gives_int around → Leads table (s.place + 1) (closed_shape shape rows) → GoodWent code fits (closed (put_in s) around)
-    closes_well [] around h k others l = cc
-    closes_well (row ∷ rows) [] h k others l = absurd k.rows
-    closes_well (row ∷ rows) (Caller w ∷ around) h k others l = absurd k.rows
-    closes_well (row ∷ rows) (Block o ∷ around) h k others l =
-        arrives s.place seat (record shape { empty = row; outer = rows }) _ l (with_outer seat.func s.operands (settled s.results s.slots) shape.operands (none_empty (length shape.empty)) row rows o around k) others
+    -- the state after a join
+    abbrev after_join : Shape
+    after_join = record shape { empty = none_empty (length shape.empty); gone = none_empty (length shape.gone) }
 
-    none_round : (rows : List Row) → none_open rows ≡ true → RowsHold seat.func.slots rows s.around → RowsHold seat.func.slots [] s.around
+    joined_here : Good seat.func after_join (put_in s)
+    joined_here = joined seat.func shape s g
+
+    closes_well : (outer : List Outer) (around : List Around) → can_close outer ≡ true → Good seat.func (record after_join { outer = outer }) (record (put_in s) { around = around })
+        → AllResume code fits seat.func around → Leads table (s.place + 1) (closed_shape shape outer) → GoodWent code fits (closed (put_in s) around)
+    closes_well [] around h k others l = cc
+    closes_well (o ∷ outer) [] h k others l = absurd k.cuts
+    closes_well (o ∷ outer) (Caller w ∷ around) h k others l = absurd k.cuts
+    closes_well (o ∷ outer) (Block b ∷ around) h k others l =
+        let uncut : b.cut ≡ None = no_cut b.cut (subst (λ c. is_none c ≡ true) k.cuts.0 h) in
+        subst (λ c. GoodWent code fits (if is_none c then resumes (put_in s) b around else Stuck)) (sym uncut)
+        (arrives s.place seat (closed_shape shape (o ∷ outer)) _ l (record {
+          as_many = k.as_many;
+          ints = with_outer seat.func.slots (none_empty (length shape.empty)) o.empty (empty_rows outer) (settled s.results s.slots) (slots_in b.results) (ints_round around) k.ints;
+          arrays = subst (λ c. Holds seat.func.arrays o.gone (gone_rows outer) (settled s.arrived s.arrays) (slot_cut c ++ slots_in b.arrived) (arrays_round around)) uncut
+              (with_outer seat.func.arrays (none_empty (length shape.gone)) o.gone (gone_rows outer) (settled s.arrived s.arrays) (slot_cut b.cut ++ slots_in b.arrived) (arrays_round around) k.arrays);
+          cuts = k.cuts.1;
+        }) others)
+      where
+        no_cut : (c : Option Halves) → is_none c ≡ true → c ≡ None
+        no_cut None e = refl
+        no_cut (Some x) e = cc
+
+    -- the slots of a cut are full
+    abbrev cut_slots : Halves → List ℕ
+    cut_slots h = h.array ∷ h.left ∷ h.right ∷ []
+
+    cuts_well : (h : Halves) (line : ℕ) (xs rest : List ℤ) (r : Result) → AllThere (cut_slots h) s.arrays → shape.operands ≡ length rest + 1 → Leads table (s.place + 1) (opened_shape (popped shape) (cut_outer shape h)) → GoodWent code fits (cuts s h line xs rest r)
+    cuts_well h line xs rest (Fails trap) there e l = tt
+    cuts_well h line xs rest (Value v) there e l =
+        let gone = slice_set s.arrays h.array None in
+        let left = take (natural v) xs in
+        let right = drop (natural v) xs in
+        let apart_left : h.left ≢ h.array = λ k. there.0.0 (sym k) in
+        let apart_right : h.right ≢ h.array = λ k. there.0.1.0 (sym k) in
+        let apart_both : h.right ≢ h.left = λ k. there.2.0.0 (sym k) in
+        let left_there : is_full (slice_get gone h.left) ≡ true = ap is_full (set_other s.arrays h.array h.left None apart_left) ∙ there.2.1 in
+        let right_there : is_full (slice_get gone h.right) ≡ true = ap is_full (set_other s.arrays h.array h.right None apart_right) ∙ there.2.2.1 in
+        let right_there' : is_full (slice_get (slice_set gone h.left None) h.right) ≡ true = ap is_full (set_other gone h.left h.right None apart_both) ∙ right_there in
+        let right_there2 : is_full (slice_get (slice_set gone h.left (Some left)) h.right) ≡ true = ap is_full (set_other gone h.left h.right (Some left) apart_both) ∙ right_there in
+        let may = both_true (is_full (slice_get s.arrays h.array)) (is_full (slice_get gone h.left) && is_full (slice_get (slice_set gone h.left None) h.right)) there.1
+        (both_true (is_full (slice_get gone h.left)) (is_full (slice_get (slice_set gone h.left None) h.right)) left_there right_there') in
+        let row = slice_set shape.gone h.array true in
+        let rows = gone_rows shape.outer in
+        let round = arrays_round s.around in
+        let waits = h.array ∷ slots_in s.arrived in
+        let taken_out = with_taken seat.func.arrays shape.gone rows s.arrays (slots_in s.arrived) round h.array there.1 g.arrays in
+        let both = with_slot seat.func.arrays row rows (slice_set gone h.left (Some left)) waits round h.right right right_there2 (with_slot seat.func.arrays row rows gone waits round h.left left left_there taken_out) in
+        let s' : State = record s { operands = rest; arrays = cut_arrays h xs (natural v) s.arrays } in
+        subst (GoodWent code fits) (sym (taken (may_cut h s.arrays) (opened s' None (Some h)) Stuck may))
+        (arrives s.place seat (opened_shape (popped shape) (cut_outer shape h)) (record s' { place = s.place + 1; results = []; arrived = []; around = Block (opened_at s' None (Some h)) ∷ s.around; trace = inside (ticked s.trace) }) l
+        (record {
+          as_many = omega (arith, e);
+          ints = with_block seat.func.slots shape.empty (empty_rows shape.outer) s.slots (slots_in s.results) (ints_round s.around) (length shape.empty) g.ints.row_holds.as_wide g.ints;
+          arrays = with_block seat.func.arrays row rows (cut_arrays h xs (natural v) s.arrays) waits round (length shape.gone) g.arrays.row_holds.as_wide both;
+          cuts = (refl, g.cuts);
+        }) good.others)
+
+    uncuts_well : (outer : List Outer) (around : List Around) → can_uncut outer ≡ true → Good seat.func (record after_join { outer = outer }) (record (put_in s) { around = around })
+        → AllResume code fits seat.func around → Leads table (s.place + 1) (uncut_shape shape outer) → GoodWent code fits (cut_ends (put_in s) around)
+    uncuts_well [] around h k others l = cc
+    uncuts_well (o ∷ outer) [] h k others l = absurd k.cuts
+    uncuts_well (o ∷ outer) (Caller w ∷ around) h k others l = absurd k.cuts
+    uncuts_well (o ∷ outer) (Block b ∷ around) h k others l = by_cut o.cut h k.cuts.0 l
+      where
+        arrays : Slots (List ℤ)
+        arrays = settled s.arrived s.arrays
+
+        -- a slot that no block round this one has is full after the join
+        back_there : (a : ℕ) → full_in_all (gone_rows (o ∷ outer)) a ≡ true → is_full (slice_get arrays a) ≡ true
+        back_there a all =
+            let own = first_true (is_full_in (slice_get o.gone a)) (full_in_all (gone_rows outer) a) all in
+            k.arrays.awaited a (omega (arith, row_there o.gone a own, k.arrays.rows_hold.0.as_wide, k.arrays.as_wide))
+            (none_waits seat.func.arrays (gone_rows (o ∷ outer)) (arrays_round (Block b ∷ around)) a k.arrays.rows_hold all)
+
+        ends : (c : Halves) → (full_in_all (gone_rows (o ∷ outer)) c.left && full_in_all (gone_rows (o ∷ outer)) c.right) ≡ true → b.cut ≡ Some c → Leads table (s.place + 1) (record shape { empty = o.empty; gone = slice_set o.gone c.array false; outer = outer })
+            → GoodWent code fits (uncut (put_in s) b around (Some c))
+        ends c there is lead =
+            let all = gone_rows (o ∷ outer) in
+            let left_there = back_there c.left (first_true (full_in_all all c.left) (full_in_all all c.right) there) in
+            let right_there = back_there c.right (second_true (full_in_all all c.left) (full_in_all all c.right) there) in
+            slot_well (slice_get (settled s.arrived s.arrays) c.left) _ left_there (λ left.
+            slot_well (slice_get (settled s.arrived s.arrays) c.right) _ right_there (λ right.
+            let rows = gone_rows (o ∷ outer) in
+            let row = none_empty (length shape.gone) in
+            let round = arrays_round (Block b ∷ around) in
+            let one = with_slot seat.func.arrays row rows (settled s.arrived s.arrays) [] round c.left [] left_there k.arrays in
+            let two = with_slot seat.func.arrays row rows (slice_set (settled s.arrived s.arrays) c.left (Some [])) [] round c.right [] (still_right c.left c.right right_there) one in
+            let outside = subst (λ x. Holds seat.func.arrays o.gone (gone_rows outer) (slice_set (slice_set (settled s.arrived s.arrays) c.left (Some [])) c.right (Some [])) (slot_cut x ++ slots_in b.arrived) (arrays_round around)) is
+            (with_outer seat.func.arrays row o.gone (gone_rows outer) (slice_set (slice_set (settled s.arrived s.arrays) c.left (Some [])) c.right (Some [])) (slot_cut b.cut ++ slots_in b.arrived) (arrays_round around) two) in
+            arrives s.place seat (record shape { empty = o.empty; gone = slice_set o.gone c.array false; outer = outer }) _ lead (record {
+              as_many = k.as_many;
+              ints = with_outer seat.func.slots (none_empty (length shape.empty)) o.empty (empty_rows outer) (settled s.results s.slots) (slots_in b.results) (ints_round around) k.ints;
+              arrays = with_filled seat.func.arrays o.gone (gone_rows outer) (slice_set (slice_set (settled s.arrived s.arrays) c.left (Some [])) c.right (Some [])) c.array (left ++ right) (slots_in b.arrived) (arrays_round around) outside;
+              cuts = k.cuts.1;
+            }) others))
+          where
+            still_right : (a c' : ℕ) → is_full (slice_get (settled s.arrived s.arrays) c') ≡ true → is_full (slice_get (slice_set (settled s.arrived s.arrays) a (Some [])) c') ≡ true
+            still_right a c' h' = set_full (settled s.arrived s.arrays) a c' [] (full_there (settled s.arrived s.arrays) c' h') (λ n. h')
+
+        by_cut : (c : Option Halves) → has_parts (gone_rows (o ∷ outer)) c ≡ true → c ≡ b.cut → Leads table (s.place + 1) (record shape { empty = o.empty; gone = with_uncut c o.gone; outer = outer }) → GoodWent code fits (uncut (put_in s) b around b.cut)
+        by_cut None p is lead = cc
+        by_cut (Some c) p is lead = subst (λ x. GoodWent code fits (uncut (put_in s) b around x)) is (ends c p (sym is) lead)
+
+    none_round : (outer : List Outer) → none_open outer ≡ true → CutsAgree outer s.around → CutsAgree [] s.around
     none_round [] h k = k
-    none_round (row ∷ rows) h k = cc
+    none_round (o ∷ outer) h k = cc
+
+    ends_well : (v : Option ℤ) → IsGiven seat.func.gives_int v → none_open shape.outer ≡ true → GoodWent code fits (back s.around v (settled s.arrived s.arrays) (synced s.trace))
+    ends_well v i shut =
+        let alone = none_round shape.outer shut g.cuts in
+        goes_back seat.func s.around v (settled s.arrived s.arrays) (synced s.trace) i alone joined_here.arrays.as_wide (λ a lt. joined_here.arrays.awaited a lt (none s.around alone a)) good.others
+      where
+        none : (around : List Around) → CutsAgree [] around → (a : ℕ) → IsNotAmong a (all_of (arrays_round around))
+        none [] k a = tt
+        none (Caller w ∷ around) k a = tt
+        none (Block b ∷ around) k a = absurd k
 
     acts_well : (i : Instr) → names_well code seat.func s.place i ≡ true → is_ready code shape i ≡ true → AllLead table (leaves code shape i) (nexts s.place i) → GoodWent code fits (act code s (Some i))
     acts_well (instr.Push v) n r l = more (shape.operands + 1) _ refl (omega (arith, g.as_many)) l.0
-    acts_well (instr.Load a) n r l = loads_well (slice_get s.slots a) (full a r) l.0
+    acts_well (instr.Load a) n r l = slot_well (slice_get s.slots a) _ (full_slot a r) (λ v. more (shape.operands + 1) _ refl (omega (arith, g.as_many)) l.0)
     acts_well (instr.Store a) n r l = top_well _ (second_true (has_slot shape a) (nat_le 1 shape.operands) r) (λ v rest e.
-        let there = full a (first_true (has_slot shape a) (nat_le 1 shape.operands) r) in
+        let there = full_slot a (first_true (has_slot shape a) (nat_le 1 shape.operands) r) in
         subst (GoodWent code fits) (sym (taken (is_full (slice_get s.slots a)) (On (record s { place = s.place + 1; operands = rest; slots = slice_set s.slots a (Some v); trace = ticked s.trace })) Stuck there))
         (arrives s.place seat (popped shape) (record s { place = s.place + 1; operands = rest; slots = slice_set s.slots a (Some v); trace = ticked s.trace }) l.0
-        (with_slot seat.func (popped shape) rest s.slots s.results s.around a v there
-        (with_operands seat.func shape s.operands rest s.slots s.results s.around (shape.operands - 1) (omega (arith, e)) g)) good.others))
+        (record {
+          as_many = omega (arith, e);
+          ints = with_slot seat.func.slots shape.empty (empty_rows shape.outer) s.slots (slots_in s.results) (ints_round s.around) a v there g.ints;
+          arrays = g.arrays;
+          cuts = g.cuts;
+        }) good.others))
     acts_well (instr.Unary operator line) n r l = top_well _ r (λ v rest e. operates_well line rest (apply_unary operator v) shape.operands l.0 e)
     acts_well (instr.Binary operator line) n r l = two_well _ r (λ v w rest e. operates_well line rest (apply operator v w) (shape.operands - 1) l.0 (omega (arith, e)))
     acts_well (instr.Skip k) n r l = more shape.operands _ refl g.as_many l.0
@@ -279,33 +601,36 @@ module _ (code : Code) (fits : Fits code) where
         either true rest e = more (shape.operands - 1) _ refl (omega (arith, e)) l.1.0
         either false rest e = more (shape.operands - 1) _ refl (omega (arith, e)) l.0
     acts_well (instr.GoBack k) n r l = more shape.operands _ refl g.as_many l.0
-    acts_well (instr.Call Plain c) n r l =
-        let callee = called Plain c n in
-        let m = ap params_of callee.is in
-        let lead = subst (λ k. Leads table (s.place + 1) (record shape { operands = shape.operands - k })) m l.0 in
-        enters_well Plain c callee.func callee.is
-        (omega (arith, m, g.as_many, le_of (params_of (slice_get code.funcs c.function)) shape.operands (first_true (nat_le (params_of (slice_get code.funcs c.function)) shape.operands) (has_target shape c.target) r)))
-        _ lead (resumes_plain c callee.func (second_true _ _ r) callee.gives lead) refl refl
-    acts_well (instr.Call Spawned c) n r l =
-        let callee = called Spawned c n in
-        let m = ap params_of callee.is in
-        let same = eq_of (params_of (slice_get code.funcs c.function)) shape.operands (first_true (nat_eq (params_of (slice_get code.funcs c.function)) shape.operands) (has_target shape c.target) r) in
-        let lead = subst (λ k. Leads table (s.place + 1) (record shape { operands = shape.operands - k; empty = with_target Spawned c.target shape.empty })) m l.0 in
-        enters_well Spawned c callee.func callee.is (omega (arith, m, g.as_many, same))
-        _ lead (resumes_spawned c callee.func (second_true _ _ r) callee.gives (omega (arith, m, same)) lead) (takes_well c.target (second_true _ _ r)) (keeps_well callee.func.params (omega (arith, m, same, g.as_many)))
-    acts_well instr.Sync n r l =
-        arrives s.place seat (record shape { empty = none_empty (length shape.empty) }) (record s { place = s.place + 1; slots = settled s.results s.slots; results = []; trace = synced s.trace }) l.0
-        (with_joined seat.func shape s.operands s.slots s.results s.around g) good.others
+    acts_well (instr.Call kind c) n r l = enters_well kind c n r l.0
+    acts_well (instr.Recur Plain c) n r l = recurs_well Plain c n r l.0
+    acts_well (instr.Recur Spawned c) n r l = recurs_well Spawned c n r l.0
+    acts_well (instr.Start c line) n r l = starts_loop c line n r l.0
+    acts_well (instr.NewArray a line) n found l =
+        let r = first_true (has_array shape a && nat_le 1 shape.operands) (is_no_part a shape.outer) found in
+        let there = full_array a (first_true (has_array shape a) (nat_le 1 shape.operands) r) in
+        slot_well (slice_get s.arrays a) _ there (λ old. top_well _ (second_true (has_array shape a) (nat_le 1 shape.operands) r) (λ v rest e. sets_well a line rest _ (new_length v) (shape.operands - 1) there l.0 (omega (arith, e))))
+    acts_well (instr.Length a) n r l = slot_well (slice_get s.arrays a) _ (full_array a r) (λ xs. more (shape.operands + 1) _ refl (omega (arith, g.as_many)) l.0)
+    acts_well (instr.Element a line) n r l =
+        slot_well (slice_get s.arrays a) _ (full_array a (first_true (has_array shape a) (nat_le 1 shape.operands) r)) (λ xs.
+        top_well _ (second_true (has_array shape a) (nat_le 1 shape.operands) r) (λ v rest e. operates_well line rest (in_bounds (element xs v)) shape.operands l.0 e))
+    acts_well (instr.SetElement a line) n r l =
+        let there = full_array a (first_true (has_array shape a) (nat_le 2 shape.operands) r) in
+        slot_well (slice_get s.arrays a) _ there (λ xs. two_well _ (second_true (has_array shape a) (nat_le 2 shape.operands) r) (λ i v rest e. sets_well a line rest _ (written xs i v) (shape.operands - 2) there l.0 (omega (arith, e))))
+    acts_well (instr.Cut h line) n found l =
+        let r = first_true (has_arrays shape (cut_slots h) && nat_le 1 shape.operands) (are_no_parts h shape.outer) found in
+        let named = first_true (names_arrays seat.func.arrays (cut_slots h)) (nat_le seat.func.array_params h.left && nat_le seat.func.array_params h.right) n in
+        let there = all_there seat.func.arrays (cut_slots h) named (first_true (has_arrays shape (cut_slots h)) (nat_le 1 shape.operands) r) in
+        slot_well (slice_get s.arrays h.array) _ there.1 (λ xs. top_well _ (second_true (has_arrays shape (cut_slots h)) (nat_le 1 shape.operands) r) (λ v rest e. cuts_well h line xs rest (cut_place xs v) there e l.0))
+    acts_well instr.EndCut n r l = uncuts_well shape.outer s.around (second_true (nat_eq 0 shape.operands) (can_uncut shape.outer) r) joined_here good.others l.0
+    acts_well instr.Sync n r l = arrives s.place seat after_join (record (put_in s) { place = s.place + 1; trace = synced s.trace }) l.0 (record { as_many = joined_here.as_many; ints = joined_here.ints; arrays = joined_here.arrays; cuts = joined_here.cuts }) good.others
     acts_well (instr.Open Scope) n r l = opens_well None l.0
     acts_well (instr.Open (Region k)) n r l = region_well (slice_get code.tags k) (there code.tags k (lt_of k (length code.tags) n)) l.0
-    acts_well instr.Close n r l =
-        closes_well shape.outer s.around (second_true (nat_eq 0 shape.operands) (not (none_open shape.outer)) r) (with_joined seat.func shape s.operands s.slots s.results s.around g) good.others l.0
+    acts_well instr.Close n r l = closes_well shape.outer s.around (second_true (nat_eq 0 shape.operands) (can_close shape.outer) r) joined_here good.others l.0
     acts_well instr.Print n r l = top_well _ r (λ v rest e. more (shape.operands - 1) _ refl (omega (arith, e)) l.0)
     acts_well (instr.AddTo k) n r l = top_well _ r (λ v rest e. adds_well (slice_get code.reducers k) v rest (there code.reducers k (lt_of k (length code.reducers) n)) e l.0)
-    acts_well instr.ReturnValue n r l = top_well _ (first_true _ _ r) (λ v rest e.
-        goes_back seat.func.gives_int seat.func.slots s.around (Some v) _ (subst (λ b. IsGiven b (Some v)) (sym n) tt) (none_round shape.outer (second_true (nat_le 1 shape.operands) (none_open shape.outer) r) g.rows) good.others)
-    acts_well instr.Return n r l =
-        goes_back seat.func.gives_int seat.func.slots s.around None _ (nothing seat.func.gives_int n) (none_round shape.outer r g.rows) good.others
+    acts_well instr.ReturnValue n r l = top_well _ (first_true (nat_le 1 shape.operands) (none_open shape.outer) r) (λ v rest e.
+        ends_well (Some v) (subst (λ b. IsGiven b (Some v)) (sym n) tt) (second_true (nat_le 1 shape.operands) (none_open shape.outer) r))
+    acts_well instr.Return n r l = ends_well None (nothing seat.func.gives_int n) r
       where
         nothing : (b : Bool) → not b ≡ true → IsGiven b None
         nothing true h = cc
@@ -322,7 +647,7 @@ module _ (code : Code) (fits : Fits code) where
         cases (Some i) e =
             let h = fits.each seat.index seat.func seat.is_func in
             let w = h.is_table.within s.place shape seat.at in
-            record { instr = i; is = e; named = h.names s.place i w.0 w.1 e; ready = h.is_table.ready s.place shape i seat.at e; leads = h.is_table.goes s.place shape i seat.at e; full = full }
+            record { instr = i; is = e; named = h.names s.place i w.0 w.1 e; ready = h.is_table.ready s.place shape i seat.at e; leads = h.is_table.goes s.place shape i seat.at e; full = full_slot; full_array = full_array }
 
     pub steps_well : GoodWent code fits (step code s)
     steps_well = subst (λ o. GoodWent code fits (act code s o)) (sym facts.is) (acts_well facts.instr facts.named facts.ready facts.leads)
@@ -333,13 +658,13 @@ module _ (code : Code) (fits : Fits code) where
     where
       cases : ((s' : State) → GoodState code fits s' → is_none (steps code n s') ≡ false) → (w : Went) → GoodWent code fits w → is_none (go_on w n (λ s'. steps code n s')) ≡ false
       cases more (On s') h = more s' h
-      cases more (Ends v t) h = refl
+      cases more (Ends v arrays t) h = refl
       cases more (Stops trap line lines) h = refl
       cases more Stuck h = absurd h
 
   -- a run begins
   pub first_good : FitBegins code fits
-  first_good k f args e m = starts_well k f e (reverse args) 1 [] _ (omega (arith, m, length-reverse args)) tt refl tt
+  first_good k f args given e m m' = starts_well k f e args given 1 [] _ m m' refl refl tt tt
 
   answered : (r : Ran) → is_none r ≡ false → is_none (option_map (λ o. answer_of (reducers_of code) o) r) ≡ false
   answered None h = h
@@ -351,17 +676,19 @@ module _ (code : Code) (fits : Fits code) where
       none : false ≡ true → ⊥
       none k = cc
   found_main (Some f) e args m n =
-      let begins = both_true (nat_eq (length args) f.params) (nat_le f.params f.slots) (equal (length args) f.params m) (at_most f.params f.slots (fits.each code.main f e).room) in
-      let state = first_state f args in
+      let none : f.array_params ≡ 0 = sym (ap array_params_of e) ∙ fits.of_integers in
+      let begins = both_true (nat_eq (length args) f.params) (nat_le f.params f.slots && nat_eq f.array_params 0) (equal (length args) f.params m)
+      (both_true (nat_le f.params f.slots) (nat_eq f.array_params 0) (at_most f.params f.slots (fits.each code.main f e).room) (equal f.array_params 0 none)) in
+      let state = first_state f args [] in
       subst (λ b. is_none (option_map (λ r. answer_of (reducers_of code) r) (go_on (if b then On state else Stuck) n (λ s. steps code n s))) ≡ false) (sym begins)
-      (answered (steps code n state) (runs_well n state (first_good code.main f args e m)))
+      (answered (steps code n state) (runs_well n state (first_good code.main f args [] e m (sym none))))
 
 pub fits_never_stuck : (code : Code) → Fits code → NeverStuck code
 unfolding code_serial
 fits_never_stuck code fits args m n = found_main code fits (slice_get code.funcs code.main) refl args m n
 
 pub fits_never_stuck_from : (code : Code) → Fits code → NeverStuckFrom code
-fits_never_stuck_from code fits k f args e m n = runs_well code fits n (first_state f args) (first_good code fits k f args e m)
+fits_never_stuck_from code fits k f args given e m m' n = runs_well code fits n (first_state f args given) (first_good code fits k f args given e m m')
 
 pub fit_facts : (code : Code) (fits : Fits code) → FitFacts code fits
 fit_facts code fits s good = facts code fits s good

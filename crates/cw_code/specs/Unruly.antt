@@ -11,11 +11,11 @@ use Rattle.cw_code.specs.Code.{CodeSite, Code}
 
 -- a function of no parameter and no name that gives a value
 abbrev pub nameless : (start end : ℕ) → Func
-nameless start end = record { start = start; end = end; gives_int = true; params = 0; slots = 0 }
+nameless start end = record { start = start; end = end; gives_int = true; params = 0; slots = 0; array_params = 0; arrays = 0 }
 
 -- the call of function 1, at site 1
 abbrev pub call_it : Callee
-call_it = record { function = 1; site = 1; line = 1; target = None }
+call_it = record { function = 1; site = 1; line = 1; target = None; passed = 0 }
 
 -- site 1, of this kind
 abbrev pub its_site : CallKind → CodeSite
@@ -27,9 +27,11 @@ two_functions end kind instrs = record {
   instrs = instrs;
   funcs = nameless 0 end ∷ nameless end (end + 2) ∷ [];
   main = 0;
+  main_line = 1;
   sites = its_site kind ∷ [];
   reducers = [];
   tags = [];
+  passed = [];
 }
 
 -- main has one instruction, a join, and runs on into the code of the next function

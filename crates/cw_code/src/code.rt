@@ -13,6 +13,28 @@ pub struct Callee {
     pub line: u32,
     /// The slot of the caller that takes its result; without one the result is dropped.
     pub target: Option<u32>,
+    /// The index, among the lists of the code, of the caller's array slots whose arrays it takes.
+    pub passed: u32,
+}
+
+/// What a call of a loop's function names. It is at no site and no deeper than its caller.
+#[derive(Clone, Copy, Debug, PartialEq, Eq)]
+pub struct Inner {
+    /// The index of its function in the code.
+    pub function: u32,
+    /// The index, among the lists of the code, of the caller's array slots whose arrays it takes.
+    pub passed: u32,
+}
+
+/// The array slots that a cut names.
+#[derive(Clone, Copy, Debug, PartialEq, Eq)]
+pub struct Halves {
+    /// The slot of the array that is cut.
+    pub array: u32,
+    /// The slot of its left part.
+    pub left: u32,
+    /// The slot of its right part.
+    pub right: u32,
 }
 
 /// An operator on one operand.
@@ -52,10 +74,29 @@ pub enum Instr {
     SkipIfZero(u32),
     /// Back by so many places.
     GoBack(u32),
-    /// A call, which takes its arguments from the operands, the last one last. In place, its result goes into its
-    /// slot as it ends. Spawned, it may run beside what follows it: its slot is empty up to the next join of the
-    /// sync block, where the result goes into it.
+    /// A call, which takes its arguments from the operands, the last one last, and the arrays in the slots that it
+    /// names. In place, its result goes into its slot as it ends, and the arrays go back into theirs. Spawned, it may
+    /// run beside what follows it: these slots are empty up to the next join of the sync block.
     Call(CallKind, Callee),
+    /// A call that a loop's function makes of itself.
+    Recur(CallKind, Inner),
+    /// The first call of a loop's function: its arguments are the ends of the loop's range, of which the second is the
+    /// first one where it is less, and then captured numbers; it takes the slices of the arrays in that range. A trap
+    /// is told in this line.
+    Start(Inner, u32),
+    /// An array of as many zeros as the last operand says, into an array slot; a trap is told in this line.
+    NewArray(u32, u32),
+    /// The count of the elements of the array in a slot, onto the operands.
+    Length(u32),
+    /// The element of the array in a slot at the last operand; a trap is told in this line.
+    Element(u32, u32),
+    /// The last operand, into the array in a slot at the operand before it; a trap is told in this line.
+    SetElement(u32, u32),
+    /// An array is cut at the last operand: its parts go into two slots, its own is empty, and a sync block begins; a
+    /// trap is told in this line.
+    Cut(Halves, u32),
+    /// A join, and the end of the innermost sync block, which a cut began: its parts go back into one array.
+    EndCut,
     /// A join: the results of the calls that the innermost sync block spawned go into their slots.
     Sync,
     /// A sync block begins.
@@ -81,10 +122,14 @@ pub struct Func {
     pub end: usize,
     /// Whether its calls give a value.
     pub gives_int: bool,
-    /// The count of its parameters, which take the first slots.
+    /// The count of its integer parameters, which take the first slots of integers.
     pub params: usize,
-    /// The count of its slots, parameters included.
+    /// The count of its slots of integers, parameters included.
     pub slots: usize,
+    /// The count of its array parameters, which take the first array slots.
+    pub array_params: usize,
+    /// The count of its array slots, parameters included.
+    pub arrays: usize,
 }
 
 /// A call statement of the source.
@@ -111,10 +156,14 @@ pub struct Code {
     pub funcs: Vec<Func>,
     /// The index of `main` among the functions.
     pub main: u32,
+    /// The line of its head, from 1.
+    pub main_line: u32,
     /// The call sites, in source order.
     pub sites: Vec<Site>,
     /// The names of the reducers, in source order.
     pub reducers: Vec<Vec<u8>>,
     /// The different tags of the regions, in the order of their first places.
     pub tags: Vec<Vec<u8>>,
+    /// Lists of array slots whose arrays a call takes, in the order of its array parameters.
+    pub passed: Vec<Vec<u32>>,
 }

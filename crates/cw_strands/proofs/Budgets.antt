@@ -35,7 +35,7 @@ takes_cost a b f g e t = subst (λ c. Takes c f g) e t
 -- what a run within a budget says of the run within each other one
 abbrev pub Exact : (budget : ℕ) → (ℕ → Came) → Came → Type 0
 Exact budget run (Arrives frame t left) = (left ≤ budget) × Takes (budget - left) run (λ n. Arrives frame t n)
-Exact budget run (Returns v t left) = (left ≤ budget) × Takes (budget - left) run (λ n. Returns v t n)
+Exact budget run (Returns v arrays t left) = (left ≤ budget) × Takes (budget - left) run (λ n. Returns v arrays t n)
 Exact budget run (Falls trap line lines left) = (left ≤ budget) × Takes (budget - left) run (λ n. Falls trap line lines n)
 Exact budget run Beyond = (m : ℕ) → m ≤ budget → run m ≡ Beyond
 Exact budget run Lost = Unit {0}
@@ -47,7 +47,7 @@ after_one budget left run run' later none same p =
 
 one_more : (budget : ℕ) (run run' : ℕ → Came) (c : Came) → run' 0 ≡ Beyond → ((n : ℕ) → run' (suc n) ≡ run n) → Exact budget run c → Exact (suc budget) run' c
 one_more budget run run' (Arrives frame t left) none same p = after_one budget left run run' (λ n. Arrives frame t n) none same p
-one_more budget run run' (Returns v t left) none same p = after_one budget left run run' (λ n. Returns v t n) none same p
+one_more budget run run' (Returns v arrays t left) none same p = after_one budget left run run' (λ n. Returns v arrays t n) none same p
 one_more budget run run' (Falls trap line lines left) none same p = after_one budget left run run' (λ n. Falls trap line lines n) none same p
 one_more budget run run' Beyond none same p = within
   where
@@ -93,14 +93,14 @@ module _ (x : Extent) (code : Code) where
           went (On s') same =
               one_more n (λ k. travel x code k s') (λ k. travel x code k s) (travel x code n s') (none_left s e)
               (λ k. go_one k s e ∙ ap (λ w'. moved w' k (λ s2. travel x code k s2)) same) (more s')
-          went (Ends v t) same = (omega arith, takes_cost 1 (suc n - n) (λ k. travel x code k s) (λ k. Returns v t k) (omega arith) (takes_step s (Ends v t) e same))
+          went (Ends v arrays t) same = (omega arith, takes_cost 1 (suc n - n) (λ k. travel x code k s) (λ k. Returns v arrays t k) (omega arith) (takes_step s (Ends v arrays t) e same))
           went (Stops trap line lines) same = (omega arith, takes_cost 1 (suc n - n) (λ k. travel x code k s) (λ k. Falls trap line lines k) (omega arith) (takes_step s (Stops trap line lines) e same))
           went Stuck same = tt
 
 module _ (code : Code) (job : Job) where
   within_stands : (e : Effect) (c : Came) → Exact job.limit (course code job) c → IsOf c job.limit e → StandsFor code job e
   within_stands e (Arrives frame t left) p h = subst (StandsFor code job) (sym h) p.1
-  within_stands e (Returns v t left) p h = subst (StandsFor code job) (sym h) p.1
+  within_stands e (Returns v arrays t left) p h = subst (StandsFor code job) (sym h) p.1
   within_stands e (Falls trap line lines left) p h = subst (StandsFor code job) (sym h) p.1
   within_stands e Beyond p h = subst (StandsFor code job) (sym h) (λ m le. p m (omega (arith, le)))
   within_stands e Lost p h = absurd h
@@ -119,9 +119,9 @@ module _ (code : Code) (job : Job) where
   back_again cost limit le = omega (arith, le)
 
   pub stands_meaning : (e : Effect) → job.before + cost_of e ≤ job.limit → StandsFor code job e → JobMeaning code job e
-  stands_meaning (Ended v t cost) le h =
+  stands_meaning (Ended v arrays t cost) le h =
       let fits : cost ≤ job.limit = omega (arith, le) in
-      Same (subst (λ c. IsOf c job.limit (Ended v t cost)) (sym (came_so cost (λ n. Returns v t n) fits h)) (ap (λ c. Ended v t c) (back_again cost job.limit fits)))
+      Same (subst (λ c. IsOf c job.limit (Ended v arrays t cost)) (sym (came_so cost (λ n. Returns v arrays t n) fits h)) (ap (λ c. Ended v arrays t c) (back_again cost job.limit fits)))
   stands_meaning (Joined frame t cost) le h =
       let fits : cost ≤ job.limit = omega (arith, le) in
       Same (subst (λ c. IsOf c job.limit (Joined frame t cost)) (sym (came_so cost (λ n. Arrives frame t n) fits h)) (ap (λ c. Joined frame t c) (back_again cost job.limit fits)))
@@ -133,7 +133,7 @@ module _ (code : Code) (job : Job) where
 
   -- before its cost an effect's run has not ended
   pub stands_short : (e : Effect) → StandsFor code job e → (m : ℕ) → m < cost_of e → course code job m ≡ Beyond
-  stands_short (Ended v t cost) h m lt = h.short m lt
+  stands_short (Ended v arrays t cost) h m lt = h.short m lt
   stands_short (Joined frame t cost) h m lt = h.short m lt
   stands_short (TrapIn trap line lines cost) h m lt = h.short m lt
   stands_short OverLimit h m lt = absurd (omega (arith, lt))

@@ -32,9 +32,9 @@ module _ (code : Code) (job : Job) where
         where
           by_turn : (t : Turn) → IsStrandOf code job (goes_on t s s' job.limit job.before (count + 1) outs) → AdvanceKeeps code job (Going s count outs) (turned t s s' job.limit job.before (count + 1) outs)
           by_turn Goes k = (k, refl)
-          by_turn (HandsOut c') k = (k, refl, le)
+          by_turn (HandsOut target taken) k = (k, refl, le)
           by_turn ComesBack k = (k, refl)
-      moves (Ends v t) c e le = ends outs (Ended v t (count + 1)) (λ none. returns code job s count outs v t h c e le)
+      moves (Ends v arrays t) c e le = ends outs (Ended v arrays t (count + 1)) (λ none. returns code job s count outs v arrays t h c e le)
       moves (Stops trap line lines) c e le = (falls code job s count outs trap line lines h c e le, refl)
       moves Stuck c e le = tt
 
@@ -57,7 +57,7 @@ module _ (code : Code) (job : Job) where
     where
       given : (f : Effect) → JobMeaning code out f → job.before + (count + cost_of f) ≤ job.limit → IsStrandOf code job (Waits s count (out ∷ others)) → IsStrandOf code job (given_to s count others f) × (outs_of (given_to s count others f) ≡ others)
       given (Joined frame t cost) n le k = (gives code job out s count others frame t cost k n le, refl)
-      given (Ended v t cost) n le k = absurd (rest_not_ended code out v t cost (ap (λ (o : Job). o.extent) k.2.0.same) n)
+      given (Ended v arrays t cost) n le k = absurd (rest_not_ended code out v arrays t cost (ap (λ (o : Job). o.extent) k.2.0.same) n)
       given (TrapIn trap line lines cost) n le k = (gives_stop code job out s count others (TrapIn trap line lines cost) k n tt le, refl)
       given OverLimit n le k = (gives_stop code job out s count others OverLimit k n tt le, refl)
       given Memory n le k = (gives_stop code job out s count others Memory k n tt le, refl)

@@ -11,6 +11,6 @@ pub mod Costing
 pub mod WorldLaws
 pub mod Owners
 pub mod Plays
+pub mod Walks
 pub mod JobsFit
 pub mod StrandsFit
-pub mod Walks

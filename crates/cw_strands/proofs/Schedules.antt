@@ -2,13 +2,11 @@
 use Rattle.std.proofs.Common.{◌≡◌, ◌⊎◌, ℕ, zero, suc, ◌-◌, ℤ, Some, None, List, [], ◌∷◌, refl, sym, ap, ◌∙◌, subst, inl, inr, arith}
 use Rattle.std.specs.Prelude.{slice_get, option_map}
 use Rattle.cw_model.specs.Frames.{no_frame}
-use Rattle.cw_model.specs.declared.syntax.CallKind.TheVariants.{Spawned}
 use Rattle.cw_model.specs.Outcome.{Done, Trapped, Over}
 use Rattle.cw_model.specs.Answers.{answer_of}
-use Rattle.cw_code.specs.declared.code.Callee.{Callee}
 use Rattle.cw_code.specs.declared.code.Func.{Func}
 use Rattle.cw_code.specs.Code.{Code}
-use Rattle.cw_code.specs.Run.{State, Went, On, Ends, Stops, Stuck, begun, step, Ran, go_on, steps, first_state, first_went, reducers_of, code_serial}
+use Rattle.cw_code.specs.Run.{State, Went, On, Ends, Stops, Stuck, Entering, begun, step, Ran, go_on, steps, first_state, first_went, reducers_of, code_serial}
 use Rattle.cw_strands.specs.Jobs.{Extent, WholeCall, Came, Arrives, Returns, Falls, Beyond, Lost, moved, travel, Job, job_start, course, root_job, Effect, Joined, Memory, IsOf, JobMeaning, Same, Passed, Short, answered}
 use Rattle.cw_strands.specs.Strands.{Strand, Going, Waits, Halted, outs_of, Reached, Started, Ran as Instruction, Fell, TooMuch, NoMemory, Given, GivenTooMuch, GivenStop, Skipped, Dropped, Makes, Arrived, Returned, Stopped, GivenUp}
 use Rattle.cw_strands.specs.Promises.{IsStrandOf}
@@ -33,18 +31,18 @@ module _ (code : Code) where
 
     pub makes_ok : (job : Job) (e : Effect) → Makes code job e → JobMeaning code job e
     makes_ok job e (Arrived _ s count h come) = arrives code job s count [] (reached_ok job (Going s count []) h) come
-    makes_ok job e (Returned _ s count v t h come same le) = returns code job s count [] v t (reached_ok job (Going s count []) h) come same le
+    makes_ok job e (Returned _ s count v arrays t h come same le) = returns code job s count [] v arrays t (reached_ok job (Going s count []) h) come same le
     makes_ok job e (Stopped _ _ h) = stops code job e [] (reached_ok job (Halted e []) h)
     makes_ok job e (GivenUp _) = Short refl
 
   pub kept : Kept code
   kept = record { strand = reached_ok; effect = makes_ok }
 
-  pub child_under : (y : Extent) (s : State) (c : Callee) (f : Func) (limit before n : ℕ) → travel y code n (begun s Spawned c f) ≡ onwards code y (begun s Spawned c f) (course code (call_job s f limit before) n)
-  child_under y s c f limit before n =
-      let b = begun s Spawned c f in
+  pub child_under : (y : Extent) (s : State) (e : Entering) (limit before n : ℕ) → travel y code n (begun s e) ≡ onwards code y (begun s e) (course code (call_job e limit before) n)
+  child_under y s e limit before n =
+      let b = begun s e in
       ap (λ t. travel y code n (record b { trace = t })) (sym (joined_quiet b.trace))
-      ∙ travel_under code WholeCall y b n (job_start (call_job s f limit before)) (record { none = refl; caller = tt }) refl
+      ∙ travel_under code WholeCall y b n (job_start (call_job e limit before)) (record { none = refl; none_arrived = refl; caller = tt }) refl
 
   pub cut : Cut code
   cut = record { child = child_under; rest = λ y s limit before n none. rest_under code y s limit before n none }
@@ -52,7 +50,7 @@ module _ (code : Code) where
   -- a whole run, told as the code's meaning tells it
   abbrev told : Came → Ran
   told (Arrives frame t left) = None
-  told (Returns v t left) = Some (Done (v, no_frame) left t)
+  told (Returns v arrays t left) = Some (Done (v, no_frame) left t)
   told (Falls trap line lines left) = Some (Trapped trap line lines)
   told Beyond = Some Over
   told Lost = None
@@ -63,27 +61,27 @@ module _ (code : Code) where
     where
       cases : (w : Went) → ((s' : State) → steps code n s' ≡ told (travel WholeCall code n s')) → go_on w n (λ s'. steps code n s') ≡ told (moved w n (λ s'. travel WholeCall code n s'))
       cases (On s') more = more s'
-      cases (Ends v t) more = refl
+      cases (Ends v arrays t) more = refl
       cases (Stops trap line lines) more = refl
       cases Stuck more = refl
 
   answers : (budget : ℕ) (e : Effect) (c : Came) → IsOf c budget e → answered code e ≡ option_map (λ o. answer_of (reducers_of code) o) (told c)
   answers budget e (Arrives frame t left) h = ap (answered code) h
-  answers budget e (Returns v t left) h = ap (answered code) h
+  answers budget e (Returns v arrays t left) h = ap (answered code) h
   answers budget e (Falls trap line lines left) h = ap (answered code) h
   answers budget e Beyond h = ap (answered code) h
   answers budget e Lost h = absurd h
 
-  pub root_serial : (f : Func) (args : List ℤ) (limit : ℕ) (e : Effect) → first_went (slice_get code.funcs code.main) args ≡ On (first_state f args)
+  pub root_serial : (f : Func) (args : List ℤ) (limit : ℕ) (e : Effect) → first_went (slice_get code.funcs code.main) args ≡ On (first_state f args [])
       → JobMeaning code (root_job f args limit) e → (e ≡ Memory) ⊎ (answered code e ≡ code_serial code args limit)
   unfolding code_serial
   root_serial f args limit e first (Same h) = inr (
       answers limit e (course code (root_job f args limit) limit) h
-      ∙ ap (option_map (λ o. answer_of (reducers_of code) o)) (sym (steps_told limit (first_state f args)))
+      ∙ ap (option_map (λ o. answer_of (reducers_of code) o)) (sym (steps_told limit (first_state f args [])))
       ∙ ap (λ w. option_map (λ o. answer_of (reducers_of code) o) (go_on w limit (λ s. steps code limit s))) (sym first))
   root_serial f args limit e first (Passed over h) = inr (
       answers limit e (course code (root_job f args limit) limit) (subst (λ c. IsOf c limit e) (sym (ap (course code (root_job f args limit)) (let z : limit ≡ limit - 0 = omega arith in z) ∙ h)) over)
-      ∙ ap (option_map (λ o. answer_of (reducers_of code) o)) (sym (steps_told limit (first_state f args)))
+      ∙ ap (option_map (λ o. answer_of (reducers_of code) o)) (sym (steps_told limit (first_state f args [])))
       ∙ ap (λ w. option_map (λ o. answer_of (reducers_of code) o) (go_on w limit (λ s. steps code limit s))) (sym first))
   root_serial f args limit e first (Short short) = inl short
 

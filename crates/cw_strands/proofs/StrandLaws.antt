@@ -5,11 +5,9 @@ use Rattle.std.specs.Prelude.{slice_get, slice_set}
 use Rattle.cw_model.specs.declared.syntax.CallKind.{CallKind}
 use Rattle.cw_model.specs.declared.syntax.CallKind.TheVariants.{Plain, Spawned}
 use Rattle.cw_model.specs.Outcome.{Trace}
-use Rattle.cw_code.specs.declared.code.Callee.{Callee}
-use Rattle.cw_code.specs.declared.code.Func.{Func}
 use Rattle.cw_code.specs.declared.code.Instr.{Instr}
 use Rattle.cw_code.specs.Code.{Code}
-use Rattle.cw_code.specs.Run.{Waiting, Around, Caller, Block, State, Went, On, Ends, Stops, Stuck, synced, is_full, put_in, begun, going_on, result_of, back, closed, act, step}
+use Rattle.cw_code.specs.Run.{Slots, Results, Waiting, Around, Caller, Block, State, Went, On, Ends, Stops, Stuck, synced, is_full, settled, Entering, begun, given_back, going_on, result_of, returns_to, back, act, step}
 use Rattle.cw_strands.specs.Jobs.{Extent, ToJoin, has_come, Standing, standing, Came, Arrives, Falls, Beyond, moved, travel, Job, job_start, course, Effect, Ended, Joined, TrapIn, OverLimit, Memory, JobMeaning}
 use Rattle.cw_strands.specs.Strands.{Strand, Going, Waits, Halted, rest_at, Turn, Goes, HandsOut, ComesBack, turn_back, turn_in, turn_call, turn_of, turn, spawn_job, goes_on, resumed, HasStopped, stopped_after, dropped, cost_of}
 use Rattle.cw_strands.specs.Promises.{Takes, OutAt, Outs, IsOutHere, OutsHere, Leads, IsStrandOf}
@@ -35,9 +33,9 @@ outs_later limit b c (Block o ∷ around) outs le h = outs_later limit b c aroun
 -- what is out after an instruction, by its turn
 abbrev OutsAfter : (limit bound : ℕ) → List Job → State → Turn → Went → Type 0
 OutsAfter limit bound outs from Goes (On s) = Outs limit bound s.around outs
-OutsAfter limit bound outs from (HandsOut c) (On s) = Outs limit bound s.around (spawn_job from c limit bound ∷ outs)
+OutsAfter limit bound outs from (HandsOut target taken) (On s) = Outs limit bound s.around (spawn_job from target taken limit bound ∷ outs)
 OutsAfter limit bound outs from ComesBack (On s) = OutsHere limit bound s outs
-OutsAfter limit bound outs from turn (Ends v t) = Unit {0}
+OutsAfter limit bound outs from turn (Ends v arrays t) = Unit {0}
 OutsAfter limit bound outs from turn (Stops trap line lines) = Unit {0}
 OutsAfter limit bound outs from turn Stuck = Unit {0}
 
@@ -48,53 +46,55 @@ module _ (limit bound : ℕ) (outs : List Job) (from : State) where
 
   nothing_out : (turn : Turn) → OutsAfter limit bound outs from turn Stuck
   nothing_out Goes = tt
-  nothing_out (HandsOut c) = tt
+  nothing_out (HandsOut target taken) = tt
   nothing_out ComesBack = tt
 
   stop_out : (turn : Turn) (trap : _) (line : ℕ) (lines : List ℤ) → OutsAfter limit bound outs from turn (Stops trap line lines)
   stop_out Goes trap line lines = tt
-  stop_out (HandsOut c) trap line lines = tt
+  stop_out (HandsOut target taken) trap line lines = tt
   stop_out ComesBack trap line lines = tt
 
   -- a call in place keeps what is out, and a spawn hands out the rest of its block
-  enter_out : (kind : CallKind) (c : Callee) (f : Func) → Outs limit bound from.around outs → OutsAfter limit bound outs from (turn_call kind c) (On (begun from kind c f))
-  enter_out Plain c f h = h
-  enter_out Spawned c f h = (record { same = refl; low = omega arith; none = refl }, h)
+  enter_out : (e : Entering) → Outs limit bound from.around outs → OutsAfter limit bound outs from (turn_call e.kind e.target e.taken) (On (begun from e))
+  enter_out e h = cases e.kind
+    where
+      cases : (kind : CallKind) → OutsAfter limit bound outs from (turn_call kind e.target e.taken) (On (begun from (record e { kind = kind })))
+      cases Plain = h
+      cases Spawned = (record { same = refl; low = omega arith; none = refl }, h)
 
   -- a call comes back to one that made it in place, or spawned it
-  back_out : (around : List Around) (v : Option ℤ) (t : Trace) → Outs limit bound around outs → OutsAfter limit bound outs from (turn_in around) (back around v t)
-  back_out [] v t h = tt
-  back_out (Block o ∷ around) v t h = tt
-  back_out (Caller w ∷ around) v t h = cases w.kind w.callee.target v _ h
+  back_out : (around : List Around) (v : Option ℤ) (arrays : Slots (List ℤ)) (t : Trace) → Outs limit bound around outs → OutsAfter limit bound outs from (turn_in around) (back around v arrays t)
+  back_out [] v arrays t h = tt
+  back_out (Block o ∷ around) v arrays t h = tt
+  back_out (Caller w ∷ around) v arrays t h = by_arrays (given_back w.taken arrays)
     where
-      newest : (s : State) → s ≡ record (going_on w around s.trace) { results = s.results } → (os : List Job) → OutAt limit bound w Spawned (λ others. Outs limit bound around others) os → OutsHere limit bound s os
+      newest : (s : State) → s ≡ record (going_on w around s.trace) { results = s.results; arrived = s.arrived } → (os : List Job) → OutAt limit bound w Spawned (λ others. Outs limit bound around others) os → OutsHere limit bound s os
       newest s e [] j = absurd j
       newest s e (out ∷ os) j = subst (λ s'. OutsHere limit bound s' (out ∷ os)) (sym e) (record { same = j.0.same; low = j.0.low; none = j.0.none }, j.1)
 
-      cases : (kind : CallKind) (target : Option ℕ) (v' : Option ℤ) (u : Trace) → OutAt limit bound w kind (λ others. Outs limit bound around others) outs
-          → OutsAfter limit bound outs from (turn_back kind) (result_of kind target v' (going_on w around u))
-      cases Plain None v' u k = k
-      cases Plain (Some a) None u k = tt
-      cases Plain (Some a) (Some x) u k = either_out Goes (is_full (slice_get w.slots a)) (On (record (going_on w around u) { slots = slice_set w.slots a (Some x) })) Stuck k tt
-      cases Spawned None v' u k = newest (going_on w around u) refl outs k
-      cases Spawned (Some a) None u k = tt
-      cases Spawned (Some a) (Some x) u k = newest (record (going_on w around u) { results = (a, x) ∷ w.results }) refl outs k
+      cases : (kind : CallKind) (target : Option ℕ) (v' : Option ℤ) (results : Results (List ℤ)) (u : Trace) → OutAt limit bound w kind (λ others. Outs limit bound around others) outs
+          → OutsAfter limit bound outs from (turn_back kind) (result_of kind target v' results (going_on w around u))
+      cases Plain None v' results u k = k
+      cases Plain (Some a) None results u k = tt
+      cases Plain (Some a) (Some x) results u k = either_out Goes (is_full (slice_get w.slots a)) (On (record (going_on w around u) { arrays = settled results w.arrays; slots = slice_set w.slots a (Some x) })) Stuck k tt
+      cases Spawned None v' results u k = newest (record (going_on w around u) { arrived = results ++ w.arrived }) refl outs k
+      cases Spawned (Some a) None results u k = tt
+      cases Spawned (Some a) (Some x) results u k = newest (record (going_on w around u) { results = (a, x) ∷ w.results; arrived = results ++ w.arrived }) refl outs k
 
-  close_out : (s : State) (around : List Around) → Outs limit bound around outs → OutsAfter limit bound outs from Goes (closed s around)
-  close_out s [] h = tt
-  close_out s (Caller w ∷ around) h = tt
-  close_out s (Block o ∷ around) h = h
+      by_arrays : (o : Option (Results (List ℤ))) → OutsAfter limit bound outs from (turn_back w.kind) (returns_to w around v o t)
+      by_arrays None = nothing_out (turn_back w.kind)
+      by_arrays (Some results) = cases w.kind w.target v results _ h
 
-pub act_out : (limit bound : ℕ) (outs : List Job) (code : Code) (s : State) (o : Option Instr) → Outs limit bound s.around outs → OutsAfter limit bound outs s (turn_of o s.around) (act code s o)
+pub act_out : (limit bound : ℕ) (outs : List Job) (code : Code) (s : State) (o : Option Instr) → Outs limit bound s.around outs → OutsAfter limit bound outs s (turn_of code o s.around) (act code s o)
 act_out limit bound outs code s o h = acts_by code s (λ j turn w. OutsAfter limit bound outs s turn w) (record {
   stuck = λ j turn. nothing_out limit bound outs s turn;
   stops = λ j turn trap line lines. stop_out limit bound outs s turn trap line lines;
-  local = λ place operands slots lines additions. h;
-  enters = λ kind c f. enter_out limit bound outs s kind c f h;
-  opens = λ tag. h;
+  local = λ place operands slots arrays lines additions. h;
+  enters = λ e. enter_out limit bound outs s e h;
+  opens = λ operands arrays tag cut. h;
   syncs = h;
-  closes = close_out limit bound outs s (put_in s) s.around h;
-  returns = λ v. back_out limit bound outs s s.around v (synced s.trace) h;
+  leaves = λ arrays o around e. subst (λ a. Outs limit bound a outs) e h;
+  returns = λ v. back_out limit bound outs s s.around v (settled s.arrived s.arrays) (synced s.trace) h;
 }) o
 
 module _ (code : Code) where
@@ -132,7 +132,7 @@ module _ (code : Code) where
       where
         turned : (turn : Turn) → OutsAfter job.limit (job.before + (count + 1)) outs s turn (On s') → IsStrandOf code job (goes_on turn s s' job.limit job.before (count + 1) outs)
         turned Goes k = (le, leads_on s count (On s') h.1 e same, k)
-        turned (HandsOut c) k = (le, leads_on s count (On s') h.1 e same, k)
+        turned (HandsOut target taken) k = (le, leads_on s count (On s') h.1 e same, k)
         turned ComesBack k = (le, leads_on s count (On s') h.1 e same, k)
 
     pub falls : (s : State) (count : ℕ) (outs : List Job) (trap : _) (line : ℕ) (lines : List ℤ) → IsStrandOf code job (Going s count outs) → has_come job.extent code s ≡ false → step code s ≡ Stops trap line lines
@@ -186,7 +186,7 @@ module _ (code : Code) where
 
     pub gives_stop : (out : Job) (s : State) (count : ℕ) (outs : List Job) (e : Effect)
         → IsStrandOf code job (Waits s count (out ∷ outs)) → JobMeaning code out e → HasStopped e → job.before + (count + cost_of e) ≤ job.limit → IsStrandOf code job (Halted (stopped_after s count e) outs)
-    gives_stop out s count outs (Ended v t cost) h m stop le = absurd stop
+    gives_stop out s count outs (Ended v arrays t cost) h m stop le = absurd stop
     gives_stop out s count outs (Joined frame t cost) h m stop le = absurd stop
     gives_stop out s count outs (TrapIn trap line lines cost) h m stop le =
         let here : IsOutHere job.limit (job.before + count) s out = h.2.0 in (
@@ -215,7 +215,7 @@ module _ (code : Code) where
     skips out e outs h = h
 
     pub drops : (out : Job) (e e' : Effect) (outs : List Job) → IsStrandOf code job (Halted e (out ∷ outs)) → IsStrandOf code job (Halted (dropped e e') outs)
-    drops out e (Ended v t cost) outs h = h
+    drops out e (Ended v arrays t cost) outs h = h
     drops out e (Joined frame t cost) outs h = h
     drops out e (TrapIn trap line lines cost) outs h = h
     drops out e OverLimit outs h = h
@@ -229,9 +229,9 @@ module _ (code : Code) where
           short = h.1.short;
         })
 
-    pub returns : (s : State) (count : ℕ) (outs : List Job) (v : Option ℤ) (t : Trace) → IsStrandOf code job (Going s count outs) → has_come job.extent code s ≡ false → step code s ≡ Ends v t → job.before + (count + 1) ≤ job.limit
-        → JobMeaning code job (Ended v t (count + 1))
-    returns s count outs v t h e same le = stands_meaning code job (Ended v t (count + 1)) le (leads_on s count (Ends v t) h.1 e same)
+    pub returns : (s : State) (count : ℕ) (outs : List Job) (v : Option ℤ) (arrays : Slots (List ℤ)) (t : Trace) → IsStrandOf code job (Going s count outs) → has_come job.extent code s ≡ false → step code s ≡ Ends v arrays t → job.before + (count + 1) ≤ job.limit
+        → JobMeaning code job (Ended v arrays t (count + 1))
+    returns s count outs v arrays t h e same le = stands_meaning code job (Ended v arrays t (count + 1)) le (leads_on s count (Ends v arrays t) h.1 e same)
 
     pub stops : (e : Effect) (outs : List Job) → IsStrandOf code job (Halted e outs) → JobMeaning code job e
     stops e outs h = stands_meaning code job e h.0 h.1

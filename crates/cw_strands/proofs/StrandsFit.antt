@@ -3,13 +3,12 @@ use Rattle.std.proofs.Common.{◌≡◌, ℕ, zero, suc, ◌+◌, ◌<◌, ◌�
 use Rattle.std.specs.Prelude.{slice_get}
 use Rattle.cw_model.specs.declared.syntax.CallKind.{CallKind}
 use Rattle.cw_model.specs.declared.syntax.CallKind.TheVariants.{Plain, Spawned}
-use Rattle.cw_model.specs.Outcome.{Trace}
-use Rattle.cw_code.specs.declared.code.Callee.{Callee}
+use Rattle.cw_model.specs.Outcome.{Trace, quiet, joined}
 use Rattle.cw_code.specs.declared.code.Func.{Func}
 use Rattle.cw_code.specs.declared.code.Instr.{Instr}
 use Rattle.cw_code.specs.Code.{Code}
-use Rattle.cw_code.specs.Fits.{Fits}
-use Rattle.cw_code.specs.Run.{Around, Caller, Block, State, Went, On, Ends, Stops, Stuck, synced, begun, back, act, step}
+use Rattle.cw_code.specs.Fits.{array_params_of, Shape, Fits}
+use Rattle.cw_code.specs.Run.{Slots, Around, Caller, Block, State, Went, On, Ends, Stops, Stuck, synced, settled, Entering, begun, back, act, step}
 use Rattle.cw_code.specs.Good.{Good, GoodState, FitBegins, FitSteps, FitSettles}
 use Rattle.cw_strands.specs.Jobs.{Extent, WholeCall, ToJoin, joins, is_first, has_come, standing, Job, job_start, course, root_job, Effect, Ended, Joined, TrapIn, OverLimit, Memory, JobMeaning}
 use Rattle.cw_strands.specs.Strands.{Strand, Going, Waits, Halted, outs_of, rest_at, Turn, turn_back, turn_in, turn_call, turn_of, turn, cost_of}
@@ -20,17 +19,17 @@ use Rattle.cw_strands.proofs.Acts.{acts_by}
 use Rattle.cw_strands.proofs.Budgets.{meaning_stands}
 use Rattle.cw_strands.proofs.Rests.{GoesOn, act_goes}
 use Rattle.cw_strands.proofs.JobsFit.{Base, Alone, Upon, lifted, LiftedWent, lifted_step, FitJob, hands_fit, arrived, gives_fit}
-use Rattle.cw_strands.proofs.Under.{beneath, results_under, under}
+use Rattle.cw_strands.proofs.Under.{under}
 use Rattle.cw_strands.proofs.WorldLaws.{set_gives, added_gives, stays_there, one_there, last_there, Named, PlaceOk, WorldOk, next_ok, begins_ok}
 
 abbrev GoesNowhere : Went → Type 0
 GoesNowhere (On s) = ⊥
-GoesNowhere (Ends v t) = Unit {0}
+GoesNowhere (Ends v arrays t) = Unit {0}
 GoesNowhere (Stops trap line lines) = Unit {0}
 GoesNowhere Stuck = Unit {0}
 
 one_state : (s s' : State) → On s ≡ On s' → s ≡ s'
-one_state s s' e = ap (λ w. elim w [ On s2 ↦ s2 | Ends v t ↦ s | Stops trap line lines ↦ s | Stuck ↦ s ]) e
+one_state s s' e = ap (λ w. elim w [ On s2 ↦ s2 | Ends v arrays t ↦ s | Stops trap line lines ↦ s | Stuck ↦ s ]) e
 
 module _ (code : Code) (fits : Fits code) (steps_well : FitSteps code fits) (settles : FitSettles) (begins : FitBegins code fits) where
   -- the state of a strand fits, over what its job stands upon
@@ -69,8 +68,8 @@ module _ (code : Code) (fits : Fits code) (steps_well : FitSteps code fits) (set
         here_none WholeCall c = cc
         here_none ToJoin c = none_out job.limit (job.before + count) s.around (joins (slice_get code.instrs s.place)) outs c h.2
 
-        end_none : (v : Option ℤ) (t : Trace) → step code s ≡ Ends v t → outs ≡ []
-        end_none v t e = first (is_first s.around && joins (slice_get code.instrs s.place)) refl
+        end_none : (v : Option ℤ) (arrays : Slots (List ℤ)) (t : Trace) → step code s ≡ Ends v arrays t → outs ≡ []
+        end_none v arrays t e = first (is_first s.around && joins (slice_get code.instrs s.place)) refl
           where
             first : (b : Bool) → (is_first s.around && joins (slice_get code.instrs s.place)) ≡ b → outs ≡ []
             first true c = none_out job.limit (job.before + count) s.around (joins (slice_get code.instrs s.place)) outs c h.2
@@ -78,16 +77,19 @@ module _ (code : Code) (fits : Fits code) (steps_well : FitSteps code fits) (set
 
         not_on : (turn : Turn) (w : Went) → GoesNowhere w → FitTurn s count outs turn w
         not_on turn (On s2) h s' e g = absurd h
-        not_on turn (Ends v t) h s' e g = cc
+        not_on turn (Ends v arrays t) h s' e g = cc
         not_on turn (Stops trap line lines) h s' e g = cc
         not_on turn Stuck h s' e g = cc
 
-        enters : (kind : CallKind) (c : Callee) (f : Func) → FitTurn s count outs (turn_call kind c) (On (begun s kind c f))
-        enters Plain c f s' e g = g
-        enters Spawned c f s' e g = (
-          hands_fit code fits steps_well settles job.extent base s c f job.limit (job.before + (count + 1)) (subst (λ (s2 : State). GoodState code fits (lifted base s2)) (one_state s' (begun s Spawned c f) (sym e)) g),
-          g,
-        )
+        enters : (e : Entering) → FitTurn s count outs (turn_call e.kind e.target e.taken) (On (begun s e))
+        enters e = cases e.kind refl
+          where
+            cases : (kind : CallKind) → e.kind ≡ kind → FitTurn s count outs (turn_call kind e.target e.taken) (On (begun s e))
+            cases Plain k s' same g = g
+            cases Spawned k s' same g = (
+              hands_fit code fits steps_well settles job.extent base s e job.limit (job.before + (count + 1)) k (subst (λ (s2 : State). GoodState code fits (lifted base s2)) (one_state s' (begun s e) (sym same)) g),
+              g,
+            )
 
         returns : (around : List Around) (w : Went) → FitTurn s count outs (turn_in around) w
         returns [] w s' e g = g
@@ -98,21 +100,21 @@ module _ (code : Code) (fits : Fits code) (steps_well : FitSteps code fits) (set
             by_kind Plain = g
             by_kind Spawned = g
 
-        turns : (o : Option Instr) → FitTurn s count outs (turn_of o s.around) (act code s o)
+        turns : (o : Option Instr) → FitTurn s count outs (turn_of code o s.around) (act code s o)
         turns o = acts_by code s (λ j turn w. FitTurn s count outs turn w) (record {
           stuck = λ j turn. not_on turn Stuck tt;
           stops = λ j turn trap line lines. not_on turn (Stops trap line lines) tt;
-          local = λ place operands slots lines additions s' e g. g;
+          local = λ place operands slots arrays lines additions s' e g. g;
           enters = enters;
-          opens = λ tag s' e g. g;
+          opens = λ operands arrays tag cut s' e g. g;
           syncs = λ s' e g. g;
-          closes = λ s' e g. g;
-          returns = λ v. returns s.around (back s.around v (synced s.trace));
+          leaves = λ arrays o around e s' e' g. g;
+          returns = λ v. returns s.around (back s.around v (settled s.arrived s.arrays) (synced s.trace));
         }) o
 
         moves : (w : Went) → step code s ≡ w → LiftedWent code fits steps_well settles base w → FitAdvanced base (went_on (turn code s) s w job.limit job.before (count + 1) outs)
         moves (On s') e g = turns (slice_get code.instrs s.place) s' e g
-        moves (Ends v t) e g = finishes outs (Ended v t (count + 1)) (end_none v t e)
+        moves (Ends v arrays t) e g = finishes outs (Ended v arrays t (count + 1)) (end_none v arrays t e)
         moves (Stops trap line lines) e g = tt
         moves Stuck e g = g
 
@@ -126,9 +128,14 @@ module _ (code : Code) (fits : Fits code) (steps_well : FitSteps code fits) (set
         come true c = finishes outs (Joined (standing s) s.trace count) (here_none job.extent c)
         come false c = test (nat_lt job.limit (job.before + (count + 1))) c
 
+    out_alone : (s : State) (f : Func) (shape : Shape) → s.operands ≡ [] → Good f shape s → Good f shape (record s { operands = []; trace = joined s.trace quiet })
+    out_alone s f shape none h =
+        let k = subst (λ ops. Good f shape (record s { operands = ops })) none h in
+        record { as_many = k.as_many; ints = k.ints; arrays = k.arrays; cuts = k.cuts }
+
     out_starts : (x : Extent) (b : Base x) (s : State) (limit before : ℕ) → s.operands ≡ [] → GoodState code fits (lifted b s) → GoodState code fits (under (lifted b s) (job_start (rest_at s limit before)))
-    out_starts x Alone s limit before none g = record { seat = g.seat; call = subst (λ ops. Good g.seat.func g.seat.shape ops s.slots s.results s.around) none g.call; others = g.others }
-    out_starts x (Upon b) s limit before none g = record { seat = g.seat; call = subst (λ ops. Good g.seat.func g.seat.shape ops s.slots (results_under b s.around s.results) (beneath b s.around)) none g.call; others = g.others }
+    out_starts x Alone s limit before none g = record { seat = g.seat; call = out_alone s g.seat.func g.seat.shape none g.call; others = g.others }
+    out_starts x (Upon b) s limit before none g = record { seat = g.seat; call = out_alone (under b s) g.seat.func g.seat.shape none g.call; others = g.others }
 
     give_fits : (strand : Strand) (out : Job) (others : List Job) (e : Effect) → IsStrandOf code job strand → WaitsFor strand out others → JobMeaning code out e → FitStrand base strand → FitStrand base (give job strand e)
     give_fits (Going s count outs) out others e h w m g = absurd w
@@ -147,7 +154,7 @@ module _ (code : Code) (fits : Fits code) (steps_well : FitSteps code fits) (set
             gives_fit code fits steps_well settles job.extent base s frame t g
             (arrived code fits steps_well settles (lifted base s) (cost + 0) (job_start (rest_at s job.limit out.before)) frame t 0 (out_starts job.extent base s job.limit out.before k.none g)
             (ap (λ (j : Job). course code j (cost + 0)) (sym k.same) ∙ stands.next 0))
-        given (Ended v t cost) n k = tt
+        given (Ended v arrays t cost) n k = tt
         given (TrapIn trap line lines cost) n k = tt
         given OverLimit n k = tt
         given Memory n k = tt
@@ -301,9 +308,9 @@ module _ (code : Code) (fits : Fits code) (steps_well : FitSteps code fits) (set
       (next_ok code world' world next before.0, next_fit world' world next before.0 before.1)
 
   root_fits : (f : Func) (args : List ℤ) (limit : ℕ) → slice_get code.funcs code.main ≡ Some f → length args ≡ f.params → FitJob code fits steps_well settles (root_job f args limit)
-  root_fits f args limit e m = record {
+  root_fits f args limit e m = let none : f.array_params ≡ 0 = sym (ap array_params_of e) ∙ fits.of_integers in record {
     base = Alone;
-    good = begins code.main f args e m;
+    good = begins code.main f args [] e m (sym none);
   }
 
 pub none_is_unfit : ((code : Code) (fits : Fits code) → FitSteps code fits) → FitSettles → ((code : Code) (fits : Fits code) → FitBegins code fits) → NoneIsUnfit

@@ -1,14 +1,13 @@
 -- The cut: a run over what waits is the run up to the join, and from there on, what waits having gone back into its slots.
-use Rattle.std.proofs.Common.{◌≡◌, ℕ, zero, suc, ℤ, Bool, true, false, ◌&&◌, if◌then◌else◌, Option, Some, None, List, [], ◌∷◌, ◌++◌, refl, sym, ap, ◌∙◌}
+use Rattle.std.proofs.Common.{◌≡◌, ℕ, zero, suc, ℤ, Bool, true, false, ◌&&◌, if◌then◌else◌, Option, Some, None, List, [], ◌∷◌, ◌++◌, refl, sym, ap, ◌∙◌, subst}
 use Rattle.std.specs.Prelude.{slice_get, slice_set}
 use Rattle.cw_model.specs.declared.syntax.CallKind.{CallKind}
 use Rattle.cw_model.specs.declared.syntax.CallKind.TheVariants.{Plain, Spawned}
 use Rattle.cw_model.specs.Outcome.{Trace, joined}
-use Rattle.cw_model.specs.Meaning.{call_event}
 use Rattle.cw_code.specs.declared.code.Instr.{Instr}
 use Rattle.cw_code.specs.declared.code.Instr.TheVariants as instr
 use Rattle.cw_code.specs.Code.{Code}
-use Rattle.cw_code.specs.Run.{Slots, Results, Around, Caller, Block, State, Went, On, Ends, Stops, Stuck, synced, is_full, settled, put_in, going_on, rejoined, result_of, back, closed, act, step}
+use Rattle.cw_code.specs.Run.{Slots, Results, Around, Caller, Block, State, Went, On, Ends, Stops, Stuck, synced, is_full, settled, put_in, given_back, going_on, event_of, rejoined, result_of, returns_to, back, act, step}
 use Rattle.cw_strands.specs.Jobs.{Extent, WholeCall, ToJoin, joins, is_first, has_come, standing, Arrives, Beyond, moved, travel}
 use Rattle.cw_strands.specs.Strands.{resumed}
 use Rattle.cw_strands.specs.RestLaws.{onwards}
@@ -27,7 +26,7 @@ Based d s = base_of s.depth s.around ≡ d
 
 abbrev pub WentBased : ℕ → Went → Type 0
 WentBased d (On s) = Based d s
-WentBased d (Ends v t) = Unit {0}
+WentBased d (Ends v arrays t) = Unit {0}
 WentBased d (Stops trap line lines) = Unit {0}
 WentBased d Stuck = Unit {0}
 
@@ -36,38 +35,37 @@ either_based d true x y h k = h
 either_based d false x y h k = k
 
 module _ (d : ℕ) where
-  result_based : (s : State) (kind : CallKind) (target : Option ℕ) (v : Option ℤ) → Based d s → WentBased d (result_of kind target v s)
-  result_based s Plain None v h = h
-  result_based s Plain (Some a) None h = tt
-  result_based s Plain (Some a) (Some v) h = either_based d (is_full (slice_get s.slots a)) (On (record s { slots = slice_set s.slots a (Some v) })) Stuck h tt
-  result_based s Spawned None v h = h
-  result_based s Spawned (Some a) None h = tt
-  result_based s Spawned (Some a) (Some v) h = h
+  result_based : (s : State) (kind : CallKind) (target : Option ℕ) (v : Option ℤ) (results : Results (List ℤ)) → Based d s → WentBased d (result_of kind target v results s)
+  result_based s Plain None v results h = h
+  result_based s Plain (Some a) None results h = tt
+  result_based s Plain (Some a) (Some v) results h = either_based d (is_full (slice_get s.slots a)) (On (record s { arrays = settled results s.arrays; slots = slice_set s.slots a (Some v) })) Stuck h tt
+  result_based s Spawned None v results h = h
+  result_based s Spawned (Some a) None results h = tt
+  result_based s Spawned (Some a) (Some v) results h = h
 
-  back_based : (depth : ℕ) (around : List Around) (v : Option ℤ) (t : Trace) → base_of depth around ≡ d → WentBased d (back around v t)
-  back_based depth [] v t h = tt
-  back_based depth (Caller w ∷ around) v t h = result_based (going_on w around (rejoined (call_event w.kind w.callee.site) w.events t)) w.kind w.callee.target v h
-  back_based depth (Block o ∷ around) v t h = tt
-
-  close_based : (s : State) (around : List Around) → base_of s.depth around ≡ d → WentBased d (closed s around)
-  close_based s [] h = tt
-  close_based s (Caller w ∷ around) h = tt
-  close_based s (Block o ∷ around) h = h
+  back_based : (depth : ℕ) (around : List Around) (v : Option ℤ) (arrays : Slots (List ℤ)) (t : Trace) → base_of depth around ≡ d → WentBased d (back around v arrays t)
+  back_based depth [] v arrays t h = tt
+  back_based depth (Caller w ∷ around) v arrays t h = by_arrays (given_back w.taken arrays)
+    where
+      by_arrays : (o : Option (Results (List ℤ))) → WentBased d (returns_to w around v o t)
+      by_arrays None = tt
+      by_arrays (Some results) = result_based (going_on w around (rejoined (event_of w.kind w.site) w.events t)) w.kind w.target v results h
+  back_based depth (Block o ∷ around) v arrays t h = tt
 
   act_based : (code : Code) (s : State) (o : Option Instr) → Based d s → WentBased d (act code s o)
   act_based code s o h = acts_by code s (λ j turn w. WentBased d w) (record {
     stuck = λ j turn. tt;
     stops = λ j turn trap line lines. tt;
-    local = λ place operands slots lines additions. h;
-    enters = λ kind c f. h;
-    opens = λ tag. h;
+    local = λ place operands slots arrays lines additions. h;
+    enters = λ e. h;
+    opens = λ operands arrays tag cut. h;
     syncs = h;
-    closes = close_based (put_in s) s.around h;
-    returns = λ v. back_based s.depth s.around v (synced s.trace) h;
+    leaves = λ arrays o around e. subst (λ a. base_of s.depth a ≡ d) e h;
+    returns = λ v. back_based s.depth s.around v (settled s.arrived s.arrays) (synced s.trace) h;
   }) o
 
 -- results go back one after another, the newest first
-pub settled_append : (p q : Results) (slots : Slots) → settled (p ++ q) slots ≡ settled q (settled p slots)
+pub settled_append : {A : Type 0} (p q : Results A) (slots : Slots A) → settled (p ++ q) slots ≡ settled q (settled p slots)
 settled_append [] q slots = refl
 settled_append (r ∷ p) q slots = settled_append p q (slice_set slots r.0 (Some r.1))
 
@@ -87,6 +85,14 @@ module _ (code : Code) where
       same (Some (instr.SkipIfZero n)) k = cc
       same (Some (instr.GoBack n)) k = cc
       same (Some (instr.Call kind c)) k = cc
+      same (Some (instr.Recur kind c)) k = cc
+      same (Some (instr.Start c line)) k = cc
+      same (Some (instr.NewArray a line)) k = cc
+      same (Some (instr.Length a)) k = cc
+      same (Some (instr.Element a line)) k = cc
+      same (Some (instr.SetElement a line)) k = cc
+      same (Some (instr.Cut cut line)) k = cc
+      same (Some instr.EndCut) k = refl
       same (Some instr.Sync) k = refl
       same (Some (instr.Open kind)) k = cc
       same (Some instr.Close) k = refl
@@ -115,8 +121,17 @@ module _ (code : Code) where
         cases WholeCall around k e = cc
         cases ToJoin [] k e =
             join_puts_in y n (under b (record s { around = [] })) k
-            ∙ ap (λ slots. travel y code n (record s { around = b.around; slots = slots; results = []; trace = joined b.trace s.trace })) (settled_append s.results b.results s.slots)
-            ∙ ap (λ depth. travel y code n (record s { depth = depth; around = b.around; slots = settled b.results (settled s.results s.slots); results = []; trace = joined b.trace s.trace })) e
+            ∙ ap (λ slots. travel y code n (record s { around = b.around; slots = slots; arrays = settled (s.arrived ++ b.arrived) s.arrays; results = []; arrived = []; trace = joined b.trace s.trace })) (settled_append s.results b.results s.slots)
+            ∙ ap (λ arrays. travel y code n (record s { around = b.around; slots = settled b.results (settled s.results s.slots); arrays = arrays; results = []; arrived = []; trace = joined b.trace s.trace })) (settled_append s.arrived b.arrived s.arrays)
+            ∙ ap (λ depth. travel y code n (record s {
+              depth = depth;
+              around = b.around;
+              slots = settled b.results (settled s.results s.slots);
+              arrays = settled b.arrived (settled s.arrived s.arrays);
+              results = [];
+              arrived = [];
+              trace = joined b.trace s.trace;
+            })) e
         cases ToJoin (a ∷ around) k e = cc
 
     goes_under : (s : State) → has_come x code s ≡ false → MayStand x → Allowed x b s.around (joins (slice_get code.instrs s.place))
@@ -142,7 +157,7 @@ module _ (code : Code) where
     moves_under : (w : Went) (n : ℕ) → WentBased b.depth w → ((s : State) → Based b.depth s → travel y code n (under b s) ≡ onwards code y b (travel x code n s))
         → moved (went_under b w) n (λ s. travel y code n s) ≡ onwards code y b (moved w n (λ s. travel x code n s))
     moves_under (On s) n d more = more s d
-    moves_under (Ends v t) n d more = refl
+    moves_under (Ends v arrays t) n d more = refl
     moves_under (Stops trap line lines) n d more = refl
     moves_under Stuck n d more = refl
 

@@ -6,7 +6,7 @@ use Rattle.cw_strands.specs.Jobs.{Job, Effect, Ended, Joined, TrapIn, OverLimit,
 
 -- the cost of an effect that came to the end of its job is the work of its tree
 abbrev pub CostIsWork : Effect → Type 0
-CostIsWork (Ended v t cost) = work (tree_of t.events) ≡ cost
+CostIsWork (Ended v arrays t cost) = work (tree_of t.events) ≡ cost
 CostIsWork (Joined frame t cost) = work (tree_of t.events) ≡ cost
 CostIsWork (TrapIn trap line lines cost) = Unit {0}
 CostIsWork OverLimit = Unit {0}

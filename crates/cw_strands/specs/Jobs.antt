@@ -1,14 +1,14 @@
 -- Jobs: a whole call, or the rest of a sync block up to its join; how a run of one ends, what its effect is, and what an effect must be.
-use Rattle.std.specs.Prelude.{◌≡◌, ℕ, zero, suc, ◌-◌, ℤ, Bool, true, false, ◌&&◌, if◌then◌else◌, List, [], ◌∷◌, reverse, Option, Some, None, slice_get}
+use Rattle.std.specs.Prelude.{◌≡◌, ℕ, zero, suc, ◌-◌, ℤ, Bool, true, false, ◌&&◌, if◌then◌else◌, List, [], ◌∷◌, Option, Some, None, slice_get}
 use Rattle.cw_model.specs.declared.trap.Trap.{Trap}
 use Rattle.cw_model.specs.Frames.{no_frame}
 use Rattle.cw_model.specs.Outcome.{Trace, Done, Trapped, Over}
 use Rattle.cw_model.specs.Answers.{Answer, answer_of}
 use Rattle.cw_code.specs.declared.code.Func.{Func}
 use Rattle.cw_code.specs.declared.code.Instr.{Instr}
-use Rattle.cw_code.specs.declared.code.Instr.TheVariants.{Sync, Close, ReturnValue, Return}
+use Rattle.cw_code.specs.declared.code.Instr.TheVariants.{EndCut, Sync, Close, ReturnValue, Return}
 use Rattle.cw_code.specs.Code.{Code}
-use Rattle.cw_code.specs.Run.{Slots, Around, State, Went, On, Ends, Stops, Stuck, settled, slots_of, fresh, step, reducers_of}
+use Rattle.cw_code.specs.Run.{Slots, Around, State, Went, On, Ends, Stops, Stuck, settled, slots_of, arrays_of, fresh, step, reducers_of}
 
 -- how far a run goes: to the end of its call, or to before the join of the sync block that it begins in
 pub data Extent : Type 0 where
@@ -17,6 +17,7 @@ pub data Extent : Type 0 where
 
 -- an instruction that joins its sync block
 abbrev pub joins : Option Instr → Bool
+joins (Some EndCut) = true
 joins (Some Sync) = true
 joins (Some Close) = true
 joins (Some ReturnValue) = true
@@ -37,22 +38,23 @@ has_come ToJoin code s = is_first s.around && joins (slice_get code.instrs s.pla
 pub record Standing : Type 0 where
   pub place : ℕ
   pub operands : List ℤ
-  pub slots : Slots
+  pub slots : Slots ℤ
+  pub arrays : Slots (List ℤ)
 
 abbrev pub standing : State → Standing
-standing s = record { place = s.place; operands = s.operands; slots = settled s.results s.slots }
+standing s = record { place = s.place; operands = s.operands; slots = settled s.results s.slots; arrays = settled s.arrived s.arrays }
 
 -- where a run comes to within a budget, and what is left of it: to the join, to the end of its call, to a trap, to the end of the budget, or to code that does not fit
 pub data Came : Type 0 where
   Arrives : Standing → Trace → (left : ℕ) → Came
-  Returns : Option ℤ → Trace → (left : ℕ) → Came
+  Returns : Option ℤ → Slots (List ℤ) → Trace → (left : ℕ) → Came
   Falls : (trap : Trap) (line : ℕ) (lines : List ℤ) (left : ℕ) → Came
   Beyond : Came
   Lost : Came
 
 abbrev pub moved : Went → ℕ → (State → Came) → Came
 moved (On s) left next = next s
-moved (Ends v t) left next = Returns v t left
+moved (Ends v arrays t) left next = Returns v arrays t left
 moved (Stops trap line lines) left next = Falls trap line lines left
 moved Stuck left next = Lost
 
@@ -65,14 +67,15 @@ travel x code (suc n) s = if has_come x code s then Arrives (standing s) s.trace
 pub record Job : Type 0 where
   pub extent : Extent
   pub place : ℕ
-  pub slots : Slots
+  pub slots : Slots ℤ
+  pub arrays : Slots (List ℤ)
   pub depth : ℕ
   pub limit : ℕ
   pub before : ℕ
 
 -- a job begins with no operand, nothing round it and nothing shown
 abbrev pub job_start : Job → State
-job_start job = fresh job.place job.depth job.slots
+job_start job = fresh job.place job.depth job.slots job.arrays
 
 -- the run of a job
 abbrev pub course : Code → Job → ℕ → Came
@@ -80,11 +83,11 @@ course code job n = travel job.extent code n (job_start job)
 
 -- the job of a whole run: a function on its arguments, at depth 1, with nothing before it
 abbrev pub root_job : Func → List ℤ → (limit : ℕ) → Job
-root_job f args limit = record { extent = WholeCall; place = f.start; slots = slots_of f (reverse args); depth = 1; limit = limit; before = 0 }
+root_job f args limit = record { extent = WholeCall; place = f.start; slots = slots_of f args; arrays = arrays_of f []; depth = 1; limit = limit; before = 0 }
 
 -- what a strand makes of its job: the value of the call, or the call at the join, with what the run has shown and its cost; or a trap with its cost, the limit passed, or memory wanting
 pub data Effect : Type 0 where
-  Ended : Option ℤ → Trace → (cost : ℕ) → Effect
+  Ended : Option ℤ → Slots (List ℤ) → Trace → (cost : ℕ) → Effect
   Joined : Standing → Trace → (cost : ℕ) → Effect
   TrapIn : (trap : Trap) (line : ℕ) (lines : List ℤ) (cost : ℕ) → Effect
   OverLimit : Effect
@@ -93,7 +96,7 @@ pub data Effect : Type 0 where
 -- what a run came to within a budget, as an effect; none where the code does not fit
 abbrev pub IsOf : Came → (budget : ℕ) → Effect → Type 0
 IsOf (Arrives frame t left) n e = e ≡ Joined frame t (n - left)
-IsOf (Returns v t left) n e = e ≡ Ended v t (n - left)
+IsOf (Returns v arrays t left) n e = e ≡ Ended v arrays t (n - left)
 IsOf (Falls trap line lines left) n e = e ≡ TrapIn trap line lines (n - left)
 IsOf Beyond n e = e ≡ OverLimit
 IsOf Lost n e = ⊥
@@ -106,7 +109,7 @@ pub data JobMeaning (code : Code) (job : Job) (e : Effect) : Type 0 where
 
 -- what the effect of a whole run answers; nothing for want of memory, and of a rest
 abbrev pub answered : Code → Effect → Option Answer
-answered code (Ended v t cost) = Some (answer_of (reducers_of code) (Done (v, no_frame) 0 t))
+answered code (Ended v arrays t cost) = Some (answer_of (reducers_of code) (Done (v, no_frame) 0 t))
 answered code (TrapIn trap line lines cost) = Some (answer_of (reducers_of code) (Trapped trap line lines))
 answered code OverLimit = Some (answer_of (reducers_of code) Over)
 answered code (Joined frame t cost) = None

@@ -14,7 +14,7 @@ pub record Takes (cost : ℕ) (run later : ℕ → Came) : Type 0 where
 
 -- an effect stands for the run of its job, whatever the budget
 abbrev pub StandsFor : Code → Job → Effect → Type 0
-StandsFor code job (Ended v t cost) = Takes cost (course code job) (λ n. Returns v t n)
+StandsFor code job (Ended v arrays t cost) = Takes cost (course code job) (λ n. Returns v arrays t n)
 StandsFor code job (Joined frame t cost) = Takes cost (course code job) (λ n. Arrives frame t n)
 StandsFor code job (TrapIn trap line lines cost) = Takes cost (course code job) (λ n. Falls trap line lines n)
 StandsFor code job OverLimit = (m : ℕ) → job.before + m ≤ job.limit → course code job m ≡ Beyond

@@ -25,12 +25,12 @@ finished (out ∷ outs) e = Unfit
 
 abbrev pub turned : Turn → (from to : State) → (limit before count : ℕ) → List Job → Advanced
 turned Goes from to limit before count outs = Ran (Going to count outs)
-turned (HandsOut c) from to limit before count outs = let out = spawn_job from c limit (before + count) in Handed out (Going to count (out ∷ outs))
+turned (HandsOut target taken) from to limit before count outs = let out = spawn_job from target taken limit (before + count) in Handed out (Going to count (out ∷ outs))
 turned ComesBack from to limit before count outs = Ran (Waits to count outs)
 
 abbrev pub went_on : Turn → State → Went → (limit before count : ℕ) → List Job → Advanced
 went_on turn from (On s) limit before count outs = turned turn from s limit before count outs
-went_on turn from (Ends v t) limit before count outs = finished outs (Ended v t count)
+went_on turn from (Ends v arrays t) limit before count outs = finished outs (Ended v arrays t count)
 went_on turn from (Stops trap line lines) limit before count outs = Ran (Halted (TrapIn trap line lines count) outs)
 went_on turn from Stuck limit before count outs = Unfit
 
@@ -47,7 +47,7 @@ advance code job (Halted e (out ∷ outs)) = AtSync
 -- give, within the limit
 abbrev pub given_to : State → (count : ℕ) → List Job → Effect → Strand
 given_to s count outs (Joined frame t cost) = Going (resumed s frame t) (count + cost) outs
-given_to s count outs (Ended v t cost) = Halted OverLimit outs
+given_to s count outs (Ended v arrays t cost) = Halted OverLimit outs
 given_to s count outs (TrapIn trap line lines cost) = Halted (stopped_after s count (TrapIn trap line lines cost)) outs
 given_to s count outs OverLimit = Halted OverLimit outs
 given_to s count outs Memory = Halted Memory outs

@@ -1,14 +1,13 @@
 -- Strands: what runs a job, hands the rest of a sync block out as a job at a spawn and goes on with the call.
-use Rattle.std.specs.Prelude.{◌≡◌, ℕ, ◌+◌, ◌≤◌, ◌<◌, ℤ, true, false, List, [], ◌∷◌, ◌++◌, Option, Some, slice_get}
+use Rattle.std.specs.Prelude.{◌≡◌, ℕ, ◌+◌, ◌≤◌, ◌<◌, ℤ, true, false, List, [], ◌∷◌, ◌++◌, map, Option, Some, None, slice_get}
 use Rattle.cw_model.specs.declared.trap.Trap.{Trap}
 use Rattle.cw_model.specs.declared.syntax.CallKind.{CallKind}
 use Rattle.cw_model.specs.declared.syntax.CallKind.TheVariants.{Plain, Spawned}
 use Rattle.cw_model.specs.Outcome.{Trace, joined}
-use Rattle.cw_code.specs.declared.code.Callee.{Callee}
 use Rattle.cw_code.specs.declared.code.Instr.{Instr}
 use Rattle.cw_code.specs.declared.code.Instr.TheVariants as instr
 use Rattle.cw_code.specs.Code.{Code}
-use Rattle.cw_code.specs.Run.{Waiting, Around, Caller, State, On, Ends, Stops, settled, taken_from, step}
+use Rattle.cw_code.specs.Run.{Waiting, Around, Caller, State, On, Ends, Stops, Slots, settled, Taken, Whole, slot_taken, taken_from, moved_out, passed_by, step}
 use Rattle.cw_strands.specs.Jobs.{ToJoin, has_come, Standing, standing, Job, job_start, Effect, Ended, Joined, TrapIn, OverLimit, Memory}
 
 -- a strand and the jobs that it handed out and was not given back, the newest first: it goes on, from a state of the serial run, so many instructions after its job's start; or a spawned call in it has ended, so that it waits for the rest of the block that spawned it, the newest job out; or it has stopped
@@ -25,16 +24,16 @@ outs_of (Halted e outs) = outs
 
 -- the rest of a block that waits for a spawned call, as a job
 abbrev pub rest_of : Waiting → (limit before : ℕ) → Job
-rest_of w limit before = record { extent = ToJoin; place = w.place; slots = w.slots; depth = w.depth; limit = limit; before = before }
+rest_of w limit before = record { extent = ToJoin; place = w.place; slots = w.slots; arrays = w.arrays; depth = w.depth; limit = limit; before = before }
 
 -- the job that is out where a strand waits: the rest of the block that it will go on with
 abbrev pub rest_at : State → (limit before : ℕ) → Job
-rest_at s limit before = record { extent = ToJoin; place = s.place; slots = s.slots; depth = s.depth; limit = limit; before = before }
+rest_at s limit before = record { extent = ToJoin; place = s.place; slots = s.slots; arrays = s.arrays; depth = s.depth; limit = limit; before = before }
 
 -- what an instruction is to a strand: it hands out the rest of its block, ends a spawned call, or does neither
 pub data Turn : Type 0 where
   Goes : Turn
-  HandsOut : Callee → Turn
+  HandsOut : (target : Option ℕ) → List Taken → Turn
   ComesBack : Turn
 
 abbrev pub turn_back : CallKind → Turn
@@ -46,36 +45,45 @@ turn_in (Caller w ∷ around) = turn_back w.kind
 turn_in _ = Goes
 
 -- a spawn hands out the rest of its block
-abbrev pub turn_call : CallKind → Callee → Turn
-turn_call Plain c = Goes
-turn_call Spawned c = HandsOut c
+abbrev pub turn_call : CallKind → Option ℕ → List Taken → Turn
+turn_call Plain target taken = Goes
+turn_call Spawned target taken = HandsOut target taken
 
-abbrev pub turn_of : Option Instr → List Around → Turn
-turn_of (Some (instr.Call kind c)) around = turn_call kind c
-turn_of (Some instr.ReturnValue) around = turn_in around
-turn_of (Some instr.Return) around = turn_in around
-turn_of _ around = Goes
+abbrev pub turn_of : Code → Option Instr → List Around → Turn
+turn_of code (Some (instr.Call kind c)) around = turn_call kind c.target (map (λ a. Whole a) (passed_by code c.passed))
+turn_of code (Some (instr.Recur kind c)) around = turn_call kind None (map (λ a. Whole a) (passed_by code c.passed))
+turn_of code (Some instr.ReturnValue) around = turn_in around
+turn_of code (Some instr.Return) around = turn_in around
+turn_of code _ around = Goes
 
 abbrev pub turn : Code → State → Turn
-turn code s = turn_of (slice_get code.instrs s.place) s.around
+turn code s = turn_of code (slice_get code.instrs s.place) s.around
 
--- the job of a spawn: the rest of its block, from the next place, with the slot of the result empty
-abbrev pub spawn_job : State → Callee → (limit before : ℕ) → Job
-spawn_job s c limit before = record { extent = ToJoin; place = s.place + 1; slots = taken_from Spawned c.target s.slots; depth = s.depth; limit = limit; before = before }
+-- the job of a spawn: the rest of its block, from the next place, with the slots of the result and of what was taken empty
+abbrev pub spawn_job : State → Option ℕ → List Taken → (limit before : ℕ) → Job
+spawn_job s target taken limit before = record {
+  extent = ToJoin;
+  place = s.place + 1;
+  slots = taken_from Spawned target s.slots;
+  arrays = moved_out (map slot_taken taken) s.arrays;
+  depth = s.depth;
+  limit = limit;
+  before = before;
+}
 
 -- a strand after an instruction that led from one state to another
 abbrev pub goes_on : Turn → (from to : State) → (limit before count : ℕ) → List Job → Strand
 goes_on Goes from to limit before count outs = Going to count outs
-goes_on (HandsOut c) from to limit before count outs = Going to count (spawn_job from c limit (before + count) ∷ outs)
+goes_on (HandsOut target taken) from to limit before count outs = Going to count (spawn_job from target taken limit (before + count) ∷ outs)
 goes_on ComesBack from to limit before count outs = Waits to count outs
 
 -- the join: the rest is done, what waits goes back into its slots, and the block goes on from its join
 abbrev pub resumed : State → Standing → Trace → State
-resumed s frame t = record s { place = frame.place; operands = frame.operands; slots = settled s.results frame.slots; results = []; trace = joined s.trace t }
+resumed s frame t = record s { place = frame.place; operands = frame.operands; slots = settled s.results frame.slots; arrays = settled s.arrived frame.arrays; results = []; arrived = []; trace = joined s.trace t }
 
 -- an effect that stopped
 abbrev pub HasStopped : Effect → Type 0
-HasStopped (Ended v t cost) = ⊥
+HasStopped (Ended v arrays t cost) = ⊥
 HasStopped (Joined frame t cost) = ⊥
 HasStopped (TrapIn trap line lines cost) = Unit {0}
 HasStopped OverLimit = Unit {0}
@@ -89,14 +97,14 @@ stopped_after s count e = e
 -- what was dropped counts only for want of memory
 abbrev pub dropped : Effect → Effect → Effect
 dropped e Memory = Memory
-dropped e (Ended v t cost) = e
+dropped e (Ended v arrays t cost) = e
 dropped e (Joined frame t cost) = e
 dropped e (TrapIn trap line lines cost) = e
 dropped e OverLimit = e
 
 -- what an effect has counted
 abbrev pub cost_of : Effect → ℕ
-cost_of (Ended v t cost) = cost
+cost_of (Ended v arrays t cost) = cost
 cost_of (Joined frame t cost) = cost
 cost_of (TrapIn trap line lines cost) = cost
 cost_of OverLimit = 0
@@ -141,9 +149,9 @@ mutual
   pub data Makes (code : Code) : (job : Job) → Effect → Type 0 where
     Arrived : (job : Job) (s : State) (count : ℕ)
         → Reached code job (Going s count []) → has_come job.extent code s ≡ true → Makes code job (Joined (standing s) s.trace count)
-    Returned : (job : Job) (s : State) (count : ℕ) (v : Option ℤ) (t : Trace)
-        → Reached code job (Going s count []) → has_come job.extent code s ≡ false → step code s ≡ Ends v t → job.before + (count + 1) ≤ job.limit
-        → Makes code job (Ended v t (count + 1))
+    Returned : (job : Job) (s : State) (count : ℕ) (v : Option ℤ) (arrays : Slots (List ℤ)) (t : Trace)
+        → Reached code job (Going s count []) → has_come job.extent code s ≡ false → step code s ≡ Ends v arrays t → job.before + (count + 1) ≤ job.limit
+        → Makes code job (Ended v arrays t (count + 1))
     Stopped : (job : Job) (e : Effect)
         → Reached code job (Halted e []) → Makes code job e
     -- a job given up for want of memory, before any strand was made

@@ -1,0 +1,101 @@
+-- What is taken out of slots, and goes back into them.
+use Rattle.std.proofs.Common.{◌≡◌, ℕ, zero, suc, ◌<◌, ◌≤◌, ℤ, true, false, Option, Some, None, List, [], ◌∷◌, length, refl, ap, ◌∙◌, subst, arith}
+use Rattle.std.specs.Prelude.{map, slice_get}
+use Rattle.cw_code.specs.declared.code.Func.{Func}
+use Rattle.cw_code.specs.Run.{Slots, Results, Taken, Whole, State, is_full, put_in, slot_taken, moved_out, and_array, arrays_in, parts_of, restored, and_result, given_back, given}
+use Rattle.cw_code.specs.Fits.{Shape, empty_rows, gone_rows, none_empty, CoversEach, LieFrom}
+use Rattle.cw_code.specs.Good.{slots_in, ints_round, arrays_round, Holds, Good, FitSettles}
+use Rattle.cw_code.proofs.Tests.{taken}
+use Rattle.cw_code.proofs.Slots.{covered_row, covered_empty, covered_gone, covered_cuts, slots_in_both}
+use Rattle.cw_code.proofs.Keeps.{AllThere, still_full, with_rows, with_settled, with_joined}
+
+-- a place among functions that lie one after another
+pub lie_within : (from : ℕ) (fs : List Func) (to k : ℕ) (f : Func) → LieFrom from fs to → slice_get fs k ≡ Some f → f.end ≤ to
+lie_within from [] to k f h e = cc
+lie_within from (g ∷ fs) to zero f h e = let same : g ≡ f = cc in omega (arith, lie_up g.end fs to h.2, ap (λ (x : Func). x.end) same)
+  where
+    lie_up : (from : ℕ) (fs : List Func) (to : ℕ) → LieFrom from fs to → from ≤ to
+    lie_up from [] to h = omega (arith, h)
+    lie_up from (g ∷ fs) to h = omega (arith, h.1, lie_up g.end fs to h.2)
+lie_within from (g ∷ fs) to (suc k) f h e = lie_within g.end fs to k f h.2 e
+
+pub missing : {A : Type 0} (xs : List A) (k : ℕ) → k < length xs → slice_get xs k ≡ None → ⊥
+missing [] k lt e = omega (arith, lt)
+missing (x ∷ xs) zero lt e = cc
+missing (x ∷ xs) (suc k) lt e = missing xs k (omega (arith, lt)) e
+
+-- what is there in a list
+pub there : {A : Type 0} (xs : List A) (k : ℕ) → k < length xs → (a : A) × (slice_get xs k ≡ Some a)
+there {A = A} xs k lt = cases (slice_get xs k) refl
+  where
+    cases : (o : Option A) → slice_get xs k ≡ o → (a : A) × (slice_get xs k ≡ Some a)
+    cases None e = absurd (missing xs k lt e)
+    cases (Some a) e = (a, e)
+
+-- what a call gives back of the arrays that were taken, where its array slots are full
+pub gives_back : (taken : List Taken) (arrays : Slots (List ℤ)) → length taken ≤ length arrays → ((a : ℕ) → a < length arrays → is_full (slice_get arrays a) ≡ true)
+    → (results : Results (List ℤ)) × (given_back taken arrays ≡ Some results) × (slots_in results ≡ map slot_taken taken)
+gives_back [] arrays le h = ([], refl, refl)
+gives_back (x ∷ taken) [] le h = absurd (omega (arith, le))
+gives_back (x ∷ taken) (None ∷ arrays) le h = absurd (never (h 0 (omega arith)))
+  where
+    never : false ≡ true → ⊥
+    never k = cc
+gives_back (x ∷ taken) (Some xs ∷ arrays) le h =
+    let r = gives_back taken arrays (omega (arith, le)) (λ a lt. h (suc a) (omega (arith, lt))) in
+    ((slot_taken x, restored x xs) ∷ r.0, ap (and_result x (Some xs)) r.1, ap (λ ks. slot_taken x ∷ ks) r.2)
+
+-- arrays that are there can be taken
+pub there_arrays : (passed : List ℕ) (arrays : Slots (List ℤ)) → AllThere passed arrays → (given : List (List ℤ)) × (arrays_in passed arrays ≡ Some given) × (length given ≡ length passed)
+there_arrays [] arrays h = ([], refl, refl)
+there_arrays (a ∷ passed) arrays h =
+    let r = there_arrays passed arrays h.2 in
+    cases r.0 r.1 r.2 (slice_get (moved_out passed arrays) a) refl (still_full passed arrays a h.0 h.1)
+  where
+    cases : (given : List (List ℤ)) → arrays_in passed arrays ≡ Some given → length given ≡ length passed → (o : Option (Option (List ℤ))) → slice_get (moved_out passed arrays) a ≡ o → is_full o ≡ true
+        → (more : List (List ℤ)) × (arrays_in (a ∷ passed) arrays ≡ Some more) × (length more ≡ suc (length passed))
+    cases given e n None f k = cc
+    cases given e n (Some None) f k = cc
+    cases given e n (Some (Some xs)) f k =
+        (xs ∷ given, ap (λ o. and_array o (arrays_in passed arrays)) f ∙ ap (and_array (Some (Some xs))) e, ap suc n)
+
+pub whole_slots : (passed : List ℕ) → map slot_taken (map (λ a. Whole a) passed) ≡ passed
+whole_slots [] = refl
+whole_slots (a ∷ passed) = ap (λ ks. a ∷ ks) (whole_slots passed)
+
+pub part_slots : (from : ℕ) (passed : List ℕ) (given : List (List ℤ)) → length given ≡ length passed → map slot_taken (parts_of from passed given) ≡ passed
+part_slots from [] [] e = refl
+part_slots from [] (xs ∷ given) e = absurd (omega (arith, e))
+part_slots from (a ∷ passed) [] e = absurd (omega (arith, e))
+part_slots from (a ∷ passed) (xs ∷ given) e = ap (λ ks. a ∷ ks) (part_slots from passed given (omega (arith, e)))
+
+-- a good call of another state with the same slots
+module _ (f : Func) where
+  pub covered : (there out : Shape) (s : State) → there.operands ≡ out.operands → CoversEach (record { empty = there.empty; gone = there.gone; cut = None } ∷ there.outer) (record { empty = out.empty; gone = out.gone; cut = None } ∷ out.outer) → Good f out s → Good f there s
+  covered there out s e c g = record {
+    as_many = e ∙ g.as_many;
+    ints = with_rows f.slots out.empty there.empty (empty_rows out.outer) (empty_rows there.outer) s.slots (slots_in s.results) (ints_round s.around)
+        (covered_row f.slots there.empty out.empty (slots_in s.results) c.0 g.ints.row_holds) (covered_empty f.slots there.outer out.outer (ints_round s.around) c.3 g.ints.rows_hold) g.ints;
+    arrays = with_rows f.arrays out.gone there.gone (gone_rows out.outer) (gone_rows there.outer) s.arrays (slots_in s.arrived) (arrays_round s.around)
+        (covered_row f.arrays there.gone out.gone (slots_in s.arrived) c.1 g.arrays.row_holds) (covered_gone f.arrays there.outer out.outer (arrays_round s.around) c.3 g.arrays.rows_hold) g.arrays;
+    cuts = covered_cuts there.outer out.outer s.around c.3 g.cuts;
+  }
+
+  -- a join: all that waits in the innermost block has gone back
+  pub joined : (shape : Shape) (s : State) → Good f shape s → Good f (record shape { empty = none_empty (length shape.empty); gone = none_empty (length shape.gone) }) (put_in s)
+  joined shape s g = record {
+    as_many = g.as_many;
+    ints = with_joined f.slots shape.empty (empty_rows shape.outer) s.slots s.results (ints_round s.around) (length shape.empty) g.ints.row_holds.as_wide g.ints;
+    arrays = with_joined f.arrays shape.gone (gone_rows shape.outer) s.arrays s.arrived (arrays_round s.around) (length shape.gone) g.arrays.row_holds.as_wide g.arrays;
+    cuts = g.cuts;
+  }
+
+pub settles : FitSettles
+settles f shape s newest others newest' others' g = record {
+  as_many = g.as_many;
+  ints = with_settled f.slots shape.empty (empty_rows shape.outer) s.slots newest (slots_in others) (ints_round s.around)
+      (subst (λ ws. Holds f.slots shape.empty (empty_rows shape.outer) s.slots ws (ints_round s.around)) (slots_in_both newest others) g.ints);
+  arrays = with_settled f.arrays shape.gone (gone_rows shape.outer) s.arrays newest' (slots_in others') (arrays_round s.around)
+      (subst (λ ws. Holds f.arrays shape.gone (gone_rows shape.outer) s.arrays ws (arrays_round s.around)) (slots_in_both newest' others') g.arrays);
+  cuts = g.cuts;
+}
