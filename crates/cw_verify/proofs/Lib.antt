@@ -1,6 +1,9 @@
 pub mod Decided
 pub mod Lists
+pub mod Naming
+pub mod Rounds
 pub mod Rows
 pub mod Tables
+pub mod Noting
 pub mod Spreading
 pub mod Verifying

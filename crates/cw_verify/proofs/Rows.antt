@@ -1,13 +1,12 @@
--- Rows that meet.
-use Rattle.std.proofs.Common.{◌≡◌, ℕ, zero, suc, ◌+◌, ◌<◌, ◌≤◌, Bool, true, false, ◌||◌, ◌&&◌, if◌then◌else◌, nat_eq, Some, List, [], ◌∷◌, ◌++◌, length, get_or, refl, sym, ap, ◌∙◌, arith}
-use Rattle.std.specs.Prelude.{option_map, take, drop, slice_get, slice_set}
-use Rattle.std.specs.Global.{Vec}
-use Rattle.std.proofs.lemmas.List.{length-map, map-append, set-get_or}
-use Rattle.std.proofs.lemmas.Option.{slice_get-map, slice_get-get_or}
-use Rattle.cw_code.specs.Fits.{Row, Shape, is_full_in, full_in_all}
-use Rattle.cw_verify.specs.Table.{rows_of, can_meet, either_empty, either_each, are_alike, unmarked, unmarked_each}
-use Rattle.cw_verify.proofs.Lists.{map_set, set_same, drop_at, take_more}
-use Rattle.cw_verify.proofs.Decided.{eq_of, equal, second_true, first_false}
+-- Rows of slots: rows that meet, and slots that are marked one after another.
+use Rattle.std.proofs.Common.{◌≡◌, ℕ, zero, suc, ◌+◌, ◌<◌, Bool, true, false, not, ◌||◌, ◌&&◌, if◌then◌else◌, nat_eq, nat_lt, List, [], ◌∷◌, Some, length, get_or, refl, sym, ap, ◌∙◌, ⊎_elim, arith}
+use Rattle.std.specs.Prelude.{take, drop, slice_get, slice_set}
+use Rattle.std.proofs.lemmas.List.{length-set, length-replicate}
+use Rattle.std.proofs.lemmas.Bool.{cases_eq}
+use Rattle.cw_code.specs.Fits.{Row, Shape, is_full_in, has_array, has_arrays, is_none_of, names_arrays, with_gone, none_empty}
+use Rattle.cw_verify.specs.Table.{either_empty, are_unmarked, unmarked}
+use Rattle.cw_verify.proofs.Lists.{drop_at, get_set, set_other}
+use Rattle.cw_verify.proofs.Decided.{below, equal, not_equal, lt_of, first_false, second_false, both_true, first_true, second_true}
 
 pub unmarked_set : (xs : Row) (a : ℕ) (d : Bool) → a < length xs → get_or xs a d ≡ false → unmarked (slice_set xs a true) < unmarked xs
 unmarked_set [] a d lt e = absurd (omega (arith, lt))
@@ -41,114 +40,103 @@ either_more (x ∷ xs) (y ∷ ys) (suc a) d lt = ap (λ l. (x || y) ∷ l) (eith
     out true = refl
     out false = refl
 
-pub set_past : (xs : Row) (a : ℕ) → length xs ≤ a → slice_set xs a true ≡ xs
-set_past [] a le = refl
-set_past (x ∷ xs) zero le = absurd (omega (arith, le))
-set_past (x ∷ xs) (suc a) le = ap (λ l. x ∷ l) (set_past xs a (omega (arith, le)))
+-- slots that are marked one after another
+set_swap : (row : Row) (a b : ℕ) (d : Bool) → slice_set (slice_set row a d) b d ≡ slice_set (slice_set row b d) a d
+set_swap [] a b d = refl
+set_swap (x ∷ row) zero zero d = refl
+set_swap (x ∷ row) zero (suc b) d = refl
+set_swap (x ∷ row) (suc a) zero d = refl
+set_swap (x ∷ row) (suc a) (suc b) d = ap (λ l. x ∷ l) (set_swap row a b d)
 
-pub set_had : (xs : Row) (a : ℕ) (d : Bool) → get_or xs a d ≡ true → slice_set xs a true ≡ xs
-set_had xs a d e = ap (slice_set xs a) (sym e) ∙ set-get_or xs a d
+gone_first : (slots : List ℕ) (a : ℕ) (row : Row) → slice_set (with_gone slots row) a true ≡ with_gone slots (slice_set row a true)
+gone_first [] a row = refl
+gone_first (b ∷ slots) a row = set_swap (with_gone slots row) b a true ∙ ap (λ l. slice_set l b true) (gone_first slots a row)
 
--- several rows
-pub each_none : (xs : List Row) → either_each xs [] ≡ xs
-each_none [] = refl
-each_none (x ∷ xs) = refl
-
--- one row more
-pub each_more : (xs ys : List Row) (j : ℕ) (x y : Row) → slice_get xs j ≡ Some x → slice_get ys j ≡ Some y → either_each xs (take (suc j) ys) ≡ slice_set (either_each xs (take j ys)) j (either_empty x y)
-each_more [] ys j x y e f = cc
-each_more (a ∷ xs) [] j x y e f = cc
-each_more (a ∷ xs) (b ∷ ys) zero x y e f =
-    let p : a ≡ x = cc in
-    let q : b ≡ y = cc in
-    ap (λ l. either_empty a b ∷ l) (each_none xs) ∙ ap (λ r. either_empty r b ∷ xs) p ∙ ap (λ r. either_empty x r ∷ xs) q
-each_more (a ∷ xs) (b ∷ ys) (suc j) x y e f = ap (λ l. either_empty a b ∷ l) (each_more xs ys j x y e f)
-
--- a row that is still to come
-pub each_there : (xs ys : List Row) (j : ℕ) → slice_get (either_each xs (take j ys)) j ≡ slice_get xs j
-each_there [] ys j = refl
-each_there (a ∷ xs) [] zero = refl
-each_there (a ∷ xs) [] (suc j) = refl
-each_there (a ∷ xs) (b ∷ ys) zero = refl
-each_there (a ∷ xs) (b ∷ ys) (suc j) = each_there xs ys j
-
-pub each_fewer : (xs : List Row) (j : ℕ) (x r : Row) → slice_get xs j ≡ Some x → unmarked r < unmarked x → unmarked_each (slice_set xs j r) < unmarked_each xs
-each_fewer [] j x r e lt = cc
-each_fewer (a ∷ xs) zero x r e lt = let p : a ≡ x = cc in omega (arith, lt, ap unmarked p)
-each_fewer (a ∷ xs) (suc j) x r e lt = omega (arith, each_fewer xs j x r e lt)
-
-pub alike_length : (xs ys : List Row) → are_alike xs ys ≡ true → length xs ≡ length ys
-alike_length [] [] h = refl
-alike_length [] (y ∷ ys) h = cc
-alike_length (x ∷ xs) [] h = cc
-alike_length (x ∷ xs) (y ∷ ys) h = omega (arith, alike_length xs ys (second_true (nat_eq (length x) (length y)) (are_alike xs ys) h))
-
-pub not_alike : (xs ys : List Row) → (length xs ≡ length ys → ⊥) → are_alike xs ys ≡ false
-not_alike xs ys n = cases (are_alike xs ys) refl
-  where
-    cases : (b : Bool) → are_alike xs ys ≡ b → b ≡ false
-    cases false e = refl
-    cases true e = absurd (n (alike_length xs ys e))
-
--- rows of vectors
-pub rows_length : (rows : List (Vec Bool)) → length (rows_of rows) ≡ length rows
-rows_length rows = length-map rows (λ row. row.items)
-
-pub row_at : (rows : List (Vec Bool)) (j : ℕ) (row d : Vec Bool) → j < length rows → row ≡ get_or rows j d → slice_get (rows_of rows) j ≡ Some row.items
-row_at rows j row d lt e = slice_get-map (λ (r : Vec Bool). r.items) rows j ∙ ap (λ o. option_map (λ (r : Vec Bool). r.items) o) (slice_get-get_or rows j d lt ∙ ap Some (sym e))
-
--- one row more is copied
-pub copies_more : (rows copies : List (Vec Bool)) (k : ℕ) (row v : Vec Bool) → k < length rows → row ≡ get_or rows k row → v.items ≡ row.items → rows_of copies ≡ take k (rows_of rows) → rows_of (copies ++ v ∷ []) ≡ take (k + 1) (rows_of rows)
-copies_more rows copies k row v lt e is h =
+-- one slot more
+pub gone_on : (slots : List ℕ) (k a : ℕ) (row : Row) → slice_get slots k ≡ Some a → with_gone (drop k slots) row ≡ with_gone (drop (k + 1) slots) (slice_set row a true)
+gone_on slots k a row e =
     let n : suc k ≡ k + 1 = omega arith in
-    map-append (λ (r : Vec Bool). r.items) copies (v ∷ [])
-    ∙ ap (λ l. l ++ v.items ∷ []) h
-    ∙ ap (λ x. take k (rows_of rows) ++ x ∷ []) is
-    ∙ sym (take_more (rows_of rows) k row.items (row_at rows k row row lt e))
-    ∙ ap (λ j. take j (rows_of rows)) n
+    ap (λ l. with_gone l row) (drop_at slots k a e) ∙ gone_first (drop (suc k) slots) a row ∙ ap (λ j. with_gone (drop j slots) (slice_set row a true)) n
 
-module _ (now : List (Vec Bool)) (j : ℕ) (row new : Vec Bool) (lt : j < length now) (e : row ≡ get_or now j row) where
-  -- one row more has met the other
-  pub each_step : (initial more : List (Vec Bool)) (other : Vec Bool) → j < length more → other ≡ get_or more j other → new.items ≡ either_empty row.items other.items → rows_of now ≡ either_each (rows_of initial) (take j (rows_of more)) →
-      rows_of (slice_set now j new) ≡ either_each (rows_of initial) (take (j + 1) (rows_of more))
-  each_step initial more other lt' f is h =
-      let xs = rows_of initial in
-      let ys = rows_of more in
-      let n : suc j ≡ j + 1 = omega arith in
-      map_set (λ (r : Vec Bool). r.items) now j new
-      ∙ ap (λ l. slice_set l j new.items) h
-      ∙ ap (λ r. slice_set (either_each xs (take j ys)) j r) is
-      ∙ sym (each_more xs ys j row.items other.items (sym (each_there xs ys j) ∙ ap (λ l. slice_get l j) (sym h) ∙ row_at now j row row lt e) (row_at more j other other lt' f))
-      ∙ ap (λ k. either_each xs (take k ys)) n
+-- array slots that a place has, from one of a list on
+pub arrays_not : (s : Shape) (slots : List ℕ) (k a : ℕ) → slice_get slots k ≡ Some a → has_array s a ≡ false → has_arrays s (drop k slots) ≡ false
+arrays_not s slots k a e f = ap (has_arrays s) (drop_at slots k a e) ∙ first_false (has_array s a) (has_arrays s (drop (suc k) slots)) f
 
-  pub each_kept : new.items ≡ row.items → rows_of (slice_set now j new) ≡ rows_of now
-  each_kept is = map_set (λ (r : Vec Bool). r.items) now j new ∙ ap (slice_set (rows_of now) j) is ∙ set_same (rows_of now) j row.items (row_at now j row row lt e)
+pub arrays_on : (s : Shape) (slots : List ℕ) (k a : ℕ) → slice_get slots k ≡ Some a → has_array s a ≡ true → has_arrays s (drop k slots) ≡ has_arrays s (drop (k + 1) slots)
+arrays_on s slots k a e f =
+    let n : suc k ≡ k + 1 = omega arith in
+    ap (has_arrays s) (drop_at slots k a e) ∙ ap (λ b. b && has_arrays s (drop (suc k) slots)) f ∙ ap (λ j. has_arrays s (drop j slots)) n
 
-  pub each_less : unmarked new.items < unmarked row.items → unmarked_each (rows_of (slice_set now j new)) < unmarked_each (rows_of now)
-  each_less less = omega (arith, ap unmarked_each (map_set (λ (r : Vec Bool). r.items) now j new), each_fewer (rows_of now) j row.items new.items (row_at now j row row lt e) less)
+-- slots that a row has full
+abbrev all_full : Row → List ℕ → Bool
+all_full row [] = true
+all_full row (a ∷ slots) = is_full_in (slice_get row a) && all_full row slots
 
--- rows from a place on
-pub alike_not : (xs ys : List Row) (j : ℕ) (x y : Row) → slice_get xs j ≡ Some x → slice_get ys j ≡ Some y → (length x ≡ length y → ⊥) → are_alike (drop j xs) (drop j ys) ≡ false
-alike_not xs ys j x y e f n =
-    ap (λ l. are_alike l (drop j ys)) (drop_at xs j x e) ∙ ap (are_alike (x ∷ drop (suc j) xs)) (drop_at ys j y f) ∙ first_false (nat_eq (length x) (length y)) (are_alike (drop (suc j) xs) (drop (suc j) ys)) (unequal (nat_eq (length x) (length y)) refl)
+full_within : (row : Row) (a : ℕ) → is_full_in (slice_get row a) ≡ true → a < length row
+full_within [] a f = cc
+full_within (x ∷ row) zero f = omega arith
+full_within (x ∷ row) (suc a) f = omega (arith, full_within row a f)
+
+-- a slot that is marked is not full then, and each other one is as it was
+marked_full : (row : Row) (a b : ℕ) → is_full_in (slice_get row a) ≡ true → is_full_in (slice_get (slice_set row a true) b) ≡ (not (nat_eq a b) && is_full_in (slice_get row b))
+marked_full row a b f =
+    ⊎_elim (λ (q : a ≡ b).
+    ap (λ k. is_full_in (slice_get (slice_set row a true) k)) (sym q)
+    ∙ ap is_full_in (get_set row a true (full_within row a f))
+    ∙ ap (λ e. not e && is_full_in (slice_get row b)) (sym (equal a b q)))
+    (λ (q : a ≡ b → ⊥). ap is_full_in (set_other row a b true (λ e. q (sym e))) ∙ ap (λ e. not e && is_full_in (slice_get row b)) (sym (not_equal a b q)))
+    (cases_eq a b)
+
+four : (x y n r : Bool) → ((x && y) && (n && r)) ≡ ((x && n) && (y && r))
+four false y n r = refl
+four true true n r = refl
+four true false true r = refl
+four true false false r = refl
+
+all_marked : (row : Row) (a : ℕ) (slots : List ℕ) → is_full_in (slice_get row a) ≡ true → all_full (slice_set row a true) slots ≡ (is_none_of a slots && all_full row slots)
+all_marked row a [] f = refl
+all_marked row a (b ∷ slots) f =
+    ap (λ x. x && all_full (slice_set row a true) slots) (marked_full row a b f)
+    ∙ ap (λ x. (not (nat_eq a b) && is_full_in (slice_get row b)) && x) (all_marked row a slots f)
+    ∙ four (not (nat_eq a b)) (is_full_in (slice_get row b)) (is_none_of a slots) (all_full row slots)
+
+three : (n r m : Bool) → ((n && r) && m) ≡ (r && (n && m))
+three true r m = refl
+three false true m = refl
+three false false m = refl
+
+-- slots that can be marked one after another are full, and none is there twice
+unmarked_named : (row : Row) (slots : List ℕ) → are_unmarked row slots ≡ (all_full row slots && names_arrays (length row) slots)
+unmarked_named row [] = refl
+unmarked_named row (a ∷ slots) = at (is_full_in (slice_get row a)) refl (unmarked_named (slice_set row a true) slots)
   where
-    unequal : (b : Bool) → nat_eq (length x) (length y) ≡ b → b ≡ false
-    unequal false e = refl
-    unequal true e = absurd (n (eq_of (length x) (length y) e))
+    at : (b : Bool) → is_full_in (slice_get row a) ≡ b → are_unmarked (slice_set row a true) slots ≡ (all_full (slice_set row a true) slots && names_arrays (length (slice_set row a true)) slots) →
+        (b && are_unmarked (slice_set row a true) slots) ≡ ((b && all_full row slots) && (nat_lt a (length row) && (is_none_of a slots && names_arrays (length row) slots)))
+    at false f h = refl
+    at true f h =
+        h
+        ∙ ap (λ n. all_full (slice_set row a true) slots && names_arrays n slots) (length-set row a true)
+        ∙ ap (λ x. x && names_arrays (length row) slots) (all_marked row a slots f)
+        ∙ three (is_none_of a slots) (all_full row slots) (names_arrays (length row) slots)
+        ∙ ap (λ x. all_full row slots && (x && (is_none_of a slots && names_arrays (length row) slots))) (sym (below a (length row) (full_within row a f)))
 
-pub alike_on : (xs ys : List Row) (j : ℕ) (x y : Row) → slice_get xs j ≡ Some x → slice_get ys j ≡ Some y → length x ≡ length y → are_alike (drop j xs) (drop j ys) ≡ are_alike (drop (j + 1) xs) (drop (j + 1) ys)
-alike_on xs ys j x y e f same =
-    let n : suc j ≡ j + 1 = omega arith in
-    ap (λ l. are_alike l (drop j ys)) (drop_at xs j x e) ∙ ap (are_alike (x ∷ drop (suc j) xs)) (drop_at ys j y f) ∙ ap (λ b. b && are_alike (drop (suc j) xs) (drop (suc j) ys)) (equal (length x) (length y) same) ∙ ap (λ k. are_alike (drop k xs) (drop k ys)) n
+none_full : (n a : ℕ) → a < n → is_full_in (slice_get (none_empty n) a) ≡ true
+none_full zero a lt = absurd (omega (arith, lt))
+none_full (suc n) zero lt = refl
+none_full (suc n) (suc a) lt = none_full n a (omega (arith, lt))
 
-pub full_not : (xs : List Row) (j a : ℕ) (x : Row) → slice_get xs j ≡ Some x → is_full_in (slice_get x a) ≡ false → full_in_all (drop j xs) a ≡ false
-full_not xs j a x e f = ap (λ l. full_in_all l a) (drop_at xs j x e) ∙ first_false (is_full_in (slice_get x a)) (full_in_all (drop (suc j) xs) a) f
+named_full : (n : ℕ) (slots : List ℕ) → names_arrays n slots ≡ true → all_full (none_empty n) slots ≡ true
+named_full n [] h = refl
+named_full n (a ∷ slots) h =
+    let rest = second_true (nat_lt a n) (is_none_of a slots && names_arrays n slots) h in
+    both_true (is_full_in (slice_get (none_empty n) a)) (all_full (none_empty n) slots) (none_full n a (lt_of a n (first_true (nat_lt a n) (is_none_of a slots && names_arrays n slots) h)))
+    (named_full n slots (second_true (is_none_of a slots) (names_arrays n slots) rest))
 
-pub full_on : (xs : List Row) (j a : ℕ) (x : Row) → slice_get xs j ≡ Some x → is_full_in (slice_get x a) ≡ true → full_in_all (drop j xs) a ≡ full_in_all (drop (j + 1) xs) a
-full_on xs j a x e f =
-    let n : suc j ≡ j + 1 = omega arith in
-    ap (λ l. full_in_all l a) (drop_at xs j x e) ∙ ap (λ b. b && full_in_all (drop (suc j) xs) a) f ∙ ap (λ k. full_in_all (drop k xs) a) n
-
--- shapes that can meet have as many blocks
-pub meet_length : (t s : Shape) → can_meet t s ≡ true → length t.outer ≡ length s.outer
-meet_length t s h = alike_length t.outer s.outer (second_true (nat_eq (length t.empty) (length s.empty)) (are_alike t.outer s.outer) (second_true (nat_eq t.operands s.operands) (nat_eq (length t.empty) (length s.empty) && are_alike t.outer s.outer) h))
+-- from a row with none empty
+pub unmarked_from_none : (n : ℕ) (slots : List ℕ) → are_unmarked (none_empty n) slots ≡ names_arrays n slots
+unmarked_from_none n slots =
+    unmarked_named (none_empty n) slots ∙ ap (λ m. all_full (none_empty n) slots && names_arrays m slots) (length-replicate n false) ∙ at (names_arrays n slots) refl
+  where
+    at : (b : Bool) → names_arrays n slots ≡ b → (all_full (none_empty n) slots && b) ≡ b
+    at false e = second_false (all_full (none_empty n) slots) false refl
+    at true e = both_true (all_full (none_empty n) slots) true (named_full n slots e) refl

@@ -1,5 +1,5 @@
 -- What a step of a search changes, and what it keeps.
-use Rattle.std.proofs.Common.{◌≡◌, ◌⊎◌, inl, inr, ⊎_elim, ℕ, zero, suc, ◌+◌, ◌-◌, ◌<◌, ◌≤◌, Bool, true, false, ◌||◌, if◌then◌else◌, Option, Some, None, List, [], ◌∷◌, ◌++◌, length, get_or, refl, sym, ap, ◌∙◌, subst, arith, length-append}
+use Rattle.std.proofs.Common.{◌≡◌, ◌⊎◌, inl, inr, ⊎_elim, ℕ, zero, suc, ◌+◌, ◌-◌, ◌<◌, ◌≤◌, Bool, true, false, ◌||◌, Option, Some, None, List, [], ◌∷◌, length, get_or, refl, sym, ap, ◌∙◌, subst, arith}
 use Rattle.std.specs.Prelude.{replicate, slice_get, slice_set, option_map, Err}
 use Rattle.std.proofs.lemmas.List.{length-map, length-replicate}
 use Rattle.std.proofs.lemmas.Option.{slice_get_within, slice_get-map, slice_get-get_or}
@@ -12,9 +12,9 @@ use Rattle.cw_code.specs.Code.{Code}
 use Rattle.cw_code.specs.Fits.{Shape, Table, Leads, AllLead, IsTable, first_shape, is_ready, leaves, nexts, names_well}
 use Rattle.cw_verify.specs.declared.found.Found.{Found}
 use Rattle.cw_verify.specs.declared.search.Search.{Search}
-use Rattle.cw_verify.specs.Table.{Shapes, shape_view, shapes_of, joined, come_at, come, visited, unmarked_at, unmarked_in, unreached, IsIn, left_to_do, Spread, Tells, table_of, IsDone, IsSearch, Fails, AllNamed}
-use Rattle.cw_verify.proofs.Lists.{same_some, set_other, set_set, set_same, map_set, get_left, get_last}
-use Rattle.cw_verify.proofs.Tables.{rows_in, each_refl, leads_at, Visited, visits, visit_done, leads_grown, done_grown, held}
+use Rattle.cw_verify.specs.Table.{Shapes, shape_view, shapes_of, joined, come_at, come, visited, unmarked_at, unmarked_in, unreached, IsIn, IsNoted, Notes, left_to_do, Spread, Tells, table_of, IsDone, IsSearch, Fails, AllNamed, blocks_of}
+use Rattle.cw_verify.proofs.Lists.{same_some, set_other, set_set, set_same, map_set}
+use Rattle.cw_verify.proofs.Tables.{each_refl, leads_at, Visited, visits, visit_done, leads_grown, done_grown, held}
 
 -- places as shapes
 pub shapes_length : (items : List (Option Found)) → length (shapes_of items) ≡ length items
@@ -46,37 +46,24 @@ unmarked_less [] k t s e lt = cc
 unmarked_less (o ∷ shapes) zero t s e lt = let same : o ≡ Some t = same_some o (Some t) e in omega (arith, lt, ap unmarked_at same)
 unmarked_less (o ∷ shapes) (suc k) t s e lt = omega (arith, unmarked_less shapes k t s e lt)
 
--- the places that are noted
-pub is_in_last : (work : List ℕ) (k : ℕ) → IsIn k (work ++ k ∷ [])
-is_in_last work k = (length work, get_last work k (length work) refl)
-
-is_in_more : (work : List ℕ) (j k : ℕ) → IsIn j work → IsIn j (work ++ k ∷ [])
-is_in_more work j k h = (h.0, get_left work (k ∷ []) h.0 (slice_get_within work h.0 j h.1) ∙ h.1)
-
-pub is_in_either : (work : List ℕ) (j k : ℕ) → IsIn j (work ++ k ∷ []) → IsIn j work ⊎ (j ≡ k)
-is_in_either [] j k (zero, e) = let same : k ≡ j = cc in inr (sym same)
-is_in_either [] j k (suc i, e) = cc
-is_in_either (w ∷ work) j k (zero, e) = inl (zero, e)
-is_in_either (w ∷ work) j k (suc i, e) = ⊎_elim (λ (h : IsIn j work). inl (suc h.0, h.1)) (λ (h : j ≡ k). inr h) (is_in_either work j k (i, e))
-
 -- a step that changes nothing
 pub spread_none : (shapes : Shapes) (work : List ℕ) → Spread shapes shapes work work false
 spread_none shapes work = record { kept = λ j h. h; noted = λ j. inl refl; from = λ j h. inl h; fewer = omega arith; reaches = λ e. cc; shrinks = λ e. omega arith }
 
-module _ (shapes : Shapes) (k : ℕ) (s : Shape) (work : List ℕ) where
-  abbrev new : Shapes
-  new = slice_set shapes k (Some s)
+module _ (shapes : Shapes) (k : ℕ) (s : Shape) (work work' : List ℕ) (n : IsNoted k work work') where
+  abbrev changed : Shapes
+  changed = slice_set shapes k (Some s)
 
-  noted_one : (j : ℕ) → (slice_get new j ≡ slice_get shapes j) ⊎ IsIn j (work ++ k ∷ [])
-  noted_one j = ⊎_elim (λ (q : j ≡ k). inr (subst (λ i. IsIn i (work ++ k ∷ [])) (sym q) (is_in_last work k))) (λ (q : j ≡ k → ⊥). inl (set_other shapes k j (Some s) q)) (cases_eq j k)
+  noted_one : (j : ℕ) → (slice_get changed j ≡ slice_get shapes j) ⊎ IsIn j work'
+  noted_one j = ⊎_elim (λ (q : j ≡ k). inr (subst (λ i. IsIn i work') (sym q) n.here)) (λ (q : j ≡ k → ⊥). inl (set_other shapes k j (Some s) q)) (cases_eq j k)
 
-  from_one : k < length shapes → (j : ℕ) → IsIn j (work ++ k ∷ []) → IsIn j work ⊎ (j < length shapes)
-  from_one lt j h = ⊎_elim (λ (q : IsIn j work). inl q) (λ (q : j ≡ k). inr (omega (arith, q, lt))) (is_in_either work j k h)
+  from_one : k < length shapes → (j : ℕ) → IsIn j work' → IsIn j work ⊎ (j < length shapes)
+  from_one lt j h = ⊎_elim (λ (q : IsIn j work). inl q) (λ (q : j ≡ k). inr (omega (arith, q, lt))) (n.from j h)
 
   -- a place is reached
-  pub spread_new : slice_get shapes k ≡ Some None → Spread shapes new work (work ++ k ∷ []) true
+  pub spread_new : slice_get shapes k ≡ Some None → Spread shapes changed work work' true
   spread_new e = record {
-    kept = λ j h. is_in_more work j k h;
+    kept = n.kept;
     noted = noted_one;
     from = from_one (slice_get_within shapes k None e);
     fewer = omega (arith, unreached_new shapes k s e);
@@ -85,14 +72,14 @@ module _ (shapes : Shapes) (k : ℕ) (s : Shape) (work : List ℕ) where
   }
 
   -- more comes to a place
-  pub spread_more : (t : Shape) → slice_get shapes k ≡ Some (Some t) → unmarked_at (Some s) < unmarked_at (Some t) → Spread shapes new work (work ++ k ∷ []) false
+  pub spread_more : (t : Shape) → slice_get shapes k ≡ Some (Some t) → unmarked_at (Some s) < unmarked_at (Some t) → Spread shapes changed work work' false
   spread_more t e less = record {
-    kept = λ j h. is_in_more work j k h;
+    kept = n.kept;
     noted = noted_one;
     from = from_one (slice_get_within shapes k (Some t) e);
     fewer = omega (arith, unreached_same shapes k t s e);
     reaches = λ q. cc;
-    shrinks = λ q. omega (arith, unmarked_less shapes k t s e less, length-append work (k ∷ []));
+    shrinks = λ q. omega (arith, unmarked_less shapes k t s e less, n.longer);
   }
 
 -- two steps
@@ -117,22 +104,22 @@ spread_both a b c u v w p q n h k = record {
     neither false false x y e = omega (arith, x refl, y refl)
 
 -- a shape has come to a place that had none
-pub come_new : (items : List (Option Found)) (work : List ℕ) (k : ℕ) (y o d : Option Found) (r : Found) → k < length items → o ≡ get_or items k d → o ≡ None →
-    (come (shapes_of items) k (shape_view r) ≡ Some (shapes_of (slice_set (slice_set items k y) k (Some r)))) × Spread (shapes_of items) (shapes_of (slice_set (slice_set items k y) k (Some r))) work (work ++ k ∷ []) true
-come_new items work k y o d r lt e none =
+pub come_new : (items : List (Option Found)) (work work' : List ℕ) (k : ℕ) (y o d : Option Found) (r : Found) → IsNoted k work work' → k < length items → o ≡ get_or items k d → o ≡ None →
+    (come (shapes_of items) k (shape_view r) ≡ Some (shapes_of (slice_set (slice_set items k y) k (Some r)))) × Spread (shapes_of items) (shapes_of (slice_set (slice_set items k y) k (Some r))) work work' true
+come_new items work work' k y o d r n lt e none =
     let at = shapes_at items k o d lt e ∙ ap (λ x. Some (option_map shape_view x)) none in
     let set = shapes_set items k y (Some r) in (
       ap (come_at (shapes_of items) k (shape_view r)) at ∙ ap Some (sym set),
-      subst (λ l. Spread (shapes_of items) l work (work ++ k ∷ []) true) (sym set) (spread_new (shapes_of items) k (shape_view r) work at),
+      subst (λ l. Spread (shapes_of items) l work work' true) (sym set) (spread_new (shapes_of items) k (shape_view r) work work' n at),
     )
 
 -- and to one that had one
-pub come_more : (items : List (Option Found)) (work : List ℕ) (k : ℕ) (y o d : Option Found) (t r : Found) (s : Shape) (more : Bool) → k < length items → o ≡ get_or items k d → o ≡ Some t → joined (Some (shape_view t)) s ≡ Some (shape_view r) →
+pub come_more : (items : List (Option Found)) (work work' : List ℕ) (k : ℕ) (y o d : Option Found) (t r : Found) (s : Shape) (more : Bool) → Notes more k work work' → k < length items → o ≡ get_or items k d → o ≡ Some t → joined (Some (shape_view t)) s ≡ Some (shape_view r) →
     (more ≡ false → shape_view r ≡ shape_view t) → (more ≡ true → unmarked_at (Some (shape_view r)) < unmarked_at (Some (shape_view t))) →
-    (come (shapes_of items) k s ≡ Some (shapes_of (slice_set (slice_set items k y) k (Some r)))) × Spread (shapes_of items) (shapes_of (slice_set (slice_set items k y) k (Some r))) work (if more then work ++ k ∷ [] else work) false
-come_more items work k y o d t r s more lt e some is same fewer = (
+    (come (shapes_of items) k s ≡ Some (shapes_of (slice_set (slice_set items k y) k (Some r)))) × Spread (shapes_of items) (shapes_of (slice_set (slice_set items k y) k (Some r))) work work' false
+come_more items work work' k y o d t r s more n lt e some is same fewer = (
   ap (come_at (shapes_of items) k s) at ∙ ap (option_map (λ t. slice_set (shapes_of items) k (Some t))) is ∙ ap Some (sym set),
-  subst (λ l. Spread (shapes_of items) l work (if more then work ++ k ∷ [] else work) false) (sym set) (by more same fewer),
+  subst (λ l. Spread (shapes_of items) l work work' false) (sym set) (by more n same fewer),
 )
   where
     at : slice_get (shapes_of items) k ≡ Some (Some (shape_view t))
@@ -141,30 +128,25 @@ come_more items work k y o d t r s more lt e some is same fewer = (
     set : shapes_of (slice_set (slice_set items k y) k (Some r)) ≡ slice_set (shapes_of items) k (Some (shape_view r))
     set = shapes_set items k y (Some r)
 
-    by : (more : Bool) → (more ≡ false → shape_view r ≡ shape_view t) → (more ≡ true → unmarked_at (Some (shape_view r)) < unmarked_at (Some (shape_view t))) → Spread (shapes_of items) (slice_set (shapes_of items) k (Some (shape_view r))) work (if more then work ++ k ∷ [] else work) false
-    by true h l = spread_more (shapes_of items) k (shape_view r) work (shape_view t) at (l refl)
-    by false h l =
+    by : (more : Bool) → Notes more k work work' → (more ≡ false → shape_view r ≡ shape_view t) → (more ≡ true → unmarked_at (Some (shape_view r)) < unmarked_at (Some (shape_view t))) → Spread (shapes_of items) (slice_set (shapes_of items) k (Some (shape_view r))) work work' false
+    by true n h l = spread_more (shapes_of items) k (shape_view r) work work' n (shape_view t) at (l refl)
+    by false n h l =
         let kept = set_same (shapes_of items) k (Some (shape_view t)) at in
-        subst (λ l. Spread (shapes_of items) l work work false) (sym (ap (λ x. slice_set (shapes_of items) k (Some x)) (h refl) ∙ kept)) (spread_none (shapes_of items) work)
-
-pub come_fails : (items : List (Option Found)) (k : ℕ) (o d : Option Found) (t : Found) (s : Shape) → k < length items → o ≡ get_or items k d → o ≡ Some t → joined (Some (shape_view t)) s ≡ None → come (shapes_of items) k s ≡ None
-come_fails items k o d t s lt e some is =
-    ap (come_at (shapes_of items) k s) (shapes_at items k o d lt e ∙ ap (λ x. Some (option_map shape_view x)) some)
-    ∙ ap (option_map (λ t. slice_set (shapes_of items) k (Some t))) is
+        subst (λ l. Spread (shapes_of items) l work work' false) (sym (ap (λ x. slice_set (shapes_of items) k (Some x)) (h refl) ∙ kept)) (subst (λ w. Spread (shapes_of items) (shapes_of items) work w false) (sym n) (spread_none (shapes_of items) work))
 
 -- a search goes on with a place that was noted
-pub visit_search : (code : Code) (f : Func) (old new : Shapes) (work rest work' : List ℕ) (k : ℕ) (i : Instr) (reached : Bool) → f.end ≤ length code.instrs → AllNamed code f → IsSearch code f old work → work ≡ rest ++ k ∷ [] →
+pub visit_search : (code : Code) (f : Func) (old new : Shapes) (work rest work' : List ℕ) (k : ℕ) (i : Instr) (reached : Bool) → f.end ≤ length code.instrs → AllNamed code f → IsSearch code f old work → IsNoted k rest work →
     slice_get code.instrs (f.start + k) ≡ Some i → visited code f.start old k i ≡ Some new → Spread old new rest work' reached → IsSearch code f new work'
 visit_search code f old new work rest work' k i reached inside named h e is v spread = record {
   whole = omega (arith, h.whole, made.as_many);
   starts = leads_grown f.start old new f.start (first_shape f) (omega arith) made.grows h.starts;
   below = λ t table. made.below t table (h.below t table);
-  small = λ j q. ⊎_elim (λ (p : IsIn j rest). omega (arith, h.small j (subst (IsIn j) (sym e) (is_in_more rest j k p)), made.as_many)) (λ (lt : j < length old). omega (arith, lt, made.as_many)) (spread.from j q);
+  small = λ j q. ⊎_elim (λ (p : IsIn j rest). omega (arith, h.small j (e.kept j p), made.as_many)) (λ (lt : j < length old). omega (arith, lt, made.as_many)) (spread.from j q);
   done = λ j lt. ⊎_elim (λ (same : slice_get new j ≡ slice_get old j). at j (omega (arith, lt, made.as_many)) same) (λ (q : IsIn j work'). inl q) (spread.noted j);
 }
   where
     lt : k < length old
-    lt = h.small k (subst (IsIn k) (sym e) (is_in_last rest k))
+    lt = h.small k e.here
 
     named_at : (j : ℕ) → j < length old → (i : Instr) → slice_get code.instrs (f.start + j) ≡ Some i → names_well code f (f.start + j) i ≡ true
     named_at j lt i is = named (f.start + j) i (omega arith) (omega (arith, lt, h.whole)) is
@@ -181,7 +163,7 @@ visit_search code f old new work rest work' k i reached inside named h e is v sp
     at : (j : ℕ) → j < length old → slice_get new j ≡ slice_get old j → IsIn j work' ⊎ IsDone code f.start new j
     at j lt' same =
         ⊎_elim (λ (q : j ≡ k). inr (subst (λ n. IsDone code f.start new n) (sym q) (here (ap (slice_get new) (sym q) ∙ same ∙ ap (slice_get old) q))))
-        (λ (q : j ≡ k → ⊥). ⊎_elim (λ (p : IsIn j work). ⊎_elim (λ (r : IsIn j rest). inl (spread.kept j r)) (λ (r : j ≡ k). absurd (q r)) (is_in_either rest j k (subst (IsIn j) e p)))
+        (λ (q : j ≡ k → ⊥). ⊎_elim (λ (p : IsIn j work). ⊎_elim (λ (r : IsIn j rest). inl (spread.kept j r)) (λ (r : j ≡ k). absurd (q r)) (e.from j p))
         (λ (d : IsDone code f.start old j). inr (done_grown code f old new j (named_at j lt') made.grows same d)) (h.done j lt'))
         (cases_eq j k)
 
@@ -223,14 +205,14 @@ nothing zero k s e = cc
 nothing (suc n) zero s e = cc
 nothing (suc n) (suc k) s e = nothing n k s e
 
-pub begins : (code : Code) (f : Func) (shapes : Shapes) (work : List ℕ) → f.start < f.end → shapes ≡ Some (first_shape f) ∷ replicate (f.end - f.start - 1) None → work ≡ 0 ∷ [] → IsSearch code f shapes work
-begins code f shapes work order e w = subst (λ l. IsSearch code f l work) (sym e) (subst (λ l. IsSearch code f first l) (sym w) (record {
+pub begins : (code : Code) (f : Func) (shapes : Shapes) (work : List ℕ) → f.start < f.end → shapes ≡ Some (first_shape f) ∷ replicate (f.end - f.start - 1) None → IsNoted 0 [] work → IsSearch code f shapes work
+begins code f shapes work order e w = subst (λ l. IsSearch code f l work) (sym e) (record {
   whole = omega (arith, order, length-replicate {A = Option Shape} (f.end - f.start - 1) None);
-  starts = subst (λ p. Leads (table_of f.start first) p (first_shape f)) zero_more (leads_at f.start first 0 (first_shape f) (first_shape f) refl refl (each_refl (rows_in (first_shape f))));
+  starts = subst (λ p. Leads (table_of f.start first) p (first_shape f)) zero_more (leads_at f.start first 0 (first_shape f) (first_shape f) refl refl (each_refl (blocks_of (first_shape f))));
   below = λ t table k s q. below t table k s q;
   small = λ k q. at_most_one k q;
   done = λ k lt. done k;
-}))
+})
   where
     first : Shapes
     first = Some (first_shape f) ∷ replicate (f.end - f.start - 1) None
@@ -244,12 +226,14 @@ begins code f shapes work order e w = subst (λ l. IsSearch code f l work) (sym 
         subst (λ p. Leads t p s) (sym zero_more) (subst (λ y. Leads t f.start y) is table.starts)
     below t table (suc k) s q = absurd (nothing (f.end - f.start - 1) k s q)
 
-    at_most_one : (k : ℕ) → IsIn k (0 ∷ []) → k < length first
-    at_most_one k (zero, q) = let same : 0 ≡ k = cc in omega (arith, same)
-    at_most_one k (suc j, q) = cc
+    nowhere : {k : ℕ} → IsIn k [] → ⊥
+    nowhere (j, e) = cc
 
-    done : (k : ℕ) → IsIn k (0 ∷ []) ⊎ IsDone code f.start first k
-    done zero = inl (0, refl)
+    at_most_one : (k : ℕ) → IsIn k work → k < length first
+    at_most_one k q = ⊎_elim (λ (p : IsIn k []). absurd (nowhere p)) (λ (p : k ≡ 0). omega (arith, p)) (w.from k q)
+
+    done : (k : ℕ) → IsIn k work ⊎ IsDone code f.start first k
+    done zero = inl w.here
     done (suc k) = inr (λ s i q is. absurd (nothing (f.end - f.start - 1) k s q))
 
 -- the first place is all that a search begins with

@@ -1,18 +1,20 @@
 -- A table that is found step by step has no more than any table of the function.
-use Rattle.std.proofs.Common.{◌≡◌, ⊎_elim, ℕ, zero, suc, ◌+◌, ◌-◌, ◌<◌, ◌≤◌, Bool, true, false, ◌||◌, nat_le, nat_eq, not, if◌then◌else◌, Option, Some, None, List, [], ◌∷◌, length, refl, sym, ap, ◌∙◌, subst, arith}
-use Rattle.std.specs.Prelude.{map, slice_get, slice_set, option_map}
+use Rattle.std.proofs.Common.{◌≡◌, ⊎_elim, ℕ, zero, suc, ◌+◌, ◌-◌, ◌<◌, ◌≤◌, Bool, true, false, ◌||◌, ◌&&◌, nat_le, nat_eq, if◌then◌else◌, Option, Some, None, List, [], ◌∷◌, length, refl, sym, ap, ◌∙◌, subst, arith}
+use Rattle.std.specs.Prelude.{map, is_none, slice_get, slice_set, option_map}
 use Rattle.std.proofs.lemmas.List.{length-set}
 use Rattle.std.proofs.lemmas.Option.{slice_get_within}
 use Rattle.std.proofs.lemmas.Bool.{cases_eq}
 use Rattle.cw_model.specs.declared.syntax.CallKind.{CallKind}
 use Rattle.cw_model.specs.declared.syntax.CallKind.TheVariants.{Plain, Spawned}
 use Rattle.cw_code.specs.declared.code.Func.{Func}
+use Rattle.cw_code.specs.declared.code.Halves.{Halves}
 use Rattle.cw_code.specs.declared.code.Instr.{Instr}
 use Rattle.cw_code.specs.declared.code.Instr.TheVariants as instr
 use Rattle.cw_code.specs.Code.{Code}
-use Rattle.cw_code.specs.Fits.{Row, params_of, names_well, Shape, is_full_in, full_in_all, has_slot, has_target, has_arguments, none_open, with_target, none_empty, closed_shape, is_ready, leaves, nexts, Covers, CoversEach, Table, Leads, AllLead, IsTable}
-use Rattle.cw_verify.specs.Table.{Shapes, either_empty, either_each, are_alike, can_meet, met, joined, come_at, come, then_come, come_all, next_distances, visited_at, visited, shape_at, table_of, Below, Grows, IsDone}
-use Rattle.cw_verify.proofs.Decided.{taken, both_true, first_true, second_true, at_most, equal, le_of, eq_of}
+use Rattle.cw_code.specs.Run.{passed_by}
+use Rattle.cw_code.specs.Fits.{Row, Outer, empty_rows, gone_rows, params_of, names_well, Shape, is_full_in, full_in_all, has_slot, has_array, has_arrays, has_target, has_arguments, none_open, can_close, has_parts, can_uncut, is_no_half, is_no_part, are_no_parts, with_target, with_gone, with_passed, with_uncut, none_empty, closed_shape, uncut_shape, is_ready, leaves, nexts, Covers, CoversEach, Table, Leads, AllLead, IsTable}
+use Rattle.cw_verify.specs.Table.{Shapes, either_empty, either_each, same_cut, is_alike, are_alike, blocks_of, can_meet, met, joined, come_at, come, then_come, come_all, next_distances, visited_at, visited, shape_at, table_of, Below, Grows, IsDone}
+use Rattle.cw_verify.proofs.Decided.{taken, both_true, both_less, first_true, second_true, at_most, equal, le_of, eq_of}
 use Rattle.cw_verify.proofs.Lists.{same_some, missing, get_set, set_other}
 
 -- rows that cover
@@ -65,10 +67,29 @@ covers_set (x ∷ xs) [] a c = absurd c
 covers_set (x ∷ xs) (y ∷ ys) zero c = (λ e. cc, c.1)
 covers_set (x ∷ xs) (y ∷ ys) (suc a) c = (c.0, covers_set xs ys a c.1)
 
+covers_unset : (xs ys : Row) (a : ℕ) → Covers xs ys → Covers (slice_set xs a false) (slice_set ys a false)
+covers_unset [] [] a c = tt
+covers_unset [] (y ∷ ys) a c = absurd c
+covers_unset (x ∷ xs) [] a c = absurd c
+covers_unset (x ∷ xs) (y ∷ ys) zero c = (λ e. refl, c.1)
+covers_unset (x ∷ xs) (y ∷ ys) (suc a) c = (c.0, covers_unset xs ys a c.1)
+
 covers_target : (kind : CallKind) (o : Option ℕ) (xs ys : Row) → Covers xs ys → Covers (with_target kind o xs) (with_target kind o ys)
 covers_target Plain o xs ys c = c
 covers_target Spawned None xs ys c = c
 covers_target Spawned (Some a) xs ys c = covers_set xs ys a c
+
+covers_gone : (slots : List ℕ) (xs ys : Row) → Covers xs ys → Covers (with_gone slots xs) (with_gone slots ys)
+covers_gone [] xs ys c = c
+covers_gone (a ∷ slots) xs ys c = covers_set (with_gone slots xs) (with_gone slots ys) a (covers_gone slots xs ys c)
+
+covers_passed : (kind : CallKind) (slots : List ℕ) (xs ys : Row) → Covers xs ys → Covers (with_passed kind slots xs) (with_passed kind slots ys)
+covers_passed Plain slots xs ys c = c
+covers_passed Spawned slots xs ys c = covers_gone slots xs ys c
+
+covers_uncut : (cut : Option Halves) (xs ys : Row) → Covers xs ys → Covers (with_uncut cut xs) (with_uncut cut ys)
+covers_uncut None xs ys c = c
+covers_uncut (Some h) xs ys c = covers_unset xs ys h.array c
 
 covers_length : (xs ys : Row) → Covers xs ys → length xs ≡ length ys
 covers_length [] [] c = refl
@@ -84,83 +105,167 @@ covers_full (true ∷ xs) (y ∷ ys) zero c h = cc
 covers_full (false ∷ xs) (y ∷ ys) zero c h = ap (λ b. is_full_in (Some b)) (c.0 refl)
 covers_full (x ∷ xs) (y ∷ ys) (suc a) c h = covers_full xs ys a c.1 h
 
--- the same, block by block
-pub each_refl : (xs : List Row) → CoversEach xs xs
-each_refl [] = tt
-each_refl (x ∷ xs) = (covers_refl x, each_refl xs)
+-- cuts that are the same
+halves_equal : (g h : Halves) → g.array ≡ h.array → g.left ≡ h.left → g.right ≡ h.right → g ≡ h
+halves_equal g h a l r = λ i. record { array = a i; left = l i; right = r i }
 
-pub each_trans : (xs ys zs : List Row) → CoversEach xs ys → CoversEach ys zs → CoversEach xs zs
+cut_of : (c d : Option Halves) → same_cut c d ≡ true → c ≡ d
+cut_of None None h = refl
+cut_of None (Some d) h = cc
+cut_of (Some c) None h = cc
+cut_of (Some c) (Some d) h =
+    let rest = second_true (nat_eq c.array d.array) (nat_eq c.left d.left && nat_eq c.right d.right) h in
+    ap Some (halves_equal c d (eq_of c.array d.array (first_true (nat_eq c.array d.array) (nat_eq c.left d.left && nat_eq c.right d.right) h))
+    (eq_of c.left d.left (first_true (nat_eq c.left d.left) (nat_eq c.right d.right) rest)) (eq_of c.right d.right (second_true (nat_eq c.left d.left) (nat_eq c.right d.right) rest)))
+
+cut_same : (c : Option Halves) → same_cut c c ≡ true
+cut_same None = refl
+cut_same (Some h) =
+    both_true (nat_eq h.array h.array) (nat_eq h.left h.left && nat_eq h.right h.right) (equal h.array h.array refl) (both_true (nat_eq h.left h.left) (nat_eq h.right h.right) (equal h.left h.left refl) (equal h.right h.right refl))
+
+-- the same, block by block
+pub each_refl : (xs : List Outer) → CoversEach xs xs
+each_refl [] = tt
+each_refl (x ∷ xs) = (covers_refl x.empty, covers_refl x.gone, refl, each_refl xs)
+
+pub each_trans : (xs ys zs : List Outer) → CoversEach xs ys → CoversEach ys zs → CoversEach xs zs
 each_trans [] [] zs c d = d
 each_trans [] (y ∷ ys) zs c d = absurd c
 each_trans (x ∷ xs) [] zs c d = absurd c
 each_trans (x ∷ xs) (y ∷ ys) [] c d = absurd d
-each_trans (x ∷ xs) (y ∷ ys) (z ∷ zs) c d = (covers_trans x y z c.0 d.0, each_trans xs ys zs c.1 d.1)
+each_trans (x ∷ xs) (y ∷ ys) (z ∷ zs) c d = (covers_trans x.empty y.empty z.empty c.0 d.0, covers_trans x.gone y.gone z.gone c.1 d.1, c.2 ∙ d.2, each_trans xs ys zs c.3 d.3)
 
-each_either : (xs ys zs : List Row) → CoversEach xs ys → CoversEach xs zs → CoversEach xs (either_each ys zs)
+each_either : (xs ys zs : List Outer) → CoversEach xs ys → CoversEach xs zs → CoversEach xs (either_each ys zs)
 each_either [] [] zs c d = tt
 each_either [] (y ∷ ys) zs c d = absurd c
 each_either (x ∷ xs) [] zs c d = absurd c
 each_either (x ∷ xs) (y ∷ ys) [] c d = absurd d
-each_either (x ∷ xs) (y ∷ ys) (z ∷ zs) c d = (covers_either x y z c.0 d.0, each_either xs ys zs c.1 d.1)
+each_either (x ∷ xs) (y ∷ ys) (z ∷ zs) c d = (covers_either x.empty y.empty z.empty c.0 d.0, covers_either x.gone y.gone z.gone c.1 d.1, c.2, each_either xs ys zs c.3 d.3)
 
-each_first : (ys zs : List Row) → CoversEach (either_each ys zs) ys
+each_first : (ys zs : List Outer) → CoversEach (either_each ys zs) ys
 each_first [] zs = tt
 each_first (y ∷ ys) [] = each_refl (y ∷ ys)
-each_first (y ∷ ys) (z ∷ zs) = (either_first y z, each_first ys zs)
+each_first (y ∷ ys) (z ∷ zs) = (either_first y.empty z.empty, either_first y.gone z.gone, refl, each_first ys zs)
 
-each_second : (ys zs : List Row) → are_alike ys zs ≡ true → CoversEach (either_each ys zs) zs
+-- what it is for two blocks to be alike
+record Alike (y z : Outer) : Type 0 where
+  pub as_wide : length y.empty ≡ length z.empty
+  pub as_wide_gone : length y.gone ≡ length z.gone
+  pub same : y.cut ≡ z.cut
+
+alike : (y z : Outer) → is_alike y z ≡ true → Alike y z
+alike y z h =
+    let a = nat_eq (length y.empty) (length z.empty) in
+    let b = nat_eq (length y.gone) (length z.gone) in
+    let rest = second_true a (b && same_cut y.cut z.cut) h in
+    record {
+      as_wide = eq_of (length y.empty) (length z.empty) (first_true a (b && same_cut y.cut z.cut) h);
+      as_wide_gone = eq_of (length y.gone) (length z.gone) (first_true b (same_cut y.cut z.cut) rest);
+      same = cut_of y.cut z.cut (second_true b (same_cut y.cut z.cut) rest);
+    }
+
+is_alike_of : (y z : Outer) → length y.empty ≡ length z.empty → length y.gone ≡ length z.gone → y.cut ≡ z.cut → is_alike y z ≡ true
+is_alike_of y z a b c =
+    both_true (nat_eq (length y.empty) (length z.empty)) (nat_eq (length y.gone) (length z.gone) && same_cut y.cut z.cut) (equal (length y.empty) (length z.empty) a)
+    (both_true (nat_eq (length y.gone) (length z.gone)) (same_cut y.cut z.cut) (equal (length y.gone) (length z.gone) b) (subst (λ d. same_cut y.cut d ≡ true) c (cut_same y.cut)))
+
+each_second : (ys zs : List Outer) → are_alike ys zs ≡ true → CoversEach (either_each ys zs) zs
 each_second [] [] e = tt
 each_second [] (z ∷ zs) e = cc
 each_second (y ∷ ys) [] e = cc
-each_second (y ∷ ys) (z ∷ zs) e = (
-  either_second y z (eq_of (length y) (length z) (first_true (nat_eq (length y) (length z)) (are_alike ys zs) e)),
-  each_second ys zs (second_true (nat_eq (length y) (length z)) (are_alike ys zs) e),
-)
+each_second (y ∷ ys) (z ∷ zs) e =
+    let a = alike y z (first_true (is_alike y z) (are_alike ys zs) e) in
+    (either_second y.empty z.empty a.as_wide, either_second y.gone z.gone a.as_wide_gone, a.same, each_second ys zs (second_true (is_alike y z) (are_alike ys zs) e))
 
--- rows that the same rows cover are alike
-each_alike : (xs ys zs : List Row) → CoversEach xs ys → CoversEach xs zs → are_alike ys zs ≡ true
+-- blocks that the same blocks cover are alike
+each_alike : (xs ys zs : List Outer) → CoversEach xs ys → CoversEach xs zs → are_alike ys zs ≡ true
 each_alike [] [] [] c d = refl
 each_alike [] [] (z ∷ zs) c d = absurd d
 each_alike [] (y ∷ ys) zs c d = absurd c
 each_alike (x ∷ xs) [] zs c d = absurd c
 each_alike (x ∷ xs) (y ∷ ys) [] c d = absurd d
 each_alike (x ∷ xs) (y ∷ ys) (z ∷ zs) c d =
-    both_true (nat_eq (length y) (length z)) (are_alike ys zs) (equal (length y) (length z) (sym (covers_length x y c.0) ∙ covers_length x z d.0)) (each_alike xs ys zs c.1 d.1)
+    both_true (is_alike y z) (are_alike ys zs)
+    (is_alike_of y z (sym (covers_length x.empty y.empty c.0) ∙ covers_length x.empty z.empty d.0) (sym (covers_length x.gone y.gone c.1) ∙ covers_length x.gone z.gone d.1) (sym c.2 ∙ d.2))
+    (each_alike xs ys zs c.3 d.3)
 
-each_full : (xs ys : List Row) (a : ℕ) → CoversEach xs ys → full_in_all xs a ≡ true → full_in_all ys a ≡ true
+each_full : (xs ys : List Outer) (a : ℕ) → CoversEach xs ys → full_in_all (empty_rows xs) a ≡ true → full_in_all (empty_rows ys) a ≡ true
 each_full [] [] a c h = refl
 each_full [] (y ∷ ys) a c h = absurd c
 each_full (x ∷ xs) [] a c h = absurd c
 each_full (x ∷ xs) (y ∷ ys) a c h =
-    both_true (is_full_in (slice_get y a)) (full_in_all ys a) (covers_full x y a c.0 (first_true (is_full_in (slice_get x a)) (full_in_all xs a) h)) (each_full xs ys a c.1 (second_true (is_full_in (slice_get x a)) (full_in_all xs a) h))
+    both_less (is_full_in (slice_get x.empty a)) (full_in_all (empty_rows xs) a) (is_full_in (slice_get y.empty a)) (full_in_all (empty_rows ys) a) (covers_full x.empty y.empty a c.0) (each_full xs ys a c.3) h
 
-each_open : (xs ys : List Row) → CoversEach xs ys → none_open xs ≡ none_open ys
+each_there : (xs ys : List Outer) (a : ℕ) → CoversEach xs ys → full_in_all (gone_rows xs) a ≡ true → full_in_all (gone_rows ys) a ≡ true
+each_there [] [] a c h = refl
+each_there [] (y ∷ ys) a c h = absurd c
+each_there (x ∷ xs) [] a c h = absurd c
+each_there (x ∷ xs) (y ∷ ys) a c h =
+    both_less (is_full_in (slice_get x.gone a)) (full_in_all (gone_rows xs) a) (is_full_in (slice_get y.gone a)) (full_in_all (gone_rows ys) a) (covers_full x.gone y.gone a c.1) (each_there xs ys a c.3) h
+
+each_open : (xs ys : List Outer) → CoversEach xs ys → none_open xs ≡ none_open ys
 each_open [] [] c = refl
 each_open [] (y ∷ ys) c = absurd c
 each_open (x ∷ xs) [] c = absurd c
 each_open (x ∷ xs) (y ∷ ys) c = refl
 
--- the rows of a shape, the innermost block's first
-abbrev pub rows_in : Shape → List Row
-rows_in s = s.empty ∷ s.outer
+each_close : (xs ys : List Outer) → CoversEach xs ys → can_close xs ≡ can_close ys
+each_close [] [] c = refl
+each_close [] (y ∷ ys) c = absurd c
+each_close (x ∷ xs) [] c = absurd c
+each_close (x ∷ xs) (y ∷ ys) c = ap is_none c.2
+
+each_parts : (xs ys : List Outer) (cut : Option Halves) → CoversEach xs ys → has_parts (gone_rows xs) cut ≡ true → has_parts (gone_rows ys) cut ≡ true
+each_parts xs ys None c h = cc
+each_parts xs ys (Some d) c h =
+    both_less (full_in_all (gone_rows xs) d.left) (full_in_all (gone_rows xs) d.right) (full_in_all (gone_rows ys) d.left) (full_in_all (gone_rows ys) d.right) (each_there xs ys d.left c) (each_there xs ys d.right c) h
+
+each_uncut : (xs ys : List Outer) → CoversEach xs ys → can_uncut xs ≡ true → can_uncut ys ≡ true
+each_uncut [] [] c h = cc
+each_uncut [] (y ∷ ys) c h = absurd c
+each_uncut (x ∷ xs) [] c h = absurd c
+each_uncut (x ∷ xs) (y ∷ ys) c h = each_parts (x ∷ xs) (y ∷ ys) y.cut c (ap (has_parts (gone_rows (x ∷ xs))) (sym c.2) ∙ h)
+
+each_no_part : (xs ys : List Outer) (a : ℕ) → CoversEach xs ys → is_no_part a xs ≡ is_no_part a ys
+each_no_part [] [] a c = refl
+each_no_part [] (y ∷ ys) a c = absurd c
+each_no_part (x ∷ xs) [] a c = absurd c
+each_no_part (x ∷ xs) (y ∷ ys) a c = ap (λ d. is_no_half a d && is_no_part a xs) c.2 ∙ ap (λ b. is_no_half a y.cut && b) (each_no_part xs ys a c.3)
+
+each_no_parts : (xs ys : List Outer) (h : Halves) → CoversEach xs ys → are_no_parts h xs ≡ are_no_parts h ys
+each_no_parts xs ys h c = ap (λ b. b && is_no_part h.right xs) (each_no_part xs ys h.left c) ∙ ap (λ b. is_no_part h.left ys && b) (each_no_part xs ys h.right c)
+
+-- a place of a table takes what its shape covers
+pub leads_of : (t : Table) (place : ℕ) (there s : Shape) → t place ≡ Some there → there.operands ≡ s.operands → CoversEach (blocks_of there) (blocks_of s) → Leads t place s
+leads_of t place there s e n c = record { there = there; found = e; as_many = n; covers = c.0; covers_gone = c.1; covers_outer = c.3 }
+
+pub covers_all : {t : Table} {place : ℕ} {s : Shape} (l : Leads t place s) → CoversEach (blocks_of l.there) (blocks_of s)
+covers_all l = (l.covers, l.covers_gone, refl, l.covers_outer)
 
 -- what comes to a place of a table from a shape that it covers
-pub leads_less : (t : Table) (place : ℕ) (big small : Shape) → big.operands ≡ small.operands → CoversEach (rows_in big) (rows_in small) → Leads t place big → Leads t place small
-leads_less t place big small e c l = record { there = l.there; found = l.found; as_many = l.as_many ∙ e; covers = each_trans (rows_in l.there) (rows_in big) (rows_in small) l.covers c }
+pub leads_less : (t : Table) (place : ℕ) (big small : Shape) → big.operands ≡ small.operands → CoversEach (blocks_of big) (blocks_of small) → Leads t place big → Leads t place small
+leads_less t place big small e c l = leads_of t place l.there small l.found (l.as_many ∙ e) (each_trans (blocks_of l.there) (blocks_of big) (blocks_of small) (covers_all l) c)
 
-all_less : (t : Table) (places : List ℕ) (big small : Shape) → big.operands ≡ small.operands → CoversEach (rows_in big) (rows_in small) → AllLead t big places → AllLead t small places
+all_less : (t : Table) (places : List ℕ) (big small : Shape) → big.operands ≡ small.operands → CoversEach (blocks_of big) (blocks_of small) → AllLead t big places → AllLead t small places
 all_less t [] big small e c l = tt
 all_less t (p ∷ ps) big small e c l = (leads_less t p big small e c l.0, all_less t ps big small e c l.1)
 
 -- what an instruction leaves of more covers what it leaves of less
 pub record Less (big small : Shape) : Type 0 where
   pub as_many : big.operands ≡ small.operands
-  pub covers : CoversEach (rows_in big) (rows_in small)
+  pub covers : CoversEach (blocks_of big) (blocks_of small)
 
 -- an instruction finds in less what it finds in more
-module _ (code : Code) (big small : Shape) (e : big.operands ≡ small.operands) (c : CoversEach (rows_in big) (rows_in small)) where
+module _ (code : Code) (big small : Shape) (e : big.operands ≡ small.operands) (c : CoversEach (blocks_of big) (blocks_of small)) where
   slot_less : (a : ℕ) → has_slot big a ≡ true → has_slot small a ≡ true
-  slot_less a h = each_full (rows_in big) (rows_in small) a c h
+  slot_less a h = each_full (blocks_of big) (blocks_of small) a c h
+
+  array_less : (a : ℕ) → has_array big a ≡ true → has_array small a ≡ true
+  array_less a h = each_there (blocks_of big) (blocks_of small) a c h
+
+  arrays_less : (slots : List ℕ) → has_arrays big slots ≡ true → has_arrays small slots ≡ true
+  arrays_less [] h = refl
+  arrays_less (a ∷ slots) h = both_less (has_array big a) (has_arrays big slots) (has_array small a) (has_arrays small slots) (array_less a) (arrays_less slots) h
 
   target_less : (o : Option ℕ) → has_target big o ≡ true → has_target small o ≡ true
   target_less None h = refl
@@ -169,10 +274,16 @@ module _ (code : Code) (big small : Shape) (e : big.operands ≡ small.operands)
   some_less : (n : ℕ) → nat_le n big.operands ≡ true → nat_le n small.operands ≡ true
   some_less n h = ap (nat_le n) (sym e) ∙ h
 
+  none_less : nat_eq 0 big.operands ≡ true → nat_eq 0 small.operands ≡ true
+  none_less h = ap (nat_eq 0) (sym e) ∙ h
+
+  arguments_less : (kind : CallKind) (n : ℕ) → has_arguments kind n big.operands ≡ true → has_arguments kind n small.operands ≡ true
+  arguments_less kind n h = ap (has_arguments kind n) (sym e) ∙ h
+
   pub ready_less : (i : Instr) → is_ready code big i ≡ true → is_ready code small i ≡ true
   ready_less (instr.Push v) h = refl
   ready_less (instr.Load a) h = slot_less a h
-  ready_less (instr.Store a) h = both_true (has_slot small a) (nat_le 1 small.operands) (slot_less a (first_true (has_slot big a) (nat_le 1 big.operands) h)) (some_less 1 (second_true (has_slot big a) (nat_le 1 big.operands) h))
+  ready_less (instr.Store a) h = both_less (has_slot big a) (nat_le 1 big.operands) (has_slot small a) (nat_le 1 small.operands) (slot_less a) (some_less 1) h
   ready_less (instr.Unary operator line) h = some_less 1 h
   ready_less (instr.Binary operator line) h = some_less 2 h
   ready_less (instr.Skip n) h = refl
@@ -180,23 +291,56 @@ module _ (code : Code) (big small : Shape) (e : big.operands ≡ small.operands)
   ready_less (instr.GoBack n) h = refl
   ready_less (instr.Call kind f) h =
       let n = params_of (slice_get code.funcs f.function) in
-      both_true (has_arguments kind n small.operands) (has_target small f.target) (ap (has_arguments kind n) (sym e) ∙ first_true (has_arguments kind n big.operands) (has_target big f.target) h) (target_less f.target (second_true (has_arguments kind n big.operands) (has_target big f.target) h))
-  ready_less instr.Sync h = ap (nat_eq 0) (sym e) ∙ h
+      let passed = passed_by code f.passed in
+      both_less (has_arguments kind n big.operands) (has_target big f.target && has_arrays big passed) (has_arguments kind n small.operands) (has_target small f.target && has_arrays small passed) (arguments_less kind n)
+      (both_less (has_target big f.target) (has_arrays big passed) (has_target small f.target) (has_arrays small passed) (target_less f.target) (arrays_less passed)) h
+  ready_less (instr.Recur kind f) h =
+      let n = params_of (slice_get code.funcs f.function) in
+      let passed = passed_by code f.passed in
+      both_less (has_arguments kind n big.operands) (has_arrays big passed) (has_arguments kind n small.operands) (has_arrays small passed) (arguments_less kind n) (arrays_less passed) h
+  ready_less (instr.Start f line) h =
+      let n = params_of (slice_get code.funcs f.function) in
+      let passed = passed_by code f.passed in
+      both_less (nat_le n big.operands) (has_arrays big passed) (nat_le n small.operands) (has_arrays small passed) (some_less n) (arrays_less passed) h
+  ready_less (instr.NewArray a line) h =
+      both_less (has_array big a && nat_le 1 big.operands) (is_no_part a big.outer) (has_array small a && nat_le 1 small.operands) (is_no_part a small.outer)
+      (both_less (has_array big a) (nat_le 1 big.operands) (has_array small a) (nat_le 1 small.operands) (array_less a) (some_less 1)) (λ k. sym (each_no_part big.outer small.outer a c.3) ∙ k) h
+  ready_less (instr.Length a) h = array_less a h
+  ready_less (instr.Element a line) h = both_less (has_array big a) (nat_le 1 big.operands) (has_array small a) (nat_le 1 small.operands) (array_less a) (some_less 1) h
+  ready_less (instr.SetElement a line) h = both_less (has_array big a) (nat_le 2 big.operands) (has_array small a) (nat_le 2 small.operands) (array_less a) (some_less 2) h
+  ready_less (instr.Cut d line) h =
+      let slots = d.array ∷ d.left ∷ d.right ∷ [] in
+      both_less (has_arrays big slots && nat_le 1 big.operands) (are_no_parts d big.outer) (has_arrays small slots && nat_le 1 small.operands) (are_no_parts d small.outer)
+      (both_less (has_arrays big slots) (nat_le 1 big.operands) (has_arrays small slots) (nat_le 1 small.operands) (arrays_less slots) (some_less 1)) (λ k. sym (each_no_parts big.outer small.outer d c.3) ∙ k) h
+  ready_less instr.EndCut h = both_less (nat_eq 0 big.operands) (can_uncut big.outer) (nat_eq 0 small.operands) (can_uncut small.outer) none_less (each_uncut big.outer small.outer c.3) h
+  ready_less instr.Sync h = none_less h
   ready_less (instr.Open kind) h = refl
-  ready_less instr.Close h = both_true (nat_eq 0 small.operands) (not (none_open small.outer)) (ap (nat_eq 0) (sym e) ∙ first_true (nat_eq 0 big.operands) (not (none_open big.outer)) h) (ap not (sym (each_open big.outer small.outer c.1)) ∙ second_true (nat_eq 0 big.operands) (not (none_open big.outer)) h)
+  ready_less instr.Close h = both_less (nat_eq 0 big.operands) (can_close big.outer) (nat_eq 0 small.operands) (can_close small.outer) none_less (λ k. sym (each_close big.outer small.outer c.3) ∙ k) h
   ready_less instr.Print h = some_less 1 h
   ready_less (instr.AddTo k) h = some_less 1 h
-  ready_less instr.ReturnValue h = both_true (nat_le 1 small.operands) (none_open small.outer) (some_less 1 (first_true (nat_le 1 big.operands) (none_open big.outer) h)) (sym (each_open big.outer small.outer c.1) ∙ second_true (nat_le 1 big.operands) (none_open big.outer) h)
-  ready_less instr.Return h = sym (each_open big.outer small.outer c.1) ∙ h
+  ready_less instr.ReturnValue h = both_less (nat_le 1 big.operands) (none_open big.outer) (nat_le 1 small.operands) (none_open small.outer) (some_less 1) (λ k. sym (each_open big.outer small.outer c.3) ∙ k) h
+  ready_less instr.Return h = sym (each_open big.outer small.outer c.3) ∙ h
 
   clear_less : Covers (none_empty (length big.empty)) (none_empty (length small.empty))
   clear_less = subst (λ n. Covers (none_empty (length big.empty)) (none_empty n)) (covers_length big.empty small.empty c.0) (covers_refl (none_empty (length big.empty)))
 
-  close_less : (xs ys : List Row) → CoversEach xs ys → Less (closed_shape big xs) (closed_shape small ys)
+  clear_gone : Covers (none_empty (length big.gone)) (none_empty (length small.gone))
+  clear_gone = subst (λ n. Covers (none_empty (length big.gone)) (none_empty n)) (covers_length big.gone small.gone c.1) (covers_refl (none_empty (length big.gone)))
+
+  close_less : (xs ys : List Outer) → CoversEach xs ys → Less (closed_shape big xs) (closed_shape small ys)
   close_less [] [] d = record { as_many = e; covers = c }
   close_less [] (y ∷ ys) d = absurd d
   close_less (x ∷ xs) [] d = absurd d
-  close_less (x ∷ xs) (y ∷ ys) d = record { as_many = e; covers = d }
+  close_less (x ∷ xs) (y ∷ ys) d = record { as_many = e; covers = (d.0, d.1, refl, d.3) }
+
+  uncut_less : (xs ys : List Outer) → CoversEach xs ys → Less (uncut_shape big xs) (uncut_shape small ys)
+  uncut_less [] [] d = record { as_many = e; covers = c }
+  uncut_less [] (y ∷ ys) d = absurd d
+  uncut_less (x ∷ xs) [] d = absurd d
+  uncut_less (x ∷ xs) (y ∷ ys) d = record {
+    as_many = e;
+    covers = (d.0, subst (λ k. Covers (with_uncut x.cut x.gone) (with_uncut k y.gone)) d.2 (covers_uncut x.cut x.gone y.gone d.1), refl, d.3);
+  }
 
   pub leaves_less : (i : Instr) → Less (leaves code big i) (leaves code small i)
   leaves_less (instr.Push v) = record { as_many = ap (λ n. n + 1) e; covers = c }
@@ -207,10 +351,24 @@ module _ (code : Code) (big small : Shape) (e : big.operands ≡ small.operands)
   leaves_less (instr.Skip n) = record { as_many = e; covers = c }
   leaves_less (instr.SkipIfZero n) = record { as_many = ap (λ n. n - 1) e; covers = c }
   leaves_less (instr.GoBack n) = record { as_many = e; covers = c }
-  leaves_less (instr.Call kind f) = record { as_many = ap (λ n. n - params_of (slice_get code.funcs f.function)) e; covers = (covers_target kind f.target big.empty small.empty c.0, c.1) }
-  leaves_less instr.Sync = record { as_many = e; covers = (clear_less, c.1) }
-  leaves_less (instr.Open kind) = record { as_many = e; covers = (clear_less, c) }
-  leaves_less instr.Close = close_less big.outer small.outer c.1
+  leaves_less (instr.Call kind f) = record {
+    as_many = ap (λ n. n - params_of (slice_get code.funcs f.function)) e;
+    covers = (covers_target kind f.target big.empty small.empty c.0, covers_passed kind (passed_by code f.passed) big.gone small.gone c.1, refl, c.3);
+  }
+  leaves_less (instr.Recur kind f) = record {
+    as_many = ap (λ n. n - params_of (slice_get code.funcs f.function)) e;
+    covers = (c.0, covers_passed kind (passed_by code f.passed) big.gone small.gone c.1, refl, c.3);
+  }
+  leaves_less (instr.Start f line) = record { as_many = ap (λ n. n - params_of (slice_get code.funcs f.function)) e; covers = c }
+  leaves_less (instr.NewArray a line) = record { as_many = ap (λ n. n - 1) e; covers = c }
+  leaves_less (instr.Length a) = record { as_many = ap (λ n. n + 1) e; covers = c }
+  leaves_less (instr.Element a line) = record { as_many = e; covers = c }
+  leaves_less (instr.SetElement a line) = record { as_many = ap (λ n. n - 2) e; covers = c }
+  leaves_less (instr.Cut d line) = record { as_many = ap (λ n. n - 1) e; covers = (clear_less, clear_gone, refl, (c.0, covers_set big.gone small.gone d.array c.1, refl, c.3)) }
+  leaves_less instr.EndCut = uncut_less big.outer small.outer c.3
+  leaves_less instr.Sync = record { as_many = e; covers = (clear_less, clear_gone, refl, c.3) }
+  leaves_less (instr.Open kind) = record { as_many = e; covers = (clear_less, clear_gone, refl, c) }
+  leaves_less instr.Close = close_less big.outer small.outer c.3
   leaves_less instr.Print = record { as_many = ap (λ n. n - 1) e; covers = c }
   leaves_less (instr.AddTo k) = record { as_many = ap (λ n. n - 1) e; covers = c }
   leaves_less instr.ReturnValue = record { as_many = e; covers = c }
@@ -221,8 +379,8 @@ table_at start shapes k =
     let same : start + k - start ≡ k = omega arith in
     taken (nat_le start (start + k)) (shape_at (slice_get shapes (start + k - start))) None (at_most start (start + k) (omega arith)) ∙ ap (λ j. shape_at (slice_get shapes j)) same
 
-pub leads_at : (start : ℕ) (shapes : Shapes) (k : ℕ) (there s : Shape) → slice_get shapes k ≡ Some (Some there) → there.operands ≡ s.operands → CoversEach (rows_in there) (rows_in s) → Leads (table_of start shapes) (start + k) s
-leads_at start shapes k there s e n c = record { there = there; found = table_at start shapes k ∙ ap shape_at e; as_many = n; covers = c }
+pub leads_at : (start : ℕ) (shapes : Shapes) (k : ℕ) (there s : Shape) → slice_get shapes k ≡ Some (Some there) → there.operands ≡ s.operands → CoversEach (blocks_of there) (blocks_of s) → Leads (table_of start shapes) (start + k) s
+leads_at start shapes k there s e n c = leads_of (table_of start shapes) (start + k) there s (table_at start shapes k ∙ ap shape_at e) n c
 
 -- a shape has come to a place
 pub record Came (shapes : Shapes) (k : ℕ) (s : Shape) (new : Shapes) : Type 0 where
@@ -246,26 +404,26 @@ came shapes k s new e = at (slice_get shapes k) refl e
 -- what is had once a shape has come
 record Joins (was : Option Shape) (s is : Shape) : Type 0 where
   pub as_many : is.operands ≡ s.operands
-  pub covers : CoversEach (rows_in is) (rows_in s)
+  pub covers : CoversEach (blocks_of is) (blocks_of s)
   pub more : (t : Shape) → was ≡ Some t → Less is t
-  pub least : (there : Shape) → ((t : Shape) → was ≡ Some t → CoversEach (rows_in there) (rows_in t)) → CoversEach (rows_in there) (rows_in s) → CoversEach (rows_in there) (rows_in is)
+  pub least : (there : Shape) → ((t : Shape) → was ≡ Some t → CoversEach (blocks_of there) (blocks_of t)) → CoversEach (blocks_of there) (blocks_of s) → CoversEach (blocks_of there) (blocks_of is)
 
 joins : (was : Option Shape) (s is : Shape) → joined was s ≡ Some is → Joins was s is
-joins None s is e = subst (λ x. Joins None s x) (same_some s is e) (record { as_many = refl; covers = each_refl (rows_in s); more = λ t q. cc; least = λ there h c. c })
+joins None s is e = subst (λ x. Joins None s x) (same_some s is e) (record { as_many = refl; covers = each_refl (blocks_of s); more = λ t q. cc; least = λ there h c. c })
 joins (Some t) s is e = by (can_meet t s) refl e
   where
     by : (b : Bool) → can_meet t s ≡ b → (if b then Some (met t s) else None) ≡ Some is → Joins (Some t) s is
     by false b e = cc
     by true b e =
-        let n = eq_of t.operands s.operands (first_true (nat_eq t.operands s.operands) (are_alike (rows_in t) (rows_in s)) b) in
-        let m = second_true (nat_eq t.operands s.operands) (are_alike (rows_in t) (rows_in s)) b in
+        let n = eq_of t.operands s.operands (first_true (nat_eq t.operands s.operands) (are_alike (blocks_of t) (blocks_of s)) b) in
+        let m = second_true (nat_eq t.operands s.operands) (are_alike (blocks_of t) (blocks_of s)) b in
         subst (λ x. Joins (Some t) s x) (same_some (met t s) is e) (record {
           as_many = n;
-          covers = each_second (rows_in t) (rows_in s) m;
+          covers = each_second (blocks_of t) (blocks_of s) m;
           more = λ u q.
               let same : t ≡ u = same_some t u q in
-              subst (λ (x : Shape). Less (met t s) x) same (record { as_many = refl; covers = each_first (rows_in t) (rows_in s) });
-          least = λ there h c. each_either (rows_in there) (rows_in t) (rows_in s) (h t refl) c;
+              subst (λ (x : Shape). Less (met t s) x) same (record { as_many = refl; covers = each_first (blocks_of t) (blocks_of s) });
+          least = λ there h c. each_either (blocks_of there) (blocks_of t) (blocks_of s) (h t refl) c;
         })
 
 module _ (start : ℕ) (shapes : Shapes) (k : ℕ) (s : Shape) (new : Shapes) (e : come shapes k s ≡ Some new) where
@@ -291,7 +449,7 @@ module _ (start : ℕ) (shapes : Shapes) (k : ℕ) (s : Shape) (new : Shapes) (e
       let was : c.was ≡ Some x = same_some c.was (Some x) (sym c.found ∙ ap (slice_get shapes) (sym q) ∙ f) in
       let m = j.more x was in
       leads_at start new i c.is x (ap (slice_get new) q ∙ at_place) m.as_many m.covers)
-      (λ (q : i ≡ k → ⊥). leads_at start new i x x (ap (λ l. slice_get l i) c.new_is ∙ set_other shapes k i (Some c.is) q ∙ f) refl (each_refl (rows_in x)))
+      (λ (q : i ≡ k → ⊥). leads_at start new i x x (ap (λ l. slice_get l i) c.new_is ∙ set_other shapes k i (Some c.is) q ∙ f) refl (each_refl (blocks_of x)))
       (cases_eq i k)
 
   come_below : (t : Table) → Below start shapes t → Leads t (start + k) s → Below start new t
@@ -300,11 +458,11 @@ module _ (start : ℕ) (shapes : Shapes) (k : ℕ) (s : Shape) (new : Shapes) (e
       let j = joins c.was s c.is c.by in
       ⊎_elim (λ (q : i ≡ k).
       let is : c.is ≡ x = same_some c.is x (same_some (Some c.is) (Some x) (sym at_place ∙ ap (slice_get new) (sym q) ∙ f)) in
-      let least : CoversEach (rows_in l.there) (rows_in c.is) = j.least l.there (λ u q.
+      let least : CoversEach (blocks_of l.there) (blocks_of c.is) = j.least l.there (λ u q.
       let old = below k u (c.found ∙ ap Some q) in
       let same : old.there ≡ l.there = same_some old.there l.there (sym old.found ∙ l.found) in
-      subst (λ (y : Shape). CoversEach (rows_in y) (rows_in u)) same old.covers) l.covers in
-      let here : Leads t (start + k) c.is = record { there = l.there; found = l.found; as_many = l.as_many ∙ sym j.as_many; covers = least } in
+      subst (λ (y : Shape). CoversEach (blocks_of y) (blocks_of u)) same (covers_all old)) (covers_all l) in
+      let here : Leads t (start + k) c.is = leads_of t (start + k) l.there c.is l.found (l.as_many ∙ sym j.as_many) least in
       subst (λ y. Leads t (start + i) y) is (subst (λ n. Leads t (start + n) c.is) (sym q) here))
       (λ (q : i ≡ k → ⊥). below i x (sym (set_other shapes k i (Some c.is) q) ∙ ap (λ l. slice_get l i) (sym c.new_is) ∙ f))
       (cases_eq i k)
@@ -320,8 +478,8 @@ come_goes start shapes k s t below l lt e = at (slice_get shapes k) refl e
         let old = below k u f in
         let same : old.there ≡ l.there = same_some old.there l.there (sym old.found ∙ l.found) in
         let n : u.operands ≡ s.operands = sym old.as_many ∙ ap (λ (y : Shape). y.operands) same ∙ l.as_many in
-        let covers : CoversEach (rows_in l.there) (rows_in u) = subst (λ (y : Shape). CoversEach (rows_in y) (rows_in u)) same old.covers in
-        never (can_meet u s) (both_true (nat_eq u.operands s.operands) (are_alike (rows_in u) (rows_in s)) (equal u.operands s.operands n) (each_alike (rows_in l.there) (rows_in u) (rows_in s) covers l.covers)) (met u s) e
+        let covers : CoversEach (blocks_of l.there) (blocks_of u) = subst (λ (y : Shape). CoversEach (blocks_of y) (blocks_of u)) same (covers_all old) in
+        never (can_meet u s) (both_true (nat_eq u.operands s.operands) (are_alike (blocks_of u) (blocks_of s)) (equal u.operands s.operands n) (each_alike (blocks_of l.there) (blocks_of u) (blocks_of s) covers (covers_all l))) (met u s) e
       where
         never : (b : Bool) → b ≡ true → (x : Shape) → option_map (λ t. slice_set shapes k (Some t)) (if b then Some x else None) ≡ None → ⊥
         never true h x e = cc
@@ -332,7 +490,7 @@ grows_trans start a b c g h = λ k s f.
     let l = g k s f in
     let was : slice_get b k ≡ Some (Some l.there) = had (slice_get b k) (sym (table_at start b k) ∙ l.found) in
     let m = h k l.there was in
-    leads_less (table_of start c) (start + k) l.there s l.as_many l.covers m
+    leads_less (table_of start c) (start + k) l.there s l.as_many (covers_all l) m
   where
     had : {x : Shape} (o : Option (Option Shape)) → shape_at o ≡ Some x → o ≡ Some (Some x)
     had None e = cc
@@ -349,7 +507,7 @@ leads_grown start old new place s le g l =
     let same : start + (place - start) ≡ place = omega (arith, le) in
     let found : shape_at (slice_get old (place - start)) ≡ Some l.there = sym (table_at start old (place - start)) ∙ ap (table_of start old) same ∙ l.found in
     let more = g (place - start) l.there (had (slice_get old (place - start)) found) in
-    leads_less (table_of start new) place l.there s l.as_many l.covers (subst (λ p. Leads (table_of start new) p l.there) same more)
+    leads_less (table_of start new) place l.there s l.as_many (covers_all l) (subst (λ p. Leads (table_of start new) p l.there) same more)
   where
     had : {x : Shape} (o : Option (Option Shape)) → shape_at o ≡ Some x → o ≡ Some (Some x)
     had None e = cc
@@ -360,7 +518,7 @@ all_grown start old new s [] from g l = tt
 all_grown start old new s (p ∷ ps) from g l = (leads_grown start old new p s from.0 g l.0, all_grown start old new s ps from.1 g l.1)
 
 grows_refl : (start : ℕ) (shapes : Shapes) → Grows start shapes shapes
-grows_refl start shapes = λ k s f. leads_at start shapes k s s f refl (each_refl (rows_in s))
+grows_refl start shapes = λ k s f. leads_at start shapes k s s f refl (each_refl (blocks_of s))
 
 -- what is had once a shape has come to several places
 record CameAll (start : ℕ) (shapes : Shapes) (ps : List ℕ) (s : Shape) (new : Shapes) : Type 0 where
@@ -413,6 +571,14 @@ nexts_from code f place (instr.Skip k) le n = (omega (arith, le), tt)
 nexts_from code f place (instr.SkipIfZero k) le n = (omega (arith, le), (omega (arith, le), tt))
 nexts_from code f place (instr.GoBack k) le n = (omega (arith, le_of (f.start + k) place n), tt)
 nexts_from code f place (instr.Call kind c) le n = (omega (arith, le), tt)
+nexts_from code f place (instr.Recur kind c) le n = (omega (arith, le), tt)
+nexts_from code f place (instr.Start c line) le n = (omega (arith, le), tt)
+nexts_from code f place (instr.NewArray a line) le n = (omega (arith, le), tt)
+nexts_from code f place (instr.Length a) le n = (omega (arith, le), tt)
+nexts_from code f place (instr.Element a line) le n = (omega (arith, le), tt)
+nexts_from code f place (instr.SetElement a line) le n = (omega (arith, le), tt)
+nexts_from code f place (instr.Cut h line) le n = (omega (arith, le), tt)
+nexts_from code f place instr.EndCut le n = (omega (arith, le), tt)
 nexts_from code f place instr.Sync le n = (omega (arith, le), tt)
 nexts_from code f place (instr.Open kind) le n = (omega (arith, le), tt)
 nexts_from code f place instr.Close le n = (omega (arith, le), tt)
@@ -420,6 +586,10 @@ nexts_from code f place instr.Print le n = (omega (arith, le), tt)
 nexts_from code f place (instr.AddTo k) le n = (omega (arith, le), tt)
 nexts_from code f place instr.ReturnValue le n = tt
 nexts_from code f place instr.Return le n = tt
+
+-- a visit of a place that has a shape
+pub visited_ready : (code : Code) (start : ℕ) (shapes : Shapes) (k : ℕ) (i : Instr) (s : Shape) → slice_get shapes k ≡ Some (Some s) → is_ready code s i ≡ true → visited code start shapes k i ≡ come_all shapes (next_distances start k i) (leaves code s i)
+visited_ready code start shapes k i s e h = ap (visited_at code start shapes k i) e ∙ taken (is_ready code s i) (come_all shapes (next_distances start k i) (leaves code s i)) None h
 
 -- what is had once an instruction was visited
 pub record Visited (code : Code) (f : Func) (shapes new : Shapes) : Type 0 where
@@ -436,8 +606,8 @@ module _ (code : Code) (f : Func) (shapes : Shapes) (k : ℕ) (i : Instr) (is : 
   taken_as t s table l =
       let ready = table.ready (f.start + k) l.there i l.found is in
       let goes = table.goes (f.start + k) l.there i l.found is in
-      let less = leaves_less code l.there s l.as_many l.covers i in
-      (ready_less code l.there s l.as_many l.covers i ready, all_less t (nexts (f.start + k) i) (leaves code l.there i) (leaves code s i) less.as_many less.covers goes)
+      let less = leaves_less code l.there s l.as_many (covers_all l) i in
+      (ready_less code l.there s l.as_many (covers_all l) i ready, all_less t (nexts (f.start + k) i) (leaves code l.there i) (leaves code s i) less.as_many less.covers goes)
 
   from : AllFrom f.start (nexts (f.start + k) i)
   from = nexts_from code f (f.start + k) i (omega arith) named

@@ -1,13 +1,17 @@
 //! What an instruction names is there.
 
-ghost use Rattle.std.specs.Prelude.{◌≡◌, ◌+◌, ◌-◌, ◌<◌, ◌≤◌, length, MatchBool, Some, slice_get};
+ghost use Rattle.std.specs.Prelude.{◌≡◌, ◌+◌, ◌-◌, ◌<◌, ◌≤◌, length, drop, Some, slice_get};
 ghost use Rattle.cw_code.specs.Code.{code_view, site_view};
 ghost use Rattle.cw_code.specs.Fits as fits;
+ghost use Rattle.cw_code.specs.Run.{passed_by};
 ghost use Rattle.cw_model.specs.Sites.{Of};
 ghost use Rattle.cw_verify.specs.Table as table;
 
-use cw_code::code::{BlockKind, Callee, Code, Func, Instr, Site};
+use crate::row::{is_full_in, none_empty, set};
+use cw_code::code::{BlockKind, Callee, Code, Func, Halves, Inner, Instr, Site};
 use cw_model::syntax::CallKind;
+use cw_text::Fault;
+use std::alloc::Global;
 
 /// How many arguments a function takes; 0 where there is none of this index.
 pub fn params_of(code: &Code, function: u32) -> usize
@@ -16,6 +20,26 @@ pub fn params_of(code: &Code, function: u32) -> usize
     match code.funcs.get(function as usize) {
         None => 0,
         Some(f) => f.params,
+    }
+}
+
+/// How many arrays a function takes; 0 where there is none of this index.
+pub fn array_params_of(code: &Code, function: u32) -> usize
+    ensures { result ≡ fits.array_params_of (slice_get (code_view code.now).funcs function) }
+{
+    match code.funcs.get(function as usize) {
+        None => 0,
+        Some(f) => f.array_params,
+    }
+}
+
+/// The array slots of a list of the code; none where there is no list of this index.
+pub fn passed_of(code: &Code, list: u32) -> &[u32]
+    ensures { result.now ≡ passed_by (code_view code.now) list }
+{
+    match code.passed.get(list as usize) {
+        None => &[],
+        Some(slots) => slots,
     }
 }
 
@@ -70,12 +94,84 @@ fn names_target(code: &Code, f: &Func, c: &Callee) -> bool
     }
 }
 
-// Whether what a call names is there.
-fn names_callee(code: &Code, f: &Func, kind: CallKind, c: &Callee) -> bool
-    ensures { result ≡ fits.names_callee (code_view code.now) f.now kind c.now }
+// Whether these slots are there and not empty in a row, and none of them twice.
+fn are_unmarked(row: Vec<bool>, slots: &[u32]) -> bool
+    ensures { result ≡ table.are_unmarked row.items slots.now }
 {
-    (c.function as usize) < code.funcs.len()
-        && (0 < c.site && (names_site(code, kind, c) && names_target(code, f, c)))
+    let mut row = row;
+    for a in slots {
+        if !is_full_in(&row, *a as usize) {
+            return false;
+        }
+        set(&mut row, *a, true);
+    }
+    true
+}
+
+// Whether these are array slots of the caller, and no slot twice.
+fn names_arrays(alloc: Global, arrays: usize, passed: &[u32]) -> Result<bool, Fault>
+    ensures { table.Tests result (fits.names_arrays arrays passed.now) }
+{
+    let row = none_empty(alloc, arrays)?;
+    Ok(are_unmarked(row, passed))
+}
+
+// Whether a function is there, and an array slot of the caller for each array that it takes.
+fn names_passed(
+    alloc: Global,
+    code: &Code,
+    f: &Func,
+    function: u32,
+    list: u32,
+) -> Result<bool, Fault>
+    ensures { table.Tests result (fits.names_passed (code_view code.now) f.now function (passed_by (code_view code.now) list)) }
+{
+    let passed = passed_of(code, list);
+    if function as usize >= code.funcs.len() || passed.len() != array_params_of(code, function) {
+        return Ok(false);
+    }
+    let named = names_arrays(alloc, f.arrays, passed)?;
+    Ok(named)
+}
+
+// Whether the site of a call and the slot of its result are there.
+fn names_call(code: &Code, f: &Func, kind: CallKind, c: &Callee) -> bool
+    ensures { result ≡ table.names_call (code_view code.now) f.now kind c.now }
+{
+    0 < c.site && (names_site(code, kind, c) && names_target(code, f, c))
+}
+
+// Whether what a call names is there.
+fn names_callee(
+    alloc: Global,
+    code: &Code,
+    f: &Func,
+    kind: CallKind,
+    c: &Callee,
+) -> Result<bool, Fault>
+    ensures { table.Tests result (fits.names_callee (code_view code.now) f.now kind c.now) }
+{
+    let passed = names_passed(alloc, code, f, c.function, c.passed)?;
+    Ok(passed && names_call(code, f, kind, c))
+}
+
+// Whether what the first call of a loop's function names is there, and it takes a range.
+fn names_start(alloc: Global, code: &Code, f: &Func, c: &Inner) -> Result<bool, Fault>
+    ensures { table.Tests result (table.names_start (code_view code.now) f.now c.now) }
+{
+    let passed = names_passed(alloc, code, f, c.function, c.passed)?;
+    Ok(passed && 2 <= params_of(code, c.function))
+}
+
+// Whether the slots of a cut are there and differ, and its parts go into none of a parameter.
+fn names_halves(f: &Func, h: Halves) -> bool
+    ensures { result ≡ fits.names_halves f.now h }
+{
+    let array = (h.array as usize) < f.arrays && (h.array != h.left && h.array != h.right);
+    let left = (h.left as usize) < f.arrays && h.left != h.right;
+    let right = (h.right as usize) < f.arrays;
+    let own = f.array_params <= h.left as usize && f.array_params <= h.right as usize;
+    (array && (left && right)) && own
 }
 
 // Whether the tag of a region is there.
@@ -89,38 +185,76 @@ fn names_tag(code: &Code, kind: &BlockKind) -> bool
 }
 
 /// Whether what an instruction names is there.
-pub fn names_well(code: &Code, f: &Func, place: usize, i: &Instr) -> bool
+pub fn names_well(
+    alloc: Global,
+    code: &Code,
+    f: &Func,
+    place: usize,
+    i: &Instr,
+) -> Result<bool, Fault>
     requires from { f.now.start ≤ place }
     requires to { place < f.now.end }
-    ensures { result ≡ fits.names_well (code_view code.now) f.now place i.now }
+    ensures { table.Tests result (fits.names_well (code_view code.now) f.now place i.now) }
 {
     match i {
-        Instr::Push(_) => true,
-        Instr::Load(a) => (*a as usize) < f.slots,
-        Instr::Store(a) => (*a as usize) < f.slots,
-        Instr::Unary(_, _) => true,
-        Instr::Binary(_, _) => true,
-        Instr::Skip(n) => (*n as usize) < f.end - place - 1,
-        Instr::SkipIfZero(n) => (*n as usize) < f.end - place - 1,
-        Instr::GoBack(n) => *n as usize <= place - f.start,
-        Instr::Call(kind, c) => names_callee(code, f, *kind, c),
-        Instr::Sync => true,
-        Instr::Open(kind) => names_tag(code, kind),
-        Instr::Close => true,
-        Instr::Print => true,
-        Instr::AddTo(k) => (*k as usize) < code.reducers.len(),
-        Instr::ReturnValue => f.gives_int,
-        Instr::Return => !f.gives_int,
+        Instr::Push(_) => Ok(true),
+        Instr::Load(a) => Ok((*a as usize) < f.slots),
+        Instr::Store(a) => Ok((*a as usize) < f.slots),
+        Instr::Unary(_, _) => Ok(true),
+        Instr::Binary(_, _) => Ok(true),
+        Instr::Skip(n) => Ok((*n as usize) < f.end - place - 1),
+        Instr::SkipIfZero(n) => Ok((*n as usize) < f.end - place - 1),
+        Instr::GoBack(n) => Ok(*n as usize <= place - f.start),
+        Instr::Call(kind, c) => names_callee(alloc, code, f, *kind, c),
+        Instr::Recur(_, c) => names_passed(alloc, code, f, c.function, c.passed),
+        Instr::Start(c, _) => names_start(alloc, code, f, c),
+        Instr::NewArray(a, _) => { Ok((*a as usize) < f.arrays && f.array_params <= *a as usize) }
+        Instr::Length(a) => Ok((*a as usize) < f.arrays),
+        Instr::Element(a, _) => Ok((*a as usize) < f.arrays),
+        Instr::SetElement(a, _) => Ok((*a as usize) < f.arrays),
+        Instr::Cut(h, _) => Ok(names_halves(f, *h)),
+        Instr::EndCut => Ok(true),
+        Instr::Sync => Ok(true),
+        Instr::Open(kind) => Ok(names_tag(code, kind)),
+        Instr::Close => Ok(true),
+        Instr::Print => Ok(true),
+        Instr::AddTo(k) => Ok((*k as usize) < code.reducers.len()),
+        Instr::ReturnValue => Ok(f.gives_int),
+        Instr::Return => Ok(!f.gives_int),
     }
 }
 
 /// Whether each instruction of a function names what is there.
-pub fn all_named(code: &Code, f: &Func) -> bool
+pub fn all_named(alloc: Global, code: &Code, f: &Func) -> Result<bool, Fault>
     requires { f.now.end ≤ length code.now.instrs.items }
-    ensures { MatchBool result (table.AllNamed (code_view code.now) f.now) (table.AllNamed (code_view code.now) f.now → ⊥) }
+    ensures { table.Decides result (table.AllNamed (code_view code.now) f.now) }
 {
     for place in f.start..f.end {
-        if !names_well(code, f, place, &code.instrs[place]) {
+        if !names_well(alloc, code, f, place, &code.instrs[place])? {
+            return Ok(false);
+        }
+    }
+    Ok(true)
+}
+
+// Whether a name is among those from one of these on.
+fn is_among(name: &[u8], names: &[Vec<u8>], from: usize) -> bool
+    ensures { result ≡ fits.is_among name.now (drop from (table.names_of names.now)) }
+{
+    for k in from..names.len() {
+        if name == names[k].as_slice() {
+            return true;
+        }
+    }
+    false
+}
+
+/// Whether no name is there twice.
+pub fn are_apart(names: &[Vec<u8>]) -> bool
+    ensures { result ≡ fits.are_apart (table.names_of names.now) }
+{
+    for k in 0..names.len() {
+        if is_among(&names[k], names, k + 1) {
             return false;
         }
     }

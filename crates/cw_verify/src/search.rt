@@ -7,26 +7,29 @@ ghost use Rattle.cw_code.specs.Fits as fits;
 ghost use Rattle.cw_verify.specs.Table as table;
 
 use crate::found::{self, Found};
+use crate::leave::leave;
+use crate::meet::join;
 use crate::named::past;
+use crate::work::WorkList;
 use cw_code::code::{Code, Func, Instr};
 use cw_text::Fault;
 use std::alloc::Global;
 use std::mem;
 
 /// What is known of a function's places so far.
-#[derive(Debug, Drop)]
+#[derive(Drop)]
 struct Search {
     /// What each place finds, by its distance from the first one; nothing where it was not reached yet.
     found: Vec<Option<Found>>,
     /// The places to visit, by their distance from the first one.
-    work: Vec<usize>,
+    work: WorkList,
 }
 
 impl Search {
     // A place is noted, if more came to it.
     fn note(&mut self, k: usize, more: bool) -> Result<(), Fault>
         ensures found { self.new.found.items ≡ self.old.found.items }
-        ensures work { MatchResult result (λ _. self.new.work.items ≡ (if more then self.old.work.items ++ k ∷ [] else self.old.work.items)) (λ e. e ≡ Fault.Memory) }
+        ensures work { MatchResult result (λ _. table.Notes more k (table.work_of self.old) (table.work_of self.new)) (λ e. e ≡ Fault.Memory) }
     {
         if more {
             self.work.push(k)?;
@@ -35,7 +38,7 @@ impl Search {
     }
 
     // A shape comes to a place, if it is there; whether that reaches the place. A place to which more comes is noted.
-    fn come(&mut self, k: usize, shape: Found) -> Result<bool, Fault>
+    fn come(&mut self, alloc: Global, k: usize, shape: Found) -> Result<bool, Fault>
         ensures { table.Tells result (table.come (table.so_far self.old) k (table.shape_view shape)) self.old self.new }
     {
         if k >= self.found.len() {
@@ -49,7 +52,7 @@ impl Search {
                 Ok(true)
             }
             Some(there) => {
-                let (joined, more) = found::join(there, &shape)?;
+                let (joined, more) = join(alloc, there, &shape)?;
                 self.found[k] = Some(joined);
                 self.note(k, more)?;
                 Ok(false)
@@ -67,10 +70,10 @@ impl Search {
     ) -> Result<bool, Fault>
         ensures { table.Tells result (table.come_all (table.so_far self.old) (k ∷ other ∷ []) (table.shape_view shape)) self.old self.new }
     {
-        let copy = found::copy(alloc, &shape)?;
-        match self.come(k, shape) {
+        let copy = found::copy(&shape)?;
+        match self.come(alloc, k, shape) {
             Err(e) => Err(e),
-            Ok(reached) => match self.come(other, copy) {
+            Ok(reached) => match self.come(alloc, other, copy) {
                 Err(e) => Err(e),
                 Ok(more) => Ok(reached | more),
             },
@@ -96,25 +99,33 @@ impl Search {
         let start = f.start;
         let next = place + 1 - start;
         match i {
-            Instr::Push(_) => self.come(next, left),
-            Instr::Load(_) => self.come(next, left),
-            Instr::Store(_) => self.come(next, left),
-            Instr::Unary(_, _) => self.come(next, left),
-            Instr::Binary(_, _) => self.come(next, left),
-            Instr::Skip(n) => self.come(past(place, *n, f.end) - start, left),
+            Instr::Push(_) => self.come(alloc, next, left),
+            Instr::Load(_) => self.come(alloc, next, left),
+            Instr::Store(_) => self.come(alloc, next, left),
+            Instr::Unary(_, _) => self.come(alloc, next, left),
+            Instr::Binary(_, _) => self.come(alloc, next, left),
+            Instr::Skip(n) => self.come(alloc, past(place, *n, f.end) - start, left),
             Instr::SkipIfZero(n) => self.come_both(
                 alloc,
                 next,
                 past(place, *n, f.end) - start,
                 left,
             ),
-            Instr::GoBack(n) => self.come(place - *n as usize - start, left),
-            Instr::Call(_, _) => self.come(next, left),
-            Instr::Sync => self.come(next, left),
-            Instr::Open(_) => self.come(next, left),
-            Instr::Close => self.come(next, left),
-            Instr::Print => self.come(next, left),
-            Instr::AddTo(_) => self.come(next, left),
+            Instr::GoBack(n) => self.come(alloc, place - *n as usize - start, left),
+            Instr::Call(_, _) => self.come(alloc, next, left),
+            Instr::Recur(_, _) => self.come(alloc, next, left),
+            Instr::Start(_, _) => self.come(alloc, next, left),
+            Instr::NewArray(_, _) => self.come(alloc, next, left),
+            Instr::Length(_) => self.come(alloc, next, left),
+            Instr::Element(_, _) => self.come(alloc, next, left),
+            Instr::SetElement(_, _) => self.come(alloc, next, left),
+            Instr::Cut(_, _) => self.come(alloc, next, left),
+            Instr::EndCut => self.come(alloc, next, left),
+            Instr::Sync => self.come(alloc, next, left),
+            Instr::Open(_) => self.come(alloc, next, left),
+            Instr::Close => self.come(alloc, next, left),
+            Instr::Print => self.come(alloc, next, left),
+            Instr::AddTo(_) => self.come(alloc, next, left),
             Instr::ReturnValue => Ok(false),
             Instr::Return => Ok(false),
         }
@@ -135,10 +146,10 @@ impl Search {
                 if !found::is_ready(code, shape, &i) {
                     return Err(Fault::Code);
                 }
-                found::copy(alloc, shape)?
+                found::copy(shape)?
             }
         };
-        let left = found::leave(alloc, code, shape, &i)?;
+        let left = leave(alloc, code, shape, &i)?;
         self.spread(alloc, code, f, place, &i, left)
     }
 
@@ -174,7 +185,7 @@ fn begin(alloc: Global, f: &Func) -> Result<Search, Fault>
     for _i in 0..f.end - f.start - 1 {
         found.push(None)?;
     }
-    let mut work = Vec::new(alloc);
+    let mut work = WorkList::new(alloc);
     work.push(0)?;
     Ok(Search { found, work })
 }

@@ -7,28 +7,30 @@ use std::alloc::{AllocError, Global};
 
 const OPEN: Instr = Instr::Open(BlockKind::Scope);
 
-// A function, placed after the instructions that stand already.
-fn place(
-    code: &mut Code,
-    gives_int: bool,
-    params: usize,
-    slots: usize,
-    body: &[Instr],
-) -> Result<(), AllocError> {
-    let start = code.instrs.len();
-    code.instrs.extend_from_slice(body)?;
-    code.funcs.push(Func {
-        start,
-        end: code.instrs.len(),
+// A function on integers, with no array.
+pub fn on_integers(gives_int: bool, params: usize, slots: usize) -> Func {
+    Func {
+        start: 0,
+        end: 0,
         gives_int,
         params,
         slots,
-    })?;
+        array_params: 0,
+        arrays: 0,
+    }
+}
+
+// A function, placed after the instructions that stand already.
+pub fn place(code: &mut Code, f: Func, body: &[Instr]) -> Result<(), AllocError> {
+    let start = code.instrs.len();
+    code.instrs.extend_from_slice(body)?;
+    let end = code.instrs.len();
+    code.funcs.push(Func { start, end, ..f })?;
     Ok(())
 }
 
 // A call site, the next one.
-fn add_site(
+pub fn add_site(
     alloc: Global,
     code: &mut Code,
     number: u32,
@@ -45,17 +47,24 @@ fn add_site(
     Ok(())
 }
 
-// Code without a function, with a reducer and a tag, and these sites: of function 1 in place and spawned, and of function 2 in
-// place and spawned.
-fn code_of_none(alloc: Global) -> Result<Code, AllocError> {
-    let mut code = Code {
+// Code with nothing in it.
+pub fn no_code(alloc: Global) -> Code {
+    Code {
         instrs: Vec::new(alloc),
         funcs: Vec::new(alloc),
         main: 0,
+        main_line: 1,
         sites: Vec::new(alloc),
         reducers: Vec::new(alloc),
         tags: Vec::new(alloc),
-    };
+        passed: Vec::new(alloc),
+    }
+}
+
+// Code without a function, with a reducer and a tag, and these sites: of function 1 in place and spawned, and of
+// function 2 in place and spawned.
+fn code_of_none(alloc: Global) -> Result<Code, AllocError> {
+    let mut code = no_code(alloc);
     code.reducers.push(Vec::new(alloc))?;
     code.tags.push(Vec::new(alloc))?;
     add_site(alloc, &mut code, 1, CallKind::Plain, 1)?;
@@ -69,13 +78,14 @@ fn code_of_none(alloc: Global) -> Result<Code, AllocError> {
 // parameter, and function 2 gives nothing.
 fn refusal(alloc: Global, main: &[Instr]) -> Result<u8, AllocError> {
     let mut code = code_of_none(alloc)?;
-    place(&mut code, true, 1, 2, main)?;
-    place(&mut code, true, 1, 1, &[Instr::Load(0), Instr::ReturnValue])?;
-    place(&mut code, false, 0, 0, &[Instr::Return])?;
+    place(&mut code, on_integers(true, 1, 2), main)?;
+    let same = [Instr::Load(0), Instr::ReturnValue];
+    place(&mut code, on_integers(true, 1, 1), &same)?;
+    place(&mut code, on_integers(false, 0, 0), &[Instr::Return])?;
     refusal_of(alloc, code)
 }
 
-fn refusal_of(alloc: Global, code: Code) -> Result<u8, AllocError> {
+pub fn refusal_of(alloc: Global, code: Code) -> Result<u8, AllocError> {
     match verify(alloc, code) {
         Ok(_) => Ok(0),
         Err(e) => Ok(e.number()),
@@ -88,6 +98,7 @@ fn callee(function: u32, site: u32, target: Option<u32>) -> Callee {
         site,
         line: 9,
         target,
+        passed: 0,
     }
 }
 
@@ -118,7 +129,7 @@ fn refusal_alone(
     after: &[Instr],
 ) -> Result<u8, AllocError> {
     let mut code = code_of_none(alloc)?;
-    place(&mut code, gives_int, params, 1, body)?;
+    place(&mut code, on_integers(gives_int, params, 1), body)?;
     code.instrs.extend_from_slice(after)?;
     refusal_of(alloc, code)
 }
@@ -145,6 +156,29 @@ fn functions(rt: HostRuntime) -> Result<(), AllocError> {
         (&[Instr::Return], 6),
     ];
     assert!(rt; all_are(alloc, &cases)?);
+    Ok(())
+}
+
+#[test]
+fn reducers(rt: HostRuntime) -> Result<(), AllocError> {
+    let alloc = rt.alloc();
+    let cases: [(&[&[u8]], u8); 5] = [
+        (&[b"a"], 0),
+        (&[b"a", b"b", b"ab"], 0),
+        // two of one name
+        (&[b"a", b"a"], 6),
+        (&[b"b", b"ab", b"a", b"ab"], 6),
+        (&[b"a", b"b", b"c", b"c"], 6),
+    ];
+    for (names, number) in cases {
+        let mut code = no_code(alloc);
+        for name in names {
+            code.reducers.push(Vec::from_slice(alloc, *name)?)?;
+        }
+        let gives = [Instr::Push(1), Instr::ReturnValue];
+        place(&mut code, on_integers(true, 1, 1), &gives)?;
+        assert!(rt; refusal_of(alloc, code)? == number);
+    }
     Ok(())
 }
 

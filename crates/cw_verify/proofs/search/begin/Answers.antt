@@ -1,7 +1,8 @@
-use Rattle.std.proofs.Common.{arith, ◌≡◌, ◌-◌, ◌++◌, ◌∷◌, [], Some, None, ap, ◌∙◌}
+use Rattle.std.proofs.Common.{arith, ◌≡◌, ◌-◌, ◌++◌, ◌∷◌, [], Some, None, ap, subst, ◌∙◌}
 use Rattle.std.specs.Prelude.{List, Option, replicate}
 use Rattle.cw_code.specs.Fits.{first_shape}
 use Rattle.cw_verify.specs.declared.found.Found.{Found}
+use Rattle.cw_verify.specs.Table.{IsNoted, places_of}
 use Rattle.cw_verify.proofs.Spreading.{begun}
 use Rattle.cw_verify.proofs.search.begin.Goals as goal
 
@@ -15,5 +16,5 @@ returns c =
     let is : c.loop-i.found.items ≡ Some first ∷ none = c.loop-i.invariant ∙ ap (λ l. l ++ none) (c.in_ok-push.ensures.items ∙ ap (λ l. l ++ Some first ∷ []) c.new-found.ensures.items) in
     record {
       shapes = begun c.loop-i.found.items first n f is c.in_ok-first.ensures ∙ ap (λ k. Some (first_shape f) ∷ replicate k None) many;
-      work = c.in_ok-push-3.ensures.items ∙ ap (λ l. l ++ 0 ∷ []) c.new-work.ensures.items;
+      work = subst (λ l. IsNoted 0 l (places_of c.push-2.new.self)) c.new-work.ensures c.in_ok-push-3.ensures;
     }

@@ -1,13 +1,13 @@
 use Rattle.std.proofs.Common.{arith, subst}
 use Rattle.cw_code.specs.Code.{code_view}
-use Rattle.cw_verify.specs.Table.{so_far, IsSearch}
+use Rattle.cw_verify.specs.Table.{so_far, work_of, IsSearch}
 use Rattle.cw_verify.proofs.Spreading.{shapes_length, begins, closed_is_table}
 use Rattle.cw_verify.proofs.search.find.Goals as goal
 
 pub loop-e-init : goal.loop-e-init
 loop-e-init c =
     let search = c.in_ok-search.search in
-    begins (code_view c.args.code.now) c.args.f.now (so_far search) search.work.items c.requires.order c.in_ok-search.ensures.shapes c.in_ok-search.ensures.work
+    begins (code_view c.args.code.now) c.args.f.now (so_far search) (work_of search) c.requires.order c.in_ok-search.ensures.shapes c.in_ok-search.ensures.work
 
 pub returns-then-not-reached : goal.returns-then-not-reached
 returns-then-not-reached c =

@@ -1,27 +1,27 @@
-use Rattle.std.proofs.Common.{arith, ◌≡◌, ◌<◌, ◌+◌, length, sym, subst, ap, ◌∙◌, length-append, ◌∷◌, []}
+use Rattle.std.proofs.Common.{arith, ◌<◌, ◌+◌, sym, subst, ◌∙◌}
 use Rattle.cw_code.specs.Code.{code_view}
-use Rattle.cw_verify.specs.Table.{so_far, visited, left_to_do, IsIn, HasNone}
+use Rattle.cw_verify.specs.Table.{so_far, places_of, work_of, visited, left_to_do, IsSearch, HasNone}
 use Rattle.cw_verify.proofs.Lists.{there}
-use Rattle.cw_verify.proofs.Spreading.{shapes_length, is_in_last, visit_search, fails_from}
+use Rattle.cw_verify.proofs.Spreading.{shapes_length, visit_search, fails_from}
 use Rattle.cw_verify.proofs.Tables.{visit_goes}
 use Rattle.cw_verify.proofs.search.Search.settle.Goals as goal
 
 pub visit-requires-clause-row : goal.visit-requires-clause-row
 visit-requires-clause-row c =
     let k = c.in-Some.k in
-    omega (arith, c.loop-k.invariant.search.small k (subst (IsIn k) (sym c.in-Some.ensures.items) (is_in_last c.pop.new.self.items k)), shapes_length c.loop-k.self.found.items)
+    omega (arith, c.loop-k.invariant.search.small k c.in-Some.ensures.here, shapes_length c.loop-k.self.found.items)
 
 pub visit-requires-clause-there : goal.visit-requires-clause-there
 visit-requires-clause-there c =
     let k = c.in-Some.k in
     let search = c.loop-k.invariant.search in
-    omega (arith, search.small k (subst (IsIn k) (sym c.in-Some.ensures.items) (is_in_last c.pop.new.self.items k)), search.whole, c.requires.there)
+    omega (arith, search.small k c.in-Some.ensures.here, search.whole, c.requires.there)
 
 pub visit-requires-clause-named : goal.visit-requires-clause-named
 visit-requires-clause-named c = λ i is.
     let k = c.in-Some.k in
     let search = c.loop-k.invariant.search in
-    let small = search.small k (subst (IsIn k) (sym c.in-Some.ensures.items) (is_in_last c.pop.new.self.items k)) in
+    let small = search.small k c.in-Some.ensures.here in
     c.requires.named (c.args.f.now.start + k) i (omega arith) (omega (arith, small, search.whole)) is
 
 pub returns-in-Err : goal.returns-in-Err
@@ -31,7 +31,7 @@ returns-in-Err c =
     let k = c.in-Some.k in
     let old = c.loop-k.self in
     let search = c.loop-k.invariant.search in
-    let small = search.small k (subst (IsIn k) (sym c.in-Some.ensures.items) (is_in_last c.pop.new.self.items k)) in
+    let small = search.small k c.in-Some.ensures.here in
     let t = there code.instrs (f.start + k) (omega (arith, small, search.whole, c.requires.there)) in
     let named = c.requires.named (f.start + k) t.0 (omega arith) (omega (arith, small, search.whole)) t.1 in
     fails_from c.in-Err.e (visited code f.start (so_far old) k t.0) _ c.visit.new.self (HasNone code f) (c.in-Err.ensures t.0 t.1)
@@ -45,11 +45,11 @@ returns-then-reached c =
     let old = c.loop-k.self in
     let new = c.visit.new.self in
     let search = c.loop-k.invariant.search in
-    let small = search.small k (subst (IsIn k) (sym c.in-Some.ensures.items) (is_in_last c.pop.new.self.items k)) in
+    let small = search.small k c.in-Some.ensures.here in
     let t = there code.instrs (f.start + k) (omega (arith, small, search.whole, c.requires.there)) in
     let tells = c.in-Ok.ensures t.0 t.1 in
     record {
-      search = visit_search code f (so_far old) (so_far new) old.work.items c.pop.new.self.items new.work.items k t.0 c.in-Ok.reached c.requires.there c.requires.named search c.in-Some.ensures.items t.1 tells.0 tells.1;
+      search = visit_search code f (so_far old) (so_far new) (work_of old) (places_of c.pop.new.self) (work_of new) k t.0 c.in-Ok.reached c.requires.there c.requires.named search c.in-Some.ensures t.1 tells.0 tells.1;
       reaches = λ e. omega (arith, tells.1.reaches c.if-reached.true, c.loop-k.invariant.fewer);
       ends = λ e. cc;
     }
@@ -62,11 +62,10 @@ loop-k-smaller c =
     let old = c.loop-k.self in
     let new = c.visit.new.self in
     let search = c.loop-k.invariant.search in
-    let small = search.small k (subst (IsIn k) (sym c.in-Some.ensures.items) (is_in_last c.pop.new.self.items k)) in
+    let small = search.small k c.in-Some.ensures.here in
     let t = there code.instrs (f.start + k) (omega (arith, small, search.whole, c.requires.there)) in
     let tells = c.in-Ok.ensures t.0 t.1 in
-    let popped : length old.work.items ≡ length c.pop.new.self.items + 1 = ap length c.in-Some.ensures.items ∙ length-append c.pop.new.self.items (k ∷ []) in
-    let less : left_to_do (so_far new) new.work.items < left_to_do (so_far old) old.work.items = omega (arith, tells.1.shrinks c.if-reached.false, popped) in
+    let less : left_to_do (so_far new) (work_of new) < left_to_do (so_far old) (work_of old) = omega (arith, tells.1.shrinks c.if-reached.false, c.in-Some.ensures.longer) in
     less
 
 pub loop-k-preserved : goal.loop-k-preserved
@@ -77,10 +76,21 @@ loop-k-preserved c =
     let old = c.loop-k.self in
     let new = c.visit.new.self in
     let search = c.loop-k.invariant.search in
-    let small = search.small k (subst (IsIn k) (sym c.in-Some.ensures.items) (is_in_last c.pop.new.self.items k)) in
+    let small = search.small k c.in-Some.ensures.here in
     let t = there code.instrs (f.start + k) (omega (arith, small, search.whole, c.requires.there)) in
     let tells = c.in-Ok.ensures t.0 t.1 in
     record {
-      search = visit_search code f (so_far old) (so_far new) old.work.items c.pop.new.self.items new.work.items k t.0 c.in-Ok.reached c.requires.there c.requires.named search c.in-Some.ensures.items t.1 tells.0 tells.1;
+      search = visit_search code f (so_far old) (so_far new) (work_of old) (places_of c.pop.new.self) (work_of new) k t.0 c.in-Ok.reached c.requires.there c.requires.named search c.in-Some.ensures t.1 tells.0 tells.1;
       fewer = omega (arith, tells.1.fewer, c.loop-k.invariant.fewer);
+    }
+
+pub returns : goal.returns
+returns c =
+    let code = code_view c.args.code.now in
+    let old = c.loop-k.self in
+    let none = c.in_default.ensures in
+    record {
+      search = subst (λ w. IsSearch code c.args.f.now (so_far old) w) (none.0 ∙ sym none.1) c.loop-k.invariant.search;
+      reaches = λ e. cc;
+      ends = λ e. none.1;
     }

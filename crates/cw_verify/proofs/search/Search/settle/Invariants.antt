@@ -1,6 +1,6 @@
 use Rattle.std.proofs.Common.{◌≤◌}
 use Rattle.cw_code.specs.Code.{code_view}
-use Rattle.cw_verify.specs.Table.{unreached, left_to_do, so_far, Searches}
+use Rattle.cw_verify.specs.Table.{unreached, left_to_do, so_far, work_of, Searches}
 use Rattle.cw_verify.proofs.search.Search.settle.Given as goal
 
 abbrev pub invariant-loop-k : goal.invariant-loop-k
@@ -10,4 +10,4 @@ invariant-loop-k l = record {
 }
 
 abbrev pub decreases-loop-k : goal.decreases-loop-k
-decreases-loop-k l = left_to_do (so_far l.self) l.self.work.items
+decreases-loop-k l = left_to_do (so_far l.self) (work_of l.self)

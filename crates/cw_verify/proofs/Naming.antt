@@ -1,0 +1,33 @@
+-- Names that are there once.
+use Rattle.std.proofs.Common.{◌≡◌, ℕ, suc, ◌+◌, ◌<◌, true, false, not, ◌||◌, ◌&&◌, Some, List, length, get_or, sym, ap, ◌∙◌, arith}
+use Rattle.std.specs.Prelude.{option_map, drop, slice_get}
+use Rattle.std.specs.Global.{Vec}
+use Rattle.std.proofs.lemmas.Option.{slice_get-map, slice_get-get_or}
+use Rattle.cw_model.specs.Syntax.{Name}
+use Rattle.cw_model.specs.Names.{same_name}
+use Rattle.cw_code.specs.Fits.{is_among, are_apart}
+use Rattle.cw_verify.specs.Table.{names_of}
+use Rattle.cw_verify.proofs.Lists.{drop_at}
+
+pub name_at : (names : List (Vec ℕ)) (k : ℕ) (name d : Vec ℕ) → k < length names → name ≡ get_or names k d → slice_get (names_of names) k ≡ Some name.items
+name_at names k name d lt e = slice_get-map (λ (n : Vec ℕ). n.items) names k ∙ ap (option_map (λ (n : Vec ℕ). n.items)) (slice_get-get_or names k d lt ∙ ap Some (sym e))
+
+module _ (names : List Name) (k : ℕ) (other : Name) (e : slice_get names k ≡ Some other) where
+  next : suc k ≡ k + 1
+  next = omega arith
+
+  pub among_at : (name : Name) → same_name name other ≡ true → is_among name (drop k names) ≡ true
+  among_at name h = ap (is_among name) (drop_at names k other e) ∙ ap (λ b. b || is_among name (drop (suc k) names)) h
+
+  pub among_on : (name : Name) → same_name name other ≡ false → is_among name (drop k names) ≡ is_among name (drop (k + 1) names)
+  among_on name h = ap (is_among name) (drop_at names k other e) ∙ ap (λ b. b || is_among name (drop (suc k) names)) h ∙ ap (λ j. is_among name (drop j names)) next
+
+  pub apart_not : is_among other (drop (k + 1) names) ≡ true → are_apart (drop k names) ≡ false
+  apart_not h =
+      ap are_apart (drop_at names k other e) ∙ ap (λ j. not (is_among other (drop j names)) && are_apart (drop (suc k) names)) next ∙ ap (λ b. not b && are_apart (drop (suc k) names)) h
+
+  pub apart_on : is_among other (drop (k + 1) names) ≡ false → are_apart (drop k names) ≡ are_apart (drop (k + 1) names)
+  apart_on h =
+      ap are_apart (drop_at names k other e)
+      ∙ ap (λ j. not (is_among other (drop j names)) && are_apart (drop j names)) next
+      ∙ ap (λ b. not b && are_apart (drop (k + 1) names)) h

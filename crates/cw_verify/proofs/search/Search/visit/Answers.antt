@@ -1,0 +1,27 @@
+use Rattle.std.proofs.Common.{◌≡◌, ◌+◌, Some, sym, ap, subst, ◌∙◌}
+use Rattle.std.specs.Prelude.{option_map, slice_get}
+use Rattle.std.proofs.lemmas.Option.{slice_get-get_or}
+use Rattle.cw_code.specs.Code.{code_view}
+use Rattle.cw_code.specs.Fits.{leaves}
+use Rattle.cw_verify.specs.Table.{shape_view, shapes_of, come_all, next_distances, visited, Tells}
+use Rattle.cw_verify.proofs.Lists.{same_some}
+use Rattle.cw_verify.proofs.Spreading.{shapes_at}
+use Rattle.cw_verify.proofs.Tables.{visited_ready}
+use Rattle.cw_verify.proofs.search.Search.visit.Goals as goal
+
+pub returns : goal.returns
+returns c = λ i is.
+    let code = code_view c.args.code.now in
+    let start = c.args.f.now.start in
+    let k = c.args.k in
+    let items = c.args.self.now.found.items in
+    let found = c.index-2.result.now in
+    let shape = shape_view c.in-Some.shape in
+    let here = c.index.result.now in
+    let is_here : slice_get code.instrs (start + k) ≡ Some here = slice_get-get_or code.instrs (start + k) here c.requires.there ∙ ap Some (sym c.index.ensures) in
+    let same : here ≡ i = same_some here i (sym is_here ∙ is) in
+    let at = shapes_at items k found found c.requires.row c.index-2.ensures ∙ ap (λ o. Some (option_map shape_view o)) c.in-Some.is in
+    let ready = sym c.is_ready.ensures ∙ c.if-not-is_ready.false in
+    let left = c.in_ok-left.ensures ∙ ap (λ s. leaves code s here) c.in_ok-shape-in-Some.ensures in
+    let comes = visited_ready code start (shapes_of items) k here shape at ready ∙ ap (come_all (shapes_of items) (next_distances start k here)) (sym left) in
+    subst (λ o. Tells c.spread.result o c.args.self.now c.spread.new.self) (sym comes ∙ ap (visited code start (shapes_of items) k) same) c.spread.ensures

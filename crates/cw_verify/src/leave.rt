@@ -1,0 +1,241 @@
+//! What an instruction leaves.
+
+ghost use Rattle.std.specs.Prelude.{◌≡◌, ◌+◌, ◌-◌, ◌≤◌, true, length, slice_get, MatchResult};
+ghost use Rattle.cw_code.specs.Code.{code_view};
+ghost use Rattle.cw_code.specs.Fits as fits;
+ghost use Rattle.cw_code.specs.declared.code.Instr.TheVariants as instr;
+ghost use Rattle.cw_model.specs.declared.syntax.CallKind.TheVariants.{Spawned};
+ghost use Rattle.cw_verify.specs.Table as table;
+
+use crate::found::Found;
+use crate::named::{params_of, passed_of};
+use crate::round::{Round, copies};
+use crate::row;
+use cw_code::code::{Callee, Code, Halves, Inner, Instr};
+use cw_model::syntax::CallKind;
+use cw_text::Fault;
+use std::alloc::Global;
+use std::rc::Rc;
+
+// One operand more. So many that they can't be counted have no room anywhere.
+fn one_more(found: Found) -> Result<Found, Fault>
+    ensures { table.Finds result (table.holding (found.operands + 1) (table.shape_view found)) }
+{
+    match found.operands.checked_add(1) {
+        Some(operands) => Ok(Found { operands, ..found }),
+        None => Err(Fault::Memory),
+    }
+}
+
+// Fewer operands.
+fn less(found: Found, count: usize) -> Found
+    requires { count ≤ found.operands }
+    ensures { table.shape_view result ≡ table.holding (found.operands - count) (table.shape_view found) }
+{
+    let operands = found.operands - count;
+    Found { operands, ..found }
+}
+
+// The row after a spawn took the slot of its result, if there is one.
+fn with_target(alloc: Global, row: &[bool], target: Option<u32>) -> Result<Rc<Vec<bool>>, Fault>
+    ensures { MatchResult result (λ r. r.value.items ≡ fits.with_target Spawned target row.now) (λ e. e ≡ Fault.Memory) }
+{
+    let mut row = Vec::from_slice(alloc, row)?;
+    take_target(&mut row, target);
+    let row = Rc::new(alloc, row)?;
+    Ok(row)
+}
+
+// The slot of a result, if there is one, may be empty.
+fn take_target(row: &mut Vec<bool>, target: Option<u32>)
+    ensures { row.new.items ≡ fits.with_target Spawned target row.old.items }
+{
+    if let Some(a) = target {
+        row::set(row, a, true);
+    }
+}
+
+// The row after arrays were taken out of these slots.
+fn with_gone(alloc: Global, row: &[bool], passed: &[u32]) -> Result<Rc<Vec<bool>>, Fault>
+    ensures { MatchResult result (λ r. r.value.items ≡ fits.with_gone passed.now row.now) (λ e. e ≡ Fault.Memory) }
+{
+    let mut row = Vec::from_slice(alloc, row)?;
+    row::set_all(&mut row, passed);
+    let row = Rc::new(alloc, row)?;
+    Ok(row)
+}
+
+// A call has taken its arguments, and a spawn the slot of its result, if there is one, and its arrays.
+fn called(
+    alloc: Global,
+    code: &Code,
+    found: Found,
+    kind: CallKind,
+    c: &Callee,
+) -> Result<Found, Fault>
+    requires { fits.is_ready (code_view code.now) (table.shape_view found) (instr.Call kind c.now) ≡ true }
+    ensures { table.Finds result (fits.leaves (code_view code.now) (table.shape_view found) (instr.Call kind c.now)) }
+{
+    let left = less(found, params_of(code, c.function));
+    match kind {
+        CallKind::Plain => Ok(left),
+        CallKind::Spawned => {
+            let empty = with_target(alloc, &left.empty, c.target)?;
+            let gone = with_gone(alloc, &left.gone, passed_of(code, c.passed))?;
+            Ok(Found {
+                empty,
+                gone,
+                ..left
+            })
+        }
+    }
+}
+
+// A loop's function has called itself.
+fn recurred(
+    alloc: Global,
+    code: &Code,
+    found: Found,
+    kind: CallKind,
+    c: &Inner,
+) -> Result<Found, Fault>
+    requires { fits.is_ready (code_view code.now) (table.shape_view found) (instr.Recur kind c.now) ≡ true }
+    ensures { table.Finds result (fits.leaves (code_view code.now) (table.shape_view found) (instr.Recur kind c.now)) }
+{
+    let left = less(found, params_of(code, c.function));
+    match kind {
+        CallKind::Plain => Ok(left),
+        CallKind::Spawned => {
+            let gone = with_gone(alloc, &left.gone, passed_of(code, c.passed))?;
+            Ok(Found { gone, ..left })
+        }
+    }
+}
+
+// A join.
+fn synced(alloc: Global, found: Found) -> Result<Found, Fault>
+    ensures { table.Finds result (table.synced_shape (table.shape_view found)) }
+{
+    let empty = row::shared_none(alloc, found.empty.len())?;
+    let gone = row::shared_none(alloc, found.gone.len())?;
+    Ok(Found {
+        empty,
+        gone,
+        ..found
+    })
+}
+
+// A sync block begins, by this cut, if any.
+fn opened(alloc: Global, found: Found, cut: Option<Halves>) -> Result<Found, Fault>
+    ensures { table.Finds result (table.opened_by cut (table.shape_view found)) }
+{
+    let empty = row::shared_none(alloc, found.empty.len())?;
+    let gone = row::shared_none(alloc, found.gone.len())?;
+    let round = Round {
+        empty: Vec::from_slice(alloc, &found.empty)?,
+        gone: Vec::from_slice(alloc, &found.gone)?,
+        cut,
+    };
+    let mut outer = copies(alloc, &found.outer)?;
+    outer.insert(0, round)?;
+    let outer = Rc::new(alloc, outer)?;
+    Ok(Found {
+        operands: found.operands,
+        empty,
+        gone,
+        outer,
+    })
+}
+
+// A cut begins: its array is gone up to its end.
+fn cut(alloc: Global, found: Found, h: Halves) -> Result<Found, Fault>
+    requires { 1 ≤ found.operands }
+    ensures { table.Finds result (table.cut_shape h (table.shape_view found)) }
+{
+    let left = less(found, 1);
+    let mut gone = Vec::from_slice(alloc, &left.gone)?;
+    row::set(&mut gone, h.array, true);
+    let gone = Rc::new(alloc, gone)?;
+    let begun = opened(alloc, Found { gone, ..left }, Some(h))?;
+    Ok(begun)
+}
+
+// A sync block ends: the one round it goes on.
+fn closed(alloc: Global, found: Found) -> Result<Found, Fault>
+    requires { fits.can_close (table.rounds_of found.outer.value.items) ≡ true }
+    ensures { table.Finds result (fits.closed_shape (table.shape_view found) (table.rounds_of found.outer.value.items)) }
+{
+    let mut outer = copies(alloc, &found.outer)?;
+    let round = outer.remove(0);
+    let empty = Rc::new(alloc, round.empty)?;
+    let gone = Rc::new(alloc, round.gone)?;
+    let outer = Rc::new(alloc, outer)?;
+    Ok(Found {
+        operands: found.operands,
+        empty,
+        gone,
+        outer,
+    })
+}
+
+// The array of a cut is back.
+fn put_back(row: &mut Vec<bool>, cut: Option<Halves>)
+    ensures { row.new.items ≡ fits.with_uncut cut row.old.items }
+{
+    if let Some(h) = cut {
+        row::set(row, h.array, false);
+    }
+}
+
+// A cut ends: the sync block round it goes on, with the array.
+fn uncut(alloc: Global, found: Found) -> Result<Found, Fault>
+    requires { fits.can_uncut (table.rounds_of found.outer.value.items) ≡ true }
+    ensures { table.Finds result (fits.uncut_shape (table.shape_view found) (table.rounds_of found.outer.value.items)) }
+{
+    let mut outer = copies(alloc, &found.outer)?;
+    let round = outer.remove(0);
+    let mut gone = round.gone;
+    put_back(&mut gone, round.cut);
+    let empty = Rc::new(alloc, round.empty)?;
+    let gone = Rc::new(alloc, gone)?;
+    let outer = Rc::new(alloc, outer)?;
+    Ok(Found {
+        operands: found.operands,
+        empty,
+        gone,
+        outer,
+    })
+}
+
+/// What an instruction leaves.
+pub fn leave(alloc: Global, code: &Code, found: Found, i: &Instr) -> Result<Found, Fault>
+    requires { fits.is_ready (code_view code.now) (table.shape_view found) i.now ≡ true }
+    ensures { table.Finds result (fits.leaves (code_view code.now) (table.shape_view found) i.now) }
+{
+    match i {
+        Instr::Push(_) => one_more(found),
+        Instr::Load(_) => one_more(found),
+        Instr::Store(_) => Ok(less(found, 1)),
+        Instr::Unary(_, _) => Ok(found),
+        Instr::Binary(_, _) => Ok(less(found, 1)),
+        Instr::Skip(_) => Ok(found),
+        Instr::SkipIfZero(_) => Ok(less(found, 1)),
+        Instr::GoBack(_) => Ok(found),
+        Instr::Call(kind, c) => called(alloc, code, found, *kind, c),
+        Instr::Recur(kind, c) => recurred(alloc, code, found, *kind, c),
+        Instr::Start(c, _) => Ok(less(found, params_of(code, c.function))),
+        Instr::NewArray(_, _) => Ok(less(found, 1)),
+        Instr::Length(_) => one_more(found),
+        Instr::Element(_, _) => Ok(found),
+        Instr::SetElement(_, _) => Ok(less(found, 2)),
+        Instr::Cut(h, _) => cut(alloc, found, *h),
+        Instr::EndCut => uncut(alloc, found),
+        Instr::Sync => synced(alloc, found),
+        Instr::Open(_) => opened(alloc, found, None),
+        Instr::Close => closed(alloc, found),
+        Instr::Print => Ok(less(found, 1)),
+        Instr::AddTo(_) => Ok(less(found, 1)),
+        Instr::ReturnValue => Ok(found),
+        Instr::Return => Ok(found),
+    }
+}

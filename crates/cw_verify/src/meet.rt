@@ -1,0 +1,38 @@
+//! What comes to a place that has something already.
+
+ghost use Rattle.std.specs.Prelude.{◌≡◌, Some, None, MatchResult};
+ghost use Rattle.cw_verify.specs.Table as table;
+
+use crate::found::Found;
+use crate::round::{are_alike, shared_each};
+use crate::row::shared_either;
+use cw_text::Fault;
+use std::alloc::Global;
+
+// Whether two shapes can come to one place.
+fn can_meet(there: &Found, found: &Found) -> bool
+    ensures { result ≡ table.can_meet (table.shape_view there.now) (table.shape_view found.now) }
+{
+    let empty = there.empty.len() == found.empty.len();
+    let gone = there.gone.len() == found.gone.len();
+    there.operands == found.operands && ((empty && gone) && are_alike(&there.outer, &found.outer))
+}
+
+/// A shape comes to a place that has one already; whether it brings more. The error is `Code` where the two can't meet.
+pub fn join(alloc: Global, there: Found, found: &Found) -> Result<(Found, bool), Fault>
+    ensures { MatchResult result (λ r. table.Met (table.shape_view there) (table.shape_view found.now) (table.shape_view r.0) r.1) (table.Fails (table.joined (Some (table.shape_view there)) (table.shape_view found.now) ≡ None)) }
+{
+    if !can_meet(&there, found) {
+        return Err(Fault::Code);
+    }
+    let (empty, more_empty) = shared_either(alloc, there.empty, &found.empty)?;
+    let (gone, more_gone) = shared_either(alloc, there.gone, &found.gone)?;
+    let (outer, more_outer) = shared_each(alloc, there.outer, &found.outer)?;
+    let joined = Found {
+        operands: there.operands,
+        empty,
+        gone,
+        outer,
+    };
+    Ok((joined, (more_empty | more_gone) | more_outer))
+}
