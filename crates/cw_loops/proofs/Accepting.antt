@@ -21,7 +21,7 @@ use Rattle.cw_loops.proofs.Declaring.{left_none, right_none, kept}
 use Rattle.cw_loops.proofs.Lowering.{block_can}
 
 -- the names of parameters
-abbrev names_of : List Param → List Name
+abbrev pub names_of : List Param → List Name
 names_of ps = map (λ p. p.name) ps
 
 -- a parameter is an integer or an array
@@ -79,7 +79,7 @@ newest array p ps x alone = known_push array (known_of ps) p.name p.is_array x �
 no_kind : (x : Name) (ps : List Param) → is_among x (names_of ps) ≡ false → (is_among x (integers_of ps) ≡ false) × (is_among x (arrays_of ps) ≡ false)
 no_kind x ps h = none_of (is_among x (integers_of ps)) (is_among x (arrays_of ps)) (sym (kind_among x ps) ∙ h)
 
-int_kind : (ps : List Param) → differ (names_of ps) ≡ true → (x : Name) → is_int (known_of ps) x ≡ is_among x (integers_of ps)
+pub int_kind : (ps : List Param) → differ (names_of ps) ≡ true → (x : Name) → is_int (known_of ps) x ≡ is_among x (integers_of ps)
 int_kind [] h x = refl
 int_kind (p ∷ ps) h x =
     let d = others_differ p ps h in
@@ -129,11 +129,11 @@ begins fs ps returns h = record {
 }
 
 -- what the head of a function keeps
-record HeadOf (f : Function) : Type 0 where
-  params : differ (names_of f.params) ≡ true
-  main : (not (same_name f.name main_name) || (f.gives_int && not (list_any (λ p. p.is_array) f.params))) ≡ true
+pub record HeadOf (f : Function) : Type 0 where
+  pub params : differ (names_of f.params) ≡ true
+  pub main : (not (same_name f.name main_name) || (f.gives_int && not (list_any (λ p. p.is_array) f.params))) ≡ true
 
-head_of : (program : Program) (f : Function) → faults_of program f ≡ [] → HeadOf f
+pub head_of : (program : Program) (f : Function) → faults_of program f ≡ [] → HeadOf f
 head_of program f h =
     let a = both_true _ (not (same_name f.name main_name) || (f.gives_int && not (list_any (λ p. p.is_array) f.params))) (kept (is_head program f) f.line (left_none _ _ h)) in
     let b = both_true _ (not f.gives_int || block_returns f.body) a.0 in
@@ -158,7 +158,7 @@ module _ (program : Program) where
       let s = both_true (is_source_function g) (list_all is_source_function gs) source in
       all_of (can_lower_function program.functions g) _ (function_can g (left_none _ _ types) (left_none _ _ owns) s.0) (all_can gs (right_none _ _ types) (right_none _ _ owns) s.1)
 
-  heads_kept : IsWellTyped program → flat_map (faults_of program) program.functions ≡ []
+  pub heads_kept : IsWellTyped program → flat_map (faults_of program) program.functions ≡ []
   heads_kept h = right_none (repeated_names program) _ (right_none (unless (is_among main_name (map (λ f. f.name) program.functions)) 1) _ h)
 
   pub owned_can : IsWellTyped program → KeepsOwnership program → is_source_like program ≡ true → is_lowerable program ≡ true

@@ -28,6 +28,10 @@ pub mod CutStatement
 pub mod Sizes
 pub mod Counts
 mod Grains
+pub mod Rows
+pub mod Sameness
+pub mod Equal
+pub mod Views
 mod Naming
 mod Knowing
 mod Seeing
@@ -35,3 +39,12 @@ mod Declaring
 mod Lowering
 mod Accepting
 mod Deriving
+mod Shifting
+mod Taken
+mod Entering
+mod OuterReads
+mod Tracking
+mod LoopTexts
+mod BySlot
+mod WholeSlots
+mod RightSlots

@@ -42,9 +42,9 @@ numbered-append k [] ys h g = let z : k + 0 ≡ k = omega arith in subst (λ n. 
 numbered-append k (x ∷ xs) ys h g = let z : k + suc (length xs) ≡ k + 1 + length xs = omega arith in (h.0, numbered-append (k + 1) xs ys h.1 (subst (λ n. Numbered n ys) z g))
 
 -- what a statement's loops are made into
-record Made (k count : ℕ) (made : List Function) : Type 0 where
-  many : length made ≡ count
-  numbered : Numbered k made
+pub record Made (k count : ℕ) (made : List Function) : Type 0 where
+  pub many : length made ≡ count
+  pub numbered : Numbered k made
 
 both_made : (k m n : ℕ) (xs ys : List Function) → Made k m xs → Made (k + m) n ys → Made k (m + n) (xs ++ ys)
 both_made k m n xs ys h g = record {
@@ -80,11 +80,11 @@ mutual
   made_block End k = none_made k
   made_block (Then line s b) k = both_made k (loop_count s) (loop_count_in b) (made_by line k s) (made_in (k + loop_count s) b) (made_stmt s line k) (made_block b (k + loop_count s))
 
-abbrev count_of : List Function → ℕ
+abbrev pub count_of : List Function → ℕ
 count_of [] = 0
 count_of (f ∷ fs) = loop_count_in f.body + count_of fs
 
-made_functions : (fs : List Function) (k : ℕ) → Made k (count_of fs) (made_of k fs)
+pub made_functions : (fs : List Function) (k : ℕ) → Made k (count_of fs) (made_of k fs)
 made_functions [] k = none_made k
 made_functions (f ∷ fs) k = both_made k (loop_count_in f.body) (count_of fs) (made_in k f.body) (made_of (k + loop_count_in f.body) fs) (made_block f.body k) (made_functions fs (k + loop_count_in f.body))
 
@@ -92,7 +92,7 @@ made_functions (f ∷ fs) k = both_made k (loop_count_in f.body) (count_of fs) (
 abbrev Skips : Name → List Function → Type 0
 Skips g pre = (rest : List Function) → function_of g (pre ++ rest) ≡ function_of g rest
 
-loops_apart : (j k : ℕ) → k < j → same_name (loop_name j) (loop_name k) ≡ false
+pub loops_apart : (j k : ℕ) → k < j → same_name (loop_name j) (loop_name k) ≡ false
 loops_apart j k h = apart (loop_name j) (loop_name k) (λ e. let q : j ≡ k = numbers e in omega arith)
   where
     numbers : loop_name j ≡ loop_name k → j ≡ k

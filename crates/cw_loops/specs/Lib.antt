@@ -2,4 +2,14 @@ pub mod Lowered
 pub mod Lowerable
 pub mod SourceLike
 pub mod LoweringLaws
+pub mod Slotted
+pub mod Moved
+pub mod Moving
+pub mod View
+pub mod Lowers
+pub mod Same
+pub mod Expanded
+pub mod Seen
 pub mod Examples
+pub mod SlotExamples
+pub mod SlotLaws

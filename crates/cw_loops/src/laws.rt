@@ -1,7 +1,13 @@
 //! The laws of lowering: each function has one as its contract, and does nothing.
 
 ghost use Rattle.cw_loops.specs.Examples.{LoweredExamples};
+ghost use Rattle.cw_loops.specs.SlotExamples.{SlotExamples};
+ghost use Rattle.cw_loops.specs.Seen.{IsLowered};
+ghost use Rattle.cw_loops.specs.SlotLaws.{LoweringIsBySlot};
+ghost use Rattle.cw_loops.specs.Same.{SameTreesAreEqual};
 ghost use Rattle.cw_loops.specs.LoweringLaws.{DerivedIsSourceLike, LoweredAnswersAsItsSource, LoweredHasItsCalls, LoweredHasNoLoop, LoweredIsAsLong, LoweringKeepsAnswers, LoweringKeepsDerivedAnswers, LoweringKeepsSize, OwnedIsLowerable};
+
+use crate::program::Core;
 
 /// Worked examples, lowered: each answer is that of the source.
 pub fn lowered_examples()
@@ -42,4 +48,25 @@ pub fn lowering_keeps_answers()
     ensures answers { LoweringKeepsAnswers }
     ensures derived { LoweringKeepsDerivedAnswers }
     ensures size { LoweringKeepsSize }
+{}
+
+/// Worked examples, lowered by slot: each tree is the lowered program with each name looked up.
+pub fn slot_examples()
+    ensures { SlotExamples }
+{}
+
+/// What the test of lowered trees holds of is equal: a core's tree is what lowering makes of its source.
+pub fn same_trees_are_equal()
+    ensures { SameTreesAreEqual }
+{}
+
+/// Of a program of a source that types, ownership and limits accept, lowering by slot makes the lowered program with each
+/// name looked up.
+pub fn lowering_is_by_slot()
+    ensures { LoweringIsBySlot }
+{}
+
+/// Every core is seen as the lowered program of its source, each name looked up, by its type alone.
+pub fn core_is_lowered(core: &Core)
+    ensures { IsLowered core.now.source.typed.tree core.now.tree }
 {}

@@ -1,0 +1,195 @@
+-- Lowering by slot: what becomes of a resolved tree where its loops are lowered.
+use Rattle.std.specs.Prelude.{ℕ, ◌+◌, ◌-◌, ◌^◌, ◌==◌, min, nat_lt, Bool, true, false, ◌&&◌, if◌then◌else◌, List, [], ◌∷◌, ◌++◌, length, map, Option, Some, None}
+use Rattle.cw_model.specs.declared.syntax.Operator.TheVariants.{Minus}
+use Rattle.cw_types.specs.Resolved.{Use, is_slot_in}
+use Rattle.cw_types.specs.Resolved as source
+use Rattle.cw_loops.specs.Slotted.{Expr, Number, Variable, Element, Length, Negative, Not, Binary, Argument, Int, Array, Stmt, Declare, DeclareArray, Assign, AssignElement, AddTo, Call, Begin, Sync, If, IfElse, While, Scope, Cut, Region, Print, Return, Block, End, Then}
+
+-- the greatest slot or index that a tree can tell
+abbrev pub most_slot : ℕ
+most_slot = 2 ^ 32 - 1
+
+-- a slot or an index; no program within the limits has a greater one
+abbrev pub slot : ℕ → ℕ
+slot n = min n most_slot
+
+-- where the locals of a function of the source are in the function that its text goes to: for a loop, how many integers
+-- and arrays are known before its head, the slots of those that it takes along, in order, and the slot of the first one
+-- of each kind that is declared in it
+pub record Moves : Type 0 where
+  pub ints_before : ℕ
+  pub captured : List ℕ
+  pub first_int : ℕ
+  pub arrays_before : ℕ
+  pub over : List ℕ
+  pub first_array : ℕ
+
+-- outside all loops
+abbrev pub nothing_moved : Moves
+nothing_moved = record { ints_before = 0; captured = []; first_int = 0; arrays_before = 0; over = []; first_array = 0 }
+
+-- the slots of uses
+abbrev pub slots_of : List Use → List ℕ
+slots_of uses = map (λ u. u.slot) uses
+
+-- in the body of a loop, where so many arrays are known before its head; the ends of the range have the slots 0 and 1
+abbrev pub moves_of : source.Head → ℕ → Moves
+moves_of head arrays = record {
+  ints_before = head.variable.slot;
+  captured = slots_of head.captured;
+  first_int = slot (slot (length head.captured) + 2);
+  arrays_before = arrays;
+  over = slots_of head.over;
+  first_array = slot (length head.over);
+}
+
+-- the first place of a slot among others, counted from a number on
+abbrev pub place_from : ℕ → ℕ → List ℕ → ℕ
+place_from n s [] = n
+place_from n s (k ∷ ks) = if k == s then n else place_from (slot (n + 1)) s ks
+
+-- the slot of an integer, where it went
+abbrev pub moved_int : Moves → ℕ → ℕ
+moved_int m s = if nat_lt s m.ints_before then place_from 2 s m.captured else slot (s - m.ints_before + m.first_int)
+
+-- the slot of an array, where it went
+abbrev pub moved_array : Moves → ℕ → ℕ
+moved_array m s = if nat_lt s m.arrays_before then place_from 0 s m.over else slot (s - m.arrays_before + m.first_array)
+
+-- an array of the loop
+abbrev pub is_over : Moves → ℕ → Bool
+is_over m s = nat_lt s m.arrays_before && is_slot_in s m.over
+
+-- an index into an array of the loop counts from the lower end of the range
+abbrev pub from_low : Bool → Expr → Expr
+from_low true e = Binary Minus e (Variable 0)
+from_low false e = e
+
+-- an expression, where it went
+abbrev pub moved_expr : Moves → source.Expr → Expr
+moved_expr m (source.Number n) = Number n
+moved_expr m (source.Variable u) = Variable (moved_int m u.slot)
+moved_expr m (source.Element u e) = Element (moved_array m u.slot) (from_low (is_over m u.slot) (moved_expr m e))
+moved_expr m (source.Length u) = Length (moved_array m u.slot)
+moved_expr m (source.Negative e) = Negative (moved_expr m e)
+moved_expr m (source.Not e) = Not (moved_expr m e)
+moved_expr m (source.Binary operator d e) = Binary operator (moved_expr m d) (moved_expr m e)
+
+-- an argument, where it went
+abbrev pub moved_argument : Moves → source.Argument → Argument
+moved_argument m (source.Int e) = Int (moved_expr m e)
+moved_argument m (source.Array u) = Array (moved_array m u.slot)
+
+-- the target of a call, where it went
+abbrev pub moved_target : Moves → Option Use → Option ℕ
+moved_target m None = None
+moved_target m (Some u) = Some (moved_int m u.slot)
+
+-- what is returned, where it went
+abbrev pub moved_return : Moves → Option source.Expr → Option Expr
+moved_return m None = None
+moved_return m (Some e) = Some (moved_expr m e)
+
+-- integers and arrays that a loop takes along, where they are as it begins
+abbrev pub moved_ints : Moves → List Use → List ℕ
+moved_ints m uses = map (λ u. moved_int m u.slot) uses
+
+abbrev pub moved_arrays : Moves → List Use → List ℕ
+moved_arrays m uses = map (λ u. moved_array m u.slot) uses
+
+-- how many arrays are known after a statement
+abbrev pub arrays_after : ℕ → source.Stmt → ℕ
+arrays_after arrays (source.DeclareArray u e) = slot (u.slot + 1)
+arrays_after arrays _ = arrays
+
+-- what a loop becomes: its line and grain, how many integers and arrays it takes along, and its body
+pub record Loop : Type 0 where
+  pub line : ℕ
+  pub grain : ℕ
+  pub captured : ℕ
+  pub over : ℕ
+  pub body : Block
+
+-- a statement without blocks, where it went
+abbrev pub moved_alone : Moves → source.Stmt → Stmt
+moved_alone m (source.Declare u e) = Declare (moved_int m u.slot) (moved_expr m e)
+moved_alone m (source.DeclareArray u e) = DeclareArray (moved_array m u.slot) (moved_expr m e)
+moved_alone m (source.Assign u e) = Assign (moved_int m u.slot) (moved_expr m e)
+moved_alone m (source.AssignElement u i e) =
+    AssignElement (moved_array m u.slot) (from_low (is_over m u.slot) (moved_expr m i)) (moved_expr m e)
+moved_alone m (source.AddTo s e) = AddTo s.index (moved_expr m e)
+moved_alone m (source.Call kind site target f es) = Call kind site (moved_target m target) f.index (map (moved_argument m) es)
+moved_alone m (source.Print e) = Print (moved_expr m e)
+moved_alone m (source.Return e) = Return (moved_return m e)
+moved_alone m _ = Sync
+
+-- the beginning of a loop, whose function has this index
+abbrev pub moved_head : Moves → ℕ → source.Head → Stmt
+moved_head m callee head =
+    Begin callee (moved_expr m head.from) (moved_expr m head.to) (moved_ints m head.captured) (moved_arrays m head.over)
+
+-- the function of a loop of a line, with its body where it went
+abbrev pub loop_with : ℕ → source.Head → Block → Loop
+loop_with line head body =
+    record { line = line; grain = head.grain; captured = slot (length head.captured); over = slot (length head.over); body = body }
+
+-- the index of the next loop's function, behind the functions of the source and the loops so far
+abbrev pub loop_index : (functions loops : ℕ) → ℕ
+loop_index functions loops = slot (slot loops + functions)
+
+-- what a statement becomes, and the loops made so far with those in it behind them, each after those in its body
+pub record Made : Type 0 where
+  pub stmt : Stmt
+  pub loops : List Loop
+
+-- the same of a block
+pub record MadeAll : Type 0 where
+  pub block : Block
+  pub loops : List Loop
+
+-- one block inside a statement
+abbrev pub around_one : (Block → Stmt) → MadeAll → Made
+around_one form inner = record { stmt = form inner.block; loops = inner.loops }
+
+-- a loop, whose body is made
+abbrev pub around_loop : (functions : ℕ) → Moves → ℕ → source.Head → MadeAll → Made
+around_loop functions m line head inner = record {
+  stmt = moved_head m (loop_index functions (length inner.loops)) head;
+  loops = inner.loops ++ loop_with line head inner.block ∷ [];
+}
+
+-- a cut around a block
+abbrev pub moved_cut : Moves → source.Parts → Block → Stmt
+moved_cut m parts body =
+    Cut (moved_array m parts.array.slot) (moved_expr m parts.at) (moved_array m parts.left.slot) (moved_array m parts.right.slot) body
+
+-- a statement before a block
+abbrev pub followed : ℕ → Stmt → MadeAll → MadeAll
+followed line s rest = record { block = Then line s rest.block; loops = rest.loops }
+
+abbrev mutual
+  -- a statement of a line, where so many functions are in the source and so many arrays are known, behind these loops
+  pub made_stmt : (functions : ℕ) → Moves → (arrays : ℕ) → List Loop → (line : ℕ) → source.Stmt → Made
+  made_stmt n m arrays loops line (source.If e b) = around_one (If (moved_expr m e)) (made_block n m arrays loops b)
+  made_stmt n m arrays loops line (source.IfElse e b c) =
+      let first = made_block n m arrays loops b in
+      around_one (IfElse (moved_expr m e) first.block) (made_block n m arrays first.loops c)
+  made_stmt n m arrays loops line (source.While e b) = around_one (While (moved_expr m e)) (made_block n m arrays loops b)
+  made_stmt n m arrays loops line (source.For head b) =
+      around_loop n m line head (made_block n (moves_of head arrays) arrays loops b)
+  made_stmt n m arrays loops line (source.Scope b) = around_one Scope (made_block n m arrays loops b)
+  made_stmt n m arrays loops line (source.Cut parts b) =
+      around_one (moved_cut m parts) (made_block n m (slot (parts.right.slot + 1)) loops b)
+  made_stmt n m arrays loops line (source.Region tag b) = around_one (Region tag.index) (made_block n m arrays loops b)
+  made_stmt n m arrays loops line s = record { stmt = moved_alone m s; loops = loops }
+
+  -- a block
+  pub made_block : (functions : ℕ) → Moves → (arrays : ℕ) → List Loop → source.Block → MadeAll
+  made_block n m arrays loops source.End = record { block = End; loops = loops }
+  made_block n m arrays loops (source.Then line s b) =
+      let here = made_stmt n m arrays loops line s in
+      followed line here.stmt (made_block n m (arrays_after arrays s) here.loops b)
+
+-- the body of a function outside all loops, in which so many arrays are parameters
+abbrev pub made_body : (functions arrays : ℕ) → List Loop → source.Block → MadeAll
+made_body n arrays loops b = made_block n nothing_moved arrays loops b

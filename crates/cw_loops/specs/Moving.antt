@@ -1,0 +1,22 @@
+-- Where locals went, as the code has it.
+use Rattle.std.specs.Prelude.{List, map}
+use Rattle.cw_types.specs.declared.tree.Use as code_use
+use Rattle.cw_types.specs.Resolved as source
+use Rattle.cw_types.specs.View.{use_of}
+use Rattle.cw_loops.specs.declared.moves.Moves.{Moves}
+use Rattle.cw_loops.specs.Moved as spec
+
+-- uses of the code as those of the definitions
+abbrev pub uses_of : List code_use.Use → List source.Use
+uses_of uses = map use_of uses
+
+-- moves of the code as those of the definitions
+abbrev pub moves_view : Moves → spec.Moves
+moves_view m = record {
+  ints_before = m.ints_before;
+  captured = spec.slots_of (uses_of m.captured.now);
+  first_int = m.first_int;
+  arrays_before = m.arrays_before;
+  over = spec.slots_of (uses_of m.over.now);
+  first_array = m.first_array;
+}

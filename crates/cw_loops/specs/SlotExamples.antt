@@ -1,0 +1,22 @@
+-- Worked examples: lowering by slot gives the lowered program, each name looked up.
+use Rattle.std.specs.Prelude.{◌≡◌, pos}
+use Rattle.cw_model.specs.Syntax.{Number, Program}
+use Rattle.cw_model.specs.ExamplePrograms as example
+use Rattle.cw_types.specs.Resolved.{resolved}
+use Rattle.cw_loops.specs.Slotted.{slotted_functions}
+use Rattle.cw_loops.specs.Expanded.{lowered_by_slot}
+use Rattle.cw_loops.specs.Examples.{nested}
+
+-- a program is lowered by slot as by name
+abbrev pub LowersBySlot : Program → Type 0
+LowersBySlot program = lowered_by_slot (resolved program) ≡ slotted_functions program
+
+pub record SlotExamples : Type 0 where
+  pub sums : LowersBySlot (example.sum_program 0 4)
+  pub squares : LowersBySlot (example.square_program 5 0 5 4)
+  pub idle : LowersBySlot (example.idle_loop (Number (pos 0)) 4)
+  pub fill : LowersBySlot example.fill_program
+  pub cut : LowersBySlot (example.cut_program 3)
+  pub fib : LowersBySlot example.fib_program
+  -- a loop in a loop, over an array of the turn, with captured integers at both levels, a call and a sync
+  pub inner : LowersBySlot (nested 2)

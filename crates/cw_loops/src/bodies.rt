@@ -1,0 +1,172 @@
+//! Bodies whose loops are lowered.
+
+ghost use Rattle.std.specs.Prelude.{◌≡◌, [], map, IfOk, OnOk};
+ghost use Rattle.cw_types.specs.Resolved as resolved;
+ghost use Rattle.cw_types.specs.View as source;
+ghost use Rattle.cw_loops.specs.Moved as spec;
+ghost use Rattle.cw_loops.specs.Moving.{moves_view};
+ghost use Rattle.cw_loops.specs.View as view;
+
+use crate::moves::{Moves, moves_of, slot};
+use crate::parts::{alone, beginning, expression};
+use crate::tree;
+use crate::tree::Loop;
+use cw_types::tree::{Cut, Head, Line, Stmt};
+use std::alloc::{AllocError, Global};
+
+/// Where a statement stands: how many functions are in the source, where its locals went, and how many arrays are known.
+#[derive(Clone, Copy)]
+pub(crate) struct Here<'a> {
+    pub functions: u32,
+    pub moves: Moves<'a>,
+    pub arrays: u32,
+}
+
+// How many arrays are known after a statement.
+fn arrays_after(arrays: u32, stmt: &Stmt) -> u32
+    ensures { result ≡ spec.arrays_after arrays (source.stmt_of stmt.now) }
+{
+    match stmt {
+        Stmt::DeclareArray(a, _) => a.slot.saturating_add(1),
+        _ => arrays,
+    }
+}
+
+/// The statements of a block, and the loops in it behind those so far.
+#[cycle(bodies)]
+pub(crate) fn block(
+    alloc: Global,
+    here: Here,
+    lines: &[Line],
+    loops: &mut Vec<Loop>,
+) -> Result<Vec<tree::Line>, AllocError>
+    ensures lines { IfOk result (λ made. view.block_of made.items ≡ (spec.made_block here.entry.functions (moves_view here.entry.moves) here.entry.arrays (map view.loop_of loops.old.items) (source.block_of lines.now)).block) }
+    ensures loops { OnOk result (map view.loop_of loops.new.items ≡ (spec.made_block here.entry.functions (moves_view here.entry.moves) here.entry.arrays (map view.loop_of loops.old.items) (source.block_of lines.now)).loops) }
+{
+    let mut made = Vec::new(alloc);
+    let mut arrays = here.arrays;
+    for line in lines {
+        let now = Here {
+            functions: here.functions,
+            moves: here.moves,
+            arrays,
+        };
+        let stmt = statement(alloc, now, line.line, &line.stmt, loops)?;
+        made.push(tree::Line {
+            line: line.line,
+            stmt,
+        })?;
+        arrays = arrays_after(arrays, &line.stmt);
+    }
+    Ok(made)
+}
+
+// A statement of a line, and the loops in it behind those so far.
+#[cycle(bodies)]
+fn statement(
+    alloc: Global,
+    here: Here,
+    line: u32,
+    stmt: &Stmt,
+    loops: &mut Vec<Loop>,
+) -> Result<tree::Stmt, AllocError>
+    ensures stmt { IfOk result (λ made. view.stmt_of made ≡ (spec.made_stmt here.entry.functions (moves_view here.entry.moves) here.entry.arrays (map view.loop_of loops.old.items) line (source.stmt_of stmt.now)).stmt) }
+    ensures loops { OnOk result (map view.loop_of loops.new.items ≡ (spec.made_stmt here.entry.functions (moves_view here.entry.moves) here.entry.arrays (map view.loop_of loops.old.items) line (source.stmt_of stmt.now)).loops) }
+{
+    match stmt {
+        Stmt::If(e, b) => {
+            let condition = expression(alloc, here.moves, e)?;
+            let body = block(alloc, here, b, loops)?;
+            Ok(tree::Stmt::If(condition, body))
+        }
+        Stmt::IfElse(e, b, c) => {
+            let condition = expression(alloc, here.moves, e)?;
+            let body = block(alloc, here, b, loops)?;
+            let other = block(alloc, here, c, loops)?;
+            Ok(tree::Stmt::IfElse(condition, body, other))
+        }
+        Stmt::While(e, b) => {
+            let condition = expression(alloc, here.moves, e)?;
+            let body = block(alloc, here, b, loops)?;
+            Ok(tree::Stmt::While(condition, body))
+        }
+        Stmt::For(head, b) => lowered(alloc, here, line, head, b, loops),
+        Stmt::Scope(b) => {
+            let body = block(alloc, here, b, loops)?;
+            Ok(tree::Stmt::Scope(body))
+        }
+        Stmt::Cut(c, b) => in_cut(alloc, here, c, b, loops),
+        Stmt::Region(tag, b) => {
+            let body = block(alloc, here, b, loops)?;
+            Ok(tree::Stmt::Region(tag.index, body))
+        }
+        Stmt::Declare(_, _)
+        | Stmt::DeclareArray(_, _)
+        | Stmt::Assign(_, _)
+        | Stmt::AssignElement(_, _, _)
+        | Stmt::AddTo(_, _)
+        | Stmt::Call(_)
+        | Stmt::Sync
+        | Stmt::Print(_)
+        | Stmt::Return(_) => alone(alloc, here.moves, stmt),
+    }
+}
+
+// A loop of a line: its beginning, and its function behind those of the loops in its body.
+#[cycle(bodies)]
+fn lowered(
+    alloc: Global,
+    here: Here,
+    line: u32,
+    head: &Head,
+    body: &[Line],
+    loops: &mut Vec<Loop>,
+) -> Result<tree::Stmt, AllocError>
+    ensures stmt { IfOk result (λ made. view.stmt_of made ≡ (spec.made_stmt here.entry.functions (moves_view here.entry.moves) here.entry.arrays (map view.loop_of loops.old.items) line (resolved.For (source.head_of head.now) (source.block_of body.now))).stmt) }
+    ensures loops { OnOk result (map view.loop_of loops.new.items ≡ (spec.made_stmt here.entry.functions (moves_view here.entry.moves) here.entry.arrays (map view.loop_of loops.old.items) line (resolved.For (source.head_of head.now) (source.block_of body.now))).loops) }
+{
+    let inside = Here {
+        functions: here.functions,
+        moves: moves_of(head, here.arrays),
+        arrays: here.arrays,
+    };
+    let body = block(alloc, inside, body, loops)?;
+    let callee = slot(loops.len()).saturating_add(here.functions);
+    let begun = beginning(alloc, here.moves, callee, head)?;
+    loops.push(Loop {
+        line,
+        grain: head.grain,
+        captured: slot(head.captured.len()),
+        over: slot(head.over.len()),
+        body,
+    })?;
+    Ok(begun)
+}
+
+// A cut, and the block in which its two parts are known.
+#[cycle(bodies)]
+fn in_cut(
+    alloc: Global,
+    here: Here,
+    cut: &Cut,
+    body: &[Line],
+    loops: &mut Vec<Loop>,
+) -> Result<tree::Stmt, AllocError>
+    ensures stmt { IfOk result (λ made. view.stmt_of made ≡ (spec.made_stmt here.entry.functions (moves_view here.entry.moves) here.entry.arrays (map view.loop_of loops.old.items) 0 (resolved.Cut (source.parts_of cut.now) (source.block_of body.now))).stmt) }
+    ensures loops { OnOk result (map view.loop_of loops.new.items ≡ (spec.made_stmt here.entry.functions (moves_view here.entry.moves) here.entry.arrays (map view.loop_of loops.old.items) 0 (resolved.Cut (source.parts_of cut.now) (source.block_of body.now))).loops) }
+{
+    let at = expression(alloc, here.moves, &cut.at)?;
+    let inside = Here {
+        functions: here.functions,
+        moves: here.moves,
+        arrays: cut.right.slot.saturating_add(1),
+    };
+    let body = block(alloc, inside, body, loops)?;
+    let parts = tree::Cut {
+        array: here.moves.array(cut.array.slot),
+        at,
+        left: here.moves.array(cut.left.slot),
+        right: here.moves.array(cut.right.slot),
+    };
+    Ok(tree::Stmt::Cut(parts, body))
+}

@@ -1,0 +1,89 @@
+//! The limit on loops.
+
+ghost use Rattle.std.specs.Prelude.{◌≡◌, ℕ, List, ◌++◌, ◌∷◌, None, map, flat_map, drop};
+ghost use Rattle.cw_model.specs.Limits.{most_loops};
+ghost use Rattle.cw_model.specs.Lines.{lowest};
+ghost use Rattle.cw_model.specs.Sizes.{lines_beyond, loop_faults, loops_in, loops_in_block};
+ghost use Rattle.cw_types.specs.Resolved.{plain_block, plain_function, plain_stmt};
+ghost use Rattle.cw_types.specs.View.{block_of, function_of, program_of, stmt_of};
+
+use cw_text::LeastLine;
+use cw_types::tree::{Function, Line, Stmt, Tree};
+
+/// The most loops of a program.
+const MOST_LOOPS: usize = 4_096;
+
+/// The least line of the loops past the limit: by place, the 4,097th and those behind it.
+pub(crate) fn limits(tree: &Tree) -> LeastLine
+    ensures { result.line ≡ lowest None (loop_faults (program_of tree.now)) }
+{
+    let mut least = LeastLine::new();
+    functions_beyond(&tree.functions, &mut least);
+    least
+}
+
+// Notes the lines of the loops in functions that pass the limit.
+fn functions_beyond(functions: &[Function], least: &mut LeastLine)
+    ensures { least.new.line ≡ lowest least.old.line (lines_beyond most_loops (flat_map (λ f. loops_in_block f.body) (map plain_function (map function_of functions.now)))) }
+{
+    let mut room = MOST_LOOPS;
+    for function in functions {
+        room = block_beyond(room, &function.body, least);
+    }
+}
+
+// What room is left after the loops in statements; notes the line of what has no room.
+#[cycle(counting)]
+fn block_beyond(room: usize, lines: &[Line], least: &mut LeastLine) -> usize
+    // The lines to come give the least line past the room left that they give past `room` with these loops first.
+    ensures { (more : List ℕ) → lowest least.new.line (drop result more) ≡ lowest least.old.line (drop room (loops_in_block (plain_block (block_of lines.now)) ++ more)) }
+{
+    let mut left = room;
+    for line in lines {
+        left = statement_beyond(left, line.line, &line.stmt, least);
+    }
+    left
+}
+
+// The same of a statement of a line.
+#[cycle(counting)]
+fn statement_beyond(room: usize, line: u32, stmt: &Stmt, least: &mut LeastLine) -> usize
+    ensures { (more : List ℕ) → lowest least.new.line (drop result more) ≡ lowest least.old.line (drop room (loops_in line (plain_stmt (stmt_of stmt.now)) ++ more)) }
+{
+    match stmt {
+        Stmt::If(_, b)
+        | Stmt::While(_, b)
+        | Stmt::Scope(b)
+        | Stmt::Cut(_, b)
+        | Stmt::Region(_, b) => { block_beyond(room, b, least) }
+        Stmt::IfElse(_, b, c) => {
+            let left = block_beyond(room, b, least);
+            block_beyond(left, c, least)
+        }
+        Stmt::For(_, b) => {
+            let left = beyond(room, line, least);
+            block_beyond(left, b, least)
+        }
+        Stmt::Declare(_, _)
+        | Stmt::DeclareArray(_, _)
+        | Stmt::Assign(_, _)
+        | Stmt::AssignElement(_, _, _)
+        | Stmt::AddTo(_, _)
+        | Stmt::Call(_)
+        | Stmt::Sync
+        | Stmt::Print(_)
+        | Stmt::Return(_) => room,
+    }
+}
+
+// One loop more, which breaks the limit where there is no room left for it; what room is left then.
+fn beyond(room: usize, line: u32, least: &mut LeastLine) -> usize
+    // The lines to come give the least line past the room left that they give past `room` with this one first.
+    ensures { (more : List ℕ) → lowest least.new.line (drop result more) ≡ lowest least.old.line (drop room (line ∷ more)) }
+{
+    if room == 0 {
+        least.note(false, line);
+        return 0;
+    }
+    room - 1
+}

@@ -1,0 +1,213 @@
+//! What stands in a statement beside its blocks, with each local where it went.
+
+ghost use Rattle.std.specs.Prelude.{◌≡◌, [], map, option_map, IfOk};
+ghost use Rattle.cw_types.specs.View as source;
+ghost use Rattle.cw_loops.specs.Moved as spec;
+ghost use Rattle.cw_loops.specs.Moving.{moves_view, uses_of};
+ghost use Rattle.cw_loops.specs.View as view;
+
+use crate::moves::Moves;
+use crate::tree;
+use cw_model::syntax::Operator;
+use cw_types::tree::{Argument, Call, Expr, Head, Stmt, Use};
+use std::alloc::{AllocError, Global};
+
+// An index into an array, counted from the lower end of the range where the array is one of the loop.
+fn from_low(alloc: Global, is_over: bool, e: tree::Expr) -> Result<tree::Expr, AllocError>
+    ensures { IfOk result (λ made. view.expr_of made ≡ spec.from_low is_over (view.expr_of e)) }
+{
+    if !is_over {
+        return Ok(e);
+    }
+    let index = Box::new(alloc, e)?;
+    let low = Box::new(alloc, tree::Expr::Variable(0))?;
+    Ok(tree::Expr::Binary(Operator::Minus, index, low))
+}
+
+/// An expression.
+pub(crate) fn expression(alloc: Global, moves: Moves, e: &Expr) -> Result<tree::Expr, AllocError>
+    ensures { IfOk result (λ made. view.expr_of made ≡ spec.moved_expr (moves_view moves.entry) (source.expr_of e.now)) }
+{
+    match e {
+        Expr::Number(n) => Ok(tree::Expr::Number(*n)),
+        Expr::Variable(x) => Ok(tree::Expr::Variable(moves.int(x.slot))),
+        Expr::Element(a, i) => {
+            let index = expression(alloc, moves, i)?;
+            let index = from_low(alloc, moves.is_over(a.slot), index)?;
+            Ok(tree::Expr::Element(moves.array(a.slot), Box::new(alloc, index)?))
+        }
+        Expr::Length(a) => Ok(tree::Expr::Length(moves.array(a.slot))),
+        Expr::Negative(d) => {
+            let operand = expression(alloc, moves, d)?;
+            Ok(tree::Expr::Negative(Box::new(alloc, operand)?))
+        }
+        Expr::Not(d) => {
+            let operand = expression(alloc, moves, d)?;
+            Ok(tree::Expr::Not(Box::new(alloc, operand)?))
+        }
+        Expr::Binary(operator, d, e) => {
+            let left = expression(alloc, moves, d)?;
+            let right = expression(alloc, moves, e)?;
+            let left = Box::new(alloc, left)?;
+            let right = Box::new(alloc, right)?;
+            Ok(tree::Expr::Binary(*operator, left, right))
+        }
+    }
+}
+
+// An argument.
+fn argument(alloc: Global, moves: Moves, e: &Argument) -> Result<tree::Argument, AllocError>
+    ensures { IfOk result (λ made. view.argument_of made ≡ spec.moved_argument (moves_view moves.entry) (source.argument_of e.now)) }
+{
+    match e {
+        Argument::Int(e) => {
+            let value = expression(alloc, moves, e)?;
+            Ok(tree::Argument::Int(value))
+        }
+        Argument::Array(a) => Ok(tree::Argument::Array(moves.array(a.slot))),
+    }
+}
+
+// Arguments in their order.
+fn arguments(
+    alloc: Global,
+    moves: Moves,
+    es: &[Argument],
+) -> Result<Vec<tree::Argument>, AllocError>
+    ensures { IfOk result (λ made. map view.argument_of made.items ≡ map (spec.moved_argument (moves_view moves.entry)) (map source.argument_of es.now)) }
+{
+    let mut made = Vec::new(alloc);
+    for e in es {
+        let value = argument(alloc, moves, e)?;
+        made.push(value)?;
+    }
+    Ok(made)
+}
+
+// The integer that a result goes to.
+fn target(moves: Moves, target: &Option<Use>) -> Option<u32>
+    ensures { result ≡ spec.moved_target (moves_view moves.entry) (option_map source.use_of target.now) }
+{
+    match target {
+        None => None,
+        Some(x) => Some(moves.int(x.slot)),
+    }
+}
+
+// What is returned.
+fn returned(alloc: Global, moves: Moves, e: &Option<Expr>) -> Result<Option<tree::Expr>, AllocError>
+    ensures { IfOk result (λ made. option_map view.expr_of made ≡ spec.moved_return (moves_view moves.entry) (option_map source.expr_of e.now)) }
+{
+    match e {
+        None => Ok(None),
+        Some(e) => {
+            let value = expression(alloc, moves, e)?;
+            Ok(Some(value))
+        }
+    }
+}
+
+// The integers that a loop takes along, where they are as it begins.
+fn ints(alloc: Global, moves: Moves, uses: &[Use]) -> Result<Vec<u32>, AllocError>
+    ensures { IfOk result (λ made. made.items ≡ spec.moved_ints (moves_view moves.entry) (uses_of uses.now)) }
+{
+    let mut made = Vec::new(alloc);
+    for used in uses {
+        made.push(moves.int(used.slot))?;
+    }
+    Ok(made)
+}
+
+// The same of its arrays.
+fn arrays(alloc: Global, moves: Moves, uses: &[Use]) -> Result<Vec<u32>, AllocError>
+    ensures { IfOk result (λ made. made.items ≡ spec.moved_arrays (moves_view moves.entry) (uses_of uses.now)) }
+{
+    let mut made = Vec::new(alloc);
+    for used in uses {
+        made.push(moves.array(used.slot))?;
+    }
+    Ok(made)
+}
+
+/// The beginning of a loop, whose function has this index.
+pub(crate) fn beginning(
+    alloc: Global,
+    moves: Moves,
+    callee: u32,
+    head: &Head,
+) -> Result<tree::Stmt, AllocError>
+    ensures { IfOk result (λ made. view.stmt_of made ≡ spec.moved_head (moves_view moves.entry) callee (source.head_of head.now)) }
+{
+    let from = expression(alloc, moves, &head.from)?;
+    let to = expression(alloc, moves, &head.to)?;
+    let captured = ints(alloc, moves, &head.captured)?;
+    let over = arrays(alloc, moves, &head.over)?;
+    Ok(tree::Stmt::Begin(tree::Begin {
+        callee,
+        from,
+        to,
+        captured,
+        over,
+    }))
+}
+
+// A call statement.
+fn call(alloc: Global, moves: Moves, c: &Call) -> Result<tree::Stmt, AllocError>
+    ensures { IfOk result (λ made. view.stmt_of made ≡ spec.moved_alone (moves_view moves.entry) (source.stmt_of (Stmt.Call c.now))) }
+{
+    let arguments = arguments(alloc, moves, &c.arguments)?;
+    Ok(tree::Stmt::Call(tree::Call {
+        kind: c.kind,
+        site: c.site,
+        target: target(moves, &c.target),
+        callee: c.callee.index,
+        arguments,
+    }))
+}
+
+/// A statement without blocks.
+pub(crate) fn alone(alloc: Global, moves: Moves, stmt: &Stmt) -> Result<tree::Stmt, AllocError>
+    ensures { IfOk result (λ made. view.stmt_of made ≡ spec.moved_alone (moves_view moves.entry) (source.stmt_of stmt.now)) }
+{
+    match stmt {
+        Stmt::Declare(x, e) => {
+            let value = expression(alloc, moves, e)?;
+            Ok(tree::Stmt::Declare(moves.int(x.slot), value))
+        }
+        Stmt::DeclareArray(a, e) => {
+            let length = expression(alloc, moves, e)?;
+            Ok(tree::Stmt::DeclareArray(moves.array(a.slot), length))
+        }
+        Stmt::Assign(x, e) => {
+            let value = expression(alloc, moves, e)?;
+            Ok(tree::Stmt::Assign(moves.int(x.slot), value))
+        }
+        Stmt::AssignElement(a, i, e) => {
+            let index = expression(alloc, moves, i)?;
+            let index = from_low(alloc, moves.is_over(a.slot), index)?;
+            let value = expression(alloc, moves, e)?;
+            Ok(tree::Stmt::AssignElement(moves.array(a.slot), index, value))
+        }
+        Stmt::AddTo(s, e) => {
+            let value = expression(alloc, moves, e)?;
+            Ok(tree::Stmt::AddTo(s.index, value))
+        }
+        Stmt::Call(c) => call(alloc, moves, c),
+        Stmt::Print(e) => {
+            let value = expression(alloc, moves, e)?;
+            Ok(tree::Stmt::Print(value))
+        }
+        Stmt::Return(e) => {
+            let value = returned(alloc, moves, e)?;
+            Ok(tree::Stmt::Return(value))
+        }
+        Stmt::Sync
+        | Stmt::If(_, _)
+        | Stmt::IfElse(_, _, _)
+        | Stmt::While(_, _)
+        | Stmt::For(_, _)
+        | Stmt::Scope(_)
+        | Stmt::Cut(_, _)
+        | Stmt::Region(_, _) => Ok(tree::Stmt::Sync),
+    }
+}

@@ -1,0 +1,72 @@
+//! Lowering of a whole program.
+
+ghost use Rattle.std.specs.Prelude.{◌≡◌, [], length, map, IfOk, MatchResult};
+ghost use Rattle.cw_types.specs.View as source;
+ghost use Rattle.cw_loops.specs.Lowers.{arrays_from, bodies_of, made_bodies};
+ghost use Rattle.cw_loops.specs.Moved as spec;
+ghost use Rattle.cw_loops.specs.Seen.{IsLowering, WhyNotLowered};
+
+use crate::bodies::{Here, block};
+use crate::limits::limits;
+use crate::moves::{nothing_moved, slot};
+use crate::program::Core;
+use crate::tree::Tree;
+use cw_own::Owned;
+use cw_text::{Fault, Place};
+use cw_types::tree::{Function, Param};
+use std::alloc::{AllocError, Global};
+
+/// The program with each `cilk_for` lowered to a function that halves its range. The functions that it is seen as are
+/// those of the `lowered` program, each local by its slot and each function by its index: those of the source first, then
+/// those of the loops, each behind those of the loops in its body. So it answers as the source, by the law
+/// `lowering_keeps_answers`. It keeps its source.
+///
+/// Answers `Size` exactly where the program has more than 4,096 loops, at the line of the 4,097th by place, before
+/// anything is lowered, and `Memory` where memory runs out. The program is let go then.
+pub fn lower(alloc: Global, owned: Owned) -> Result<Core, Fault>
+    ensures { MatchResult result (λ core. IsLowering owned.typed.tree core.source.typed.tree core.tree) (WhyNotLowered (source.program_of owned.typed.tree)) }
+{
+    let beyond = limits(&owned.typed.tree);
+    match beyond.line {
+        Some(line) => Err(Fault::Size(Place { line })),
+        None => {
+            let tree = functions(alloc, &owned.typed.tree.functions)?;
+            Ok(Core {
+                source: owned,
+                tree,
+            })
+        }
+    }
+}
+
+// The bodies of functions, and the loops in them.
+fn functions(alloc: Global, functions: &[Function]) -> Result<Tree, AllocError>
+    ensures { IfOk result (λ tree. bodies_of tree ≡ made_bodies (spec.slot (length (map source.function_of functions.now))) [] (map source.function_of functions.now)) }
+{
+    let count = slot(functions.len());
+    let mut bodies = Vec::new(alloc);
+    let mut loops = Vec::new(alloc);
+    for function in functions {
+        let here = Here {
+            functions: count,
+            moves: nothing_moved(),
+            arrays: arrays_taken(&function.params),
+        };
+        let body = block(alloc, here, &function.body, &mut loops)?;
+        bodies.push(body)?;
+    }
+    Ok(Tree { bodies, loops })
+}
+
+// How many of the parameters are arrays.
+fn arrays_taken(params: &[Param]) -> u32
+    ensures { result ≡ arrays_from 0 (map source.param_of params.now) }
+{
+    let mut arrays: u32 = 0;
+    for param in params {
+        if param.is_array {
+            arrays = arrays.saturating_add(1);
+        }
+    }
+    arrays
+}
