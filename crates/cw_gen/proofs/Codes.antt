@@ -1,11 +1,12 @@
 -- The code of each part of a program, and what its calls find.
-use Rattle.std.proofs.Common.{◌≡◌, ℕ, ◌-◌, ◌≤◌, List, [], ◌∷◌, ◌++◌, length, true, false, if◌then◌else◌, Option, Some, None, refl, sym, ap, ◌∙◌, arith, append_assoc, ℤ, pos}
-use Rattle.std.specs.Prelude.{reverse, take, drop, map, replicate, min, is_none}
+use Rattle.std.proofs.Common.{◌≡◌, ℕ, suc, ◌≤◌, Bool, not, cond, filter, List, [], ◌∷◌, ◌++◌, length, true, false, if◌then◌else◌, Option, Some, None, refl, sym, ap, ◌∙◌, arith, append_assoc, ℤ}
+use Rattle.std.specs.Prelude.{reverse, take, drop, map, min, is_none}
 use Rattle.std.proofs.lemmas.List.{append-nil, length-reverse, reverse-reverse}
 use Rattle.cw_model.specs.Syntax.{Name, Expr, Variable, Stmt, Block, End, Then, Param, Function}
-use Rattle.cw_model.specs.Frames.{Frame, array_of, new_int, set_array, set_result}
-use Rattle.cw_model.specs.Outcome.{Outcome, Trace}
-use Rattle.cw_model.specs.Meaning.{Returned, Completion, going, returned_array, returned_arrays}
+use Rattle.std.specs.List.{list_all}
+use Rattle.cw_model.specs.Frames.{Frame, new_int, new_array, set_result}
+use Rattle.cw_model.specs.Outcome.{Outcome, Trace, then_do}
+use Rattle.cw_model.specs.Meaning.{Returned, Completion, going, returned_arrays}
 use Rattle.cw_model.specs.Answers.{main_frame}
 use Rattle.cw_model.specs.Typing.{Returns, Nowhere, WithInt, Alone, surely_returns, block_returns}
 use Rattle.cw_model.specs.Ownership.{Taken}
@@ -13,19 +14,12 @@ use Rattle.cw_types.specs.Resolved.{Lists, Locals, slot_of, locals_after, use_of
 use Rattle.cw_types.specs.Resolved as resolved
 use Rattle.cw_code.specs.declared.code.Func.{Func}
 use Rattle.cw_code.specs.declared.code.Instr.{Instr}
-use Rattle.cw_code.specs.Run.{Slots, Results, Around, State, full, slots_of}
+use Rattle.cw_code.specs.Run.{Slots, Around, State, Went, is_full, on_slot, settled, full, slots_of, arrays_of, arguments_of}
 use Rattle.cw_gen.specs.Emit.{most_jump, distance, emitted_expr, emitted_arg, emitted_args, emitted_stmt, emitted_block, emitted_end}
-use Rattle.cw_gen.proofs.Fine.{NoArray, ArgsFine}
-use Rattle.cw_gen.proofs.Names.{names_in, values_in, names_more, values_more}
-
-pub no_arrays : (locals : Locals) (taken' : Taken) (ps : List Param) (es : List Expr) (callee frame : Frame) → ArgsFine locals taken' ps es → returned_arrays ps es callee frame ≡ frame
-no_arrays locals taken' [] es callee frame fine = refl
-no_arrays locals taken' (p ∷ ps) [] callee frame fine = absurd fine
-no_arrays locals taken' (p ∷ ps) (e ∷ es) callee frame fine = ap (returned_arrays ps es callee) (alone e) ∙ no_arrays locals taken' ps es callee frame fine.2
-  where
-    alone : (e : Expr) → returned_array p e callee frame ≡ frame
-    alone (Variable x) = ap (λ b. if b then set_array x (array_of callee p.name) frame else frame) fine.0
-    alone _ = refl
+use Rattle.cw_gen.proofs.Decided.{first_true, second_true}
+use Rattle.cw_gen.proofs.Fine.{NoArray, ArgFine, Room, Begins}
+use Rattle.cw_gen.proofs.Stores.{Store, Outside, array_waits, Agrees}
+use Rattle.cw_gen.proofs.Names.{names_in, values_in, names_more, values_more, all_of}
 
 pub drop_all : (xs : List ℤ) (n : ℕ) → n ≡ length xs → drop n xs ≡ []
 drop_all xs n e = ap (λ m. drop m xs) e ∙ none xs
@@ -45,30 +39,86 @@ take_all xs n e = ap (λ m. take m xs) e ∙ whole xs
 abbrev pub leaves : Option Name → List Param → List Expr → Frame → Returned → ℕ → Outcome Completion
 leaves target ps es frame r = going (set_result target r.0 (returned_arrays ps es r.1 frame))
 
-pub frame_names : (ps : List Param) (vs : List ℤ) (g : Frame) → length vs ≡ length ps → names_in (main_frame ps vs g).ints ≡ names_in g.ints ++ map (λ p. p.name) ps
-frame_names [] vs g n = sym (append-nil (names_in g.ints))
-frame_names (p ∷ ps) [] g n = absurd (omega arith)
-frame_names (p ∷ ps) (v ∷ vs) g n =
-    let n' : length vs ≡ length ps = omega arith in
-    frame_names ps vs (new_int p.name v g) n'
-    ∙ ap (λ l. l ++ map (λ q. q.name) ps) (names_more g.ints p.name v)
-    ∙ append_assoc (names_in g.ints) (p.name ∷ []) (map (λ q. q.name) ps)
+-- a frame after values for parameters: integers and arrays, each in order
+pub record Bound (ps : List Param) (vs : List ℤ) (xss : List (List ℤ)) (before after : Frame) : Type 0 where
+  pub ints : names_in after.ints ≡ names_in before.ints ++ (locals_of ps).ints
+  pub values : values_in after.ints ≡ values_in before.ints ++ vs
+  pub arrays : names_in after.arrays ≡ names_in before.arrays ++ (locals_of ps).arrays
+  pub elements : values_in after.arrays ≡ values_in before.arrays ++ xss
+  pub whole : after.sliced ≡ before.sliced
 
-pub frame_values : (ps : List Param) (vs : List ℤ) (g : Frame) → length vs ≡ length ps → values_in (main_frame ps vs g).ints ≡ values_in g.ints ++ vs
-frame_values [] [] g n = sym (append-nil (values_in g.ints))
-frame_values [] (v ∷ vs) g n = absurd (omega arith)
-frame_values (p ∷ ps) [] g n = absurd (omega arith)
-frame_values (p ∷ ps) (v ∷ vs) g n =
-    let n' : length vs ≡ length ps = omega arith in
-    frame_values ps vs (new_int p.name v g) n'
-    ∙ ap (λ l. l ++ vs) (values_more g.ints p.name v)
-    ∙ append_assoc (values_in g.ints) (v ∷ []) vs
+pub bound_none : (g : Frame) → Bound [] [] [] g g
+bound_none g = record { ints = sym (append-nil (names_in g.ints)); values = sym (append-nil (values_in g.ints)); arrays = sym (append-nil (names_in g.arrays)); elements = sym (append-nil (values_in g.arrays)); whole = refl }
+
+-- one integer, and then the rest
+pub bound_int : (p : Param) (ps : List Param) (v : ℤ) (vs : List ℤ) (xss : List (List ℤ)) (g after : Frame) → p.is_array ≡ false → Bound ps vs xss (new_int p.name v g) after → Bound (p ∷ ps) (v ∷ vs) xss g after
+bound_int p ps v vs xss g after is b = record {
+  ints = b.ints ∙ ap (λ l. l ++ (locals_of ps).ints) (names_more g.ints p.name v) ∙ append_assoc (names_in g.ints) (p.name ∷ []) (locals_of ps).ints ∙ ap (λ l. names_in g.ints ++ l) (sym (kept (not p.is_array) (ap not is)));
+  values = b.values ∙ ap (λ l. l ++ vs) (values_more g.ints p.name v) ∙ append_assoc (values_in g.ints) (v ∷ []) vs;
+  arrays = b.arrays ∙ ap (λ l. names_in g.arrays ++ l) (sym (left_out p.is_array is));
+  elements = b.elements;
+  whole = b.whole;
+}
+  where
+    kept : (c : Bool) → c ≡ true → map (λ (q : Param). q.name) (cond c (p ∷ filter (λ q. not q.is_array) ps) (filter (λ q. not q.is_array) ps)) ≡ p.name ∷ (locals_of ps).ints
+    kept true e = refl
+    kept false e = cc
+
+    left_out : (c : Bool) → c ≡ false → map (λ (q : Param). q.name) (cond c (p ∷ filter (λ q. q.is_array) ps) (filter (λ q. q.is_array) ps)) ≡ (locals_of ps).arrays
+    left_out true e = cc
+    left_out false e = refl
+
+-- one array, and then the rest
+pub bound_array : (p : Param) (ps : List Param) (xs : List ℤ) (vs : List ℤ) (xss : List (List ℤ)) (g after : Frame) → p.is_array ≡ true → Bound ps vs xss (new_array p.name xs g) after → Bound (p ∷ ps) vs (xs ∷ xss) g after
+bound_array p ps xs vs xss g after is b = record {
+  ints = b.ints ∙ ap (λ l. names_in g.ints ++ l) (sym (left_out (not p.is_array) (ap not is)));
+  values = b.values;
+  arrays = b.arrays ∙ ap (λ l. l ++ (locals_of ps).arrays) (names_more g.arrays p.name xs) ∙ append_assoc (names_in g.arrays) (p.name ∷ []) (locals_of ps).arrays ∙ ap (λ l. names_in g.arrays ++ l) (sym (kept p.is_array is));
+  elements = b.elements ∙ ap (λ l. l ++ xss) (values_more g.arrays p.name xs) ∙ append_assoc (values_in g.arrays) (xs ∷ []) xss;
+  whole = b.whole;
+}
+  where
+    kept : (c : Bool) → c ≡ true → map (λ (q : Param). q.name) (cond c (p ∷ filter (λ q. q.is_array) ps) (filter (λ q. q.is_array) ps)) ≡ p.name ∷ (locals_of ps).arrays
+    kept true e = refl
+    kept false e = cc
+
+    left_out : (c : Bool) → c ≡ false → map (λ (q : Param). q.name) (cond c (p ∷ filter (λ q. not q.is_array) ps) (filter (λ q. not q.is_array) ps)) ≡ (locals_of ps).ints
+    left_out true e = cc
+    left_out false e = refl
+
+-- the frame of main
+pub bound_main : (ps : List Param) (vs : List ℤ) (g : Frame) → list_all (λ p. not p.is_array) ps ≡ true → length vs ≡ length ps → Bound ps vs [] g (main_frame ps vs g)
+bound_main [] [] g ints n = bound_none g
+bound_main [] (v ∷ vs) g ints n = absurd (omega (arith, n))
+bound_main (p ∷ ps) [] g ints n = absurd (omega (arith, n))
+bound_main (p ∷ ps) (v ∷ vs) g ints n =
+    let rest = list_all (λ q. not q.is_array) ps in
+    bound_int p ps v vs [] g (main_frame ps vs (new_int p.name v g)) (negated p.is_array (first_true (not p.is_array) rest ints)) (bound_main ps vs (new_int p.name v g) (second_true (not p.is_array) rest ints) (omega (arith, n)))
+  where
+    negated : (b : Bool) → not b ≡ true → b ≡ false
+    negated true h = cc
+    negated false h = refl
+
+-- main takes no array, and an integer for each parameter
+pub main_locals : (ps : List Param) → list_all (λ p. not p.is_array) ps ≡ true → (length (locals_of ps).ints ≡ length ps) × (length (locals_of ps).arrays ≡ 0)
+main_locals [] ints = (refl, refl)
+main_locals (p ∷ ps) ints =
+    let rest = list_all (λ q. not q.is_array) ps in
+    let more = main_locals ps (second_true (not p.is_array) rest ints) in
+    test p.is_array (first_true (not p.is_array) rest ints) more.0 more.1
+  where
+    test : (b : Bool) → not b ≡ true → length (locals_of ps).ints ≡ length ps → length (locals_of ps).arrays ≡ 0 →
+        (length (map (λ (q : Param). q.name) (cond (not b) (p ∷ filter (λ q. not q.is_array) ps) (filter (λ q. not q.is_array) ps))) ≡ suc (length ps)) × (length (map (λ (q : Param). q.name) (cond b (p ∷ filter (λ q. q.is_array) ps) (filter (λ q. q.is_array) ps))) ≡ 0)
+    test true h a b = cc
+    test false h a b = (ap suc a, b)
+
+-- the arguments of a call from its operands
+pub arguments_are : (fn : Func) (vs : List ℤ) → fn.params ≡ length vs → arguments_of fn (reverse vs) ≡ vs
+arguments_are fn vs n = ap reverse (take_all (reverse vs) fn.params (n ∙ sym (length-reverse vs))) ∙ reverse-reverse vs
 
 -- the slots of a call as it begins
-pub slots_are : (fn : Func) (vs : List ℤ) → fn.params ≡ length vs → slots_of fn (reverse vs) ≡ full (vs ++ replicate (fn.slots - fn.params) (pos 0))
-slots_are fn vs n =
-    ap (λ l. full (reverse l ++ replicate (fn.slots - fn.params) (pos 0))) (take_all (reverse vs) fn.params (n ∙ sym (length-reverse vs)))
-    ∙ ap (λ l. full (l ++ replicate (fn.slots - fn.params) (pos 0))) (reverse-reverse vs)
+abbrev pub first_store : Func → List ℤ → List (List ℤ) → Store
+first_store fn vs xss = record { slots = slots_of fn vs; arrays = arrays_of fn xss; results = []; arrived = [] }
 
 -- a distance within the limit is told as it is
 pub distance_is : (n : ℕ) → n ≤ most_jump → distance n ≡ n
@@ -102,10 +152,37 @@ pub arg_code : (locals : Locals) (line : ℕ) (e : Expr) → NoArray locals e �
 arg_code locals line (Variable x) h = ap (λ b. emitted_arg line (if b then resolved.Array (use_of locals.arrays x) else resolved.Int (resolved.Variable (use_of locals.ints x)))) h
 arg_code locals line _ h = refl
 
+-- an array as an argument
+pub array_code : (locals : Locals) (taken : Taken) (line : ℕ) (e : Expr) → ArgFine true locals taken e → emitted_arg line (resolved_argument locals e) ≡ []
+array_code locals taken line (Variable x) h = ap (λ b. emitted_arg line (if b then resolved.Array (use_of locals.arrays x) else resolved.Int (resolved.Variable (use_of locals.ints x)))) h.declared
+array_code locals taken line _ h = absurd h
+
 -- the state of a call at a place
-abbrev pub here : (depth : ℕ) → List Around → ℕ → List ℤ → Slots → Results → Trace → State
-here depth around place operands slots results trace =
-    record { place = place; operands = operands; slots = slots; results = results; depth = depth; around = around; trace = trace }
+abbrev pub here : (depth : ℕ) → List Around → ℕ → List ℤ → Store → Trace → State
+here depth around place operands store trace = record {
+  place = place;
+  operands = operands;
+  slots = store.slots;
+  arrays = store.arrays;
+  results = store.results;
+  arrived = store.arrived;
+  depth = depth;
+  around = around;
+  trace = trace;
+}
+
+-- the arrays of a call that ends are those of its frame, and its parameters' come first
+pub record GivesBack (given : List Name) (frame : Frame) (arrays : Slots (List ℤ)) : Type 0 where
+  pub more : List Name
+  pub named : names_in frame.arrays ≡ given ++ more
+  pub rest : List (List ℤ)
+  pub are : arrays ≡ full (values_in frame.arrays ++ rest)
+
+-- a return stands in no block
+abbrev pub Outermost : Returns → Outside → Type 0
+Outermost Nowhere outer = Unit {0}
+Outermost WithInt outer = outer ≡ []
+Outermost Alone outer = outer ≡ []
 
 -- a statement that goes on, before a block that may go on
 pub both_go_on : (line : ℕ) (s : Stmt) (b : Block) → surely_returns s ≡ false → block_returns b ≡ false → block_returns (Then line s b) ≡ false
@@ -122,3 +199,22 @@ abbrev pub MayGive : Returns → Option ℤ → Type 0
 MayGive Nowhere v = ⊥
 MayGive WithInt v = is_none v ≡ false
 MayGive Alone v = is_none v ≡ true
+
+-- what a call that ends gives back
+pub gives_back : (room : Room) (locals : Locals) (taken' : Taken) (frame : Frame) (store : Store) (outer : Outside) → outer ≡ [] → Begins room.given locals.arrays → Agrees locals taken' frame store outer → GivesBack room.given frame (settled store.arrived store.arrays)
+gives_back room locals taken' frame store outer e begins a = record {
+  more = begins.more;
+  named = a.arrays.named ∙ begins.is;
+  rest = a.arrays.rest;
+  are = ap (λ l. settled l store.arrays) (sym (append-nil store.arrived)) ∙ ap (λ o. settled (store.arrived ++ all_of (array_waits o)) store.arrays) (sym e) ∙ a.arrays.held;
+}
+
+-- a slot that is full
+pub full_slot : {A : Type 0} (o : Option (Option A)) (w : Went) → is_full o ≡ true → on_slot o (λ old. w) ≡ w
+full_slot (Some (Some x)) w h = refl
+full_slot (Some None) w h = cc
+full_slot None w h = cc
+
+-- a piece, and what goes on from there
+abbrev pub then_do_after : {A B : Type 0} → (A → ℕ → Outcome B) → (ℕ → Outcome A) → ℕ → Outcome B
+then_do_after go piece = λ l. then_do (piece l) go

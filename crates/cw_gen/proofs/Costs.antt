@@ -4,7 +4,10 @@ use Rattle.std.proofs.lemmas.Bool.Decides.{nat_tests}
 use Rattle.cw_model.specs.declared.trap.Trap.{Trap}
 use Rattle.cw_model.specs.Ints.{Result, Value, Fails}
 use Rattle.cw_model.specs.Trees.{Work, works}
-use Rattle.cw_model.specs.Expressions.{Evaluated, Gives, Traps, done_at, and_then, also}
+use Rattle.cw_model.specs.Expressions.{Evaluated, Gives, Traps, done_at, and_then, also, dearer, index_cost, evaluate}
+use Rattle.cw_model.specs.Frames.{Frame}
+use Rattle.cw_model.specs.Names.{is_among}
+use Rattle.cw_model.specs.Syntax.{Name, Expr}
 use Rattle.cw_model.specs.Outcome.{Outcome, Done, Trapped, Over, shows, after, then_do, pay_for}
 
 pub works_more : (a b : ℕ) → works (a + b) ≡ works a ++ works b
@@ -84,3 +87,11 @@ value_also (Gives v c) (Gives w c') op line left =
     inner : (x : Bool) → then_do (if x then Over else Done v (left - c) (shows (works c))) (λ _ l. pay_for (done_at (c' + 1) (op v w)) line l) ≡ then_do (if x then Over else Done v (left - c) (shows (works c))) (λ a l. then_do (pay_for (Gives w c') line l) (λ b l'. pay_for (done_at 1 (op a b)) line l'))
     inner true = refl
     inner false = ap (after (shows (works c))) (later (op v w) w c' 1 line (left - c) ∙ last (nat_lt (left - c) c'))
+
+-- an index into an array of no loop costs no more
+pub not_dearer : (a : Name) (e : Expr) (frame : Frame) → frame.sliced ≡ [] → dearer (index_cost frame a) (evaluate e frame) ≡ evaluate e frame
+not_dearer a e frame h = ap (λ l. dearer (if is_among a l then 2 else 0) (evaluate e frame)) h ∙ none (evaluate e frame)
+  where
+    none : (x : Evaluated) → dearer 0 x ≡ x
+    none (Traps trap c) = refl
+    none (Gives v c) = let e : c + 0 ≡ c = omega arith in ap (Gives v) e

@@ -1,37 +1,46 @@
 -- Programs that the rules accept and the generator takes, as the laws read them.
-use Rattle.std.specs.Prelude.{◌≡◌, map, not, ℕ, ◌+◌, if◌then◌else◌, ◌<◌, ◌≤◌, Bool, true, false, List, [], ◌∷◌, length, Option, Some, None, slice_get}
-use Rattle.cw_model.specs.Syntax.{Name, Expr, Number, Variable, Negative, Not, Binary, Stmt, Declare, Assign, AddTo, Call, Sync, If, IfElse, While, Scope, Region, Print, Return, Block, End, Then, Param, Function, Program}
-use Rattle.cw_model.specs.Names.{same_name, is_among}
+use Rattle.std.specs.Prelude.{◌≡◌, ◌++◌, suc, map, not, ℕ, ◌+◌, if◌then◌else◌, ◌<◌, ◌≤◌, Bool, true, false, List, [], ◌∷◌, length, Option, Some, None, slice_get}
+use Rattle.cw_model.specs.Syntax.{Name, Expr, Number, Variable, Element, Length, Negative, Not, Binary, Stmt, Declare, DeclareArray, Assign, AssignElement, AddTo, Call, Sync, If, IfElse, While, Scope, Cut, Region, Print, Return, Block, End, Then, Param, Function, Program}
+use Rattle.cw_model.specs.Names.{same_name, is_among, differ}
 use Rattle.cw_model.specs.Meaning.{function_of}
 use Rattle.cw_model.specs.Typing.{Returns, Nowhere, WithInt, Alone, block_returns}
-use Rattle.cw_model.specs.Ownership.{Taken, is_taken, taken_after, taken_after_all, own_names, Closing, Joins, Leaves, at_end}
-use Rattle.cw_types.specs.Resolved.{Lists, Locals, slot_of, locals_after, locals_of, lists_of, resolved_function}
+use Rattle.cw_model.specs.Ownership.{Taken, CutOf, is_taken, given, taken_after, taken_after_all, own_names, Closing, Joins, Leaves, at_end}
+use Rattle.cw_types.specs.Resolved.{Lists, Locals, slot_of, with_array, locals_after, locals_of, lists_of, resolved_argument, resolved_function}
+use Rattle.cw_gen.specs.Emit.{passed_in}
 use Rattle.cw_model.specs.Answers.{main_name}
 use Rattle.std.specs.List.{list_all}
+use Rattle.cw_code.specs.Fits.{are_apart}
 
 -- a name that is known, and not taken
 pub record IsUsable (names : List Name) (taken : Taken) (x : Name) : Type 0 where
   pub declared : is_among x names ≡ true
   pub free : is_taken taken x ≡ false
 
--- an expression of integers names such names alone
+-- an expression names such integers and arrays alone
 abbrev pub ExprFine : Locals → Taken → Expr → Type 0
 ExprFine locals taken (Number n) = Unit {0}
 ExprFine locals taken (Variable x) = IsUsable locals.ints taken x
+ExprFine locals taken (Element a e) = IsUsable locals.arrays taken a × ExprFine locals taken e
+ExprFine locals taken (Length a) = IsUsable locals.arrays taken a
 ExprFine locals taken (Negative e) = ExprFine locals taken e
 ExprFine locals taken (Not e) = ExprFine locals taken e
 ExprFine locals taken (Binary operator d e) = ExprFine locals taken d × ExprFine locals taken e
-ExprFine locals taken _ = ⊥
 
 -- a name alone is no array
 abbrev pub NoArray : Locals → Expr → Type 0
 NoArray locals (Variable x) = is_among x locals.arrays ≡ false
 NoArray locals _ = Unit {0}
 
--- one integer for each parameter
+-- an integer, or an array alone
+abbrev pub ArgFine : Bool → Locals → Taken → Expr → Type 0
+ArgFine false locals taken e = ExprFine locals taken e × NoArray locals e
+ArgFine true locals taken (Variable a) = IsUsable locals.arrays taken a
+ArgFine true locals taken _ = ⊥
+
+-- one argument for each parameter
 abbrev pub ArgsFine : Locals → Taken → List Param → List Expr → Type 0
 ArgsFine locals taken [] [] = Unit {0}
-ArgsFine locals taken (p ∷ ps) (e ∷ es) = (p.is_array ≡ false) × (ExprFine locals taken e × NoArray locals e) × ArgsFine locals taken ps es
+ArgsFine locals taken (p ∷ ps) (e ∷ es) = ArgFine p.is_array locals taken e × ArgsFine locals taken ps es
 ArgsFine locals taken _ _ = ⊥
 
 -- what takes the result of a function that gives one
@@ -54,58 +63,109 @@ ReturnFine _ locals taken _ = ⊥
 abbrev pub IsListed : List Name → Name → Type 0
 IsListed names x = slice_get names (slot_of x names) ≡ Some x
 
+-- as a block ends, none of these names is taken
+abbrev pub FreeAtEnd : List Function → (depth : ℕ) → Closing → Taken → List Name → Block → Type 0
+FreeAtEnd fs depth closing taken own b = (x : Name) → is_among x own ≡ true → is_taken (at_end closing depth (taken_after_all fs depth b taken)) x ≡ false
+
 -- as a block ends, none of its names is taken
 abbrev pub EndsFree : List Function → (depth : ℕ) → Closing → Taken → Block → Type 0
-EndsFree fs depth closing taken b = (x : Name) → is_among x (own_names b) ≡ true → is_taken (at_end closing depth (taken_after_all fs depth b taken)) x ≡ false
+EndsFree fs depth closing taken b = FreeAtEnd fs depth closing taken (own_names b) b
+
+-- how many slots a call has, and the arrays among its parameters
+pub record Room : Type 0 where
+  pub ints : ℕ
+  pub arrays : ℕ
+  pub given : List Name
+
+-- the names begin with these
+pub record Begins (given names : List Name) : Type 0 where
+  pub more : List Name
+  pub is : names ≡ given ++ more
+
+-- the list of a call site
+abbrev pub IsPassed : List (List ℕ) → (site : ℕ) → List ℕ → Type 0
+IsPassed passed site slots = slice_get passed site ≡ Some slots
+
+-- the parts of a cut are new names, and there is a slot for each
+pub record PartsFine (room : Room) (locals : Locals) (l r : Name) : Type 0 where
+  pub left : is_among l locals.arrays ≡ false
+  pub right : is_among r (locals.arrays ++ l ∷ []) ≡ false
+  pub there : suc (suc (length locals.arrays)) ≤ room.arrays
+  pub begins : Begins room.given locals.arrays
 
 abbrev mutual
-  -- a statement in so many sync blocks, with these names known and these taken, in a call of so many slots
-  pub StmtFine : List Function → Lists → (size : ℕ) → Returns → (depth : ℕ) → Locals → Taken → Stmt → Type 0
-  StmtFine fs lists size returns depth locals taken (Declare x e) = (length locals.ints < size) × ExprFine locals taken e
-  StmtFine fs lists size returns depth locals taken (Assign x e) = IsUsable locals.ints taken x × ExprFine locals taken e
-  StmtFine fs lists size returns depth locals taken (AddTo s e) = IsListed lists.reducers s × ExprFine locals taken e
-  StmtFine fs lists size returns depth locals taken (Call kind site target f es) =
-      (is_function f fs ≡ true) × TargetFine locals taken (function_of f fs) target × ArgsFine locals taken (function_of f fs).params es
-  StmtFine fs lists size returns depth locals taken Sync = Unit {0}
-  StmtFine fs lists size returns depth locals taken (If e b) =
-      ExprFine locals taken e × BlockFine fs lists size returns depth locals taken b × EndsFree fs depth Leaves taken b
-  StmtFine fs lists size returns depth locals taken (IfElse e b c) =
+  -- a statement in so many sync blocks, with these names known and these taken, in a call of so much room
+  pub StmtFine : List Function → Lists → (passed : List (List ℕ)) → Room → Returns → (depth : ℕ) → Locals → Taken → Stmt → Type 0
+  StmtFine fs lists passed room returns depth locals taken (Declare x e) = (length locals.ints < room.ints) × ExprFine locals taken e
+  StmtFine fs lists passed room returns depth locals taken (DeclareArray a e) =
+      (length locals.arrays < room.arrays) × ExprFine locals taken e × Begins room.given locals.arrays
+  StmtFine fs lists passed room returns depth locals taken (AssignElement a i e) =
+      IsUsable locals.arrays taken a × ExprFine locals taken i × ExprFine locals taken e
+  StmtFine fs lists passed room returns depth locals taken (Assign x e) = IsUsable locals.ints taken x × ExprFine locals taken e
+  StmtFine fs lists passed room returns depth locals taken (AddTo s e) = IsListed lists.reducers s × ExprFine locals taken e
+  StmtFine fs lists passed room returns depth locals taken (Call kind site target f es) =
+      (is_function f fs ≡ true)
+      × TargetFine locals taken (function_of f fs) target
+      × ArgsFine locals taken (function_of f fs).params es
+      × (differ (given fs f es) ≡ true)
+      × IsPassed passed site (passed_in (map (resolved_argument locals) es))
+  StmtFine fs lists passed room returns depth locals taken Sync = Unit {0}
+  StmtFine fs lists passed room returns depth locals taken (If e b) =
+      ExprFine locals taken e × BlockFine fs lists passed room returns depth locals taken b × EndsFree fs depth Leaves taken b
+  StmtFine fs lists passed room returns depth locals taken (IfElse e b c) =
       ExprFine locals taken e
-      × (BlockFine fs lists size returns depth locals taken b × EndsFree fs depth Leaves taken b)
-      × (BlockFine fs lists size returns depth locals taken c × EndsFree fs depth Leaves taken c)
-  StmtFine fs lists size returns depth locals taken (While e b) =
+      × (BlockFine fs lists passed room returns depth locals taken b × EndsFree fs depth Leaves taken b)
+      × (BlockFine fs lists passed room returns depth locals taken c × EndsFree fs depth Leaves taken c)
+  StmtFine fs lists passed room returns depth locals taken (While e b) =
       let all = taken_after fs depth (While e b) taken in
-      ExprFine locals all e × BlockFine fs lists size returns depth locals all b × EndsFree fs depth Leaves all b
-  StmtFine fs lists size returns depth locals taken (Scope b) =
-      BlockFine fs lists size Nowhere (depth + 1) locals taken b × EndsFree fs (depth + 1) Joins taken b
-  StmtFine fs lists size returns depth locals taken (Region tag b) =
-      IsListed lists.tags tag × BlockFine fs lists size Nowhere (depth + 1) locals taken b × EndsFree fs (depth + 1) Joins taken b
-  StmtFine fs lists size returns depth locals taken (Print e) = ExprFine locals taken e
-  StmtFine fs lists size returns depth locals taken (Return e) = ReturnFine returns locals taken e
-  StmtFine fs lists size returns depth locals taken _ = ⊥
+      ExprFine locals all e × BlockFine fs lists passed room returns depth locals all b × EndsFree fs depth Leaves all b
+  StmtFine fs lists passed room returns depth locals taken (Scope b) =
+      BlockFine fs lists passed room Nowhere (depth + 1) locals taken b × EndsFree fs (depth + 1) Joins taken b
+  StmtFine fs lists passed room returns depth locals taken (Cut a e l r b) =
+      let inner = (a, CutOf) ∷ taken in
+      IsUsable locals.arrays taken a
+      × ExprFine locals taken e
+      × PartsFine room locals l r
+      × BlockFine fs lists passed room Nowhere (depth + 1) (with_array r (with_array l locals)) inner b
+      × FreeAtEnd fs (depth + 1) Joins inner (l ∷ r ∷ own_names b) b
+  StmtFine fs lists passed room returns depth locals taken (Region tag b) =
+      IsListed lists.tags tag × BlockFine fs lists passed room Nowhere (depth + 1) locals taken b × EndsFree fs (depth + 1) Joins taken b
+  StmtFine fs lists passed room returns depth locals taken (Print e) = ExprFine locals taken e
+  StmtFine fs lists passed room returns depth locals taken (Return e) = ReturnFine returns locals taken e × Begins room.given locals.arrays
+  StmtFine fs lists passed room returns depth locals taken _ = ⊥
 
   -- the statements of a block
-  pub BlockFine : List Function → Lists → (size : ℕ) → Returns → (depth : ℕ) → Locals → Taken → Block → Type 0
-  BlockFine fs lists size returns depth locals taken End = Unit {0}
-  BlockFine fs lists size returns depth locals taken (Then line s b) =
-      StmtFine fs lists size returns depth locals taken s
-      × BlockFine fs lists size returns depth (locals_after locals s) (taken_after fs depth s taken) b
+  pub BlockFine : List Function → Lists → (passed : List (List ℕ)) → Room → Returns → (depth : ℕ) → Locals → Taken → Block → Type 0
+  BlockFine fs lists passed room returns depth locals taken End = Unit {0}
+  BlockFine fs lists passed room returns depth locals taken (Then line s b) =
+      StmtFine fs lists passed room returns depth locals taken s
+      × BlockFine fs lists passed room returns depth (locals_after locals s) (taken_after fs depth s taken) b
+
+-- the room of a call of a function
+abbrev pub room_of : Lists → Function → Room
+room_of lists f = record {
+  ints = (resolved_function lists f).ints;
+  arrays = (resolved_function lists f).arrays;
+  given = (locals_of f.params).arrays;
+}
 
 -- a function
-pub record FunctionFine (fs : List Function) (lists : Lists) (f : Function) : Type 0 where
-  pub named : (locals_of f.params).ints ≡ map (λ p. p.name) f.params
-  pub ints : list_all (λ p. not p.is_array) f.params ≡ true
-  pub room : length f.params ≤ (resolved_function lists f).ints
-  pub body : BlockFine fs lists (resolved_function lists f).ints (if f.gives_int then WithInt else Alone) 1 (locals_of f.params) [] f.body
+pub record FunctionFine (fs : List Function) (lists : Lists) (passed : List (List ℕ)) (f : Function) : Type 0 where
+  pub apart : differ (map (λ p. p.name) f.params) ≡ true
+  pub room : length (locals_of f.params).ints ≤ (resolved_function lists f).ints
+  pub array_room : length (locals_of f.params).arrays ≤ (resolved_function lists f).arrays
+  pub body : BlockFine fs lists passed (room_of lists f) (if f.gives_int then WithInt else Alone) 1 (locals_of f.params) [] f.body
   pub returns : f.gives_int ≡ true → block_returns f.body ≡ true
 
 -- functions in a row
-abbrev pub FunctionsFine : List Function → Lists → List Function → Type 0
-FunctionsFine all lists [] = Unit {0}
-FunctionsFine all lists (f ∷ fs) = FunctionFine all lists f × FunctionsFine all lists fs
+abbrev pub FunctionsFine : List Function → Lists → List (List ℕ) → List Function → Type 0
+FunctionsFine all lists passed [] = Unit {0}
+FunctionsFine all lists passed (f ∷ fs) = FunctionFine all lists passed f × FunctionsFine all lists passed fs
 
--- a program
-pub record ProgramFine (program : Program) : Type 0 where
-  pub functions : FunctionsFine program.functions (lists_of program) program.functions
+-- a program, and the lists of array slots that its calls pass
+pub record ProgramFine (program : Program) (passed : List (List ℕ)) : Type 0 where
+  pub functions : FunctionsFine program.functions (lists_of program) passed program.functions
   pub main : is_function main_name program.functions ≡ true
   pub gives : (function_of main_name program.functions).gives_int ≡ true
+  pub ints : list_all (λ p. not p.is_array) (function_of main_name program.functions).params ≡ true
+  pub reducers : are_apart (map (λ r. r.name) program.reducers) ≡ true

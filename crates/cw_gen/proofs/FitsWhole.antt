@@ -3,22 +3,25 @@ use Rattle.std.proofs.Common.{◌≡◌, ℕ, zero, suc, ◌+◌, ◌-◌, ◌<�
 use Rattle.std.specs.Prelude.{slice_get, map, flat_map, nat_eq, replicate}
 use Rattle.std.proofs.Math.Seq.{get_or-append_seam}
 use Rattle.std.proofs.lemmas.Bool.Decides.{nat_tests}
-use Rattle.std.proofs.lemmas.List.{append-nil, length-replicate, length-map, map-append}
+use Rattle.std.proofs.lemmas.List.{append-nil, length-replicate, map-append}
 use Rattle.std.proofs.lemmas.Option.{slice_get-get_or, slice_get_within}
-use Rattle.cw_model.specs.Syntax.{Stmt, Declare, Assign, AddTo, Call, Sync, If, IfElse, While, Scope, Region, Print, Return, Block, End, Then, Function, Program}
+use Rattle.cw_model.specs.Syntax.{Stmt, Declare, DeclareArray, Assign, AssignElement, AddTo, Call, Sync, If, IfElse, While, Scope, Cut, Region, Print, Return, Block, End, Then, Function, Program}
 use Rattle.cw_model.specs.Sites.{sites_in, sites_in_block, call_sites}
 use Rattle.cw_model.specs.Answers.{main_name}
 use Rattle.cw_model.specs.Typing.{Returns, Nowhere, WithInt, Alone, block_returns}
-use Rattle.cw_model.specs.Ownership.{Taken, taken_after}
-use Rattle.cw_types.specs.Resolved.{Lists, Locals, locals_after, locals_of, lists_of, resolved_stmt, resolved_block, resolved_function}
+use Rattle.cw_model.specs.Ownership.{CutOf, Taken, taken_after}
+use Rattle.cw_model.specs.Meaning.{function_of}
+use Rattle.cw_gen.proofs.Tags.{tags_are_apart}
+use Rattle.cw_gen.proofs.Codes.{main_locals}
+use Rattle.cw_types.specs.Resolved.{Lists, Locals, with_array, locals_after, locals_of, lists_of, resolved_stmt, resolved_block, resolved_function}
 use Rattle.cw_code.specs.declared.code.Func.{Func}
 use Rattle.cw_code.specs.declared.code.Instr.{Instr}
 use Rattle.cw_code.specs.Code.{CodeSite, Code, told_sites}
-use Rattle.cw_code.specs.Fits.{gives_value, names_well, Shape, first_shape, Leads, FitsFunc, LieFrom, Fits}
+use Rattle.cw_code.specs.Fits.{gives_value, array_params_of, names_well, Shape, first_shape, Leads, FitsFunc, LieFrom, Fits}
 use Rattle.cw_gen.specs.Emit.{most_jump, emitted_end, emitted_func, emitted_instrs, emitted_funcs, emitted_sites, emitted_sites_in, emitted_sites_of}
 use Rattle.cw_model.specs.Sites.{are_numbered}
 use Rattle.cw_gen.proofs.Decided.{first_true, second_true}
-use Rattle.cw_gen.proofs.Fine.{StmtFine, BlockFine, FunctionFine, FunctionsFine, ProgramFine}
+use Rattle.cw_gen.proofs.Fine.{Room, room_of, StmtFine, BlockFine, FunctionFine, FunctionsFine, ProgramFine}
 use Rattle.cw_gen.proofs.Laws as laws
 use Rattle.cw_gen.proofs.Laws.{block_code, function_code}
 use Rattle.cw_gen.proofs.Places.{HasAt, has_all, length_within}
@@ -56,10 +59,12 @@ sites_all before (s ∷ now) h =
     (at, is_equal s.told.number (suc (length before)) (first_true here there h), subst (λ m. SitesAt (before ++ s ∷ now) m now) n rest)
 
 -- the sites of the code are those of the program
-module _ (fs : List Function) (lists : Lists) (size : ℕ) where
+module _ (fs : List Function) (lists : Lists) (passed : List (List ℕ)) (size : Room) where
   mutual
-    told_stmt : (returns : Returns) (level : ℕ) (locals : Locals) (taken : Taken) (line : ℕ) (s : Stmt) → StmtFine fs lists size returns level locals taken s → map (λ q. q.told) (emitted_sites line (resolved_stmt lists locals s)) ≡ sites_in line s
+    told_stmt : (returns : Returns) (level : ℕ) (locals : Locals) (taken : Taken) (line : ℕ) (s : Stmt) → StmtFine fs lists passed size returns level locals taken s → map (λ q. q.told) (emitted_sites line (resolved_stmt lists locals s)) ≡ sites_in line s
     told_stmt returns level locals taken line (Declare x e) fine = refl
+    told_stmt returns level locals taken line (DeclareArray x e) fine = refl
+    told_stmt returns level locals taken line (AssignElement x i e) fine = refl
     told_stmt returns level locals taken line (Assign x e) fine = refl
     told_stmt returns level locals taken line (AddTo s e) fine = refl
     told_stmt returns level locals taken line (Print e) fine = refl
@@ -72,28 +77,29 @@ module _ (fs : List Function) (lists : Lists) (size : ℕ) where
         ∙ ap (λ l. sites_in_block b ++ l) (told_block returns level locals taken c fine.2.0)
     told_stmt returns level locals taken line (While e b) fine = told_block returns level locals (taken_after fs level (While e b) taken) b fine.1
     told_stmt returns level locals taken line (Scope b) fine = told_block Nowhere (level + 1) locals taken b fine.0
+    told_stmt returns level locals taken line (Cut a e l r b) fine = told_block Nowhere (level + 1) (with_array r (with_array l locals)) ((a, CutOf) ∷ taken) b fine.3
     told_stmt returns level locals taken line (Region tag b) fine = told_block Nowhere (level + 1) locals taken b fine.1
     told_stmt returns level locals taken line (Return e) fine = refl
     told_stmt returns level locals taken line _ fine = absurd fine
 
-    told_block : (returns : Returns) (level : ℕ) (locals : Locals) (taken : Taken) (b : Block) → BlockFine fs lists size returns level locals taken b → map (λ q. q.told) (emitted_sites_in (resolved_block lists locals b)) ≡ sites_in_block b
+    told_block : (returns : Returns) (level : ℕ) (locals : Locals) (taken : Taken) (b : Block) → BlockFine fs lists passed size returns level locals taken b → map (λ q. q.told) (emitted_sites_in (resolved_block lists locals b)) ≡ sites_in_block b
     told_block returns level locals taken End fine = refl
     told_block returns level locals taken (Then line s b) fine =
         map-append (λ q. q.told) (emitted_sites line (resolved_stmt lists locals s)) (emitted_sites_in (resolved_block lists (locals_after locals s) b))
         ∙ ap (λ l. l ++ map (λ q. q.told) (emitted_sites_in (resolved_block lists (locals_after locals s) b))) (told_stmt returns level locals taken line s fine.0)
         ∙ ap (λ l. sites_in line s ++ l) (told_block returns level (locals_after locals s) (taken_after fs level s taken) b fine.1)
 
-told_of : (all : List Function) (lists : Lists) (gs : List Function) → FunctionsFine all lists gs → map (λ q. q.told) (emitted_sites_of (map (resolved_function lists) gs)) ≡ flat_map (λ f. sites_in_block f.body) gs
-told_of all lists [] fine = refl
-told_of all lists (g ∷ gs) fine =
+told_of : (all : List Function) (lists : Lists) (passed : List (List ℕ)) (gs : List Function) → FunctionsFine all lists passed gs → map (λ q. q.told) (emitted_sites_of (map (resolved_function lists) gs)) ≡ flat_map (λ f. sites_in_block f.body) gs
+told_of all lists passed [] fine = refl
+told_of all lists passed (g ∷ gs) fine =
     let here = emitted_sites_in (resolved_block lists (locals_of g.params) g.body) in
     let there = emitted_sites_of (map (resolved_function lists) gs) in
     map-append (λ q. q.told) here there
-    ∙ ap (λ l. l ++ map (λ q. q.told) there) (told_block all lists (resolved_function lists g).ints (if g.gives_int then WithInt else Alone) 1 (locals_of g.params) [] g.body fine.0.body)
-    ∙ ap (λ l. sites_in_block g.body ++ l) (told_of all lists gs fine.1)
+    ∙ ap (λ l. l ++ map (λ q. q.told) there) (told_block all lists passed (room_of lists g) (if g.gives_int then WithInt else Alone) 1 (locals_of g.params) [] g.body fine.0.body)
+    ∙ ap (λ l. sites_in_block g.body ++ l) (told_of all lists passed gs fine.1)
 
-pub same_sites : (program : Program) → ProgramFine program → told_sites (code_of program) ≡ call_sites program
-same_sites program fine = told_of program.functions (lists_of program) program.functions fine.functions
+pub same_sites : (program : Program) → ProgramFine program (code_of program).passed → told_sites (code_of program) ≡ call_sites program
+same_sites program fine = told_of program.functions (lists_of program) (code_of program).passed program.functions fine.functions
 
 -- nothing stands before the first place of a function
 within_shapes : (start : ℕ) (ss : Shapes) (place : ℕ) (shape : Shape) → flat (slice_get (replicate start None ++ ss) place) ≡ Some shape → (start ≤ place) × (place < start + length ss)
@@ -109,15 +115,15 @@ module _ (code : Code) (fs : List Function) (lists : Lists) (small : length code
   -- what the places of a function find
   abbrev function_shapes : Function → Shapes
   function_shapes g =
-      let size = (resolved_function lists g).ints in
-      block_shapes fs size 0 (locals_of g.params) [] g.body ++ (if g.gives_int then [] else reached (block_returns g.body) (end_shape fs size 0 (locals_of g.params) [] g.body) ∷ [])
+      let size = room_of lists g in
+      block_shapes fs size [] (locals_of g.params) [] g.body ++ (if g.gives_int then [] else reached (block_returns g.body) (end_shape fs size [] (locals_of g.params) [] g.body) ∷ [])
 
-  module _ (g : Function) (start n : ℕ) (fine : FunctionFine fs lists g) (stands_code : HasAt code.instrs start (function_code lists g)) (sites : SitesAt code.sites n (emitted_sites_in (resolved_block lists (locals_of g.params) g.body))) where
+  module _ (g : Function) (start n : ℕ) (fine : FunctionFine fs lists code.passed g) (stands_code : HasAt code.instrs start (function_code lists g)) (sites : SitesAt code.sites n (emitted_sites_in (resolved_block lists (locals_of g.params) g.body))) where
     abbrev f : Func
     f = emitted_func start (resolved_function lists g)
 
-    abbrev size : ℕ
-    size = f.slots
+    abbrev size : Room
+    size = room_of lists g
 
     abbrev locals : Locals
     locals = locals_of g.params
@@ -126,10 +132,10 @@ module _ (code : Code) (fs : List Function) (lists : Lists) (small : length code
     body = block_code lists locals g.body
 
     abbrev body_shapes : Shapes
-    body_shapes = block_shapes fs size 0 locals [] g.body
+    body_shapes = block_shapes fs size [] locals [] g.body
 
     abbrev last : Option Shape
-    last = reached (block_returns g.body) (end_shape fs size 0 locals [] g.body)
+    last = reached (block_returns g.body) (end_shape fs size [] locals [] g.body)
 
     abbrev end_shapes : Bool → Shapes
     end_shapes b = if b then [] else last ∷ []
@@ -140,11 +146,11 @@ module _ (code : Code) (fs : List Function) (lists : Lists) (small : length code
     abbrev tab : Shapes
     tab = replicate start None ++ shapes
 
-    room : length locals.ints ≤ size
-    room = omega (arith, fine.room, ap length fine.named, length-map g.params (λ p. p.name))
+    room : (length locals.ints ≤ size.ints) × (length locals.arrays ≤ size.arrays)
+    room = (fine.room, fine.array_room)
 
     body_count : length body_shapes ≡ length body
-    body_count = block_as_many fs lists size (if g.gives_int then WithInt else Alone) 1 0 locals [] g.body refl fine.body
+    body_count = block_as_many fs lists code.passed size (if g.gives_int then WithInt else Alone) 1 [] locals [] g.body refl fine.body
 
     end_count : (b : Bool) → length (end_shapes b) ≡ length (emitted_end b)
     end_count true = refl
@@ -173,40 +179,40 @@ module _ (code : Code) (fs : List Function) (lists : Lists) (small : length code
         cases true e = absurd (true≢false (sym (fine.returns e) ∙ goes))
         cases false e = refl
 
-    closes : block_returns g.body ≡ false → Leads (fitting.table_of tab) (start + length body) (end_shape fs size 0 locals [] g.body)
+    closes : block_returns g.body ≡ false → Leads (fitting.table_of tab) (start + length body) (end_shape fs size [] locals [] g.body)
     closes goes =
         let here : StandsAt tab (start + length body) (end_shapes false) = subst (λ b. StandsAt tab (start + length body) (end_shapes b)) (no_value goes) at_end in
-        exact tab (start + length body) (end_shape fs size 0 locals [] g.body) (here.0 ∙ ap (λ r. Some (reached r (end_shape fs size 0 locals [] g.body))) goes)
+        exact tab (start + length body) (end_shape fs size [] locals [] g.body) (here.0 ∙ ap (λ r. Some (reached r (end_shape fs size [] locals [] g.body))) goes)
 
     short : length body ≤ most_jump
     short = omega (arith, length_within code.instrs start (function_code lists g) stands_code, small, length-append body (emitted_end g.gives_int))
 
-    returning : (b : Bool) → g.gives_int ≡ b → fitting.Returning (if b then WithInt else Alone) 0 g.gives_int
+    returning : (b : Bool) → g.gives_int ≡ b → fitting.Returning (if b then WithInt else Alone) [] g.gives_int
     returning true e = (refl, e)
     returning false e = (refl, e)
 
-    ends : (b : Bool) → g.gives_int ≡ b → (r : Bool) → fitting.AllFit code fs lists small functions reducers_are tags_are least f tab within (start + length body) (if b then [] else reached r (end_shape fs size 0 locals [] g.body) ∷ []) (emitted_end b)
+    ends : (b : Bool) → g.gives_int ≡ b → (r : Bool) → fitting.AllFit code fs lists small functions reducers_are tags_are least f size.given refl tab within (start + length body) (if b then [] else reached r (end_shape fs size [] locals [] g.body) ∷ []) (emitted_end b)
     ends true e r = tt
     ends false e true = (ap not e, tt)
     ends false e false = ((ap not e, refl, tt), tt)
 
-    all_fit : fitting.AllFit code fs lists small functions reducers_are tags_are least f tab within start shapes (function_code lists g)
+    all_fit : fitting.AllFit code fs lists small functions reducers_are tags_are least f size.given refl tab within start shapes (function_code lists g)
     all_fit =
-        fitting.both_fit code fs lists small functions reducers_are tags_are least f tab within start body_shapes (end_shapes g.gives_int) body (emitted_end g.gives_int)
-        (block_fits code fs lists small functions reducers_are tags_are least f tab within (if g.gives_int then WithInt else Alone) 1 0 locals [] g.body start n refl room (returning g.gives_int refl) fine.body short (stands_front tab start body_shapes (end_shapes g.gives_int) stands) sites closes)
+        fitting.both_fit code fs lists small functions reducers_are tags_are least f size.given refl tab within start body_shapes (end_shapes g.gives_int) body (emitted_end g.gives_int)
+        (block_fits code fs lists small functions reducers_are tags_are least f size.given refl tab within (if g.gives_int then WithInt else Alone) 1 [] locals [] g.body start n refl room tt (returning g.gives_int refl) fine.body short (stands_front tab start body_shapes (end_shapes g.gives_int) stands) sites closes)
         (ends g.gives_int refl (block_returns g.body))
 
     starts : Leads (fitting.table_of tab) start (first_shape f)
     starts =
-        takes_less (fitting.table_of tab) start (first_shape f) (shape_at size 0 locals.ints [] 0)
-        (block_enters code fs lists small functions reducers_are tags_are least f tab within (if g.gives_int then WithInt else Alone) 1 0 locals [] g.body start refl room fine.body (stands_front tab start body_shapes (end_shapes g.gives_int) stands) closes)
-        refl (covers_none (row size 1 locals.ints []) size (length-row size 1 locals.ints []), tt)
+        takes_less (fitting.table_of tab) start (first_shape f) (shape_at size [] locals [] 0)
+        (block_enters code fs lists small functions reducers_are tags_are least f size.given refl tab within (if g.gives_int then WithInt else Alone) 1 [] locals [] g.body start refl room tt fine.body (stands_front tab start body_shapes (end_shapes g.gives_int) stands) closes)
+        refl (covers_none (row size.ints 1 locals.ints []) size.ints (length-row size.ints 1 locals.ints []), covers_none (row size.arrays 1 locals.arrays []) size.arrays (length-row size.arrays 1 locals.arrays []), tt)
 
     abbrev FitsHere : ℕ → Option Shape → Instr → Type 0
-    FitsHere place o i = fitting.FitsAt code fs lists small functions reducers_are tags_are least f tab within place o i
+    FitsHere place o i = fitting.FitsAt code fs lists small functions reducers_are tags_are least f size.given refl tab within place o i
 
     -- what one place finds
-    at_place : (ss : Shapes) (is : List Instr) (place m : ℕ) (i : Instr) → fitting.AllFit code fs lists small functions reducers_are tags_are least f tab within place ss is → StandsAt tab place ss → HasAt code.instrs place is → m < length is → slice_get code.instrs (place + m) ≡ Some i → FitsHere (place + m) (flat (slice_get tab (place + m))) i
+    at_place : (ss : Shapes) (is : List Instr) (place m : ℕ) (i : Instr) → fitting.AllFit code fs lists small functions reducers_are tags_are least f size.given refl tab within place ss is → StandsAt tab place ss → HasAt code.instrs place is → m < length is → slice_get code.instrs (place + m) ≡ Some i → FitsHere (place + m) (flat (slice_get tab (place + m))) i
     at_place [] [] place m i fit stand has below e = absurd (omega (arith, below))
     at_place [] (i' ∷ is) place m i fit stand has below e = absurd fit
     at_place (s ∷ ss) [] place m i fit stand has below e = absurd fit
@@ -234,6 +240,7 @@ module _ (code : Code) (fs : List Function) (lists : Lists) (small : length code
     pub function_fits : FitsFunc code f
     function_fits = record {
       room = fine.room;
+      array_room = fine.array_room;
       names = λ place i le below e. named (flat (slice_get tab place)) place i (fits_at place i le below e);
       table = fitting.table_of tab;
       is_table = record {
@@ -252,7 +259,7 @@ module _ (code : Code) (fs : List Function) (lists : Lists) (small : length code
     pub lie : LieFrom start (emitted_funcs start (map (resolved_function lists) gs)) (start + length (emitted_instrs (map (resolved_function lists) gs)))
     pub each : (k : ℕ) (f : Func) → slice_get (emitted_funcs start (map (resolved_function lists) gs)) k ≡ Some f → FitsFunc code f
 
-  row_fits : (pre : List Instr) (n : ℕ) (gs : List Function) → code.instrs ≡ pre ++ emitted_instrs (map (resolved_function lists) gs) → FunctionsFine fs lists gs → SitesAt code.sites n (emitted_sites_of (map (resolved_function lists) gs)) → RowFits (length pre) gs
+  row_fits : (pre : List Instr) (n : ℕ) (gs : List Function) → code.instrs ≡ pre ++ emitted_instrs (map (resolved_function lists) gs) → FunctionsFine fs lists code.passed gs → SitesAt code.sites n (emitted_sites_of (map (resolved_function lists) gs)) → RowFits (length pre) gs
   row_fits pre n [] e fine sites = record { lie = omega arith; each = λ k f e'. cc }
   row_fits pre n (g ∷ gs) e fine sites =
       let here = function_code lists g in
@@ -274,7 +281,7 @@ module _ (code : Code) (fs : List Function) (lists : Lists) (small : length code
       pick zero f e' first rest = let same : emitted_func (length pre) (resolved_function lists g) ≡ f = cc e' in subst (λ q. FitsFunc code q) same first
       pick (suc k) f e' first rest = rest k f e'
 
-pub generated_fits : (program : Program) → length (code_of program).instrs ≤ most_jump → TurnsClose program.functions → are_numbered 0 (call_sites program) ≡ true → ProgramFine program → Fits (code_of program)
+pub generated_fits : (program : Program) → length (code_of program).instrs ≤ most_jump → TurnsClose program.functions → are_numbered 0 (call_sites program) ≡ true → ProgramFine program (code_of program).passed → Fits (code_of program)
 generated_fits program small least numbered fine =
     let code = code_of program in
     let lists = lists_of program in
@@ -285,6 +292,9 @@ generated_fits program small least numbered fine =
     let all = row_fits code program.functions lists small functions refl refl least [] 0 program.functions refl fine.functions sites in
     record {
       main = ap gives_value entry.1 ∙ entry.2.gives ∙ fine.gives;
+      of_integers = ap array_params_of entry.1 ∙ entry.2.array_params ∙ (main_locals (function_of main_name program.functions).params fine.ints).1;
+      reducers = fine.reducers;
+      tags = tags_are_apart program;
       lie = subst (λ m. LieFrom 0 code.funcs m) none_before all.lie;
       each = all.each;
     }

@@ -22,6 +22,7 @@ use Rattle.cw_gen.proofs.Fine.{is_function, FunctionsFine, ProgramFine}
 use Rattle.cw_gen.proofs.Traces.{resume}
 use Rattle.cw_gen.proofs.Places.{HasAt, has_all}
 use Rattle.cw_gen.proofs.Decided.{taken, both_true, at_most, equal}
+use Rattle.cw_gen.proofs.Codes.{bound_main, main_locals}
 use Rattle.cw_gen.proofs.Laws.{function_code, Compiled, Table, calls_run}
 
 -- the code of a program
@@ -42,7 +43,7 @@ module _ (code : Code) (all : List Function) (lists : Lists) (small : length cod
   abbrev pub Entry : (start : ℕ) → List Function → Name → Type 0
   Entry start fs name = (fn : Func) × (slice_get (funcs_from start fs) (slot_of name (function_names fs)) ≡ Some fn) × Compiled code all lists small (function_of name fs) fn
 
-  entries : (pre : List Instr) (fs : List Function) → code.instrs ≡ pre ++ codes fs → FunctionsFine all lists fs → (name : Name) → is_function name fs ≡ true → Entry (length pre) fs name
+  entries : (pre : List Instr) (fs : List Function) → code.instrs ≡ pre ++ codes fs → FunctionsFine all lists code.passed fs → (name : Name) → is_function name fs ≡ true → Entry (length pre) fs name
   entries pre [] e fine name h = cc
   entries pre (f ∷ fs) e fine name h =
       test (λ h'. subst (λ n. Entry n fs name) (length-append pre (function_code lists f)) (entries (pre ++ function_code lists f) fs (e ∙ sym (append_assoc pre (function_code lists f) (codes fs))) fine.1 name h')) (same_name name f.name) h
@@ -54,9 +55,11 @@ module _ (code : Code) (all : List Function) (lists : Lists) (small : length cod
         refl,
         record {
           params = refl;
+          array_params = refl;
           room = fine.0.room;
+          array_room = fine.0.array_room;
+          apart = fine.0.apart;
           gives = refl;
-          named = fine.0.named;
           stands = subst (λ l. HasAt l (length pre) (function_code lists f)) (sym e) (has_all pre (function_code lists f) (codes fs));
           fine = fine.0.body;
           returns = fine.0.returns;
@@ -64,7 +67,7 @@ module _ (code : Code) (all : List Function) (lists : Lists) (small : length cod
       )
       test more false h' = more h'
 
-pub table_of : (program : Program) (small : length (code_of program).instrs ≤ most_jump) → ProgramFine program → Table (code_of program) program.functions (lists_of program) small
+pub table_of : (program : Program) (small : length (code_of program).instrs ≤ most_jump) → ProgramFine program (code_of program).passed → Table (code_of program) program.functions (lists_of program) small
 table_of program small fine = record { entry = entries (code_of program) program.functions (lists_of program) small [] program.functions refl fine.functions }
 
 same_sums : (rs : List Reducer) (additions : List (Name × ℤ)) → map (λ (r : Reducer). sum_to r.name additions) (map (λ name. record { name = name; line = 0 }) (reducer_names rs)) ≡ map (λ (r : Reducer). sum_to r.name additions) rs
@@ -76,23 +79,29 @@ same_answer program (Done r l u) = ap (λ sums. Some (Ended (int_given r.0) u.li
 same_answer program (Trapped trap line lines) = refl
 same_answer program Over = refl
 
-pub same_run : (program : Program) → length (code_of program).instrs ≤ most_jump → TurnsClose program.functions → ProgramFine program → (args : List ℤ) → length args ≡ main_count program → (n : ℕ) → code_serial (code_of program) args n ≡ Some (serial_answer program args n)
+pub same_run : (program : Program) → length (code_of program).instrs ≤ most_jump → TurnsClose program.functions → ProgramFine program (code_of program).passed → (args : List ℤ) → length args ≡ main_count program → (n : ℕ) → code_serial (code_of program) args n ≡ Some (serial_answer program args n)
 unfolding code_serial serial_answer
 same_run program small least fine args m n =
     let code = code_of program in
     let main = function_of main_name program.functions in
     let entry = (table_of program small fine).entry main_name fine.main in
     let fn = entry.0 in
-    let begin = On (first_state fn args) in
-    let fits : (nat_eq (length args) fn.params && nat_le fn.params fn.slots) ≡ true = both_true (nat_eq (length args) fn.params) (nat_le fn.params fn.slots) (equal (length args) fn.params (m ∙ sym entry.2.params)) (at_most fn.params fn.slots entry.2.room) in
+    let counts = main_locals main.params fine.ints in
+    let begin = On (first_state fn args []) in
+    let many : length args ≡ fn.params = m ∙ sym counts.0 ∙ sym entry.2.params in
+    let none : 0 ≡ fn.array_params = sym (entry.2.array_params ∙ counts.1) in
+    let fits : (nat_eq (length args) fn.params && (nat_le fn.params fn.slots && nat_eq fn.array_params 0)) ≡ true =
+    both_true (nat_eq (length args) fn.params) (nat_le fn.params fn.slots && nat_eq fn.array_params 0) (equal (length args) fn.params many)
+    (both_true (nat_le fn.params fn.slots) (nat_eq fn.array_params 0) (at_most fn.params fn.slots entry.2.room) (equal fn.array_params 0 (sym none))) in
     let answer = λ (o : Ran). option_map (λ o'. answer_of (reducers_of code) o') o in
+    let given = main_frame main.params args no_frame in
     ap (λ o. answer (go_on (first_went o args) n (λ s. steps code n s))) entry.1
-    ∙ ap (λ w. answer (go_on w n (λ s. steps code n s))) (taken (nat_eq (length args) fn.params && nat_le fn.params fn.slots) begin Stuck fits)
-    ∙ ap answer ((calls_run code program.functions (lists_of program) small refl refl least (table_of program small fine) (suc n) 0).enters refl main fn entry.2 args m [] main.line n quiet (λ r l u. Some (Done (r.0, no_frame) l u)) (omega arith) (λ v g l u given le. refl))
+    ∙ ap (λ w. answer (go_on w n (λ s. steps code n s))) (taken (nat_eq (length args) fn.params && (nat_le fn.params fn.slots && nat_eq fn.array_params 0)) begin Stuck fits)
+    ∙ ap answer ((calls_run code program.functions (lists_of program) small refl refl least (table_of program small fine) (suc n) 0).enters refl main fn entry.2 args [] given many none (bound_main main.params args no_frame fine.ints m) [] main.line n quiet (λ r l u. Some (Done (r.0, no_frame) l u)) (omega arith) (λ v g arrays l u gives_int gives le. refl))
     ∙ same_answer program (call (suc n) 0 program.functions Deeper main (main_frame main.params args no_frame) main.line n)
 
 -- main takes as many arguments as the program's
-pub same_params : (program : Program) → length (code_of program).instrs ≤ most_jump → ProgramFine program → main_params (code_of program) ≡ main_count program
+pub same_params : (program : Program) → length (code_of program).instrs ≤ most_jump → ProgramFine program (code_of program).passed → main_params (code_of program) ≡ main_count program
 same_params program small fine =
     let entry = (table_of program small fine).entry main_name fine.main in
-    ap params_of entry.1 ∙ entry.2.params
+    ap params_of entry.1 ∙ entry.2.params ∙ (main_locals (function_of main_name program.functions).params fine.ints).0

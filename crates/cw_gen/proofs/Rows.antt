@@ -1,26 +1,27 @@
 -- Which slots may be empty where certain names are taken.
-use Rattle.std.proofs.Common.{◌≡◌, ℕ, zero, suc, ◌<◌, ◌≤◌, List, [], ◌∷◌, ◌++◌, length, Bool, true, false, ◌&&◌, if◌then◌else◌, Some, refl, sym, ap, ◌∙◌, subst, arith, true≢false}
-use Rattle.std.specs.Prelude.{slice_get, slice_set}
+use Rattle.std.proofs.Common.{◌≡◌, ◌≢◌, ℕ, zero, suc, ◌+◌, ◌<◌, ◌≤◌, Option, Some, None, not, length-append, List, [], ◌∷◌, ◌++◌, length, Bool, true, false, ◌&&◌, if◌then◌else◌, refl, sym, ap, ◌∙◌, subst, arith, true≢false}
+use Rattle.std.specs.Prelude.{slice_get, slice_set, nat_eq}
+use Rattle.std.proofs.lemmas.Bool.Decides.{nat_tests}
 use Rattle.std.proofs.lemmas.List.{append-nil}
 use Rattle.std.proofs.lemmas.Slice.Eq.{bytes_eq-Decides}
 use Rattle.cw_model.specs.Syntax.{Name}
 use Rattle.cw_model.specs.Names.{same_name, is_among}
-use Rattle.cw_model.specs.Ownership.{Taken}
-use Rattle.cw_types.specs.Resolved.{slot_of}
-use Rattle.cw_code.specs.Fits.{Row, is_full_in, full_in_all, none_empty, Covers, CoversEach}
+use Rattle.cw_model.specs.Ownership.{CutOf, Taken, is_taken}
+use Rattle.cw_types.specs.Resolved.{Locals, slot_of, with_int, with_array}
+use Rattle.cw_code.specs.declared.code.Halves.{Halves}
+use Rattle.cw_code.specs.Fits.{Row, Outer, Shape, empty_rows, gone_rows, is_full_in, full_in_all, has_slot, has_array, is_no_part, none_empty, Covers, CoversEach}
 use Rattle.cw_gen.proofs.Takens.{holds, not_held}
-use Rattle.cw_gen.proofs.Fine.{IsUsable}
+use Rattle.cw_gen.proofs.Decided.{both_true}
+use Rattle.cw_gen.proofs.Fine.{IsUsable, Room}
+use Rattle.cw_gen.proofs.Names.{get-other, slots_apart, slot_within, slot_stays, among_before}
+use Rattle.cw_gen.proofs.Scopes.{extended, same_locals}
+use Rattle.cw_gen.proofs.Staying.{In, in_taken}
 
 -- for each of so many slots whether a spawn of the sync block at this depth holds the name that lies there
 abbrev pub row : ℕ → (depth : ℕ) → List Name → Taken → Row
 row zero depth names taken = []
 row (suc n) depth [] taken = false ∷ row n depth [] taken
-row (suc n) depth (x ∷ names) taken = holds depth x taken ∷ row n depth names taken
-
--- the rows of the sync blocks below a depth, the innermost first
-abbrev pub rows_below : ℕ → (depth : ℕ) → List Name → Taken → List Row
-rows_below size zero names taken = []
-rows_below size (suc k) names taken = row size (suc k) names taken ∷ rows_below size k names taken
+row (suc n) depth (x ∷ names) taken = holds false depth x taken ∷ row n depth names taken
 
 pub length-row : (n depth : ℕ) (names : List Name) (taken : Taken) → length (row n depth names taken) ≡ n
 length-row zero depth names taken = refl
@@ -28,14 +29,14 @@ length-row (suc n) depth [] taken = ap suc (length-row n depth [] taken)
 length-row (suc n) depth (x ∷ names) taken = ap suc (length-row n depth names taken)
 
 -- what the row says of a name
-row_at : (n depth : ℕ) (names : List Name) (taken : Taken) (x : Name) → length names ≤ n → is_among x names ≡ true → slice_get (row n depth names taken) (slot_of x names) ≡ Some (holds depth x taken)
+row_at : (n depth : ℕ) (names : List Name) (taken : Taken) (x : Name) → length names ≤ n → is_among x names ≡ true → slice_get (row n depth names taken) (slot_of x names) ≡ Some (holds false depth x taken)
 row_at n depth [] taken x le h = cc
 row_at zero depth (y ∷ names) taken x le h = absurd (omega (arith, le))
 row_at (suc n) depth (y ∷ names) taken x le h = test (row_at n depth names taken x (omega (arith, le))) (same_name x y) refl h
   where
-    test : (is_among x names ≡ true → slice_get (row n depth names taken) (slot_of x names) ≡ Some (holds depth x taken)) → (b : Bool) → same_name x y ≡ b → (if b then true else is_among x names) ≡ true →
-        slice_get (holds depth y taken ∷ row n depth names taken) (if b then 0 else suc (slot_of x names)) ≡ Some (holds depth x taken)
-    test more true e h' = ap (λ z. Some (holds depth z taken)) (sym ((bytes_eq-Decides x y).0 e))
+    test : (is_among x names ≡ true → slice_get (row n depth names taken) (slot_of x names) ≡ Some (holds false depth x taken)) → (b : Bool) → same_name x y ≡ b → (if b then true else is_among x names) ≡ true →
+        slice_get (holds false depth y taken ∷ row n depth names taken) (if b then 0 else suc (slot_of x names)) ≡ Some (holds false depth x taken)
+    test more true e h' = ap (λ z. Some (holds false depth z taken)) (sym ((bytes_eq-Decides x y).0 e))
     test more false e h' = more h'
 
 -- behind the names no slot is empty
@@ -46,20 +47,15 @@ row_past (suc n) depth [] taken (suc a) le below = row_past n depth [] taken a (
 row_past (suc n) depth (x ∷ names) taken zero le below = absurd (omega (arith, le))
 row_past (suc n) depth (x ∷ names) taken (suc a) le below = row_past n depth names taken a (omega (arith, le)) (omega (arith, below))
 
--- a name that is free is full in all rows
-pub free_in_all : (size k : ℕ) (names : List Name) (taken : Taken) (x : Name) → length names ≤ size → IsUsable names taken x → full_in_all (rows_below size k names taken) (slot_of x names) ≡ true
-free_in_all size zero names taken x le u = refl
-free_in_all size (suc k) names taken x le u =
-    ap (λ o. is_full_in o && full_in_all (rows_below size k names taken) (slot_of x names)) (row_at size (suc k) names taken x le u.declared)
-    ∙ ap (λ b. is_full_in (Some b) && full_in_all (rows_below size k names taken) (slot_of x names)) (not_held (suc k) x taken u.free)
-    ∙ free_in_all size k names taken x le u
+-- a name that is free is full
+pub row_free : (size depth : ℕ) (names : List Name) (taken : Taken) (x : Name) → length names ≤ size → IsUsable names taken x → is_full_in (slice_get (row size depth names taken) (slot_of x names)) ≡ true
+row_free size depth names taken x le u =
+    ap is_full_in (row_at size depth names taken x le u.declared)
+    ∙ ap (λ b. is_full_in (Some b)) (not_held false depth x taken u.free)
 
 -- so is a slot behind the names
-pub past_in_all : (size k : ℕ) (names : List Name) (taken : Taken) (a : ℕ) → length names ≤ a → a < size → full_in_all (rows_below size k names taken) a ≡ true
-past_in_all size zero names taken a le below = refl
-past_in_all size (suc k) names taken a le below =
-    ap (λ o. is_full_in o && full_in_all (rows_below size k names taken) a) (row_past size (suc k) names taken a le below)
-    ∙ past_in_all size k names taken a le below
+pub row_behind : (size depth : ℕ) (names : List Name) (taken : Taken) (a : ℕ) → length names ≤ a → a < size → is_full_in (slice_get (row size depth names taken) a) ≡ true
+row_behind size depth names taken a le below = ap is_full_in (row_past size depth names taken a le below)
 
 pub covers_itself : (r : Row) → Covers r r
 covers_itself [] = tt
@@ -73,18 +69,6 @@ covers_after (a ∷ r) [] t h k = absurd h
 covers_after (a ∷ r) (b ∷ s) [] h k = absurd k
 covers_after (a ∷ r) (b ∷ s) (c ∷ t) h k = (λ e. k.0 (h.0 e), covers_after r s t h.1 k.1)
 
-pub each_covers_itself : (rs : List Row) → CoversEach rs rs
-each_covers_itself [] = tt
-each_covers_itself (r ∷ rs) = (covers_itself r, each_covers_itself rs)
-
-pub each_covers_after : (rs ss ts : List Row) → CoversEach rs ss → CoversEach ss ts → CoversEach rs ts
-each_covers_after [] [] [] h k = tt
-each_covers_after [] [] (t ∷ ts) h k = absurd k
-each_covers_after [] (s ∷ ss) ts h k = absurd h
-each_covers_after (r ∷ rs) [] ts h k = absurd h
-each_covers_after (r ∷ rs) (s ∷ ss) [] h k = absurd k
-each_covers_after (r ∷ rs) (s ∷ ss) (t ∷ ts) h k = (covers_after r s t h.0 k.0, each_covers_after rs ss ts h.1 k.1)
-
 -- any row covers one where nothing is empty
 pub covers_none : (r : Row) (n : ℕ) → length r ≡ n → Covers r (none_empty n)
 covers_none [] zero e = tt
@@ -93,7 +77,7 @@ covers_none (b ∷ r) zero e = absurd (omega (arith, e))
 covers_none (b ∷ r) (suc n) e = (λ h. refl, covers_none r n (omega (arith, e)))
 
 -- where more is held, and fewer names are there, of which none of the others is held
-pub covers_held : (n depth : ℕ) (names more : List Name) (taken taken' : Taken) → ((x : Name) → is_among x names ≡ true → holds depth x taken ≡ true → holds depth x taken' ≡ true) → ((x : Name) → is_among x more ≡ true → holds depth x taken ≡ false) →
+pub covers_held : (n depth : ℕ) (names more : List Name) (taken taken' : Taken) → ((x : Name) → is_among x names ≡ true → holds false depth x taken ≡ true → holds false depth x taken' ≡ true) → ((x : Name) → is_among x more ≡ true → holds false depth x taken ≡ false) →
     Covers (row n depth names taken') (row n depth (names ++ more) taken)
 covers_held zero depth names more taken taken' h k = tt
 covers_held (suc n) depth [] [] taken taken' h k = (λ e. refl, covers_held n depth [] [] taken taken' h k)
@@ -105,7 +89,7 @@ covers_held (suc n) depth [] (y ∷ more) taken taken' h k = (λ e. k y (ap (λ 
         test : (b : Bool) → (if b then true else is_among x names) ≡ true
         test true = refl
         test false = h
-covers_held (suc n) depth (y ∷ names) more taken taken' h k = (λ e. back (holds depth y taken) refl e, covers_held n depth names more taken taken' (λ x a. h x (further x y names a)) k)
+covers_held (suc n) depth (y ∷ names) more taken taken' h k = (λ e. back (holds false depth y taken) refl e, covers_held n depth names more taken taken' (λ x a. h x (further x y names a)) k)
   where
     further : (x y : Name) (names : List Name) → is_among x names ≡ true → is_among x (y ∷ names) ≡ true
     further x y names h = test (same_name x y)
@@ -114,7 +98,7 @@ covers_held (suc n) depth (y ∷ names) more taken taken' h k = (λ e. back (hol
         test true = refl
         test false = h
 
-    back : (b : Bool) → holds depth y taken ≡ b → holds depth y taken' ≡ false → b ≡ false
+    back : (b : Bool) → holds false depth y taken ≡ b → holds false depth y taken' ≡ false → b ≡ false
     back true e e' = absurd (true≢false (sym (h y (ap (λ c. if c then true else is_among y names) ((bytes_eq-Decides y y).1 refl)) e) ∙ e'))
     back false e e' = refl
 
@@ -124,48 +108,247 @@ covers_declared zero depth names x taken = tt
 covers_declared (suc n) depth [] x taken = (λ e. refl, covers_itself (row n depth [] taken))
 covers_declared (suc n) depth (y ∷ names) x taken = (λ e. e, covers_declared n depth names x taken)
 
--- a name that a spawn takes
-pub covers_target : (n depth : ℕ) (names : List Name) (x : Name) (taken taken' : Taken) → ((y : Name) → holds depth y taken ≡ true → holds depth y taken' ≡ true) → holds depth x taken' ≡ true → is_among x names ≡ true →
-    Covers (row n depth names taken') (slice_set (row n depth names taken) (slot_of x names) true)
-covers_target zero depth names x taken taken' h k a = none (slot_of x names)
+-- where more is held
+pub row_more : (n depth : ℕ) (names : List Name) (taken taken' : Taken) → ((x : Name) → holds false depth x taken ≡ true → holds false depth x taken' ≡ true) → Covers (row n depth names taken') (row n depth names taken)
+row_more n depth names taken taken' h = subst (λ ns. Covers (row n depth names taken') (row n depth ns taken)) (append-nil names) (covers_held n depth names [] taken taken' (λ x a. h x) (λ x a. cc))
+
+pub is_equal : (a b : ℕ) → nat_eq a b ≡ true → a ≡ b
+is_equal a b h = grind (arith, nat_tests)
+
+-- a slot that is empty in the first
+covers_raise : (s r : Row) (i : ℕ) → slice_get s i ≡ Some true → Covers s r → Covers s (slice_set r i true)
+covers_raise [] r i e h = cc
+covers_raise (a ∷ s) [] i e h = absurd h
+covers_raise (a ∷ s) (b ∷ r) zero e h = let is : a ≡ true = cc e in ((λ e'. absurd (true≢false (sym is ∙ e'))), h.1)
+covers_raise (a ∷ s) (b ∷ r) (suc i) e h = (h.0, covers_raise s r i e h.1)
+
+-- a name that is held may be empty
+pub covers_name : (n depth : ℕ) (names : List Name) (x : Name) (r : Row) (taken : Taken) → length names ≤ n → Covers (row n depth names taken) r → holds false depth x taken ≡ true → is_among x names ≡ true → Covers (row n depth names taken) (slice_set r (slot_of x names) true)
+covers_name n depth names x r taken le h held declared = covers_raise (row n depth names taken) r (slot_of x names) (row_at n depth names taken x le declared ∙ ap (λ b. Some b) held) h
+
+-- a name that is not held is full
+pub row_of : (n depth : ℕ) (names : List Name) (taken : Taken) (x : Name) → slot_of x names < n → is_among x names ≡ true → holds false depth x taken ≡ false → is_full_in (slice_get (row n depth names taken) (slot_of x names)) ≡ true
+row_of n depth [] taken x below h free = cc
+row_of zero depth (y ∷ names) taken x below h free = absurd (omega (arith, below))
+row_of (suc n) depth (y ∷ names) taken x below h free = test (row_of n depth names taken x) (same_name x y) refl below h
   where
-    none : (i : ℕ) → Covers [] (slice_set [] i true)
-    none zero = tt
-    none (suc i) = tt
-covers_target (suc n) depth [] x taken taken' h k a = cc
-covers_target (suc n) depth (y ∷ names) x taken taken' h k a = test (covers_target n depth names x taken taken' h k) (same_name x y) refl a
-  where
-    back : (b : Bool) → holds depth y taken ≡ b → holds depth y taken' ≡ false → b ≡ false
-    back true e e' = absurd (true≢false (sym (h y e) ∙ e'))
-    back false e e' = refl
+    test : (slot_of x names < n → is_among x names ≡ true → holds false depth x taken ≡ false → is_full_in (slice_get (row n depth names taken) (slot_of x names)) ≡ true) → (b : Bool) → same_name x y ≡ b → (if b then 0 else suc (slot_of x names)) < suc n → (if b then true else is_among x names) ≡ true →
+        is_full_in (slice_get (holds false depth y taken ∷ row n depth names taken) (if b then 0 else suc (slot_of x names))) ≡ true
+    test more true e below' h' = ap (λ z. is_full_in (Some (holds false depth z taken))) (sym ((bytes_eq-Decides x y).0 e)) ∙ ap (λ b. is_full_in (Some b)) free
+    test more false e below' h' = more (omega (arith, below')) h' free
 
-    same_row : (m : ℕ) (zs : List Name) → Covers (row m depth zs taken') (row m depth zs taken)
-    same_row zero zs = tt
-    same_row (suc m) [] = (λ e. refl, same_row m [])
-    same_row (suc m) (z ∷ zs) = (λ e. back_of z (holds depth z taken) refl e, same_row m zs)
-      where
-        back_of : (z : Name) (b : Bool) → holds depth z taken ≡ b → holds depth z taken' ≡ false → b ≡ false
-        back_of z true e e' = absurd (true≢false (sym (h z e) ∙ e'))
-        back_of z false e e' = refl
+-- a slot that is empty in both
+pub covers_set : (r s : Row) (i : ℕ) → Covers r s → Covers (slice_set r i true) (slice_set s i true)
+covers_set [] [] zero h = tt
+covers_set [] [] (suc i) h = tt
+covers_set [] (b ∷ s) i h = absurd h
+covers_set (a ∷ r) [] i h = absurd h
+covers_set (a ∷ r) (b ∷ s) zero h = (λ e. absurd (true≢false e), h.1)
+covers_set (a ∷ r) (b ∷ s) (suc i) h = (h.0, covers_set r s i h.1)
 
-    test : (is_among x names ≡ true → Covers (row n depth names taken') (slice_set (row n depth names taken) (slot_of x names) true)) → (b : Bool) → same_name x y ≡ b → (if b then true else is_among x names) ≡ true →
-        Covers (holds depth y taken' ∷ row n depth names taken') (slice_set (holds depth y taken ∷ row n depth names taken) (if b then 0 else suc (slot_of x names)) true)
-    test more true e a' = (λ e'. absurd (true≢false (sym k ∙ ap (λ z. holds depth z taken') ((bytes_eq-Decides x y).0 e) ∙ e')), same_row n names)
-    test more false e a' = (λ e'. back (holds depth y taken) refl e', more a')
+-- a slot that is full in the second
+pub covers_lower : (r s : Row) (i : ℕ) → Covers r s → Covers r (slice_set s i false)
+covers_lower [] [] zero h = tt
+covers_lower [] [] (suc i) h = tt
+covers_lower [] (b ∷ s) i h = absurd h
+covers_lower (a ∷ r) [] i h = absurd h
+covers_lower (a ∷ r) (b ∷ s) zero h = (λ e. refl, h.1)
+covers_lower (a ∷ r) (b ∷ s) (suc i) h = (h.0, covers_lower r s i h.1)
 
--- the same for the rows of all sync blocks
-pub rows_held : (size k : ℕ) (names more : List Name) (taken taken' : Taken) → ((d : ℕ) (x : Name) → d ≤ k → is_among x names ≡ true → holds d x taken ≡ true → holds d x taken' ≡ true) → ((d : ℕ) (x : Name) → d ≤ k → is_among x more ≡ true → holds d x taken ≡ false) →
-    CoversEach (rows_below size k names taken') (rows_below size k (names ++ more) taken)
-rows_held size zero names more taken taken' h k = tt
-rows_held size (suc n) names more taken taken' h k = (
-  covers_held size (suc n) names more taken taken' (λ x. h (suc n) x (omega arith)) (λ x. k (suc n) x (omega arith)),
-  rows_held size n names more taken taken' (λ d x le. h d x (omega (arith, le))) (λ d x le. k d x (omega (arith, le))),
+-- the row round a cut
+abbrev pub with_cut : Option Halves → Row → Row
+with_cut None r = r
+with_cut (Some h) r = slice_set r h.array true
+
+pub covers_cut : (c : Option Halves) (r s : Row) → Covers r s → Covers (with_cut c r) (with_cut c s)
+covers_cut None r s h = h
+covers_cut (Some h') r s h = covers_set r s h'.array h
+
+-- the sync blocks of a call that are open round the innermost one, each with the cut that began the one inside it
+abbrev pub Opened : Type 0
+Opened = List (Option Halves)
+
+abbrev pub depth_in : Opened → ℕ
+depth_in opened = suc (length opened)
+
+-- what they find
+abbrev pub outers : Room → Opened → Locals → Taken → List Outer
+outers size [] locals taken = []
+outers size (c ∷ opened) locals taken =
+    record { empty = row size.ints (depth_in opened) locals.ints taken; gone = with_cut c (row size.arrays (depth_in opened) locals.arrays taken); cut = c } ∷ outers size opened locals taken
+
+-- what a place finds in these sync blocks, where these names are known and taken
+abbrev pub shape_at : Room → Opened → Locals → Taken → (operands : ℕ) → Shape
+shape_at size opened locals taken n = record {
+  operands = n;
+  empty = row size.ints (depth_in opened) locals.ints taken;
+  gone = row size.arrays (depth_in opened) locals.arrays taken;
+  outer = outers size opened locals taken;
+}
+
+-- a shape that takes another one
+abbrev pub Over : Shape → Shape → Type 0
+Over many few = Covers many.empty few.empty × Covers many.gone few.gone × CoversEach many.outer few.outer
+
+pub each_covers_itself : (os : List Outer) → CoversEach os os
+each_covers_itself [] = tt
+each_covers_itself (o ∷ os) = (covers_itself o.empty, covers_itself o.gone, refl, each_covers_itself os)
+
+pub each_covers_after : (rs ss ts : List Outer) → CoversEach rs ss → CoversEach ss ts → CoversEach rs ts
+each_covers_after [] [] [] h k = tt
+each_covers_after [] [] (t ∷ ts) h k = absurd k
+each_covers_after [] (s ∷ ss) ts h k = absurd h
+each_covers_after (r ∷ rs) [] ts h k = absurd h
+each_covers_after (r ∷ rs) (s ∷ ss) [] h k = absurd k
+each_covers_after (r ∷ rs) (s ∷ ss) (t ∷ ts) h k = (covers_after r.empty s.empty t.empty h.0 k.0, covers_after r.gone s.gone t.gone h.1 k.1, h.2 ∙ k.2, each_covers_after rs ss ts h.3 k.3)
+
+pub over_itself : (s : Shape) → Over s s
+over_itself s = (covers_itself s.empty, covers_itself s.gone, each_covers_itself s.outer)
+
+pub over_after : (r s t : Shape) → Over r s → Over s t → Over r t
+over_after r s t h k = (covers_after r.empty s.empty t.empty h.0 k.0, covers_after r.gone s.gone t.gone h.1 k.1, each_covers_after r.outer s.outer t.outer h.2 k.2)
+
+-- where more is held, and fewer names are there, of which none of the others is held
+pub outers_held : (size : Room) (opened : Opened) (locals : Locals) (ints arrays : List Name) (taken taken' : Taken) → ((d : ℕ) (x : Name) → d ≤ length opened → holds false d x taken ≡ true → holds false d x taken' ≡ true) →
+    ((d : ℕ) (x : Name) → d ≤ length opened → is_among x ints ≡ true → holds false d x taken ≡ false) → ((d : ℕ) (x : Name) → d ≤ length opened → is_among x arrays ≡ true → holds false d x taken ≡ false) →
+    CoversEach (outers size opened locals taken') (outers size opened (extended locals ints arrays) taken)
+outers_held size [] locals ints arrays taken taken' h k m = tt
+outers_held size (c ∷ opened) locals ints arrays taken taken' h k m = (
+  covers_held size.ints (depth_in opened) locals.ints ints taken taken' (λ x a. h (depth_in opened) x (omega arith)) (λ x. k (depth_in opened) x (omega arith)),
+  covers_cut c (row size.arrays (depth_in opened) locals.arrays taken') (row size.arrays (depth_in opened) (locals.arrays ++ arrays) taken) (covers_held size.arrays (depth_in opened) locals.arrays arrays taken taken' (λ x a. h (depth_in opened) x (omega arith)) (λ x. m (depth_in opened) x (omega arith))),
+  refl,
+  outers_held size opened locals ints arrays taken taken' (λ d x le. h d x (omega (arith, le))) (λ d x le. k d x (omega (arith, le))) (λ d x le. m d x (omega (arith, le))),
 )
 
-pub rows_more : (size k : ℕ) (names : List Name) (taken taken' : Taken) → ((d : ℕ) (x : Name) → d ≤ k → holds d x taken ≡ true → holds d x taken' ≡ true) → CoversEach (rows_below size k names taken') (rows_below size k names taken)
-rows_more size k names taken taken' h =
-    subst (λ ns. CoversEach (rows_below size k names taken') (rows_below size k ns taken)) (append-nil names) (rows_held size k names [] taken taken' (λ d x le a. h d x le) (λ d x le a. cc))
+pub outers_more : (size : Room) (opened : Opened) (locals : Locals) (taken taken' : Taken) → ((d : ℕ) (x : Name) → d ≤ length opened → holds false d x taken ≡ true → holds false d x taken' ≡ true) → CoversEach (outers size opened locals taken') (outers size opened locals taken)
+outers_more size opened locals taken taken' h =
+    subst (λ ls. CoversEach (outers size opened locals taken') (outers size opened ls taken)) (same_locals (locals.ints ++ []) locals.ints (locals.arrays ++ []) locals.arrays (append-nil locals.ints) (append-nil locals.arrays))
+    (outers_held size opened locals [] [] taken taken' h (λ d x le a. cc) (λ d x le a. cc))
 
-pub rows_declared : (size k : ℕ) (names : List Name) (x : Name) (taken : Taken) → CoversEach (rows_below size k (names ++ x ∷ []) taken) (rows_below size k names taken)
-rows_declared size zero names x taken = tt
-rows_declared size (suc n) names x taken = (covers_declared size (suc n) names x taken, rows_declared size n names x taken)
+pub over_more : (size : Room) (opened : Opened) (locals : Locals) (taken taken' : Taken) (n m : ℕ) → ((d : ℕ) (x : Name) → holds false d x taken ≡ true → holds false d x taken' ≡ true) → Over (shape_at size opened locals taken' n) (shape_at size opened locals taken m)
+over_more size opened locals taken taken' n m h = (
+  row_more size.ints (depth_in opened) locals.ints taken taken' (h (depth_in opened)),
+  row_more size.arrays (depth_in opened) locals.arrays taken taken' (h (depth_in opened)),
+  outers_more size opened locals taken taken' (λ d x le. h d x),
+)
+
+-- one more name of a kind
+pub outers_int : (size : Room) (opened : Opened) (locals : Locals) (x : Name) (taken : Taken) → CoversEach (outers size opened (with_int x locals) taken) (outers size opened locals taken)
+outers_int size [] locals x taken = tt
+outers_int size (c ∷ opened) locals x taken = (covers_declared size.ints (depth_in opened) locals.ints x taken, covers_itself (with_cut c (row size.arrays (depth_in opened) locals.arrays taken)), refl, outers_int size opened locals x taken)
+
+pub outers_array : (size : Room) (opened : Opened) (locals : Locals) (x : Name) (taken : Taken) → CoversEach (outers size opened (with_array x locals) taken) (outers size opened locals taken)
+outers_array size [] locals x taken = tt
+outers_array size (c ∷ opened) locals x taken = (
+  covers_itself (row size.ints (depth_in opened) locals.ints taken),
+  covers_cut c (row size.arrays (depth_in opened) (locals.arrays ++ x ∷ []) taken) (row size.arrays (depth_in opened) locals.arrays taken) (covers_declared size.arrays (depth_in opened) locals.arrays x taken),
+  refl,
+  outers_array size opened locals x taken,
+)
+
+pub over_int : (size : Room) (opened : Opened) (locals : Locals) (x : Name) (taken : Taken) (n m : ℕ) → Over (shape_at size opened (with_int x locals) taken n) (shape_at size opened locals taken m)
+over_int size opened locals x taken n m = (covers_declared size.ints (depth_in opened) locals.ints x taken, covers_itself (row size.arrays (depth_in opened) locals.arrays taken), outers_int size opened locals x taken)
+
+pub over_array : (size : Room) (opened : Opened) (locals : Locals) (x : Name) (taken : Taken) (n m : ℕ) → Over (shape_at size opened (with_array x locals) taken n) (shape_at size opened locals taken m)
+over_array size opened locals x taken n m = (covers_itself (row size.ints (depth_in opened) locals.ints taken), covers_declared size.arrays (depth_in opened) locals.arrays x taken, outers_array size opened locals x taken)
+
+-- a cut that is open: its array is a name that is taken, and its parts are names that are known
+pub record CutAt (h : Halves) (locals : Locals) (taken : Taken) : Type 0 where
+  pub name : Name
+  pub declared : is_among name locals.arrays ≡ true
+  pub slot : slot_of name locals.arrays ≡ h.array
+  pub cut : In (name, CutOf) taken
+  pub left : h.left < length locals.arrays
+  pub right : h.right < length locals.arrays
+
+abbrev pub CutsOpen : Opened → Locals → Taken → Type 0
+CutsOpen [] locals taken = Unit {0}
+CutsOpen (None ∷ opened) locals taken = CutsOpen opened locals taken
+CutsOpen (Some h ∷ opened) locals taken = CutAt h locals taken × CutsOpen opened locals taken
+
+pub cuts_kept : (opened : Opened) (locals locals' : Locals) (more : List Name) (taken taken' : Taken) → locals'.arrays ≡ locals.arrays ++ more → ((x : Name) → In (x, CutOf) taken → In (x, CutOf) taken') → CutsOpen opened locals taken → CutsOpen opened locals' taken'
+cuts_kept [] locals locals' more taken taken' e keep h = tt
+cuts_kept (None ∷ opened) locals locals' more taken taken' e keep h = cuts_kept opened locals locals' more taken taken' e keep h
+cuts_kept (Some c ∷ opened) locals locals' more taken taken' e keep h =
+    let n : length locals'.arrays ≡ length locals.arrays + length more = ap length e ∙ length-append locals.arrays more in (
+      record {
+        name = h.0.name;
+        declared = ap (is_among h.0.name) e ∙ among_before h.0.name locals.arrays more h.0.declared;
+        slot = ap (slot_of h.0.name) e ∙ slot_stays h.0.name locals.arrays more h.0.declared ∙ h.0.slot;
+        cut = keep h.0.name h.0.cut;
+        left = omega (arith, h.0.left, n);
+        right = omega (arith, h.0.right, n);
+      },
+      cuts_kept opened locals locals' more taken taken' e keep h.1,
+    )
+
+-- a name that is free is full in all rows
+pub slot_is_full : (size : Room) (opened : Opened) (locals : Locals) (taken : Taken) (x : Name) (n : ℕ) → length locals.ints ≤ size.ints → IsUsable locals.ints taken x → has_slot (shape_at size opened locals taken n) (slot_of x locals.ints) ≡ true
+slot_is_full size opened locals taken x n le u = both_true (is_full_in (slice_get (row size.ints (depth_in opened) locals.ints taken) (slot_of x locals.ints))) (full_in_all (empty_rows (outers size opened locals taken)) (slot_of x locals.ints)) (row_free size.ints (depth_in opened) locals.ints taken x le u) (rest opened)
+  where
+    rest : (opened : Opened) → full_in_all (empty_rows (outers size opened locals taken)) (slot_of x locals.ints) ≡ true
+    rest [] = refl
+    rest (c ∷ opened) = both_true (is_full_in (slice_get (row size.ints (depth_in opened) locals.ints taken) (slot_of x locals.ints))) (full_in_all (empty_rows (outers size opened locals taken)) (slot_of x locals.ints)) (row_free size.ints (depth_in opened) locals.ints taken x le u) (rest opened)
+
+-- so is a slot behind the names
+pub next_is_full : (size : Room) (opened : Opened) (locals : Locals) (taken : Taken) (a n : ℕ) → length locals.ints ≤ a → a < size.ints → has_slot (shape_at size opened locals taken n) a ≡ true
+next_is_full size opened locals taken a n le below = both_true (is_full_in (slice_get (row size.ints (depth_in opened) locals.ints taken) a)) (full_in_all (empty_rows (outers size opened locals taken)) a) (row_behind size.ints (depth_in opened) locals.ints taken a le below) (rest opened)
+  where
+    rest : (opened : Opened) → full_in_all (empty_rows (outers size opened locals taken)) a ≡ true
+    rest [] = refl
+    rest (c ∷ opened) = both_true (is_full_in (slice_get (row size.ints (depth_in opened) locals.ints taken) a)) (full_in_all (empty_rows (outers size opened locals taken)) a) (row_behind size.ints (depth_in opened) locals.ints taken a le below) (rest opened)
+
+-- a slot that no open cut has
+abbrev pub NotCut : ℕ → Opened → Type 0
+NotCut i [] = Unit {0}
+NotCut i (None ∷ opened) = NotCut i opened
+NotCut i (Some h ∷ opened) = (i ≢ h.array) × NotCut i opened
+
+pub not_cut : (opened : Opened) (locals : Locals) (taken : Taken) (x : Name) → IsUsable locals.arrays taken x → CutsOpen opened locals taken → NotCut (slot_of x locals.arrays) opened
+not_cut [] locals taken x u h = tt
+not_cut (None ∷ opened) locals taken x u h = not_cut opened locals taken x u h
+not_cut (Some c ∷ opened) locals taken x u h = ((λ e. slots_apart x h.0.name locals.arrays u.declared h.0.declared (other (same_name x h.0.name) refl) (e ∙ sym h.0.slot)), not_cut opened locals taken x u h.1)
+  where
+    other : (b : Bool) → same_name x h.0.name ≡ b → b ≡ false
+    other true e = absurd (true≢false (sym (in_taken h.0.name CutOf taken h.0.cut) ∙ ap (is_taken taken) (sym ((bytes_eq-Decides x h.0.name).0 e)) ∙ u.free))
+    other false e = refl
+
+pub not_cut_behind : (opened : Opened) (locals : Locals) (taken : Taken) (i : ℕ) → length locals.arrays ≤ i → CutsOpen opened locals taken → NotCut i opened
+not_cut_behind [] locals taken i le h = tt
+not_cut_behind (None ∷ opened) locals taken i le h = not_cut_behind opened locals taken i le h
+not_cut_behind (Some c ∷ opened) locals taken i le h = ((λ e. omega (arith, le, e, slot_within h.0.name locals.arrays h.0.declared, h.0.slot)), not_cut_behind opened locals taken i le h.1)
+
+-- the rows of arrays round the innermost sync block
+pub outside_full : (size : Room) (opened : Opened) (locals : Locals) (taken : Taken) (i : ℕ) → NotCut i opened → ((d : ℕ) → d ≤ length opened → is_full_in (slice_get (row size.arrays d locals.arrays taken) i) ≡ true) → full_in_all (gone_rows (outers size opened locals taken)) i ≡ true
+outside_full size [] locals taken i apart h = refl
+outside_full size (None ∷ opened) locals taken i apart h =
+    both_true (is_full_in (slice_get (row size.arrays (depth_in opened) locals.arrays taken) i)) (full_in_all (gone_rows (outers size opened locals taken)) i) (h (depth_in opened) (omega arith)) (outside_full size opened locals taken i apart (λ d le. h d (omega (arith, le))))
+outside_full size (Some c ∷ opened) locals taken i apart h =
+    both_true (is_full_in (slice_get (slice_set (row size.arrays (depth_in opened) locals.arrays taken) c.array true) i)) (full_in_all (gone_rows (outers size opened locals taken)) i)
+    (ap is_full_in (get-other (row size.arrays (depth_in opened) locals.arrays taken) i c.array true apart.0) ∙ h (depth_in opened) (omega arith)) (outside_full size opened locals taken i apart.1 (λ d le. h d (omega (arith, le))))
+
+pub array_is_full : (size : Room) (opened : Opened) (locals : Locals) (taken : Taken) (x : Name) (n : ℕ) → length locals.arrays ≤ size.arrays → IsUsable locals.arrays taken x → CutsOpen opened locals taken → has_array (shape_at size opened locals taken n) (slot_of x locals.arrays) ≡ true
+array_is_full size opened locals taken x n le u cuts =
+    both_true (is_full_in (slice_get (row size.arrays (depth_in opened) locals.arrays taken) (slot_of x locals.arrays))) (full_in_all (gone_rows (outers size opened locals taken)) (slot_of x locals.arrays)) (row_free size.arrays (depth_in opened) locals.arrays taken x le u)
+    (outside_full size opened locals taken (slot_of x locals.arrays) (not_cut opened locals taken x u cuts) (λ d le'. row_free size.arrays d locals.arrays taken x le u))
+
+pub next_array_is_full : (size : Room) (opened : Opened) (locals : Locals) (taken : Taken) (i n : ℕ) → length locals.arrays ≤ i → i < size.arrays → CutsOpen opened locals taken → has_array (shape_at size opened locals taken n) i ≡ true
+next_array_is_full size opened locals taken i n le below cuts =
+    both_true (is_full_in (slice_get (row size.arrays (depth_in opened) locals.arrays taken) i)) (full_in_all (gone_rows (outers size opened locals taken)) i) (row_behind size.arrays (depth_in opened) locals.arrays taken i le below)
+    (outside_full size opened locals taken i (not_cut_behind opened locals taken i le cuts) (λ d le'. row_behind size.arrays d locals.arrays taken i le below))
+
+-- a slot behind the names is no part of a cut
+pub no_part : (size : Room) (opened : Opened) (locals now : Locals) (taken taken' : Taken) (i : ℕ) → length locals.arrays ≤ i → CutsOpen opened locals taken → is_no_part i (outers size opened now taken') ≡ true
+no_part size [] locals now taken taken' i le h = refl
+no_part size (None ∷ opened) locals now taken taken' i le h = no_part size opened locals now taken taken' i le h
+no_part size (Some c ∷ opened) locals now taken taken' i le h =
+    both_true (not (nat_eq i c.left) && not (nat_eq i c.right)) (is_no_part i (outers size opened now taken'))
+    (both_true (not (nat_eq i c.left)) (not (nat_eq i c.right)) (ap not (not_equal i c.left (λ e. omega (arith, le, e, h.0.left)))) (ap not (not_equal i c.right (λ e. omega (arith, le, e, h.0.right)))))
+    (no_part size opened locals now taken taken' i le h.1)
+  where
+    not_equal : (a b : ℕ) → a ≢ b → nat_eq a b ≡ false
+    not_equal a b h = cases (nat_eq a b) refl
+      where
+        cases : (c : Bool) → nat_eq a b ≡ c → c ≡ false
+        cases true e = absurd (h (is_equal a b e))
+        cases false e = refl

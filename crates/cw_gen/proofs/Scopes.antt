@@ -12,11 +12,23 @@ abbrev pub locals_after_all : Locals → Block → Locals
 locals_after_all locals End = locals
 locals_after_all locals (Then line s b) = locals_after_all (locals_after locals s) b
 
--- the integers that a block adds are its own names
+-- locals with more integers and arrays behind them
+abbrev pub extended : Locals → (ints arrays : List Name) → Locals
+extended locals ints arrays = record { ints = locals.ints ++ ints; arrays = locals.arrays ++ arrays }
+
+-- what a block adds are its own names
 pub record More (locals : Locals) (b : Block) : Type 0 where
-  pub more : List Name
-  pub same : (locals_after_all locals b).ints ≡ locals.ints ++ more
-  pub own : (x : Name) → is_among x more ≡ true → is_among x (own_names b) ≡ true
+  pub ints : List Name
+  pub arrays : List Name
+  pub same : locals_after_all locals b ≡ extended locals ints arrays
+  pub own : (x : Name) → is_among x ints ≡ true → is_among x (own_names b) ≡ true
+  pub own_arrays : (x : Name) → is_among x arrays ≡ true → is_among x (own_names b) ≡ true
+
+abbrev pub locals_with : List Name → List Name → Locals
+locals_with x y = record { ints = x; arrays = y }
+
+pub same_locals : (a b c d : List Name) → a ≡ b → c ≡ d → locals_with a c ≡ locals_with b d
+same_locals a b c d e f = ap (λ x. locals_with x c) e ∙ ap (locals_with b) f
 
 behind : (x y : Name) (names others : List Name) → (is_among x names ≡ true → is_among x others ≡ true) → is_among x (y ∷ names) ≡ true → is_among x (y ∷ others) ≡ true
 behind x y names others more h = test (same_name x y) h
@@ -33,16 +45,28 @@ further x y names h = test (same_name x y)
     test false = h
 
 pub names_extend : (b : Block) (locals : Locals) → More locals b
-names_extend End locals = record { more = []; same = sym (append-nil locals.ints); own = λ x h. cc }
+names_extend End locals = record { ints = []; arrays = []; same = same_locals locals.ints (locals.ints ++ []) locals.arrays (locals.arrays ++ []) (sym (append-nil locals.ints)) (sym (append-nil locals.arrays)); own = λ x h. cc; own_arrays = λ x h. cc }
 names_extend (Then line (Declare x e) b) locals =
     let all = names_extend b (with_int x locals) in
-    record { more = x ∷ all.more; same = all.same ∙ append_assoc locals.ints (x ∷ []) all.more; own = λ y h. behind y x all.more (own_names b) (all.own y) h }
+    record {
+      ints = x ∷ all.ints;
+      arrays = all.arrays;
+      same = all.same ∙ same_locals ((locals.ints ++ x ∷ []) ++ all.ints) (locals.ints ++ x ∷ all.ints) (locals.arrays ++ all.arrays) (locals.arrays ++ all.arrays) (append_assoc locals.ints (x ∷ []) all.ints) refl;
+      own = λ y h. behind y x all.ints (own_names b) (all.own y) h;
+      own_arrays = λ y h. further y x (own_names b) (all.own_arrays y h);
+    }
 names_extend (Then line (DeclareArray a e) b) locals =
     let all = names_extend b (with_array a locals) in
-    record { more = all.more; same = all.same; own = λ y h. further y a (own_names b) (all.own y h) }
+    record {
+      ints = all.ints;
+      arrays = a ∷ all.arrays;
+      same = all.same ∙ same_locals (locals.ints ++ all.ints) (locals.ints ++ all.ints) ((locals.arrays ++ a ∷ []) ++ all.arrays) (locals.arrays ++ a ∷ all.arrays) refl (append_assoc locals.arrays (a ∷ []) all.arrays);
+      own = λ y h. further y a (own_names b) (all.own y h);
+      own_arrays = λ y h. behind y a all.arrays (own_names b) (all.own_arrays y) h;
+    }
 names_extend (Then line s b) locals =
     let all = names_extend b locals in
-    record { more = all.more; same = all.same; own = all.own }
+    record { ints = all.ints; arrays = all.arrays; same = all.same; own = all.own; own_arrays = all.own_arrays }
 
 -- looking names up changes no return
 mutual

@@ -13,7 +13,8 @@ use Rattle.cw_model.specs.Ownership.{Taken, IsLeastClosed, taken_after, ownershi
 use Rattle.cw_model.specs.WhileLaw.{one_turn}
 use Rattle.cw_model.proofs.Lowest.{least_line}
 use Rattle.cw_types.specs.declared.tree.Tree.{Tree}
-use Rattle.cw_types.specs.Resolved.{resolved}
+use Rattle.cw_model.specs.Answers.{main_name}
+use Rattle.cw_types.specs.Resolved.{lists_of, resolved}
 use Rattle.cw_types.specs.Slots.{is_resolved}
 use Rattle.cw_types.specs.Bounds.{is_fitting}
 use Rattle.cw_types.specs.View.{resolved_of, program_of}
@@ -29,6 +30,7 @@ use Rattle.cw_gen.proofs.Fine.{ProgramFine}
 use Rattle.cw_gen.proofs.Program.{code_of, same_run, same_params}
 use Rattle.cw_gen.proofs.FitsWhole.{same_sites, generated_fits}
 use Rattle.cw_gen.proofs.Slotted.{slotted}
+use Rattle.cw_gen.proofs.Tags.{tags_are_told, head_is}
 use Rattle.cw_gen.proofs.Decided.{first_true}
 
 -- two limits, each of which counts at line 1
@@ -54,15 +56,15 @@ no_more a b c h le = grind (arith, nat_tests)
 abbrev pub LeastClosed : Type 0
 LeastClosed = (fs : List Function) (depth : ℕ) (e : Expr) (b : Block) (before : Taken) → IsLeastClosed (one_turn fs depth b) before (taken_after fs depth (While e b) before)
 
-module _ (least : LeastClosed) (tree : Tree) (made : declared.Code) (is : code_view made ≡ emitted (resolved_of tree)) (slots : is_resolved (resolved_of tree) ≡ true) (fitting : is_fitting (resolved_of tree) ≡ true) (typed : type_faults (program_of tree) ≡ []) (owned : ownership_faults (program_of tree) ≡ []) (now : later_lines (program_of tree) ≡ []) where
+module _ (least : LeastClosed) (tree : Tree) (made : declared.Code) (is : code_view made ≡ emitted (resolved_of tree)) (slots : is_resolved (resolved_of tree) ≡ true) (fitting : is_fitting (resolved_of tree) ≡ true) (typed : type_faults (program_of tree) ≡ []) (owned : ownership_faults (program_of tree) ≡ []) (now : later_lines (program_of tree) ≡ []) (numbered : are_numbered 0 (call_sites (program_of tree)) ≡ true) where
   abbrev program : Program
   program = program_of tree
 
   same_tree : resolved_of tree ≡ resolved program
   same_tree = slotted (resolved_of tree) slots
 
-  fine : ProgramFine program
-  fine = accepted program now typed owned (sym (ap is_fitting same_tree) ∙ fitting)
+  fine : ProgramFine program (code_of program).passed
+  fine = accepted program now typed owned (sym (ap is_fitting same_tree) ∙ fitting) numbered
 
   code_is : code_view made ≡ code_of program
   code_is = is ∙ ap emitted same_tree
@@ -82,8 +84,8 @@ module _ (least : LeastClosed) (tree : Tree) (made : declared.Code) (is : code_v
   pub too_large : (nat_le (length made.instrs.items) most_instructions && nat_le (length made.sites.items) most_call_statements) ≡ false → IsLeastLine (program_faults program) 1
   too_large h = one_passed (nat_le (static_size program) most_instructions) (nat_le (call_count program) most_call_statements) (sym counts ∙ h)
 
-  pub generated : are_numbered 0 (call_sites program) ≡ true → (nat_le (length made.instrs.items) most_instructions && nat_le (length made.sites.items) most_call_statements) ≡ true → Generates program (code_view made)
-  generated numbered h =
+  pub generated : (nat_le (length made.instrs.items) most_instructions && nat_le (length made.sites.items) most_call_statements) ≡ true → Generates program (code_view made)
+  generated h =
       let within = nat_le (static_size program) most_instructions in
       let small : length (code_of program).instrs ≤ most_jump = no_more (length (code_of program).instrs) most_instructions most_jump (ap (λ k. nat_le k most_instructions) (code_count program fine) ∙ first_true within (nat_le (call_count program) most_call_statements) (sym counts ∙ h)) (omega arith) in
       let closes = λ (level : ℕ) (e : Expr) (b : Block) (before : Taken). least program.functions level e b before in
@@ -93,6 +95,7 @@ module _ (least : LeastClosed) (tree : Tree) (made : declared.Code) (is : code_v
         params = same_params program small fine;
         sites = same_sites program fine;
         reducers = refl;
-        tags = refl;
+        main_line = head_is (lists_of program) program.functions main_name fine.main;
+        tags = tags_are_told program;
         small = none_passed within (nat_le (call_count program) most_call_statements) (sym counts ∙ h);
       })

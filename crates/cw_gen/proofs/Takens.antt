@@ -7,127 +7,166 @@ use Rattle.std.proofs.lemmas.Slice.Eq.{bytes_eq-Decides}
 use Rattle.cw_model.specs.Syntax.{Name, Stmt, Declare, DeclareArray, Block, End, Then, Function}
 use Rattle.cw_model.specs.Names.{same_name, is_among}
 use Rattle.cw_model.specs.Lines.{unless}
-use Rattle.cw_model.specs.Ownership.{Holder, SpawnIn, CutOf, Taken, is_taken, is_spawn_in, freed, without, taken_by, own_names, taken_after, taken_after_all, IsLeastClosed, Around, Declared, left_taken, declared_by, known_after, Closing, at_end, owner_faults, owner_faults_in}
+use Rattle.cw_model.specs.Ownership.{Holder, SpawnIn, CutOf, Taken, is_taken, is_spawn_in, is_cut_of, cut_ended, freed, without, taken_by, own_names, taken_after, taken_after_all, IsLeastClosed, Around, Declared, left_taken, declared_by, known_after, Closing, at_end, owner_faults, owner_faults_in}
 use Rattle.cw_model.specs.WhileLaw.{one_turn}
 use Rattle.cw_gen.proofs.Decided.{first_true, second_true}
 
--- a spawn of the sync block at this depth has the name
-abbrev pub has : ℕ → Name → (Name × Holder) → Bool
-has depth x t = same_name x t.0 && is_spawn_in depth t.1
+-- whether a holder is a spawn of the sync block at a depth, or, where cuts count, a cut
+abbrev pub held_in : Bool → ℕ → Holder → Bool
+held_in cuts depth (SpawnIn d) = d == depth
+held_in cuts depth CutOf = cuts
 
--- some spawn of that block has it
-abbrev pub holds : ℕ → Name → Taken → Bool
-holds depth x [] = false
-holds depth x (t ∷ taken) = if has depth x t then true else holds depth x taken
+module _ (cuts : Bool) where
+  abbrev pub is_held_in : ℕ → Holder → Bool
+  is_held_in depth k = held_in cuts depth k
 
-pub holds_behind : (depth : ℕ) (x : Name) (a b : Taken) → holds depth x b ≡ true → holds depth x (a ++ b) ≡ true
-holds_behind depth x [] b h = h
-holds_behind depth x (t ∷ a) b h = test (holds_behind depth x a b h) (has depth x t)
+  -- a spawn of the sync block at this depth has the name, or, where cuts count, a cut
+  abbrev pub has : ℕ → Name → (Name × Holder) → Bool
+  has depth x t = same_name x t.0 && is_held_in depth t.1
+
+  -- some spawn of that block has it
+  abbrev pub holds : ℕ → Name → Taken → Bool
+  holds depth x [] = false
+  holds depth x (t ∷ taken) = if has depth x t then true else holds depth x taken
+
+  pub holds_behind : (depth : ℕ) (x : Name) (a b : Taken) → holds depth x b ≡ true → holds depth x (a ++ b) ≡ true
+  holds_behind depth x [] b h = h
+  holds_behind depth x (t ∷ a) b h = test (holds_behind depth x a b h) (has depth x t)
+    where
+      test : holds depth x (a ++ b) ≡ true → (c : Bool) → (if c then true else holds depth x (a ++ b)) ≡ true
+      test more true = refl
+      test more false = more
+
+  pub holds_before : (depth : ℕ) (x : Name) (a b : Taken) → holds depth x a ≡ true → holds depth x (a ++ b) ≡ true
+  holds_before depth x [] b h = cc
+  holds_before depth x (t ∷ a) b h = test (holds_before depth x a b) (has depth x t) h
+    where
+      test : (holds depth x a ≡ true → holds depth x (a ++ b) ≡ true) → (c : Bool) → (if c then true else holds depth x a) ≡ true → (if c then true else holds depth x (a ++ b)) ≡ true
+      test more true h' = refl
+      test more false h' = more h'
+
+  -- a name that is held is taken
+  pub held_is_taken : (depth : ℕ) (x : Name) (taken : Taken) → holds depth x taken ≡ true → is_taken taken x ≡ true
+  held_is_taken depth x [] h = cc
+  held_is_taken depth x (t ∷ taken) h = test (held_is_taken depth x taken) (same_name x t.0) h
+    where
+      test : (holds depth x taken ≡ true → is_taken taken x ≡ true) → (b : Bool) → (if b && is_held_in depth t.1 then true else holds depth x taken) ≡ true → (if b then true else is_taken taken x) ≡ true
+      test more true h' = refl
+      test more false h' = more h'
+
+  pub not_held : (depth : ℕ) (x : Name) (taken : Taken) → is_taken taken x ≡ false → holds depth x taken ≡ false
+  not_held depth x taken h = cases (holds depth x taken) refl
+    where
+      cases : (b : Bool) → holds depth x taken ≡ b → b ≡ false
+      cases true e = absurd (true≢false (sym (held_is_taken depth x taken e) ∙ h))
+      cases false e = refl
+
+  -- a join of one sync block leaves what another holds
+  pub held_past : (depth other : ℕ) (x : Name) (taken : Taken) → other ≢ depth → holds other x taken ≡ true → holds other x (freed depth taken) ≡ true
+  held_past depth other x [] apart h = cc
+  held_past depth other x (t ∷ taken) apart h = test (held_past depth other x taken apart) (is_spawn_in depth t.1) (has other x t) refl refl h
+    where
+      both : (k : Holder) → is_spawn_in depth k ≡ true → is_held_in other k ≡ false
+      both (SpawnIn d) e = cases (d == other) refl
+        where
+          cases : (b : Bool) → (d == other) ≡ b → b ≡ false
+          cases true e' = absurd (apart (sym (eqb-true d other e') ∙ eqb-true d depth e))
+          cases false e' = refl
+      both CutOf e = cc
+
+      test : (holds other x taken ≡ true → holds other x (freed depth taken) ≡ true) → (b c : Bool) → is_spawn_in depth t.1 ≡ b → has other x t ≡ c → (if c then true else holds other x taken) ≡ true → holds other x (cond (not b) (t ∷ freed depth taken) (freed depth taken)) ≡ true
+      test more true true e e' h' = absurd (true≢false (sym (second_true (same_name x t.0) (is_held_in other t.1) e') ∙ both t.1 e))
+      test more true false e e' h' = more h'
+      test more false true e e' h' = ap (λ c. if c then true else holds other x (freed depth taken)) e'
+      test more false false e e' h' = ap (λ c. if c then true else holds other x (freed depth taken)) e' ∙ more h'
+
+  pub same_among : (x y : Name) (names : List Name) → same_name x y ≡ true → is_among y names ≡ true → is_among x names ≡ true
+  same_among x y names e h = ap (λ z. is_among z names) ((bytes_eq-Decides x y).0 e) ∙ h
+
+  -- a name that is not one of these stays held as these end
+  pub held_without : (depth : ℕ) (x : Name) (own : List Name) (taken : Taken) → is_among x own ≡ false → holds depth x taken ≡ true → holds depth x (without own taken) ≡ true
+  held_without depth x own [] apart h = cc
+  held_without depth x own (t ∷ taken) apart h = test (held_without depth x own taken apart) (is_among t.0 own) (has depth x t) refl refl h
+    where
+      test : (holds depth x taken ≡ true → holds depth x (without own taken) ≡ true) → (b c : Bool) → is_among t.0 own ≡ b → has depth x t ≡ c → (if c then true else holds depth x taken) ≡ true → holds depth x (cond (not b) (t ∷ without own taken) (without own taken)) ≡ true
+      test more true true e e' h' = absurd (true≢false (sym (same_among x t.0 own (first_true (same_name x t.0) (is_held_in depth t.1) e') e) ∙ apart))
+      test more true false e e' h' = more h'
+      test more false true e e' h' = ap (λ c. if c then true else holds depth x (without own taken)) e'
+      test more false false e e' h' = ap (λ c. if c then true else holds depth x (without own taken)) e' ∙ more h'
+
+  -- a spawn takes each of its names
+  pub held_by_spawn : (depth : ℕ) (x : Name) (xs : List Name) (taken : Taken) → is_among x xs ≡ true → holds depth x (taken_by depth xs taken) ≡ true
+  held_by_spawn depth x [] taken h = cc
+  held_by_spawn depth x (y ∷ xs) taken h = test (held_by_spawn depth x xs taken) (same_name x y) h
+    where
+      test : (is_among x xs ≡ true → holds depth x (taken_by depth xs taken) ≡ true) → (b : Bool) → (if b then true else is_among x xs) ≡ true → (if b && (depth == depth) then true else holds depth x (taken_by depth xs taken)) ≡ true
+      test more true h' = ap (λ b. if b then true else holds depth x (taken_by depth xs taken)) (eq-eqb depth depth refl)
+      test more false h' = more h'
+
+  contains_held : (depth : ℕ) (x : Name) (taken : Taken) → holds depth x taken ≡ true → (k : Holder) × (is_held_in depth k ≡ true) × Contains taken (x, k)
+  contains_held depth x [] h = cc
+  contains_held depth x (t ∷ taken) h = test (contains_held depth x taken) (has depth x t) refl h
+    where
+      test : (holds depth x taken ≡ true → (k : Holder) × (is_held_in depth k ≡ true) × Contains taken (x, k)) → (b : Bool) → has depth x t ≡ b → (if b then true else holds depth x taken) ≡ true → (k : Holder) × (is_held_in depth k ≡ true) × Contains (t ∷ taken) (x, k)
+      test more true e h' =
+          let n : t.0 ≡ x = sym ((bytes_eq-Decides x t.0).0 (first_true (same_name x t.0) (is_held_in depth t.1) e)) in
+          (t.1, second_true (same_name x t.0) (is_held_in depth t.1) e, (0, zero-lt-suc _, ap (λ m. (m, t.1)) n))
+      test more false e h' =
+          let rest = more h' in
+          (rest.0, rest.1, Contains-append_right (t ∷ []) taken (x, rest.0) rest.2)
+
+  held_contained : (depth : ℕ) (x : Name) (k : Holder) → is_held_in depth k ≡ true → (taken : Taken) → Contains taken (x, k) → holds depth x taken ≡ true
+  held_contained depth x k is [] c = absurd (omega (arith, c.1))
+  held_contained depth x k is (t ∷ taken) c = ⊎_elim (λ here. first here) (λ later. holds_behind depth x (t ∷ []) taken (held_contained depth x k is taken later)) (Contains-append_cases (t ∷ []) taken (x, k) c)
+    where
+      only : (n : ℕ) → n < 1 → get_or (t ∷ []) n (x, k) ≡ (x, k) → t ≡ (x, k)
+      only zero l e = e
+      only (suc n) l e = absurd (omega arith)
+
+      first : Contains (t ∷ []) (x, k) → holds depth x (t ∷ taken) ≡ true
+      first here =
+          let e : t ≡ (x, k) = only here.0 here.1 here.2 in
+          ap (λ p. if has depth x p then true else holds depth x taken) e
+          ∙ ap (λ b. if b && is_held_in depth k then true else holds depth x taken) ((bytes_eq-Decides x x).1 refl)
+          ∙ ap (λ b. if b then true else holds depth x taken) is
+
+  -- what a turn leaves held was held before it
+  pub held_by_turns : (fs : List Function) (depth : ℕ) (b : Block) (before after : Taken) → IsLeastClosed (one_turn fs depth b) before after → (d : ℕ) (x : Name) → holds d x (one_turn fs depth b after) ≡ true → holds d x after ≡ true
+  held_by_turns fs depth b before after least d x h =
+      let c = contains_held d x (one_turn fs depth b after) h in
+      held_contained d x c.0 c.1 after (least.closed (x, c.0) c.2)
+
+  -- the end of a cut leaves what is held of another name
+  pub held_past_cut : (depth : ℕ) (a x : Name) (taken : Taken) → same_name a x ≡ false → holds depth x taken ≡ true → holds depth x (cut_ended a taken) ≡ true
+  held_past_cut depth a x [] apart h = cc
+  held_past_cut depth a x (t ∷ taken) apart h = test (held_past_cut depth a x taken apart) (is_cut_of a t) (has depth x t) refl refl h
+    where
+      other : (t : Name × Holder) → is_cut_of a t ≡ true → has depth x t ≡ true → true ≡ false
+      other (y, SpawnIn d) e e' = cc
+      other (y, CutOf) e e' =
+          let same : x ≡ y = (bytes_eq-Decides x y).0 (first_true (same_name x y) cuts e') in
+          sym (ap (same_name a) same ∙ e) ∙ apart
+
+      test : (holds depth x taken ≡ true → holds depth x (cut_ended a taken) ≡ true) → (b c : Bool) → is_cut_of a t ≡ b → has depth x t ≡ c → (if c then true else holds depth x taken) ≡ true → holds depth x (cond (not b) (t ∷ cut_ended a taken) (cut_ended a taken)) ≡ true
+      test more true true e e' h' = absurd (true≢false (other t e e'))
+      test more true false e e' h' = more h'
+      test more false true e e' h' = ap (λ c. if c then true else holds depth x (cut_ended a taken)) e'
+      test more false false e e' h' = ap (λ c. if c then true else holds depth x (cut_ended a taken)) e' ∙ more h'
+
+-- a spawn that is held stays so as a cut ends
+pub spawn_past_cut : (depth : ℕ) (a x : Name) (taken : Taken) → holds false depth x taken ≡ true → holds false depth x (cut_ended a taken) ≡ true
+spawn_past_cut depth a x [] h = cc
+spawn_past_cut depth a x (t ∷ taken) h = test (spawn_past_cut depth a x taken) (is_cut_of a t) (has false depth x t) refl refl h
   where
-    test : holds depth x (a ++ b) ≡ true → (c : Bool) → (if c then true else holds depth x (a ++ b)) ≡ true
-    test more true = refl
-    test more false = more
+    other : (t : Name × Holder) → is_cut_of a t ≡ true → has false depth x t ≡ true → true ≡ false
+    other (y, SpawnIn d) e e' = cc
+    other (y, CutOf) e e' = sym (second_true (same_name x y) false e')
 
-pub holds_before : (depth : ℕ) (x : Name) (a b : Taken) → holds depth x a ≡ true → holds depth x (a ++ b) ≡ true
-holds_before depth x [] b h = cc
-holds_before depth x (t ∷ a) b h = test (holds_before depth x a b) (has depth x t) h
-  where
-    test : (holds depth x a ≡ true → holds depth x (a ++ b) ≡ true) → (c : Bool) → (if c then true else holds depth x a) ≡ true → (if c then true else holds depth x (a ++ b)) ≡ true
-    test more true h' = refl
-    test more false h' = more h'
-
--- a name that is held is taken
-pub held_is_taken : (depth : ℕ) (x : Name) (taken : Taken) → holds depth x taken ≡ true → is_taken taken x ≡ true
-held_is_taken depth x [] h = cc
-held_is_taken depth x (t ∷ taken) h = test (held_is_taken depth x taken) (same_name x t.0) h
-  where
-    test : (holds depth x taken ≡ true → is_taken taken x ≡ true) → (b : Bool) → (if b && is_spawn_in depth t.1 then true else holds depth x taken) ≡ true → (if b then true else is_taken taken x) ≡ true
-    test more true h' = refl
-    test more false h' = more h'
-
-pub not_held : (depth : ℕ) (x : Name) (taken : Taken) → is_taken taken x ≡ false → holds depth x taken ≡ false
-not_held depth x taken h = cases (holds depth x taken) refl
-  where
-    cases : (b : Bool) → holds depth x taken ≡ b → b ≡ false
-    cases true e = absurd (true≢false (sym (held_is_taken depth x taken e) ∙ h))
-    cases false e = refl
-
--- a join of one sync block leaves what another holds
-pub held_past : (depth other : ℕ) (x : Name) (taken : Taken) → other ≢ depth → holds other x taken ≡ true → holds other x (freed depth taken) ≡ true
-held_past depth other x [] apart h = cc
-held_past depth other x (t ∷ taken) apart h = test (held_past depth other x taken apart) (is_spawn_in depth t.1) (has other x t) refl refl h
-  where
-    both : (k : Holder) → is_spawn_in depth k ≡ true → is_spawn_in other k ≡ false
-    both (SpawnIn d) e = cases (d == other) refl
-      where
-        cases : (b : Bool) → (d == other) ≡ b → b ≡ false
-        cases true e' = absurd (apart (sym (eqb-true d other e') ∙ eqb-true d depth e))
-        cases false e' = refl
-    both CutOf e = refl
-
-    test : (holds other x taken ≡ true → holds other x (freed depth taken) ≡ true) → (b c : Bool) → is_spawn_in depth t.1 ≡ b → has other x t ≡ c → (if c then true else holds other x taken) ≡ true → holds other x (cond (not b) (t ∷ freed depth taken) (freed depth taken)) ≡ true
-    test more true true e e' h' = absurd (true≢false (sym (second_true (same_name x t.0) (is_spawn_in other t.1) e') ∙ both t.1 e))
+    test : (holds false depth x taken ≡ true → holds false depth x (cut_ended a taken) ≡ true) → (b c : Bool) → is_cut_of a t ≡ b → has false depth x t ≡ c → (if c then true else holds false depth x taken) ≡ true → holds false depth x (cond (not b) (t ∷ cut_ended a taken) (cut_ended a taken)) ≡ true
+    test more true true e e' h' = absurd (true≢false (other t e e'))
     test more true false e e' h' = more h'
-    test more false true e e' h' = ap (λ c. if c then true else holds other x (freed depth taken)) e'
-    test more false false e e' h' = ap (λ c. if c then true else holds other x (freed depth taken)) e' ∙ more h'
-
-pub same_among : (x y : Name) (names : List Name) → same_name x y ≡ true → is_among y names ≡ true → is_among x names ≡ true
-same_among x y names e h = ap (λ z. is_among z names) ((bytes_eq-Decides x y).0 e) ∙ h
-
--- a name that is not one of these stays held as these end
-pub held_without : (depth : ℕ) (x : Name) (own : List Name) (taken : Taken) → is_among x own ≡ false → holds depth x taken ≡ true → holds depth x (without own taken) ≡ true
-held_without depth x own [] apart h = cc
-held_without depth x own (t ∷ taken) apart h = test (held_without depth x own taken apart) (is_among t.0 own) (has depth x t) refl refl h
-  where
-    test : (holds depth x taken ≡ true → holds depth x (without own taken) ≡ true) → (b c : Bool) → is_among t.0 own ≡ b → has depth x t ≡ c → (if c then true else holds depth x taken) ≡ true → holds depth x (cond (not b) (t ∷ without own taken) (without own taken)) ≡ true
-    test more true true e e' h' = absurd (true≢false (sym (same_among x t.0 own (first_true (same_name x t.0) (is_spawn_in depth t.1) e') e) ∙ apart))
-    test more true false e e' h' = more h'
-    test more false true e e' h' = ap (λ c. if c then true else holds depth x (without own taken)) e'
-    test more false false e e' h' = ap (λ c. if c then true else holds depth x (without own taken)) e' ∙ more h'
-
--- a spawn takes each of its names
-pub held_by_spawn : (depth : ℕ) (x : Name) (xs : List Name) (taken : Taken) → is_among x xs ≡ true → holds depth x (taken_by depth xs taken) ≡ true
-held_by_spawn depth x [] taken h = cc
-held_by_spawn depth x (y ∷ xs) taken h = test (held_by_spawn depth x xs taken) (same_name x y) h
-  where
-    test : (is_among x xs ≡ true → holds depth x (taken_by depth xs taken) ≡ true) → (b : Bool) → (if b then true else is_among x xs) ≡ true → (if b && (depth == depth) then true else holds depth x (taken_by depth xs taken)) ≡ true
-    test more true h' = ap (λ b. if b then true else holds depth x (taken_by depth xs taken)) (eq-eqb depth depth refl)
-    test more false h' = more h'
-
-contains_held : (depth : ℕ) (x : Name) (taken : Taken) → holds depth x taken ≡ true → Contains taken (x, SpawnIn depth)
-contains_held depth x [] h = cc
-contains_held depth x (t ∷ taken) h = test (contains_held depth x taken) (has depth x t) refl h
-  where
-    spawn : (k : Holder) → is_spawn_in depth k ≡ true → k ≡ SpawnIn depth
-    spawn (SpawnIn d) e = ap (λ n. SpawnIn n) (eqb-true d depth e)
-    spawn CutOf e = cc
-
-    test : (holds depth x taken ≡ true → Contains taken (x, SpawnIn depth)) → (b : Bool) → has depth x t ≡ b → (if b then true else holds depth x taken) ≡ true → Contains (t ∷ taken) (x, SpawnIn depth)
-    test more true e h' =
-        let n : t.0 ≡ x = sym ((bytes_eq-Decides x t.0).0 (first_true (same_name x t.0) (is_spawn_in depth t.1) e)) in
-        let k : t.1 ≡ SpawnIn depth = spawn t.1 (second_true (same_name x t.0) (is_spawn_in depth t.1) e) in
-        let all : t ≡ (x, SpawnIn depth) = ap (λ m. (m, t.1)) n ∙ ap (λ m. (x, m)) k in
-        (0, zero-lt-suc _, all)
-    test more false e h' = Contains-append_right (t ∷ []) taken (x, SpawnIn depth) (more h')
-
-held_contained : (depth : ℕ) (x : Name) (taken : Taken) → Contains taken (x, SpawnIn depth) → holds depth x taken ≡ true
-held_contained depth x [] c = absurd (omega (arith, c.1))
-held_contained depth x (t ∷ taken) c = ⊎_elim (λ here. first here) (λ later. holds_behind depth x (t ∷ []) taken (held_contained depth x taken later)) (Contains-append_cases (t ∷ []) taken (x, SpawnIn depth) c)
-  where
-    only : (k : ℕ) → k < 1 → get_or (t ∷ []) k (x, SpawnIn depth) ≡ (x, SpawnIn depth) → t ≡ (x, SpawnIn depth)
-    only zero l e = e
-    only (suc k) l e = absurd (omega arith)
-
-    first : Contains (t ∷ []) (x, SpawnIn depth) → holds depth x (t ∷ taken) ≡ true
-    first here =
-        let e : t ≡ (x, SpawnIn depth) = only here.0 here.1 here.2 in
-        ap (λ p. if has depth x p then true else holds depth x taken) e
-        ∙ ap (λ b. if b && (depth == depth) then true else holds depth x taken) ((bytes_eq-Decides x x).1 refl)
-        ∙ ap (λ b. if b then true else holds depth x taken) (eq-eqb depth depth refl)
-
--- what a turn leaves held was held before it
-pub held_by_turns : (fs : List Function) (depth : ℕ) (b : Block) (before after : Taken) → IsLeastClosed (one_turn fs depth b) before after → (d : ℕ) (x : Name) → holds d x (one_turn fs depth b after) ≡ true → holds d x after ≡ true
-held_by_turns fs depth b before after least d x h = held_contained d x after (least.closed (x, SpawnIn d) (contains_held d x (one_turn fs depth b after) h))
+    test more false true e e' h' = ap (λ c. if c then true else holds false depth x (cut_ended a taken)) e'
+    test more false false e e' h' = ap (λ c. if c then true else holds false depth x (cut_ended a taken)) e' ∙ more h'
 
 none_left : (b : Bool) (line : ℕ) (more : List ℕ) → unless b line ++ more ≡ [] → b ≡ true
 none_left true line more h = refl

@@ -4,11 +4,12 @@ use Rattle.cw_model.specs.Syntax.{Program}
 use Rattle.cw_model.specs.Lines.{IsLeastLine}
 use Rattle.cw_model.specs.Meaning.{function_of}
 use Rattle.cw_model.specs.Answers.{main_name, serial_answer}
-use Rattle.cw_model.specs.Sites.{call_sites}
+use Rattle.cw_model.specs.Report.{tags_of}
+use Rattle.cw_model.specs.Sites.{call_sites, root_site}
 use Rattle.cw_model.specs.Sizes.{program_faults}
 use Rattle.cw_text.specs.declared.fault.Fault.{Fault}
 use Rattle.cw_text.specs.declared.fault.Fault.TheVariants as fault
-use Rattle.cw_types.specs.Resolved.{reducer_names, tags_of}
+use Rattle.cw_types.specs.Resolved.{reducer_names}
 use Rattle.cw_code.specs.Code.{Code, told_sites}
 use Rattle.cw_code.specs.Run.{code_serial}
 use Rattle.cw_code.specs.Fits.{main_params, Fits}
@@ -18,13 +19,14 @@ abbrev pub main_count : Program → ℕ
 main_count program = length (function_of main_name program.functions).params
 
 -- on all arguments and within all limits the code gives the serial answer of the program, tree included; it fits, it
--- takes the arguments of the program's main, it carries the program's call statements, reducers and tags, and the
+-- takes the arguments of the program's main, it carries the program's call statements, the line of main's head, reducers and tags, and the
 -- program is small enough
 pub record Generates (program : Program) (code : Code) : Type 0 where
   pub serial : (args : List ℤ) → length args ≡ main_count program → (n : ℕ) → code_serial code args n ≡ Some (serial_answer program args n)
   pub fits : Fits code
   pub params : main_params code ≡ main_count program
   pub sites : told_sites code ≡ call_sites program
+  pub main_line : code.main_line ≡ (root_site program).line
   pub reducers : code.reducers ≡ reducer_names program.reducers
   pub tags : code.tags ≡ tags_of program
   pub small : program_faults program ≡ []

@@ -3,12 +3,12 @@
 ghost use Rattle.std.specs.Prelude.{◌≡◌, [], ◌++◌, ◌∷◌, ◌&&◌, ◌-◌, ◌≤◌, length, map, option_map, IfOk, OnOk};
 ghost use Rattle.cw_gen.specs.Emit as spec;
 ghost use Rattle.cw_model.specs.Typing as typing;
-ghost use Rattle.cw_types.specs.Resolved.{plain_block, plain_stmt};
+ghost use Rattle.cw_types.specs.Resolved.{locals_of, plain_block, plain_stmt};
 ghost use Rattle.cw_types.specs.View as view;
 
 use crate::jumps::{distance, hole, land, land_past, put};
-use cw_code::code::{BlockKind, Callee, Func, Instr, UnaryOperator};
-use cw_types::tree::{Argument, Call, Expr, Function, Line, Stmt, Use};
+use cw_code::code::{BlockKind, Callee, Func, Halves, Instr, UnaryOperator};
+use cw_types::tree::{Argument, Call, Cut, Expr, Function, Line, Param, Stmt, Use};
 use std::alloc::AllocError;
 
 /// The code of functions, one after another.
@@ -29,11 +29,39 @@ pub(crate) fn functions(
             start,
             end: instrs.len(),
             gives_int: f.gives_int,
-            params: f.params.len(),
+            params: count_ints(&f.params),
             slots: f.ints as usize,
+            array_params: count_arrays(&f.params),
+            arrays: f.arrays as usize,
         })?;
     }
     Ok(())
+}
+
+// How many parameters are integers.
+fn count_ints(params: &[Param]) -> usize
+    ensures { result ≡ length (locals_of (map view.param_of params.now)).ints }
+{
+    let mut count = 0;
+    for p in params {
+        if !p.is_array {
+            count += 1;
+        }
+    }
+    count
+}
+
+// How many parameters are arrays.
+fn count_arrays(params: &[Param]) -> usize
+    ensures { result ≡ length (locals_of (map view.param_of params.now)).arrays }
+{
+    let mut count = 0;
+    for p in params {
+        if p.is_array {
+            count += 1;
+        }
+    }
+    count
 }
 
 // The code of a function. One that gives no integer ends with a return.
@@ -92,6 +120,11 @@ fn statement(instrs: &mut Vec<Instr>, line: u32, stmt: &Stmt) -> Result<bool, Al
             inside(instrs, BlockKind::Scope, b)?;
             Ok(false)
         }
+        Stmt::Cut(parts, b) => {
+            expression(instrs, line, &parts.at)?;
+            cut(instrs, line, parts, b)?;
+            Ok(false)
+        }
         Stmt::Region(tag, b) => {
             inside(instrs, BlockKind::Region(tag.index), b)?;
             Ok(false)
@@ -108,7 +141,6 @@ fn statement(instrs: &mut Vec<Instr>, line: u32, stmt: &Stmt) -> Result<bool, Al
         | Stmt::Call(_)
         | Stmt::Sync
         | Stmt::For(_, _)
-        | Stmt::Cut(_, _)
         | Stmt::Print(_) => {
             alone(instrs, line, stmt)?;
             Ok(false)
@@ -122,14 +154,17 @@ fn alone(instrs: &mut Vec<Instr>, line: u32, stmt: &Stmt) -> Result<(), AllocErr
 {
     match stmt {
         Stmt::Declare(u, e) => valued(instrs, line, e, Instr::Store(u.slot)),
+        Stmt::DeclareArray(u, e) => valued(instrs, line, e, Instr::NewArray(u.slot, line)),
+        Stmt::AssignElement(u, i, e) => {
+            expression(instrs, line, i)?;
+            valued(instrs, line, e, Instr::SetElement(u.slot, line))
+        }
         Stmt::Assign(u, e) => valued(instrs, line, e, Instr::Store(u.slot)),
         Stmt::AddTo(s, e) => valued(instrs, line, e, Instr::AddTo(s.index)),
         Stmt::Print(e) => valued(instrs, line, e, Instr::Print),
         Stmt::Call(c) => call(instrs, line, c),
         Stmt::Sync => put(instrs, Instr::Sync),
-        Stmt::DeclareArray(_, _)
-        | Stmt::AssignElement(_, _, _)
-        | Stmt::If(_, _)
+        Stmt::If(_, _)
         | Stmt::IfElse(_, _, _)
         | Stmt::While(_, _)
         | Stmt::For(_, _)
@@ -165,6 +200,11 @@ fn expression(instrs: &mut Vec<Instr>, line: u32, e: &Expr) -> Result<(), AllocE
     match e {
         Expr::Number(n) => put(instrs, Instr::Push(*n)),
         Expr::Variable(u) => put(instrs, Instr::Load(u.slot)),
+        Expr::Element(u, e) => {
+            expression(instrs, line, e)?;
+            put(instrs, Instr::Element(u.slot, line))
+        }
+        Expr::Length(u) => put(instrs, Instr::Length(u.slot)),
         Expr::Negative(e) => {
             expression(instrs, line, e)?;
             put(instrs, Instr::Unary(UnaryOperator::Negative, line))
@@ -178,11 +218,10 @@ fn expression(instrs: &mut Vec<Instr>, line: u32, e: &Expr) -> Result<(), AllocE
             expression(instrs, line, e)?;
             put(instrs, Instr::Binary(*operator, line))
         }
-        Expr::Element(_, _) | Expr::Length(_) => Ok(()),
     }
 }
 
-// The code of an argument.
+// The code of an argument. An array has none.
 fn argument(instrs: &mut Vec<Instr>, line: u32, e: &Argument) -> Result<(), AllocError>
     ensures { OnOk result (instrs.new.items ≡ instrs.old.items ++ spec.emitted_arg line (view.argument_of e.now)) }
 {
@@ -212,6 +251,7 @@ fn callee_of(line: u32, c: &Call) -> Callee
         site: c.site,
         line,
         target: slot_in(&c.target),
+        passed: c.site,
     }
 }
 
@@ -244,6 +284,27 @@ fn inside(instrs: &mut Vec<Instr>, kind: BlockKind, lines: &[Line]) -> Result<()
     put(instrs, Instr::Open(kind))?;
     block(instrs, lines)?;
     put(instrs, Instr::Close)
+}
+
+// A cut at the last operand, the block that has its parts, and its end.
+#[cycle(emit)]
+fn cut(instrs: &mut Vec<Instr>, line: u32, parts: &Cut, lines: &[Line]) -> Result<(), AllocError>
+    ensures { OnOk result (instrs.new.items ≡ instrs.old.items ++ spec.emitted_cut line (spec.halves_of (view.parts_of parts.now)) (spec.emitted_block (view.block_of lines.now))) }
+{
+    put(instrs, Instr::Cut(halves_of(parts), line))?;
+    block(instrs, lines)?;
+    put(instrs, Instr::EndCut)
+}
+
+// The slots of a cut.
+fn halves_of(parts: &Cut) -> Halves
+    ensures { result ≡ spec.halves_of (view.parts_of parts.now) }
+{
+    Halves {
+        array: parts.array.slot,
+        left: parts.left.slot,
+        right: parts.right.slot,
+    }
 }
 
 // A block that goes back to its test, which starts at this place.

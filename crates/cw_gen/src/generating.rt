@@ -22,10 +22,11 @@ const MOST_INSTRUCTIONS: usize = 1_048_576;
 const MOST_CALL_STATEMENTS: usize = 65_535;
 
 /// The code of a program: on all arguments and within all limits it gives the serial answer of the program, it never
-/// gets stuck, and it has the program's call sites, reducers and tags.
+/// gets stuck, and it has the program's call sites, reducers and tags. A call names the list of array slots at the
+/// number of its site.
 ///
-/// The program holds nothing that is not taken yet (`later_lines`: arrays, parallel loops and reducers), and its call statements
-/// are numbered from 1 by place, as the parser numbers them.
+/// The program holds no parallel loop, which is not taken yet (`later_lines`), and its call statements are numbered
+/// from 1 by place, as the parser numbers them.
 ///
 /// The error is `Size`, at line 1, exactly where the static size passes 1,048,576 or the count of call statements
 /// passes 65,535, and `Memory` where memory runs out.

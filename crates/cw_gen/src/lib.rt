@@ -4,6 +4,7 @@
 mod emit;
 mod generating;
 mod jumps;
+mod passed;
 mod sites;
 #[cfg(test)]
 mod tests;

@@ -51,6 +51,7 @@ fn sites_at(alloc: Global, sites: &mut Vec<Site>, line: u32, stmt: &Stmt) -> Res
             sites_in(alloc, sites, c)
         }
         Stmt::Scope(b) => sites_in(alloc, sites, b),
+        Stmt::Cut(_, b) => sites_in(alloc, sites, b),
         Stmt::Region(_, b) => sites_in(alloc, sites, b),
         Stmt::Declare(_, _)
         | Stmt::DeclareArray(_, _)
@@ -59,7 +60,6 @@ fn sites_at(alloc: Global, sites: &mut Vec<Site>, line: u32, stmt: &Stmt) -> Res
         | Stmt::AddTo(_, _)
         | Stmt::Sync
         | Stmt::For(_, _)
-        | Stmt::Cut(_, _)
         | Stmt::Print(_)
         | Stmt::Return(_) => Ok(()),
     }

@@ -153,6 +153,7 @@ fn a_sync_block_is_opened_and_closed(rt: HostRuntime) -> Result<(), Fail> {
         site: 1,
         line: 3,
         target: Some(0),
+        passed: 1,
     };
     let instrs = [
         Instr::Open(BlockKind::Scope),

@@ -6,7 +6,7 @@ pub returns-then-not-is_small : goal.returns-then-not-is_small
 returns-then-not-is_small c =
     let owned = c.args.owned.now in
     let typed = owned.typed in
-    too_large c.while_is_least.ensures typed.tree c.in_ok-code.code c.in_ok-code.ensures typed.resolved typed.fitting typed.typed owned.owned c.requires.taken (sym c.is_small.ensures ∙ c.if-not-is_small.true)
+    too_large c.while_is_least.ensures typed.tree c.in_ok-code.code c.in_ok-code.ensures typed.resolved typed.fitting typed.typed owned.owned c.requires.taken c.requires.numbered (sym c.is_small.ensures ∙ c.if-not-is_small.true)
 
 pub returns : goal.returns
 returns c =

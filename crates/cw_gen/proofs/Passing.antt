@@ -1,0 +1,256 @@
+-- Arrays as arguments: what a call takes, and what it gives back.
+use Rattle.std.proofs.Common.{◌≡◌, ℕ, suc, List, [], ◌∷◌, ◌++◌, length, Bool, true, false, not, ◌&&◌, if◌then◌else◌, cond, filter, Option, Some, None, refl, sym, ap, ◌∙◌, arith, append_assoc, ℤ, true≢false}
+use Rattle.std.specs.Prelude.{slice_get, slice_set, map}
+use Rattle.std.proofs.lemmas.List.{length-set, set-set, set_comm}
+use Rattle.std.proofs.lemmas.Slice.Eq.{bytes_eq-Decides}
+use Rattle.cw_model.specs.Syntax.{Name, Expr, Variable, Param}
+use Rattle.cw_model.specs.Names.{same_name, is_among, differ, find, put}
+use Rattle.cw_model.specs.declared.syntax.CallKind.{CallKind}
+use Rattle.cw_model.specs.declared.syntax.CallKind.TheVariants.{Plain, Spawned}
+use Rattle.cw_model.specs.Frames.{Frame, array_of, set_array, set_result}
+use Rattle.cw_model.specs.Meaning.{returned_array, returned_arrays}
+use Rattle.cw_model.specs.Ownership.{Taken, names_in, arrays_given}
+use Rattle.cw_code.specs.Run.{Slots, Results, Whole, moved_out, and_array, arrays_in, and_result, settled, full, given_back}
+use Rattle.cw_types.specs.Resolved.{Locals, slot_of, use_of, locals_of, resolved_argument}
+use Rattle.cw_types.specs.Resolved as resolved
+use Rattle.cw_gen.specs.Emit.{passed_in}
+use Rattle.cw_gen.proofs.Decided.{first_true, second_true}
+use Rattle.cw_gen.proofs.Fine.{IsUsable, ArgFine, ArgsFine}
+use Rattle.cw_gen.proofs.Takens.{holds}
+use Rattle.cw_gen.proofs.Names.{Entries, values_in, all_of, get-other, length-settled, slots_apart, settled_append, AgreesOf, AllHeld, HeldBy}
+use Rattle.cw_gen.proofs.Names as holding
+use Rattle.cw_gen.proofs.Stores.{Store, Outside, int_waits, array_waits, Agrees}
+
+-- the slots of names
+abbrev pub slots_for : (names given : List Name) → List ℕ
+slots_for names given = map (λ a. slot_of a names) given
+
+-- each of these names may be used
+abbrev pub AllUsable : List Name → Taken → List Name → Type 0
+AllUsable names taken [] = Unit {0}
+AllUsable names taken (a ∷ given) = IsUsable names taken a × AllUsable names taken given
+
+pub usable_args : (locals : Locals) (taken : Taken) (ps : List Param) (es : List Expr) → ArgsFine locals taken ps es → AllUsable locals.arrays taken (arrays_given ps es)
+usable_args locals taken [] [] fine = tt
+usable_args locals taken [] (e ∷ es) fine = absurd fine
+usable_args locals taken (p ∷ ps) [] fine = absurd fine
+usable_args locals taken (p ∷ ps) (e ∷ es) fine = one (arrays_given ps es) p.is_array e fine.0 (usable_args locals taken ps es fine.1)
+  where
+    one : (rest : List Name) (b : Bool) (e : Expr) → ArgFine b locals taken e → AllUsable locals.arrays taken rest → AllUsable locals.arrays taken ((if b then names_in e else []) ++ rest)
+    one rest false e h k = k
+    one rest true (Variable a) h k = (h, k)
+    one rest true _ h k = absurd h
+
+-- the list of a call is the slots of its arrays
+pub passed_slots : (locals : Locals) (taken : Taken) (ps : List Param) (es : List Expr) → ArgsFine locals taken ps es → passed_in (map (resolved_argument locals) es) ≡ slots_for locals.arrays (arrays_given ps es)
+passed_slots locals taken [] [] fine = refl
+passed_slots locals taken [] (e ∷ es) fine = absurd fine
+passed_slots locals taken (p ∷ ps) [] fine = absurd fine
+passed_slots locals taken (p ∷ ps) (e ∷ es) fine = one (map (resolved_argument locals) es) (arrays_given ps es) (passed_slots locals taken ps es fine.1) p.is_array e fine.0
+  where
+    one : (args : List resolved.Argument) (rest : List Name) → passed_in args ≡ slots_for locals.arrays rest → (b : Bool) (e : Expr) → ArgFine b locals taken e → passed_in (resolved_argument locals e ∷ args) ≡ slots_for locals.arrays ((if b then names_in e else []) ++ rest)
+    one args rest more false (Variable x) h = ap (λ c. passed_in ((if c then resolved.Array (use_of locals.arrays x) else resolved.Int (resolved.Variable (use_of locals.ints x))) ∷ args)) h.1 ∙ more
+    one args rest more false _ h = more
+    one args rest more true (Variable a) h = ap (λ c. passed_in ((if c then resolved.Array (use_of locals.arrays a) else resolved.Int (resolved.Variable (use_of locals.ints a))) ∷ args)) h.declared ∙ ap (λ l. slot_of a locals.arrays ∷ l) more
+    one args rest more true _ h = absurd h
+
+-- as many arrays are given given are taken
+pub as_many_arrays : (locals : Locals) (taken : Taken) (ps : List Param) (es : List Expr) → ArgsFine locals taken ps es → length (arrays_given ps es) ≡ length (locals_of ps).arrays
+as_many_arrays locals taken [] [] fine = refl
+as_many_arrays locals taken [] (e ∷ es) fine = absurd fine
+as_many_arrays locals taken (p ∷ ps) [] fine = absurd fine
+as_many_arrays locals taken (p ∷ ps) (e ∷ es) fine = one p.is_array e fine.0 (as_many_arrays locals taken ps es fine.1)
+  where
+    one : (b : Bool) (e : Expr) → ArgFine b locals taken e → length (arrays_given ps es) ≡ length (locals_of ps).arrays →
+        length ((if b then names_in e else []) ++ arrays_given ps es) ≡ length (map (λ (q : Param). q.name) (cond b (p ∷ filter (λ q. q.is_array) ps) (filter (λ q. q.is_array) ps)))
+    one false e h k = k
+    one true (Variable a) h k = ap suc k
+    one true _ h k = absurd h
+
+-- a name that is not among others has another slot
+pub not_same : (x : Name) (given : List Name) (b : Name) → is_among x (b ∷ given) ≡ false → (same_name x b ≡ false) × (is_among x given ≡ false)
+not_same x given b h = cases (same_name x b) refl h
+  where
+    cases : (c : Bool) → same_name x b ≡ c → (if c then true else is_among x given) ≡ false → (same_name x b ≡ false) × (is_among x given ≡ false)
+    cases true e h' = cc
+    cases false e h' = (e, h')
+
+pub negated : (b : Bool) → not b ≡ true → b ≡ false
+negated true h = cc
+negated false h = refl
+
+-- moving other arrays out leaves a slot
+pub get-moved : {A : Type 0} (names : List Name) (taken : Taken) (a : Name) (given : List Name) (slots : Slots A) → IsUsable names taken a → AllUsable names taken given → is_among a given ≡ false → slice_get (moved_out (slots_for names given) slots) (slot_of a names) ≡ slice_get slots (slot_of a names)
+get-moved names taken a [] slots u us apart = refl
+get-moved names taken a (b ∷ given) slots u us apart =
+    let other = not_same a given b apart in
+    get-other (moved_out (slots_for names given) slots) (slot_of a names) (slot_of b names) None (slots_apart a b names u.declared us.0.declared other.0)
+    ∙ get-moved names taken a given slots u us.1 other.1
+
+set-moved : {A : Type 0} (names : List Name) (taken : Taken) (a : Name) (given : List Name) (v : Option A) (slots : Slots A) → IsUsable names taken a → AllUsable names taken given → is_among a given ≡ false → slice_set (moved_out (slots_for names given) slots) (slot_of a names) v ≡ moved_out (slots_for names given) (slice_set slots (slot_of a names) v)
+set-moved names taken a [] v slots u us apart = refl
+set-moved names taken a (b ∷ given) v slots u us apart =
+    let other = not_same a given b apart in
+    sym (set_comm (moved_out (slots_for names given) slots) (slot_of a names) (slot_of b names) v None (slots_apart a b names u.declared us.0.declared other.0))
+    ∙ ap (λ l. slice_set l (slot_of b names) None) (set-moved names taken a given v slots u us.1 other.1)
+
+pub length-moved : {A : Type 0} (given : List ℕ) (slots : Slots A) → length (moved_out given slots) ≡ length slots
+length-moved [] slots = refl
+length-moved (a ∷ given) slots = length-set (moved_out given slots) a None ∙ length-moved given slots
+
+-- a call finds its arrays
+pub arrays_found : (names : List Name) (taken : Taken) (entries : Entries (List ℤ)) (slots : Slots (List ℤ)) (waits : List (Results (List ℤ))) (given : List Name) → AgreesOf true names taken entries slots waits → AllUsable names taken given → differ given ≡ true →
+    arrays_in (slots_for names given) slots ≡ Some (map (λ a. find [] a entries) given)
+arrays_found names taken entries slots waits [] agrees us apart = refl
+arrays_found names taken entries slots waits (a ∷ given) agrees us apart =
+    let other = negated (is_among a given) (first_true (not (is_among a given)) (differ given) apart) in
+    ap (λ o. and_array o (arrays_in (slots_for names given) slots)) (get-moved names taken a given slots us.0 us.1 other ∙ holding.loads true [] names taken a entries slots waits us.0 agrees)
+    ∙ ap (λ o. and_array (Some (Some (find [] a entries))) o) (arrays_found names taken entries slots waits given agrees us.1 (second_true (not (is_among a given)) (differ given) apart))
+
+-- the arrays of a call under its parameters' names go back into these slots
+abbrev pub backs : (names given qs : List Name) → Frame → Results (List ℤ)
+backs names [] qs g = []
+backs names (a ∷ given) [] g = []
+backs names (a ∷ given) (q ∷ qs) g = (slot_of a names, array_of g q) ∷ backs names given qs g
+
+abbrev pub put_backs : (given qs : List Name) → Frame → Entries (List ℤ) → Entries (List ℤ)
+put_backs [] qs g entries = entries
+put_backs (a ∷ given) [] g entries = entries
+put_backs (a ∷ given) (q ∷ qs) g entries = put_backs given qs g (put a (array_of g q) entries)
+
+abbrev pub with_arrays : Frame → Entries (List ℤ) → Frame
+with_arrays frame entries = record { ints = frame.ints; arrays = entries; sliced = frame.sliced }
+
+pub returned_are : (locals : Locals) (taken : Taken) (ps : List Param) (es : List Expr) (g frame : Frame) → ArgsFine locals taken ps es → returned_arrays ps es g frame ≡ with_arrays frame (put_backs (arrays_given ps es) (locals_of ps).arrays g frame.arrays)
+returned_are locals taken [] [] g frame fine = refl
+returned_are locals taken [] (e ∷ es) g frame fine = absurd fine
+returned_are locals taken (p ∷ ps) [] g frame fine = absurd fine
+returned_are locals taken (p ∷ ps) (e ∷ es) g frame fine = returned_are locals taken ps es g (returned_array p e g frame) fine.1 ∙ one p.is_array refl e fine.0
+  where
+    one : (b : Bool) → p.is_array ≡ b → (e : Expr) → ArgFine b locals taken e → with_arrays (returned_array p e g frame) (put_backs (arrays_given ps es) (locals_of ps).arrays g (returned_array p e g frame).arrays)
+        ≡ with_arrays frame (put_backs ((if b then names_in e else []) ++ arrays_given ps es) (map (λ (q : Param). q.name) (cond b (p ∷ filter (λ q. q.is_array) ps) (filter (λ q. q.is_array) ps))) g frame.arrays)
+    one true is (Variable a) h = ap (λ c. let f = if c then set_array a (array_of g p.name) frame else frame in with_arrays f (put_backs (arrays_given ps es) (locals_of ps).arrays g f.arrays)) is
+    one true is _ h = absurd h
+    one false is (Variable a) h = ap (λ c. let f = if c then set_array a (array_of g p.name) frame else frame in with_arrays f (put_backs (arrays_given ps es) (locals_of ps).arrays g f.arrays)) is
+    one false is _ h = refl
+
+-- what the slots of a call that ends hold, by its parameters' names
+pub firsts : (names : List Name) (given qs more : List Name) (g : Frame) (entries : Entries (List ℤ)) (rest : List (List ℤ)) → length given ≡ length qs → holding.names_in entries ≡ qs ++ more → differ qs ≡ true → ((q : Name) → is_among q qs ≡ true → array_of g q ≡ find [] q entries) →
+    given_back (map (λ a. Whole a) (slots_for names given)) (full (values_in entries ++ rest)) ≡ Some (backs names given qs g)
+firsts names [] qs more g entries rest n named apart same = refl
+firsts names (a ∷ given) [] more g entries rest n named apart same = absurd (omega (arith, n))
+firsts names (a ∷ given) (q ∷ qs) more g [] rest n named apart same = cc
+firsts names (a ∷ given) (q ∷ qs) more g (e ∷ entries) rest n named apart same =
+    let other = negated (is_among q qs) (first_true (not (is_among q qs)) (differ qs) apart) in
+    let head : e.0 ≡ q = cc named in
+    let tail : holding.names_in entries ≡ qs ++ more = cc named in
+    let here : array_of g q ≡ e.1 = same q (ap (λ b. if b then true else is_among q qs) ((bytes_eq-Decides q q).1 refl)) ∙ ap (λ b. if b then e.1 else find [] q entries) ((bytes_eq-Decides q e.0).1 (sym head)) in
+    ap (λ o. and_result (Whole (slot_of a names)) (Some e.1) o)
+    (firsts names given qs more g entries rest (omega (arith, n)) tail (second_true (not (is_among q qs)) (differ qs) apart)
+    (λ z h. same z (further z q qs h) ∙ ap (λ b. if b then e.1 else find [] z entries) (ap (same_name z) head ∙ apart_from z q qs other h)))
+    ∙ ap (λ v. Some ((slot_of a names, v) ∷ backs names given qs g)) (sym here)
+  where
+    further : (x y : Name) (ns : List Name) → is_among x ns ≡ true → is_among x (y ∷ ns) ≡ true
+    further x y ns h = test (same_name x y)
+      where
+        test : (b : Bool) → (if b then true else is_among x ns) ≡ true
+        test true = refl
+        test false = h
+
+    apart_from : (z q : Name) (qs : List Name) → is_among q qs ≡ false → is_among z qs ≡ true → same_name z q ≡ false
+    apart_from z q qs none h = cases (same_name z q) refl
+      where
+        cases : (b : Bool) → same_name z q ≡ b → b ≡ false
+        cases true e = absurd (true≢false (sym h ∙ ap (λ y. is_among y qs) ((bytes_eq-Decides z q).0 e) ∙ none))
+        cases false e = refl
+
+-- what goes back fills the slots that were moved out
+pub settled_moved : (names : List Name) (taken : Taken) (given qs : List Name) (g : Frame) (slots : Slots (List ℤ)) → AllUsable names taken given → differ given ≡ true → length given ≡ length qs → settled (backs names given qs g) (moved_out (slots_for names given) slots) ≡ settled (backs names given qs g) slots
+settled_moved names taken [] qs g slots us apart n = refl
+settled_moved names taken (a ∷ given) [] g slots us apart n = absurd (omega (arith, n))
+settled_moved names taken (a ∷ given) (q ∷ qs) g slots us apart n =
+    let v = array_of g q in
+    let i = slot_of a names in
+    let other = negated (is_among a given) (first_true (not (is_among a given)) (differ given) apart) in
+    ap (settled (backs names given qs g)) (set-set (moved_out (slots_for names given) slots) i None (Some v) ∙ set-moved names taken a given (Some v) slots us.0 us.1 other)
+    ∙ settled_moved names taken given qs g (slice_set slots i (Some v)) us.1 (second_true (not (is_among a given)) (differ given) apart) (omega (arith, n))
+
+-- the arrays of a call in place stand in their slots again
+pub agree_back : (names : List Name) (taken : Taken) (given qs : List Name) (g : Frame) (entries : Entries (List ℤ)) (slots : Slots (List ℤ)) (waits : List (Results (List ℤ))) → AllUsable names taken given → AgreesOf true names taken entries slots waits →
+    AgreesOf true names taken (put_backs given qs g entries) (settled (backs names given qs g) slots) waits
+agree_back names taken [] qs g entries slots waits us a = a
+agree_back names taken (x ∷ given) [] g entries slots waits us a = a
+agree_back names taken (x ∷ given) (q ∷ qs) g entries slots waits us a = agree_back names taken given qs g (put x (array_of g q) entries) (slice_set slots (slot_of x names) (Some (array_of g q))) waits us.1 (holding.assigns true names taken x (array_of g q) entries slots waits us.0 a)
+
+-- those of a spawned call wait
+pub agree_await : (names : List Name) (taken taken' : Taken) (given qs : List Name) (g : Frame) (entries : Entries (List ℤ)) (slots : Slots (List ℤ)) (arrived : Results (List ℤ)) (outer : List (Results (List ℤ))) → AllUsable names taken given → differ given ≡ true → length given ≡ length qs →
+    ((d : ℕ) (y : Name) → holds true d y taken ≡ true → holds true d y taken' ≡ true) → ((y : Name) → is_among y given ≡ true → holds true (suc (length outer)) y taken' ≡ true) → AgreesOf true names taken entries slots (arrived ∷ outer) →
+    AgreesOf true names taken' (put_backs given qs g entries) (moved_out (slots_for names given) slots) ((backs names given qs g ++ arrived) ∷ outer)
+agree_await names taken taken' given qs g entries slots arrived outer us apart n more is a =
+    let b = agree_back names taken given qs g entries slots (arrived ∷ outer) us a in
+    let kept = holding.levels_kept true names names taken taken' (arrived ∷ outer) (λ d le. holding.more_taken true names taken taken' more d) a.levels in
+    record {
+      named = b.named;
+      rest = b.rest;
+      held =
+          ap (λ l. settled l (moved_out (slots_for names given) slots)) (append_assoc (backs names given qs g) arrived (all_of outer))
+          ∙ settled_append (backs names given qs g) (arrived ++ all_of outer) (moved_out (slots_for names given) slots)
+          ∙ ap (settled (arrived ++ all_of outer)) (settled_moved names taken given qs g slots us apart n)
+          ∙ b.held;
+      levels = (each given qs us is kept.0, kept.1);
+    }
+  where
+    among_here : (y : Name) (ns : List Name) → is_among y (y ∷ ns) ≡ true
+    among_here y ns = ap (λ b. if b then true else is_among y ns) ((bytes_eq-Decides y y).1 refl)
+
+    further : (x y : Name) (ns : List Name) → is_among x ns ≡ true → is_among x (y ∷ ns) ≡ true
+    further x y ns h = test (same_name x y)
+      where
+        test : (b : Bool) → (if b then true else is_among x ns) ≡ true
+        test true = refl
+        test false = h
+
+    each : (given qs : List Name) → AllUsable names taken given → ((y : Name) → is_among y given ≡ true → holds true (suc (length outer)) y taken' ≡ true) → AllHeld true names taken' (suc (length outer)) arrived → AllHeld true names taken' (suc (length outer)) (backs names given qs g ++ arrived)
+    each [] qs us is h = h
+    each (x ∷ given) [] us is h = h
+    each (x ∷ given) (q ∷ qs) us is h = (record { name = x; declared = us.0.declared; slot = refl; held = is x (among_here x given) }, each given qs us.1 (λ y k. is y (further y x given k)) h)
+
+none_of_some : (p : Param → Bool) (x : Name) (ps : List Param) → is_among x (map (λ (z : Param). z.name) ps) ≡ false → is_among x (map (λ (z : Param). z.name) (filter p ps)) ≡ false
+none_of_some p x [] h = refl
+none_of_some p x (z ∷ ps) h = cases (none_of_some p x ps) (same_name x z.name) (p z) refl h
+  where
+    cases : (is_among x (map (λ (y : Param). y.name) ps) ≡ false → is_among x (map (λ (y : Param). y.name) (filter p ps)) ≡ false) → (b c : Bool) → same_name x z.name ≡ b → (if b then true else is_among x (map (λ (y : Param). y.name) ps)) ≡ false → is_among x (map (λ (y : Param). y.name) (cond c (z ∷ filter p ps) (filter p ps))) ≡ false
+    cases more true c e h' = cc
+    cases more false true e h' = ap (λ b. if b then true else is_among x (map (λ (y : Param). y.name) (filter p ps))) e ∙ more h'
+    cases more false false e h' = more h'
+
+-- names that differ, some left out
+pub differ_some : (p : Param → Bool) (ps : List Param) → differ (map (λ (q : Param). q.name) ps) ≡ true → differ (map (λ (q : Param). q.name) (filter p ps)) ≡ true
+differ_some p [] h = refl
+differ_some p (q ∷ ps) h = test (differ_some p ps (second_true (not (is_among q.name (map (λ (z : Param). z.name) ps))) (differ (map (λ (z : Param). z.name) ps)) h)) (p q)
+  where
+    test : differ (map (λ (z : Param). z.name) (filter p ps)) ≡ true → (c : Bool) → differ (map (λ (z : Param). z.name) (cond c (q ∷ filter p ps) (filter p ps))) ≡ true
+    test rest true =
+        ap (λ b. not b && differ (map (λ (z : Param). z.name) (filter p ps))) (none_of_some p q.name ps (negated (is_among q.name (map (λ (z : Param). z.name) ps)) (first_true (not (is_among q.name (map (λ (z : Param). z.name) ps))) (differ (map (λ (z : Param). z.name) ps)) h)))
+        ∙ rest
+    test rest false = rest
+
+-- the array slots of a caller, and what waits there, when a call gives arrays back
+abbrev pub arrays_after : CallKind → Results (List ℤ) → Slots (List ℤ) → Slots (List ℤ)
+arrays_after Plain back arrays = settled back arrays
+arrays_after Spawned back arrays = arrays
+
+abbrev pub arrived_after : CallKind → Results (List ℤ) → Results (List ℤ) → Results (List ℤ)
+arrived_after Plain back arrived = arrived
+arrived_after Spawned back arrived = back ++ arrived
+
+pub arrays_count : (kind : CallKind) (back : Results (List ℤ)) (passed : List ℕ) (arrays : Slots (List ℤ)) → length (arrays_after kind back (moved_out passed arrays)) ≡ length arrays
+arrays_count Plain back passed arrays = length-settled back (moved_out passed arrays) ∙ length-moved passed arrays
+arrays_count Spawned back passed arrays = length-moved passed arrays
+
+-- the caller's frame when a call has ended
+pub frame_came : (target : Option Name) (v : Option ℤ) (frame : Frame) (entries : Entries (List ℤ)) (after_it : Taken) (locals : Locals) (store : Store) (outer : Outside) → AgreesOf false locals.ints after_it (set_result target v frame).ints store.slots (store.results ∷ int_waits outer) →
+    AgreesOf true locals.arrays after_it entries store.arrays (store.arrived ∷ array_waits outer) → frame.sliced ≡ [] → Agrees locals after_it (set_result target v (with_arrays frame entries)) store outer
+frame_came None v frame entries after_it locals store outer ints arrays whole = record { ints = ints; arrays = arrays; whole = whole }
+frame_came (Some x) None frame entries after_it locals store outer ints arrays whole = record { ints = ints; arrays = arrays; whole = whole }
+frame_came (Some x) (Some v) frame entries after_it locals store outer ints arrays whole = record { ints = ints; arrays = arrays; whole = whole }
