@@ -3,7 +3,9 @@ pub mod SumLaws
 pub mod CounterLaws
 pub mod Measured
 pub mod JoinLaws
+pub mod Laws
 pub mod OpenParts
 pub mod Outermost
+pub mod PathCalls
 pub mod BlockWeights
 pub mod StrandWeights

@@ -1,7 +1,8 @@
 //! The weight of a heaviest path, with a burden for each spawn, as a strand keeps it: only a spawn pushes a block.
 
 ghost use Rattle.std.specs.Prelude.{◌≡◌, ℕ, ◌-◌, [], OnOk};
-ghost use Rattle.cw_measure.specs.StrandWeights.{begins, begins_again, ends, joins, spawns, strand_weight, Fits, HasGoneOn};
+ghost use Rattle.cw_measure.specs.PathCalls.{EndsWithin};
+ghost use Rattle.cw_measure.specs.StrandWeights.{begins, begins_again, joins, spawns, strand_weight, HasGoneOn};
 ghost use Rattle.cw_measure.specs.StrandWeights.{EndsChildWeight, JoinsWeight, NotesWeight, ReadsWeight, SpawnsWeight, TellsWeight};
 
 use std::alloc::{AllocError, Global};
@@ -137,7 +138,7 @@ impl BurdenedPath {
     // The spawned child that ran has ended.
     #[inline(always)]
     fn end(&mut self, burden: u64)
-        ensures weight { Fits (strand_weight self.old) burden → strand_weight self.new ≡ ends burden (strand_weight self.old) }
+        ensures weight { EndsWithin self.old self.new burden }
         ensures noted { self.new.noted ≡ self.old.noted }
     {
         let len = self.blocks.len();

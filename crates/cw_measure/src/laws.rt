@@ -1,11 +1,11 @@
 //! The laws of measures: each function has one as its contract, and does nothing.
 
-ghost use Rattle.std.specs.Prelude.{Bool, ℕ};
-ghost use Rattle.cw_model.specs.Trees.{Mark, Tree};
+ghost use Rattle.std.specs.Prelude.{ℕ};
 ghost use Rattle.cw_measure.specs.BlockWeights.{BlocksWeighTheirSpans, WorkAndWeightAreMetered};
 ghost use Rattle.cw_measure.specs.Counters.{CountersReadSpans};
+ghost use Rattle.cw_measure.specs.Laws.{AllTalliesKeep};
 ghost use Rattle.cw_measure.specs.Measured.{MeasuresReadTrees};
-ghost use Rattle.cw_measure.specs.Outermost.{Meters, AllPiecesTally, Reading, TalliesKeep};
+ghost use Rattle.cw_measure.specs.Outermost.{AllPiecesTally};
 ghost use Rattle.cw_measure.specs.StrandWeights.{SeriesNeedNoCall};
 ghost use Rattle.cw_measure.specs.declared.burdened_path.BurdenedPath.{BurdenedPath};
 
@@ -44,7 +44,7 @@ pub fn work_and_weight_are_metered()
 /// is told where counted parts begin and end sums what is measured of those that lie in no other one.
 #[tactic(auto, using(crate::proofs::OutermostLaws::tallies_keep))]
 pub fn tallies_sum_outermost_parts()
-    ensures { (f : Tree → ℕ) (read : Reading) (picks : Mark → Bool) (busy : ℕ) → Meters f read → TalliesKeep f read picks busy }
+    ensures { AllTalliesKeep }
 {}
 
 /// Sums of pieces that ran apart add, whatever is measured and whichever marks are counted.

@@ -45,6 +45,10 @@ pub record FitsRow (r : Row) : Type 0 where
   pub burdened : r.burdened < 2 ^ 128
   pub active : r.active < 2 ^ 64
 
+-- a row is this one, where its sums fit
+abbrev pub IsWhereItFits : (wanted row : Row) → Type 0
+IsWhereItFits wanted row = FitsRow wanted → row ≡ wanted
+
 -- a row, and that of a piece that ran apart and of which no execution is open
 abbrev pub summed : Row → Row → Row
 summed a b = record { work = a.work + b.work; span = a.span + b.span; burdened = a.burdened + b.burdened; active = a.active; at_work = a.at_work; at_path = a.at_path; at_burdened = a.at_burdened }

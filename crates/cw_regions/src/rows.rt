@@ -4,7 +4,7 @@ ghost use Rattle.std.specs.Prelude.{◌≡◌, ℕ, ◌==◌, ◌<◌, false, na
 ghost use Rattle.std.specs.Bool.{OnTrue};
 ghost use Rattle.indexmap.specs.IndexMap.{index_map_len, get};
 ghost use Rattle.cw_regions.specs.RegionRows as rows;
-ghost use Rattle.cw_regions.specs.RegionRows.{row_of, zero_row, FitsRow, JoinsRows, Took, Becomes, IsGiven, KeyAtHome, OthersStay, ValueAtHome};
+ghost use Rattle.cw_regions.specs.RegionRows.{row_of, zero_row, IsWhereItFits, JoinsRows, Took, Becomes, IsGiven, KeyAtHome, OthersStay, ValueAtHome};
 
 use indexmap::IndexMap;
 use std::alloc::{AllocError, Global};
@@ -163,7 +163,7 @@ impl Rows {
 /// The row after an execution of its tag began, at this work and on a path of this weight.
 #[inline(always)]
 pub fn entered(row: Row, count: u64, span: u64, burdened: u128) -> Row
-    ensures { FitsRow (rows.entered count span burdened row) → result ≡ rows.entered count span burdened row }
+    ensures { IsWhereItFits (rows.entered count span burdened row) result }
 {
     let mut row = row;
     if row.active == 0 {
@@ -178,7 +178,7 @@ pub fn entered(row: Row, count: u64, span: u64, burdened: u128) -> Row
 /// The row after an execution of its tag ended: the outermost one is summed.
 #[inline(always)]
 pub fn left(row: Row, count: u64, span: u64, burdened: u128) -> Row
-    ensures { FitsRow (rows.left count span burdened row) → result ≡ rows.left count span burdened row }
+    ensures { IsWhereItFits (rows.left count span burdened row) result }
 {
     let mut row = row;
     if row.active == 1 {
@@ -194,7 +194,7 @@ pub fn left(row: Row, count: u64, span: u64, burdened: u128) -> Row
 
 /// The row with the sums of a piece's row.
 pub fn summed(row: Row, piece: Row) -> Row
-    ensures { FitsRow (rows.summed row piece) → result ≡ rows.summed row piece }
+    ensures { IsWhereItFits (rows.summed row piece) result }
 {
     let mut row = row;
     row.work = row.work.saturating_add(piece.work);

@@ -27,10 +27,10 @@ stands_extended f (Some l) k p (Straight n) h = absurd h
 stands_extended f (Some l) k p (Split b None n) h = absurd h
 stands_extended f (Some l) k p (Split b (Some c) n) h = (h.0, sym (plus-assoc f k p) ∙ ap (λ (x : Path). plus x p) h.1 ∙ plus-assoc b n p)
 
-takes_later : (b l n c : Path) → l.weight < n.weight + c.weight → child_ended c (Split b (Some l) n) ≡ Split (plus b n) (Some c) nowhere
+pub takes_later : (b l n c : Path) → l.weight < n.weight + c.weight → child_ended c (Split b (Some l) n) ≡ Split (plus b n) (Some c) nowhere
 takes_later b l n c h = grind (arith, nat_tests)
 
-keeps_longest : (b l n c : Path) → n.weight + c.weight ≤ l.weight → child_ended c (Split b (Some l) n) ≡ Split b (Some l) n
+pub keeps_longest : (b l n c : Path) → n.weight + c.weight ≤ l.weight → child_ended c (Split b (Some l) n) ≡ Split b (Some l) n
 keeps_longest b l n c h = grind (arith, nat_tests)
 
 weights : (f l k b c n d : Path) → plus f l ≡ plus b c → plus f k ≡ plus b n → (f.weight + l.weight ≡ b.weight + c.weight) × (f.weight + k.weight ≡ b.weight + n.weight)

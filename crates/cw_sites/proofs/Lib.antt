@@ -2,9 +2,13 @@ pub mod ChosenPathLaws
 pub mod BlockPathLaws
 pub mod StepSumLaws
 pub mod CompactingLaws
+pub mod PieceLaws
 pub mod OpenPathLaws
 pub mod RowLaws
 pub mod SiteRowLaws
 pub mod Bounds
 pub mod PathLaws
+pub mod AppendLaws
+pub mod PieceShowLaws
+pub mod JoiningLaws
 pub mod TableLaws

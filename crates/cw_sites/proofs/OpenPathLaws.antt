@@ -6,7 +6,7 @@ use Rattle.cw_measure.specs.OpenParts.{Open, marked, closed, spawned_after, has_
 use Rattle.cw_sites.specs.ChosenPaths.{Path, nowhere, plus, best, steps_of, chosen}
 use Rattle.cw_sites.specs.BlockPaths.{BlockPath, Straight, Split, now_of, extended, longest_of, child_ended, finished, joins as joined, after, after_all}
 use Rattle.cw_sites.specs.StrandPaths.{SeenBlock, StrandPath, begins, again, chooses, ends_at, ends, joins}
-use Rattle.cw_sites.specs.OpenPaths.{inside, here_in, enters, block_path, StandsOn, RestsOn, Under, Shows}
+use Rattle.cw_sites.specs.OpenPaths.{inside, here_in, enters, block_path, StandsOn, RestsOn, Under, Shows, is_split}
 use Rattle.cw_sites.proofs.ChosenPathLaws.{plus-nowhere_first, plus-nowhere_last}
 use Rattle.cw_sites.proofs.BlockPathLaws.{finished-after_all}
 
@@ -20,10 +20,6 @@ block_more site base [] es e = after_all-append site base (Straight nowhere) es 
 block_more site base (o ∷ os) es e = after_all-append site (here_in base (o ∷ os)) (enters o.spawned (block_path site base os o.outer)) es (e ∷ [])
 
 -- whether a block is split is told by its events
-abbrev is_split : BlockPath → Bool
-is_split (Straight n) = false
-is_split (Split b l n) = true
-
 split_after : (site here : ℕ) (L : BlockPath) (e : Event) → is_split (after site here L e) ≡ spawned_after (is_split L) e
 split_after site here (Straight n) (Work k) = refl
 split_after site here (Split b l n) (Work k) = refl
@@ -64,7 +60,7 @@ now_extended : (p : Path) (L : BlockPath) → now_of (extended p L) ≡ plus (no
 now_extended p (Straight n) = refl
 now_extended p (Split b l n) = refl
 
-extends : (below : List SeenBlock → Type 0) (p : Path) (L : BlockPath) (t : StrandPath) → ShowsLocal below L t → ShowsLocal below (extended p L) (record { now = plus t.now p; blocks = t.blocks })
+pub extends : (below : List SeenBlock → Type 0) (p : Path) (L : BlockPath) (t : StrandPath) → ShowsLocal below L t → ShowsLocal below (extended p L) (record { now = plus t.now p; blocks = t.blocks })
 extends below p L t h = record { now_is = ap (λ (x : Path). plus x p) h.now_is ∙ sym (now_extended p L); blocks_are = stands_extended below p L t.blocks h.blocks_are }
 
 -- the block that runs goes on by so many instructions
@@ -80,7 +76,7 @@ pub shows_entered : (site base : ℕ) (os : List Open) (es : List Event) (t : St
 shows_entered site base os es t mark h = record { now_is = h.now_is; blocks_are = h.blocks_are }
 
 -- a spawned call begins
-begins_split : (below : List SeenBlock → Type 0) (L : BlockPath) (t : StrandPath) → is_split L ≡ false → ShowsLocal below L t → RestsOn below L (begins t).blocks
+pub begins_split : (below : List SeenBlock → Type 0) (L : BlockPath) (t : StrandPath) → is_split L ≡ false → ShowsLocal below L t → RestsOn below L (begins t).blocks
 begins_split below (Straight n) t e h = (h.now_is, refl, refl, h.blocks_are)
 begins_split below (Split b l n) t e h = cc
 
@@ -90,7 +86,7 @@ shows_spawned site base os es t mark e h = record {
   blocks_are = begins_split (Under site base os) (block_path site base os es) t (split-block_path site base os es ∙ e) (record { now_is = h.now_is; blocks_are = h.blocks_are });
 }
 
-again_at : (below : List SeenBlock → Type 0) (L : BlockPath) (n : Path) (ps : List SeenBlock) → is_split L ≡ true → n ≡ now_of L → StandsOn below L ps → RestsOn below L (again (record { now = n; blocks = ps })).blocks
+pub again_at : (below : List SeenBlock → Type 0) (L : BlockPath) (n : Path) (ps : List SeenBlock) → is_split L ≡ true → n ≡ now_of L → StandsOn below L ps → RestsOn below L (again (record { now = n; blocks = ps })).blocks
 again_at below (Straight m) n ps e f h = cc
 again_at below (Split b l m) n [] e f h = absurd h
 again_at below (Split b l m) n (p ∷ ps) e f h = (h.0, h.1, f, h.3)
@@ -164,7 +160,7 @@ ends_choice : (below : List SeenBlock → Type 0) (x : Bool) (b l n c : Path) (p
 ends_choice below true b l n c ps h = record { now_is = refl; blocks_are = (refl, refl, refl, h) }
 ends_choice below false b l n c ps h = record { now_is = refl; blocks_are = (refl, refl, refl, h) }
 
-ends_places : (below : List SeenBlock → Type 0) (L : BlockPath) (c : Path) (ps : List SeenBlock) → RestsOn below L ps → ShowsLocal below (child_ended c L) (ends (record { now = c; blocks = ps }))
+pub ends_places : (below : List SeenBlock → Type 0) (L : BlockPath) (c : Path) (ps : List SeenBlock) → RestsOn below L ps → ShowsLocal below (child_ended c L) (ends (record { now = c; blocks = ps }))
 ends_places below L c [] h = absurd h
 ends_places below (Straight n) c (p ∷ ps) h =
     let P : Option Path → Type 0 = λ x. ShowsLocal below (child_ended c (Straight n)) (ends_at p.base x p.rest c ps) in

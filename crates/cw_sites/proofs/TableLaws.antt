@@ -26,7 +26,7 @@ use Rattle.cw_sites.proofs.OpenPathLaws.{shows_work, shows_entered, shows_spawne
 use Rattle.cw_sites.proofs.SiteRowLaws.{steps_if, calls_more, row_work, row_join, row_other, row_entered, row_other_left, row_left, left_calls}
 use Rattle.cw_sites.proofs.Bounds.{whole_within, own_in_within, works_within, spans_within}
 
-fits_row : (q base : ℕ) (busy : ℕ → ℕ) (os : List Open) (es : List Event) (r : Row) → Small busy os es → CountsSite q base (busy q) os es r → FitsRow r
+pub fits_row : (q base : ℕ) (busy : ℕ → ℕ) (os : List Open) (es : List Event) (r : Row) → Small busy os es → CountsSite q base (busy q) os es r → FitsRow r
 fits_row q base busy os es r small h =
     let w = small.work in
     record {

@@ -1,5 +1,5 @@
 -- Statements of laws.
-use Rattle.std.specs.Prelude.{◌≡◌, ℕ, true, false, List, [], ◌∷◌, ◌++◌, Option}
+use Rattle.std.specs.Prelude.{◌≡◌, ℕ, Bool, true, false, ◌||◌, not, List, [], ◌∷◌, ◌++◌, Option}
 use Rattle.cw_model.specs.Trees.{Mark, Tree, Event, Work, Join, tree_of, span}
 use Rattle.cw_model.specs.Rows.{chosen_leaves}
 use Rattle.cw_measure.specs.Outermost.{Meters}
@@ -34,6 +34,12 @@ PiecesJoin =
     (site here : ℕ) (before : Path) (es fs gs : List Event) → no_joins fs ≡ true
     → finished (after_all site here (joined_on (after_all site here (Straight before) es) (after_all site here (Straight nowhere) fs)) gs)
     ≡ plus before (chosen site here (tree_of ((es ++ fs) ++ gs)))
+
+-- a piece without a join, or one with joins after a block that has spawned nothing: joined on, it is what would be kept if its events had come one after another
+abbrev pub PiecesAreOne : Type 0
+PiecesAreOne =
+    (site here : ℕ) (first : Bool) (before : Path) (es fs : List Event) → has_spawned es ≡ not first → (first || no_joins fs) ≡ true
+    → joined_on (after_all site here (Straight before) es) (after_all site here (Straight nowhere) fs) ≡ after_all site here (Straight before) (es ++ fs)
 
 -- the weight of the path that runs grows along a part, whose block has joined, by the part's span
 abbrev pub PathsAreMetered : Type 0

@@ -1,8 +1,10 @@
 pub mod ChosenPaths
+pub mod Compacting
 pub mod BlockPaths
 pub mod StepSums
 pub mod StrandPaths
 pub mod OpenPaths
+pub mod PathCalls
 pub mod SiteRows
 pub mod StepLists
 pub mod Tables

@@ -7,7 +7,7 @@ use Rattle.cw_measure.specs.Outermost.{is_counted, one_if, Tally, Counts}
 use Rattle.cw_sites.specs.declared.rows.Row.{Row}
 use Rattle.cw_sites.specs.declared.rows.Rows.{Rows}
 use Rattle.cw_sites.specs.OpenPaths.{here_in, path_in}
-use Rattle.indexmap.specs.IndexMap.{get}
+use Rattle.indexmap.specs.IndexMap.{get, index_map_len}
 
 abbrev pub zero_row : Row
 zero_row = record { calls = 0; own = 0; work = 0; span = 0; active = 0; at_work = 0; at_path = 0 }
@@ -86,3 +86,25 @@ KeyAtHome rows site = (k : ℕ) (row : Row) → slice_get rows.by_site.entries s
 
 abbrev pub ValueAtHome : Rows → (site : ℕ) → Type 0
 ValueAtHome rows site = (k : ℕ) (row : Row) → slice_get rows.by_site.entries site ≡ Some (k, row) → get nat_eq rows.by_site site ≡ Some row
+
+-- one more invocation is open round a piece that begins
+abbrev pub stood_in : Row → Row
+stood_in r = record { calls = r.calls; own = r.own; work = r.work; span = r.span; active = r.active + 1; at_work = r.at_work; at_path = r.at_path }
+
+-- a row, and that of a piece that ran apart and of which no invocation is open
+abbrev pub summed : Row → Row → Row
+summed a b = record { calls = a.calls + b.calls; own = a.own + b.own; work = a.work + b.work; span = a.span + b.span; active = a.active; at_work = a.at_work; at_path = a.at_path }
+
+-- the row of a site was taken out
+pub record Took (old new : Rows) (site : ℕ) (row : Row) : Type 0 where
+  pub row_is : row_of old site ≡ row
+  pub gone : row_of new site ≡ zero_row
+  pub others : (q : ℕ) → (site == q) ≡ false → row_of new q ≡ row_of old q
+
+-- there are fewer rows
+abbrev pub HasFewer : Rows → Rows → Type 0
+HasFewer old new = index_map_len new.by_site < index_map_len old.by_site
+
+-- each row whose sums fit has those of the piece
+abbrev pub JoinsRows : Rows → Rows → Rows → Type 0
+JoinsRows old right new = (q : ℕ) → FitsRow (summed (row_of old q) (row_of right q)) → row_of new q ≡ summed (row_of old q) (row_of right q)

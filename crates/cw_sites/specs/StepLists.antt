@@ -1,11 +1,11 @@
 -- The open blocks of a strand, whose paths are parts of one list, as one site sees them.
-use Rattle.std.specs.Prelude.{◌≡◌, ℕ, ◌+◌, ◌-◌, ◌*◌, ◌^◌, ◌≤◌, ◌<◌, List, [], ◌∷◌, length, option_map}
+use Rattle.std.specs.Prelude.{◌≡◌, ℕ, ◌+◌, ◌-◌, ◌*◌, ◌^◌, ◌≤◌, ◌<◌, Bool, List, [], ◌∷◌, length, option_map}
 use Rattle.cw_sites.specs.ChosenPaths.{Path, plus, best, steps_of}
 use Rattle.cw_sites.specs.declared.steps.Steps.{Steps}
 use Rattle.cw_sites.specs.declared.paths.Block.{Block}
 use Rattle.cw_sites.specs.declared.paths.Paths.{Paths}
-use Rattle.cw_sites.specs.StepSums.{upto, AllBelow, Fits}
-use Rattle.cw_sites.specs.StrandPaths.{SeenBlock, StrandPath, takes, goes_on, longest_path, whole as all_of}
+use Rattle.cw_sites.specs.StepSums.{upto, if_site, AllBelow, Fits}
+use Rattle.cw_sites.specs.StrandPaths.{SeenBlock, StrandPath, takes, goes_on, longest_path, extends_by, forks, appends, appends_block, whole as all_of}
 
 -- the path of this weight whose steps lie from a place to another
 abbrev pub part : (site : ℕ) → List Steps → (from to weight : ℕ) → Path
@@ -88,3 +88,44 @@ abbrev pub ClosesBlock : Paths → Paths → Block → Type 0
 ClosesBlock old new f =
     LaidWith old f → (q : ℕ) → f.base + old.weight < 2 ^ 64
     → strand_path q new ≡ record { now = plus (seen q old.steps.items f).base (strand_path q old).now; blocks = (strand_path q old).blocks }
+
+-- these steps more, whose weight is added apart
+abbrev pub AddsStep : Paths → Paths → Steps → Type 0
+AddsStep old new one =
+    Laid old → (q : ℕ) → (strand_path q old).now.own + if_site q one.site one.count < 2 ^ 64
+    → strand_path q new ≡ extends_by (record { weight = 0; own = if_site q one.site one.count }) (strand_path q old)
+
+-- the steps of a list from a place to another more, which weigh so much
+abbrev pub ExtendsBy : Paths → Paths → List Steps → (from to weight : ℕ) → Type 0
+ExtendsBy old new steps from to weight =
+    from ≤ to → to ≤ length steps → Laid old → (q : ℕ) → Fits (plus (strand_path q old).now (part q steps from to weight))
+    → strand_path q new ≡ extends_by (part q steps from to weight) (strand_path q old)
+
+-- a child that ran apart, whose steps these are
+abbrev pub ForksBy : Paths → Paths → (first : Bool) → List Steps → (from to weight : ℕ) → Type 0
+ForksBy old new first steps from to weight =
+    from ≤ to → to ≤ length steps → Laid old → (q : ℕ) → Fits (plus (all_of (strand_path q old)) (part q steps from to weight))
+    → strand_path q new ≡ forks first (part q steps from to weight) (strand_path q old)
+
+-- a piece that ran apart, and of which nothing is open
+abbrev pub Appends : Paths → (piece : Paths) → Paths → (first : Bool) → Type 0
+Appends old piece new first =
+    Laid old → Laid piece → (q : ℕ) → Fits (plus (all_of (strand_path q old)) (all_of (strand_path q piece)))
+    → strand_path q new ≡ appends first (strand_path q piece) (strand_path q old)
+
+-- what is bounded stays so, with steps of sites below the same number
+abbrev pub StaysBoundedWith : List Steps → Paths → Paths → Type 0
+StaysBoundedWith steps old new = (most : ℕ) → AllBelow most steps → IsBounded most old → IsBounded most new
+
+-- the same, where the block that the piece has spawned in is not in its list
+abbrev pub AppendsBlock : Paths → (piece : Paths) → Paths → Block → (first : Bool) → Type 0
+AppendsBlock old piece new f first =
+    Laid old → LaidWith piece f → (q : ℕ)
+    → Fits (plus (all_of (strand_path q old)) (all_of (record { now = (strand_path q piece).now; blocks = seen q piece.steps.items f ∷ [] })))
+    → strand_path q new ≡ appends_block first (seen q piece.steps.items f).base (seen q piece.steps.items f).longest (strand_path q piece).now (strand_path q old)
+
+-- a spawned part that ran apart, and of which nothing is open
+abbrev pub AppendsChild : Paths → (child : Paths) → Paths → (first : Bool) → Type 0
+AppendsChild old child new first =
+    Laid old → Laid child → (q : ℕ) → Fits (plus (all_of (strand_path q old)) (strand_path q child).now)
+    → strand_path q new ≡ forks first (strand_path q child).now (strand_path q old)

@@ -85,3 +85,23 @@ is_longer (Some l) w = nat_lt l w
 -- the strand goes on beside a child that is not the longest
 abbrev pub goes_on : SeenBlock → List SeenBlock → StrandPath
 goes_on p ps = record { now = p.rest; blocks = record { base = p.base; longest = p.longest; rest = nowhere } ∷ ps }
+
+-- the path of the strand that runs goes on by a path
+abbrev pub extends_by : Path → StrandPath → StrandPath
+extends_by p t = record { now = plus t.now p; blocks = t.blocks }
+
+-- a spawned child whose path this is, begins and ends
+abbrev pub forks : (first : Bool) → (child : Path) → StrandPath → StrandPath
+forks first child t = ends (extends_by child (spawns first t))
+
+-- a piece of the block that runs, of which nothing is open, is joined on: what it has spawned since its last join, and where it is
+abbrev pub appends_block : (first : Bool) → (base : Path) → Option Path → (now : Path) → StrandPath → StrandPath
+appends_block first base None now t = extends_by now (extends_by base t)
+appends_block first base (Some l) now t = extends_by now (forks first l (extends_by base t))
+
+abbrev pub appends_at : (first : Bool) → (now : Path) → List SeenBlock → StrandPath → StrandPath
+appends_at first now [] t = extends_by now t
+appends_at first now (p ∷ ps) t = appends_block first p.base p.longest now t
+
+abbrev pub appends : (first : Bool) → (piece t : StrandPath) → StrandPath
+appends first piece t = appends_at first piece.now piece.blocks t

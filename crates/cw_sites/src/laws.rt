@@ -1,6 +1,6 @@
 //! The laws of the chosen path: each function has one as its contract, and does nothing.
 
-ghost use Rattle.cw_sites.specs.Laws.{AllRunsAreShown, BlocksReadChosenPaths, PathsAreMetered, PiecesJoin, QuietPartsNeedNoCall};
+ghost use Rattle.cw_sites.specs.Laws.{AllRunsAreShown, BlocksReadChosenPaths, PathsAreMetered, PiecesAreOne, PiecesJoin, QuietPartsNeedNoCall};
 
 /// What a run keeps of a block adds the chosen path of the block's tree to what came before, for each site.
 #[tactic(auto, using(crate::proofs::TableLaws::blocks_read_chosen_paths))]
@@ -33,4 +33,11 @@ pub fn paths_are_metered()
 #[tactic(auto, using(crate::proofs::TableLaws::pieces_join))]
 pub fn pieces_join()
     ensures { PiecesJoin }
+{}
+
+/// A piece of a block that has no join, or any piece of one that has spawned nothing since its last join, is joined on
+/// so that all is kept that would be if its events had come one after another.
+#[tactic(auto, using(crate::proofs::PieceLaws::pieces_are_one))]
+pub fn pieces_are_one()
+    ensures { PiecesAreOne }
 {}

@@ -24,6 +24,23 @@
 //! | a scope, a cut, a turn or a region, before it begins and before it ends, its block joined | `note(count)`, and nothing else (`laws::quiet_parts_need_no_call`) |
 //! | any other instruction | nothing |
 //!
+//! # Pieces that run apart
+//!
+//! A piece that runs apart inside of open parts begins with a table of its own: `SiteTable::new(alloc, here)` with the
+//! site of the innermost open invocation, and `stand_in(site)` once for each open invocation of each site, so that what
+//! is inside of one is not summed again. It counts its own instructions from 0. Where it has ended, and nothing of it is
+//! open, both tables are noted and joined:
+//!
+//! | the piece is | call |
+//! |---|---|
+//! | the next events of the block that runs, without a join, or after a block that has spawned nothing since its last join | `join_piece(piece, first)` |
+//! | the next events of the block, with joins of its own | `join_across(before, after, first)`, with a table up to its first join and one from there on |
+//! | a spawned part of the block, a call or half of a loop | `join_child(child, first)` |
+//!
+//! `first` tells that the block has not spawned since its last join. Later counts go on from the count of both. The table
+//! then tells of all events in serial order, as if none had run apart (`laws::pieces_are_one`): ties too. A join takes one
+//! step for each row of the piece and for each step of its path, which is at most twice the sites and a constant.
+//!
 //! What a machine states against the trace of the code's meaning: with the waiting calls of the state as open parts
 //! and the trace's events cut into `es ++ fs`, the table tells of `es`, and `fs` are `Since` its last call up to the
 //! count: instructions, and joins of a block that had spawned nothing. So an instruction that is none of the above only

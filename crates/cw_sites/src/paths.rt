@@ -1,10 +1,12 @@
 //! The path of the strand that runs, and of the blocks round it that have spawned.
 
-ghost use Rattle.std.specs.Prelude.{◌≡◌, ℕ, ◌+◌, ◌-◌, ◌^◌, ◌<◌, ◌==◌, ◌≤◌, length, min, if◌then◌else◌, OnOk};
+ghost use Rattle.std.specs.Prelude.{◌≡◌, ℕ, ◌+◌, ◌-◌, ◌^◌, ◌<◌, ◌==◌, ◌≤◌, length, min, if◌then◌else◌, IfOk, OnOk};
 ghost use Rattle.cw_sites.specs.StepLists.{strand_path, Extends, IsBounded, IsShort, Laid, LaidWith, SaysTheSame, StaysBounded, Comes, ComesWithin, TakesChild, LetsChildGo, JoinsBlock, ClosesBlock};
+ghost use Rattle.cw_sites.specs.PathCalls.{ReadsOwn, ReadsOwnBySite, StaysBoundedAt};
+ghost use Rattle.cw_sites.specs.StepLists.{AddsStep, Appends, AppendsBlock, AppendsChild, ExtendsBy, ForksBy, StaysBoundedWith};
 ghost use Rattle.cw_sites.specs.StrandPaths.{nothing_run, begins, again, spawns, is_longer, ends, joins};
 
-use crate::compacting::add_up;
+use crate::compacting::{add_up, sum_up};
 use crate::steps::{Steps, add_steps, take_out};
 use std::alloc::{AllocError, Global};
 
@@ -67,7 +69,7 @@ impl Paths {
         ensures laid { OnOk result (Laid self.old → Laid self.new) }
         ensures strand_path { OnOk result (Extends self.old self.new site count) }
         ensures short { OnOk result (IsShort self.new) }
-        ensures bounded { OnOk result ((most : ℕ) → site < most → IsBounded most self.old → IsBounded most self.new) }
+        ensures bounded { OnOk result (StaysBoundedAt site self.old self.new) }
     {
         if self.steps.len().saturating_sub(self.start) > self.limit {
             self.compact()?;
@@ -84,7 +86,7 @@ impl Paths {
         ensures short { OnOk result (length self.new.steps.items ≤ length self.old.steps.items + 1) }
         ensures limit { OnOk result (self.new.limit ≡ self.old.limit) }
         ensures start { OnOk result (self.new.start ≡ self.old.start) }
-        ensures bounded { OnOk result ((most : ℕ) → site < most → IsBounded most self.old → IsBounded most self.new) }
+        ensures bounded { OnOk result (StaysBoundedAt site self.old self.new) }
     {
         add_steps(&mut self.steps, self.start, site, count)?;
         self.weight = self.weight.saturating_add(count);
@@ -261,7 +263,7 @@ impl Paths {
 
     /// How much of the path of the strand that runs is a site's own.
     pub fn own(&self, site: u32) -> u64
-        ensures { Laid self.now → (strand_path site self.now).now.own < 2 ^ 64 → result ≡ (strand_path site self.now).now.own }
+        ensures { ReadsOwn self.now site result }
     {
         let mut sum = 0u64;
         for i in self.start..self.steps.len() {
@@ -269,6 +271,16 @@ impl Paths {
             sum = with_steps(sum, steps, site);
         }
         sum
+    }
+
+    /// How much of the path of the strand that runs is each site's own, by the sites' numbers, with one walk over the
+    /// path; of a site past the end nothing is. An error where memory runs out.
+    pub fn own_by_site(&self, alloc: Global) -> Result<Vec<u64>, AllocError>
+        ensures { IfOk result (λ sums. ReadsOwnBySite self.now sums.items) }
+    {
+        let mut sums = Vec::new(alloc);
+        sum_up(&self.steps, self.start, &mut sums)?;
+        Ok(sums)
     }
 
     // This block joins.
@@ -300,6 +312,116 @@ impl Paths {
         take_out(&mut self.steps, f.mid, self.start);
         self.weight = f.base.saturating_add(self.weight);
         self.start = f.from;
+    }
+
+    /// Joins the path of a piece of the block that runs, which ran apart and of which nothing is open; `first` tells that
+    /// the block has not spawned since its last join.
+    pub fn append(&mut self, piece: Paths, first: bool) -> Result<(), AllocError>
+        ensures laid { OnOk result (Laid self.old → Laid self.new) }
+        ensures bounded { OnOk result (StaysBoundedWith piece.steps.items self.old self.new) }
+        ensures strand_path { OnOk result (Appends self.old piece self.new first) }
+    {
+        let mut piece = piece;
+        match piece.blocks.pop() {
+            None => {
+                let end = piece.steps.len();
+                self.extend_by(&piece.steps, piece.start, end, piece.weight)?;
+                Ok(())
+            }
+            Some(f) => {
+                self.append_block(&piece, f, first)?;
+                Ok(())
+            }
+        }
+    }
+
+    // Joins the path of a piece that has spawned since its last join.
+    fn append_block(&mut self, piece: &Paths, f: Block, first: bool) -> Result<(), AllocError>
+        ensures laid { OnOk result (Laid self.old → Laid self.new) }
+        ensures bounded { OnOk result (StaysBoundedWith piece.now.steps.items self.old self.new) }
+        ensures strand_path { OnOk result (AppendsBlock self.old piece.now self.new f first) }
+    {
+        self.extend_by(&piece.steps, f.from, f.mid, f.base)?;
+        if let Some(child) = f.longest {
+            self.fork_by(first, &piece.steps, f.mid, f.end, child)?;
+        }
+        let end = piece.steps.len();
+        self.extend_by(&piece.steps, piece.start, end, piece.weight)?;
+        Ok(())
+    }
+
+    /// Joins the path of a spawned part that ran apart and of which nothing is open; `first` as for `append`.
+    pub fn append_child(&mut self, child: Paths, first: bool) -> Result<(), AllocError>
+        ensures laid { OnOk result (Laid self.old → Laid self.new) }
+        ensures bounded { OnOk result (StaysBoundedWith child.steps.items self.old self.new) }
+        ensures strand_path { OnOk result (AppendsChild self.old child self.new first) }
+    {
+        let end = child.steps.len();
+        self.fork_by(first, &child.steps, child.start, end, child.weight)?;
+        Ok(())
+    }
+
+    // A spawned child that ran apart: its path is these steps of a list.
+    fn fork_by(
+        &mut self,
+        first: bool,
+        steps: &Vec<Steps>,
+        from: usize,
+        to: usize,
+        weight: u64,
+    ) -> Result<(), AllocError>
+        ensures laid { OnOk result (Laid self.old → Laid self.new) }
+        ensures bounded { OnOk result (StaysBoundedWith steps.now.items self.old self.new) }
+        ensures strand_path { OnOk result (ForksBy self.old self.new first steps.now.items from to weight) }
+    {
+        self.spawn(first)?;
+        self.extend_by(steps, from, to, weight)?;
+        self.end()?;
+        Ok(())
+    }
+
+    // The steps of a list from a place to another, which weigh so much.
+    fn extend_by(
+        &mut self,
+        steps: &Vec<Steps>,
+        from: usize,
+        to: usize,
+        weight: u64,
+    ) -> Result<(), AllocError>
+        ensures laid { OnOk result (Laid self.old → Laid self.new) }
+        ensures bounded { OnOk result (StaysBoundedWith steps.now.items self.old self.new) }
+        ensures strand_path { OnOk result (ExtendsBy self.old self.new steps.now.items from to weight) }
+    {
+        let end = to.min(steps.len());
+        for i in from..end {
+            let one = steps[i];
+            self.step(one)?;
+        }
+        self.weight = self.weight.saturating_add(weight);
+        Ok(())
+    }
+
+    // These steps more, whose weight is added apart.
+    fn step(&mut self, one: Steps) -> Result<(), AllocError>
+        ensures laid { OnOk result (Laid self.old → Laid self.new) }
+        ensures bounded { OnOk result (StaysBoundedAt one.site self.old self.new) }
+        ensures strand_path { OnOk result (AddsStep self.old self.new one) }
+    {
+        if self.steps.len().saturating_sub(self.start) > self.limit {
+            self.compact()?;
+        }
+        self.add_step(one)?;
+        Ok(())
+    }
+
+    // The same, however long the path is.
+    fn add_step(&mut self, one: Steps) -> Result<(), AllocError>
+        ensures laid { OnOk result (Laid self.old → Laid self.new) }
+        ensures bounded { OnOk result (StaysBoundedAt one.site self.old self.new) }
+        ensures strand_path { OnOk result (AddsStep self.old self.new one) }
+    {
+        add_steps(&mut self.steps, self.start, one.site, one.count)?;
+        Ok(())
     }
 }
 

@@ -1,10 +1,10 @@
 //! What is counted of each site, kept by site number.
 
-ghost use Rattle.std.specs.Prelude.{◌≡◌, ℕ, ◌==◌, ◌<◌, false, Some, OnOk, if◌then◌else◌};
+ghost use Rattle.std.specs.Prelude.{◌≡◌, ℕ, ◌==◌, ◌<◌, false, Some, None, IfSome, OnOk, if◌then◌else◌};
 ghost use Rattle.std.specs.Bool.{OnTrue};
 ghost use Rattle.indexmap.specs.IndexMap.{index_map_len};
 ghost use Rattle.cw_sites.specs.SiteRows as tallies;
-ghost use Rattle.cw_sites.specs.SiteRows.{row_of, zero_row, FitsRow, Becomes, IsGiven, KeyAtHome, OthersStay, ValueAtHome};
+ghost use Rattle.cw_sites.specs.SiteRows.{row_of, zero_row, FitsRow, Becomes, HasFewer, IsGiven, JoinsRows, KeyAtHome, OthersStay, Took, ValueAtHome};
 
 use indexmap::IndexMap;
 use std::alloc::{AllocError, Global};
@@ -162,6 +162,40 @@ impl Rows {
         Ok(())
     }
 
+    /// One more invocation of a site is open round a piece that begins, and whose rows these are.
+    pub fn stand_in(&mut self, site: u32) -> Result<(), AllocError>
+        ensures own { OnOk result (Becomes tallies.stood_in self.old self.new site) }
+        ensures others { OnOk result (OthersStay self.old self.new site) }
+    {
+        let row = stood_in(self.row(site));
+        self.set(site, row)?;
+        Ok(())
+    }
+
+    /// Adds, for each site, the sums of a piece that ran apart and of which no invocation is open: one step for each row
+    /// of the piece.
+    pub fn join(&mut self, right: Rows) -> Result<(), AllocError>
+        ensures { OnOk result (JoinsRows self.old right self.new) }
+    {
+        let mut rest = right;
+        while let Some((site, row)) = rest.take_last() {
+            let current = self.row(site);
+            let sum = summed(current, row);
+            self.set(site, sum)?;
+        }
+        Ok(())
+    }
+
+    // Takes some row out, where there is one.
+    fn take_last(&mut self) -> Option<(u32, Row)>
+        ensures took { IfSome result (λ p. Took self.old self.new p.0 p.1) }
+        ensures none { result ≡ None → (q : ℕ) → row_of self.old q ≡ zero_row }
+        ensures fewer { IfSome result (λ p. HasFewer self.old self.new) }
+    {
+        let (site, row) = self.by_site.pop()?;
+        Some((site, row))
+    }
+
     /// Gives a site its row.
     #[inline(always)]
     pub fn set(&mut self, site: u32, row: Row) -> Result<(), AllocError>
@@ -213,5 +247,26 @@ pub fn left(row: Row, count: u64, path: u64) -> Row
         row.span = row.span.saturating_add(path.saturating_sub(row.at_path));
     }
     row.active = row.active.saturating_sub(1);
+    row
+}
+
+/// The row where one more invocation of its site is open round a piece that begins.
+pub fn stood_in(row: Row) -> Row
+    ensures { FitsRow (tallies.stood_in row) → result ≡ tallies.stood_in row }
+{
+    let mut row = row;
+    row.active = row.active.saturating_add(1);
+    row
+}
+
+/// The row with the sums of a piece's row.
+pub fn summed(row: Row, piece: Row) -> Row
+    ensures { FitsRow (tallies.summed row piece) → result ≡ tallies.summed row piece }
+{
+    let mut row = row;
+    row.calls = row.calls.saturating_add(piece.calls);
+    row.own = row.own.saturating_add(piece.own);
+    row.work = row.work.saturating_add(piece.work);
+    row.span = row.span.saturating_add(piece.span);
     row
 }

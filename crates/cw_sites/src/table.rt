@@ -1,9 +1,12 @@
 //! The table of a strand: the rows of the sites, and the chosen path so far.
 
-ghost use Rattle.std.specs.Prelude.{◌<◌, ℕ, [], OnOk};
+ghost use Rattle.std.specs.Prelude.{◌≡◌, ◌<◌, ℕ, [], OnOk};
+ghost use Rattle.cw_sites.specs.PathCalls.{ReadsOwn};
 ghost use Rattle.cw_sites.specs.StepLists.{IsShort};
+ghost use Rattle.cw_sites.specs.StepSums.{sum_at};
 ghost use Rattle.cw_sites.specs.Tables.{Flushed, IsBoundedTable, RowBegun, RowLeft, StaysBoundedIn, Tells};
 ghost use Rattle.cw_sites.specs.Tables.{EndsChild, EndsHalf, Enters, Joins, Leaves, Notes};
+ghost use Rattle.cw_sites.specs.Tables.{JoinsAcross, JoinsChild, JoinsHere, JoinsPiece, ReadsSpawned, StandsInSite, StaysBoundedAcross, StaysBoundedBeside, StaysBoundedTable};
 ghost use Rattle.cw_sites.specs.Tables.{ReadsPath, ReadsSite, Spawns, SpawnsHalf};
 
 use crate::paths::Paths;
@@ -161,12 +164,97 @@ impl SiteTable {
         Ok(())
     }
 
+    /// One more invocation of this site is open round a piece that begins, and whose table this is.
+    pub fn stand_in(&mut self, site: u32) -> Result<(), AllocError>
+        ensures told { OnOk result (StandsInSite self.old self.new site) }
+        ensures bounded { OnOk result (StaysBoundedTable self.old self.new) }
+    {
+        self.rows.stand_in(site)?;
+        Ok(())
+    }
+
+    /// Joins the table of a piece that ran apart inside of what is open, and of which nothing is open itself, as the next
+    /// events of the block that runs: the piece has no join, or the block has not spawned since its last join, which
+    /// `first` tells. The instructions so far of both are noted.
+    pub fn join_piece(&mut self, piece: SiteTable, first: bool) -> Result<(), AllocError>
+        ensures told { OnOk result (JoinsPiece self.old piece self.new first) }
+        ensures bounded { OnOk result (StaysBoundedBeside piece self.old self.new) }
+    {
+        self.rows.join(piece.rows)?;
+        self.paths.append(piece.paths, first)?;
+        self.noted = self.noted.saturating_add(piece.noted);
+        Ok(())
+    }
+
+    /// Joins, as `join_piece` does, a piece that has joined: `before` is the table of what ran up to its first join, `after`
+    /// that of what ran from there on, with all its later joins.
+    pub fn join_across(
+        &mut self,
+        before: SiteTable,
+        after: SiteTable,
+        first: bool,
+    ) -> Result<(), AllocError>
+        ensures told { OnOk result (JoinsAcross self.old before after self.new first) }
+        ensures bounded { OnOk result (StaysBoundedAcross before after self.old self.new) }
+    {
+        let more = before.has_spawned();
+        let spawned = !first || more;
+        self.join_piece(before, first)?;
+        self.join_here(spawned);
+        self.join_piece(after, true)?;
+        Ok(())
+    }
+
+    // The block joins here; `spawned` tells whether it has spawned since its last join.
+    fn join_here(&mut self, spawned: bool)
+        ensures told { JoinsHere self.old self.new spawned }
+        ensures bounded { StaysBoundedTable self.old self.new }
+    {
+        if spawned {
+            self.paths.join();
+        }
+    }
+
+    /// Whether the block of a piece, of which nothing is open, has spawned since its last join.
+    pub fn has_spawned(&self) -> bool
+        ensures { ReadsSpawned self.now result }
+    {
+        !self.paths.blocks.is_empty()
+    }
+
+    /// Joins the table of a spawned part that ran apart inside of what is open, and of which nothing is open itself;
+    /// `first` as for `spawn`. The instructions so far of both are noted.
+    pub fn join_child(&mut self, child: SiteTable, first: bool) -> Result<(), AllocError>
+        ensures told { OnOk result (JoinsChild self.old child self.new first) }
+        ensures bounded { OnOk result (StaysBoundedBeside child self.old self.new) }
+    {
+        self.rows.join(child.rows)?;
+        self.paths.append_child(child.paths, first)?;
+        self.noted = self.noted.saturating_add(child.noted);
+        Ok(())
+    }
+
     /// The weight of the path of the strand that runs, in instructions, once they are noted: what regions are told.
     #[inline(always)]
     pub fn path(&self) -> u64
         ensures { ReadsPath self.now result }
     {
         self.paths.weight
+    }
+
+    /// What is counted of a site, where so much of the path is its own, as `Paths::own_by_site` tells; once no part is
+    /// open and the block has joined.
+    pub fn site_with(&self, site: u32, own: u64) -> SiteRow
+        ensures { ReadsOwn self.now.paths site own → ReadsSite self.now site result }
+    {
+        let row = self.rows.row(site);
+        SiteRow {
+            calls: row.calls,
+            own_work: row.own,
+            own_span: own,
+            work: row.work,
+            span: row.span,
+        }
     }
 
     /// What is counted of a site, once no part is open and the block has joined.
@@ -182,6 +270,15 @@ impl SiteTable {
             span: row.span,
         }
     }
+}
+
+/// The sum of a site; 0 where there is none.
+#[inline(always)]
+pub fn sum_of(sums: &[u64], site: u32) -> u64
+    ensures { result ≡ sum_at site sums.now }
+{
+    let at = site as usize;
+    if at < sums.len() { sums[at] } else { 0 }
 }
 
 /// What is counted of a site.

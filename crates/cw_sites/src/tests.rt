@@ -132,3 +132,101 @@ fn a_long_loop_of_calls(rt: HostRuntime) -> Result<(), AllocError> {
     assert_eq!(rt; table.site(2), row(2_000, 6_000, 6_000, 6_000, 6_000));
     Ok(())
 }
+
+// A rest that ran apart: 1 instruction, a child of 2, and in the rest, of 1 instruction in each place, a child of 4 and
+// one of 2; then a join and 3 instructions. The path goes through the rest to the child of 4: 1 + 1 + 4 from the first
+// spawn beside 2.
+#[test]
+fn a_rest_that_ran_apart(rt: HostRuntime) -> Result<(), AllocError> {
+    let alloc = rt.alloc();
+    let mut table = SiteTable::new(alloc, 0);
+    table.enter(0, 0)?;
+    table.spawn(1, 1, true)?;
+    table.end_child(3, 0)?;
+    let mut rest = SiteTable::new(alloc, 0);
+    rest.stand_in(0)?;
+    rest.spawn(1, 2, true)?;
+    rest.end_child(5, 0)?;
+    rest.spawn(6, 1, false)?;
+    rest.end_child(8, 0)?;
+    rest.note(9)?;
+    table.join_piece(rest, false)?;
+    table.join(12)?;
+    table.leave(15, 0)?;
+    assert_eq!(rt; table.site(0), row(1, 7, 5, 15, 9));
+    assert_eq!(rt; table.site(1), row(2, 4, 0, 4, 4));
+    assert_eq!(rt; table.site(2), row(1, 4, 4, 4, 4));
+    Ok(())
+}
+
+// The rest's longest child ties with the child before it: that child is chosen, as in a serial run.
+#[test]
+fn a_tie_with_a_rest_that_ran_apart(rt: HostRuntime) -> Result<(), AllocError> {
+    let alloc = rt.alloc();
+    let mut table = SiteTable::new(alloc, 0);
+    table.enter(0, 0)?;
+    table.spawn(1, 1, true)?;
+    table.end_child(6, 0)?;
+    let mut rest = SiteTable::new(alloc, 0);
+    rest.stand_in(0)?;
+    rest.spawn(1, 2, true)?;
+    rest.end_child(5, 0)?;
+    table.join_piece(rest, false)?;
+    table.join(11)?;
+    table.leave(11, 0)?;
+    assert_eq!(rt; table.site(0), row(1, 2, 1, 11, 6));
+    assert_eq!(rt; table.site(1), row(1, 5, 5, 5, 5));
+    assert_eq!(rt; table.site(2), row(1, 4, 0, 4, 4));
+    Ok(())
+}
+
+// A child that ran apart inside of an invocation of its own site, whose work is not summed a second time, and a rest of 2.
+#[test]
+fn a_child_that_ran_apart(rt: HostRuntime) -> Result<(), AllocError> {
+    let alloc = rt.alloc();
+    let mut table = SiteTable::new(alloc, 0);
+    table.enter(0, 0)?;
+    table.enter(1, 1)?;
+    table.note(3)?;
+    let mut child = SiteTable::new(alloc, 1);
+    child.stand_in(0)?;
+    child.stand_in(1)?;
+    child.enter(0, 1)?;
+    child.leave(5, 1)?;
+    table.join_child(child, true)?;
+    table.join(10)?;
+    table.leave(11, 0)?;
+    table.leave(12, 0)?;
+    assert_eq!(rt; table.site(0), row(1, 2, 2, 12, 10));
+    assert_eq!(rt; table.site(1), row(2, 10, 8, 10, 8));
+    Ok(())
+}
+
+// A piece that has joined: before its join a child of 3 beside a rest of 1, which with the 1 before the piece is no longer
+// than the child of 6 before it; after it a child of 2 beside a rest of 1.
+#[test]
+fn a_piece_that_has_joined(rt: HostRuntime) -> Result<(), AllocError> {
+    let alloc = rt.alloc();
+    let mut table = SiteTable::new(alloc, 0);
+    table.enter(0, 0)?;
+    table.spawn(1, 1, true)?;
+    table.end_child(7, 0)?;
+    table.note(8)?;
+    let mut before = SiteTable::new(alloc, 0);
+    before.stand_in(0)?;
+    before.spawn(0, 2, true)?;
+    before.end_child(3, 0)?;
+    before.note(4)?;
+    let mut after = SiteTable::new(alloc, 0);
+    after.stand_in(0)?;
+    after.spawn(0, 2, true)?;
+    after.end_child(2, 0)?;
+    after.note(3)?;
+    table.join_across(before, after, false)?;
+    table.join(15)?;
+    table.leave(15, 0)?;
+    assert_eq!(rt; table.site(0), row(1, 4, 1, 15, 9));
+    assert_eq!(rt; table.site(1), row(1, 6, 6, 6, 6));
+    assert_eq!(rt; table.site(2), row(2, 5, 2, 5, 5));
+    Ok(())
+}

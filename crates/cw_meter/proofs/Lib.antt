@@ -1,0 +1,6 @@
+pub mod AlikeLaws
+pub mod ClosingLaws
+pub mod Counting
+pub mod MeterLaws
+pub mod ReadingLaws
+pub mod TableLaws

@@ -1,0 +1,253 @@
+-- The tables of a run are told of it together.
+use Rattle.std.specs.Prelude.{◌≡◌, ℕ, ◌+◌, ◌-◌, ◌≤◌, Bool, true, false, not, List, [], ◌∷◌, ◌++◌, Option, Some, None, refl}
+use Rattle.std.proofs.Common.{sym, ◌∙◌, ap, subst, arith}
+use Rattle.cw_model.specs.Limits.{most_limit, most_burden}
+use Rattle.cw_model.specs.Trees.{Mark, Invocation, Execution, Event, Work, Series, Fork, Join}
+use Rattle.cw_measure.specs.declared.burdened_path.BurdenedPath.{BurdenedPath}
+use Rattle.cw_measure.specs.OpenParts.{Open, closed, has_spawned, IsSince, Since, work_in}
+use Rattle.cw_measure.specs.StrandWeights.{TellsWeight, FitsRun, NotesWeight, SpawnsWeight, JoinsWeight}
+use Rattle.cw_measure.proofs.OpenPartLaws.{append_none, spawned_append, has_spawned-work, has_spawned_since}
+use Rattle.cw_measure.proofs.StrandWeightLaws.{series_need_no_call}
+use Rattle.cw_sites.specs.declared.table.SiteTable.{SiteTable}
+use Rattle.cw_sites.specs.Tables.{Small, Notes, Enters, Spawns, SpawnsHalf, Leaves, EndsChild, EndsHalf, Joins, ReadsPath}
+use Rattle.cw_sites.specs.Tables as sites
+use Rattle.cw_sites.proofs.TableLaws.{quiet_parts}
+use Rattle.cw_regions.specs.declared.table.RegionTable.{RegionTable}
+use Rattle.cw_regions.specs.Regions.{Readings, Tags, TellsRegions, StartsRegions, IsNoExecution, SmallRegions}
+use Rattle.cw_regions.specs.Regions as regions
+use Rattle.cw_regions.proofs.RegionLaws.{regions_need_no_call}
+use Rattle.cw_meter.specs.declared.tables.Tables.{Tables}
+use Rattle.cw_meter.specs.Meters.{AreTold, TablesTell, TellsTags, nothing_open, ticked}
+use Rattle.cw_meter.specs.Tables.{JoinsSpawned, Opens, OpensRegion, Settles, opened}
+use Rattle.cw_meter.proofs.AlikeLaws.{append_twice}
+use Rattle.cw_meter.proofs.Counting.{counted_ticked, counted_joined, small_run, fits_run, small_tags}
+
+-- what has not been told goes on
+more_is : (told since gs es : List Event) → told ++ since ≡ es → told ++ (since ++ gs) ≡ es ++ gs
+more_is told since gs es e = sym (append_twice told since gs) ∙ ap (λ (x : List Event). x ++ gs) e
+
+since_work : (b : Bool) (fs : List Event) (k j : ℕ) → IsSince b fs k → IsSince b (fs ++ Work j ∷ []) (k + j)
+since_work b [] k j s = (omega arith, omega arith)
+since_work b (Work i ∷ fs) k j s =
+    let le = s.0 in
+    let P : ℕ → Type 0 = λ x. IsSince b (fs ++ Work j ∷ []) x in
+    let e : (k - i) + j ≡ (k + j) - i = omega arith in (omega arith, subst P e (since_work b fs (k - i) j s.1))
+since_work b (Join ∷ fs) k j s = (s.0, since_work b fs k j s.1)
+since_work b (Series t ∷ fs) k j s = absurd s
+since_work b (Fork t ∷ fs) k j s = absurd s
+
+since_join : (b : Bool) (fs : List Event) (k : ℕ) → b ≡ false → IsSince b fs k → IsSince b (fs ++ Join ∷ []) k
+since_join b [] k e s = (e, s)
+since_join b (Work i ∷ fs) k e s = (s.0, since_join b fs (k - i) e s.1)
+since_join b (Join ∷ fs) k e s = (s.0, since_join b fs k e s.1)
+since_join b (Series t ∷ fs) k e s = absurd s
+since_join b (Fork t ∷ fs) k e s = absurd s
+
+-- the tags, as the run goes on
+tags_ticked : (burden : ℕ) (tags : Tags) (os : List Open) (es : List Event) (r : RegionTable) (k : ℕ) → TellsTags burden tags os es r → TellsTags burden tags os (es ++ Work k ∷ []) r
+tags_ticked burden tags os es r k h = record { along = h.along; path_is = h.path_is; burdened_is = h.burdened_is; tells = (regions_need_no_call burden h.along tags nothing_open os r).work es k h.tells }
+
+tags_joined : (burden : ℕ) (tags : Tags) (os : List Open) (es : List Event) (r : RegionTable) → TellsTags burden tags os es r → TellsTags burden tags os (es ++ Join ∷ []) r
+tags_joined burden tags os es r h = record { along = h.along; path_is = h.path_is; burdened_is = h.burdened_is; tells = (regions_need_no_call burden h.along tags nothing_open os r).join es h.tells }
+
+pub tags_opened : (burden : ℕ) (tags : Tags) (spawned : Bool) (mark : Option Mark) (os : List Open) (es : List Event) (r : RegionTable) → IsNoExecution mark → TellsTags burden tags os es r → TellsTags burden tags (opened spawned mark es os) [] r
+tags_opened burden tags spawned mark os es r quiet h = record { along = h.along; path_is = h.path_is; burdened_is = h.burdened_is; tells = (regions_need_no_call burden h.along tags nothing_open os r).begins (record { spawned = spawned; mark = mark; outer = es }) quiet h.tells }
+
+pub tags_closed : (burden : ℕ) (tags : Tags) (spawned : Bool) (mark : Option Mark) (before : List Event) (os : List Open) (es : List Event) (r : RegionTable) → IsNoExecution mark → TellsTags burden tags (opened spawned mark before os) es r → TellsTags burden tags os (closed (record { spawned = spawned; mark = mark; outer = before }) es) r
+tags_closed burden tags spawned mark before os es r quiet h = record { along = h.along; path_is = h.path_is; burdened_is = h.burdened_is; tells = (regions_need_no_call burden h.along tags nothing_open os r).ends (record { spawned = spawned; mark = mark; outer = before }) es quiet h.tells }
+
+-- whether what has been told has spawned
+pub told_spawned : (burden : ℕ) (tags : Tags) (count : ℕ) (os : List Open) (es : List Event) (t : Tables) (h : TablesTell burden tags count os es t) → has_spawned h.told ≡ t.spawned
+told_spawned burden tags count os es t h =
+    sym (has_spawned_since h.told h.since (count - work_in os h.told) h.waits.instructions) ∙ ap has_spawned_of h.all ∙ sym h.spawned_is
+  where
+    has_spawned_of : List Event → Bool
+    has_spawned_of x = has_spawned x
+
+-- an instruction, and a join of a block that has spawned nothing, need no call
+pub tables_ticked : (burden : ℕ) (tags : Tags) (count : ℕ) (os : List Open) (es : List Event) (t : Tables) → TablesTell burden tags count os es t → TablesTell burden tags (count + 1) os (ticked es) t
+tables_ticked burden tags count os es t h = record {
+  told = h.told;
+  since = h.since ++ Work 1 ∷ [];
+  all = more_is h.told h.since (Work 1 ∷ []) es h.all;
+  waits =
+      let le = h.waits.goes_on in
+      let P : ℕ → Type 0 = λ x. IsSince (has_spawned h.told) (h.since ++ Work 1 ∷ []) x in
+      let e : (count - work_in os h.told) + 1 ≡ (count + 1) - work_in os h.told = omega arith in
+      record { goes_on = omega arith; instructions = subst P e (since_work (has_spawned h.told) h.since (count - work_in os h.told) 1 h.waits.instructions) };
+  sites = h.sites;
+  path = h.path;
+  regions = tags_ticked burden tags os es t.regions 1 h.regions;
+  counted = counted_ticked burden count os es h.counted;
+  burden_is = h.burden_is;
+  spawned_is = h.spawned_is ∙ sym (has_spawned-work es 1);
+}
+
+pub tables_unspawned : (burden : ℕ) (tags : Tags) (count : ℕ) (os : List Open) (es : List Event) (t : Tables) → t.spawned ≡ false → TablesTell burden tags count os es t → TablesTell burden tags count os (es ++ Join ∷ []) t
+tables_unspawned burden tags count os es t e h = record {
+  told = h.told;
+  since = h.since ++ Join ∷ [];
+  all = more_is h.told h.since (Join ∷ []) es h.all;
+  waits = record {
+    goes_on = h.waits.goes_on;
+    instructions = since_join (has_spawned h.told) h.since (count - work_in os h.told) (told_spawned burden tags count os es t h ∙ e) h.waits.instructions;
+  };
+  sites = h.sites;
+  path = h.path;
+  regions = tags_joined burden tags os es t.regions h.regions;
+  counted = counted_joined burden count os es h.counted;
+  burden_is = h.burden_is;
+  spawned_is = e ∙ sym (spawned_append false es (Join ∷ []));
+}
+
+-- what has all been told tells
+pub tables_told : (burden : ℕ) (tags : Tags) (count : ℕ) (os : List Open) (es : List Event) (t : Tables) → AreTold burden tags count os es t → TablesTell burden tags count os es t
+tables_told burden tags count os es t h = record {
+  told = es;
+  since = [];
+  all = append_none es;
+  waits = let w = h.counted.work in record { goes_on = omega arith; instructions = omega arith };
+  sites = h.sites;
+  path = h.path;
+  regions = h.regions;
+  counted = h.counted;
+  burden_is = h.burden_is;
+  spawned_is = h.spawned_is;
+}
+
+-- what each table is owed
+pub sites_since : (burden : ℕ) (tags : Tags) (count : ℕ) (os : List Open) (es : List Event) (t : Tables) (h : TablesTell burden tags count os es t) → Since t.sites.noted count h.told h.since
+sites_since burden tags count os es t h = let P : ℕ → Type 0 = λ x. Since x count h.told h.since in subst P (sym h.sites.noted_is) h.waits
+
+pub path_since : (burden : ℕ) (tags : Tags) (count : ℕ) (os : List Open) (es : List Event) (t : Tables) (h : TablesTell burden tags count os es t) → Since t.path.noted count h.told h.since
+path_since burden tags count os es t h = let P : ℕ → Type 0 = λ x. Since x count h.told h.since in subst P (sym h.path.noted_is) h.waits
+
+pub told_small : (burden : ℕ) (tags : Tags) (count : ℕ) (os : List Open) (es : List Event) (t : Tables) (h : TablesTell burden tags count os es t) → count ≤ most_limit → Small nothing_open os (h.told ++ h.since)
+told_small burden tags count os es t h small = let P : List Event → Type 0 = λ x. Small nothing_open os x in subst P (sym h.all) (small_run burden count os es small h.counted)
+
+pub told_fits : (burden : ℕ) (tags : Tags) (count : ℕ) (os : List Open) (es : List Event) (t : Tables) (h : TablesTell burden tags count os es t) → count ≤ most_limit → burden ≤ most_burden → FitsRun burden os (h.told ++ h.since)
+told_fits burden tags count os es t h small light = let P : List Event → Type 0 = λ x. FitsRun burden os x in subst P (sym h.all) (fits_run burden count os es small light h.counted)
+
+pub path_told : (burden : ℕ) (tags : Tags) (count : ℕ) (os : List Open) (es : List Event) (t : Tables) (p : BurdenedPath) → NotesWeight t.path p count → count ≤ most_limit → burden ≤ most_burden → TablesTell burden tags count os es t → TellsWeight burden os es p
+path_told burden tags count os es t p notes small light h =
+    let P : List Event → Type 0 = λ x. TellsWeight burden os x p in
+    subst P h.all (notes burden os h.told h.since (path_since burden tags count os es t h) (told_fits burden tags count os es t h small light) h.path)
+
+-- tables with these sites, this path, and this of the block that runs
+abbrev pub with_tables : Tables → SiteTable → BurdenedPath → (spawned : Bool) → Tables
+with_tables t s p spawned = record { sites = s; path = p; regions = t.regions; burden = t.burden; spawned = spawned }
+
+abbrev pub with_regions : Tables → RegionTable → (spawned : Bool) → Tables
+with_regions t r spawned = record { sites = t.sites; path = t.path; regions = r; burden = t.burden; spawned = spawned }
+
+-- all is told
+pub tables_settled : (t : Tables) (s : SiteTable) (p : BurdenedPath) (count : ℕ) → Notes t.sites s count → NotesWeight t.path p count → Settles t (with_tables t s p t.spawned) count
+tables_settled t s p count notes heavier = λ burden tags os es small light h. record {
+  sites =
+      let P : List Event → Type 0 = λ x. sites.Tells 0 nothing_open os x s in
+      subst P h.all (notes 0 nothing_open os h.told h.since (sites_since burden tags count os es t h) (told_small burden tags count os es t h small) h.sites);
+  path = path_told burden tags count os es t p heavier small light h;
+  regions = h.regions;
+  counted = h.counted;
+  burden_is = h.burden_is;
+  spawned_is = h.spawned_is;
+}
+
+-- a call begins
+pub call_opened : (t : Tables) (s : SiteTable) (p : BurdenedPath) (count site : ℕ) → Enters t.sites s count site → NotesWeight t.path p count → Opens t (with_tables t s p false) count false (Some (Invocation site))
+call_opened t s p count site enters notes = λ burden tags os es k small light h.
+    let mark : Option Mark = Some (Invocation site) in
+    let P : List Event → Type 0 = λ x. sites.Tells 0 nothing_open (opened false mark x os) [] s in
+    let S : List Event → Type 0 = λ x. Small nothing_open (opened false mark x os) [] in
+    tables_told burden tags count (opened false mark es os) [] (with_tables t s p false) (record {
+      sites = subst P h.all (enters 0 nothing_open os h.told h.since (sites_since burden tags count os es t h) (subst S (sym h.all) (small_run burden count (opened false mark es os) [] small k)) h.sites);
+      path = (series_need_no_call burden p).begins mark os es (path_told burden tags count os es t p notes small light h);
+      regions = tags_opened burden tags false mark os es t.regions tt h.regions;
+      counted = k;
+      burden_is = h.burden_is;
+      spawned_is = refl;
+    })
+
+pub not_twice : (b : Bool) → not (not b) ≡ b
+not_twice true = refl
+not_twice false = refl
+
+-- a spawned part begins, by a table's own rule
+spawned_path : (burden : ℕ) (tags : Tags) (count : ℕ) (os : List Open) (es : List Event) (t : Tables) (p : BurdenedPath) (mark : Option Mark) → SpawnsWeight t.path p count (not t.spawned) → count ≤ most_limit → burden ≤ most_burden → TablesTell burden tags count os es t → TellsWeight burden (opened true mark es os) [] p
+spawned_path burden tags count os es t p mark spawns small light h =
+    let P : List Event → Type 0 = λ x. TellsWeight burden (opened true mark x os) [] p in
+    subst P h.all (spawns burden mark os h.told h.since (path_since burden tags count os es t h) (told_fits burden tags count os es t h small light) (told_spawned burden tags count os es t h ∙ sym (not_twice t.spawned)) h.path)
+
+pub spawned_call_opened : (t : Tables) (s : SiteTable) (p : BurdenedPath) (count site : ℕ) → Spawns t.sites s count site (not t.spawned) → SpawnsWeight t.path p count (not t.spawned) → Opens t (with_tables t s p false) count true (Some (Invocation site))
+spawned_call_opened t s p count site spawns heavier = λ burden tags os es k small light h.
+    let mark : Option Mark = Some (Invocation site) in
+    let P : List Event → Type 0 = λ x. sites.Tells 0 nothing_open (opened true mark x os) [] s in
+    let S : List Event → Type 0 = λ x. Small nothing_open (opened true mark x os) [] in
+    tables_told burden tags count (opened true mark es os) [] (with_tables t s p false) (record {
+      sites = subst P h.all (spawns 0 nothing_open os h.told h.since (sites_since burden tags count os es t h) (told_spawned burden tags count os es t h ∙ sym (not_twice t.spawned)) (subst S (sym h.all) (small_run burden count (opened true mark es os) [] small k)) h.sites);
+      path = spawned_path burden tags count os es t p mark heavier small light h;
+      regions = tags_opened burden tags true mark os es t.regions tt h.regions;
+      counted = k;
+      burden_is = h.burden_is;
+      spawned_is = refl;
+    })
+
+pub half_opened : (t : Tables) (s : SiteTable) (p : BurdenedPath) (count : ℕ) → SpawnsHalf t.sites s count (not t.spawned) → SpawnsWeight t.path p count (not t.spawned) → Opens t (with_tables t s p false) count true None
+half_opened t s p count spawns heavier = λ burden tags os es k small light h.
+    let P : List Event → Type 0 = λ x. sites.Tells 0 nothing_open (opened true None x os) [] s in
+    tables_told burden tags count (opened true None es os) [] (with_tables t s p false) (record {
+      sites = subst P h.all (spawns 0 nothing_open None os h.told h.since tt (sites_since burden tags count os es t h) (told_spawned burden tags count os es t h ∙ sym (not_twice t.spawned)) (told_small burden tags count os es t h small) h.sites);
+      path = spawned_path burden tags count os es t p None heavier small light h;
+      regions = tags_opened burden tags true None os es t.regions tt h.regions;
+      counted = k;
+      burden_is = h.burden_is;
+      spawned_is = refl;
+    })
+
+pub quiet_opened : (t now : Tables) (count : ℕ) → Settles t now count → Opens t (with_tables now now.sites now.path false) count false None
+quiet_opened t now count settles = λ burden tags os es k small light h.
+    let a = settles burden tags os es small light h in
+    tables_told burden tags count (opened false None es os) [] (with_tables now now.sites now.path false) (record {
+      sites = (quiet_parts 0 nothing_open os now.sites).begins None es tt a.sites;
+      path = (series_need_no_call burden now.path).begins None os es a.path;
+      regions = tags_opened burden tags false None os es now.regions tt a.regions;
+      counted = k;
+      burden_is = a.burden_is;
+      spawned_is = refl;
+    })
+
+pub region_opened : (t now : Tables) (r : RegionTable) (count tag path heavy : ℕ) → Settles t now count → ReadsPath now.sites path → heavy ≡ now.path.weight → regions.BeginsRegion now.regions r tag count path heavy → OpensRegion t (with_regions now r false) count tag
+region_opened t now r count tag path heavy settles reads weighs begins = λ burden tags os es known k small light h.
+    let a = settles burden tags os es small light h in
+    let mark : Option Mark = Some (Execution (tags.name tag)) in
+    let along = a.regions.along in
+    tables_told burden tags count (opened false mark es os) [] (with_regions now r false) (record {
+      sites = (quiet_parts 0 nothing_open os now.sites).begins mark es tt a.sites;
+      path = (series_need_no_call burden now.path).begins mark os es a.path;
+      regions = record {
+        along = along;
+        path_is = a.regions.path_is;
+        burdened_is = a.regions.burdened_is;
+        tells =
+            begins burden along tags nothing_open os es known (sym a.counted.work) (reads 0 0 nothing_open os es a.sites ∙ sym (a.regions.path_is os es))
+            (weighs ∙ a.path.shows.now_is ∙ sym (a.regions.burdened_is os es)) (small_tags burden tags count (opened false mark es os) [] small light k) a.regions.tells;
+      };
+      counted = k;
+      burden_is = a.burden_is;
+      spawned_is = refl;
+    })
+
+-- the block that runs joins
+pub tables_joined : (t : Tables) (s : SiteTable) (p : BurdenedPath) (count : ℕ) → Joins t.sites s count → JoinsWeight t.path p count → JoinsSpawned t (with_tables t s p false) count
+tables_joined t s p count joins heavier = λ burden tags os es e small light h.
+    let S : List Event → Type 0 = λ x. sites.Tells 0 nothing_open os (x ++ Join ∷ []) s in
+    let P : List Event → Type 0 = λ x. TellsWeight burden os (x ++ Join ∷ []) p in
+    let told = told_spawned burden tags count os es t h ∙ e in
+    tables_told burden tags count os (es ++ Join ∷ []) (with_tables t s p false) (record {
+      sites = subst S h.all (joins 0 nothing_open os h.told h.since (sites_since burden tags count os es t h) told (told_small burden tags count os es t h small) h.sites);
+      path = subst P h.all (heavier burden os h.told h.since (path_since burden tags count os es t h) (told_fits burden tags count os es t h small light) told h.path);
+      regions = tags_joined burden tags os es t.regions h.regions;
+      counted = counted_joined burden count os es h.counted;
+      burden_is = h.burden_is;
+      spawned_is = sym (spawned_append false es (Join ∷ []));
+    })

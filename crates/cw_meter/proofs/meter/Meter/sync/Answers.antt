@@ -1,0 +1,5 @@
+use Rattle.cw_meter.proofs.MeterLaws.{meter_syncs}
+use Rattle.cw_meter.proofs.meter.Meter.sync.Goals as goal
+
+pub returns : goal.returns
+returns c = meter_syncs c.args.self.now c.join.new.self c.args.count c.in_ok-join.ensures.told c.in_ok-join.ensures.parts

@@ -1,0 +1,34 @@
+-- What is kept of the open parts of a run.
+use Rattle.std.specs.Prelude.{◌≡◌, ℕ, ◌<◌, true, false, List, [], ◌∷◌, Option, Some, None}
+use Rattle.cw_model.specs.Trees.{Mark, Invocation, Execution}
+use Rattle.cw_measure.specs.OpenParts.{Open, has_spawned}
+use Rattle.cw_sites.specs.OpenPaths.{here_in}
+use Rattle.cw_regions.specs.Regions.{Tags}
+use Rattle.cw_meter.specs.declared.parts.PartKind.{PartKind}
+use Rattle.cw_meter.specs.declared.parts.PartKind.TheVariants.{Call, SpawnedCall, Quiet, Half, Region}
+use Rattle.cw_meter.specs.declared.parts.Part.{Part}
+
+-- a run of a call statement
+abbrev pub IsInvocation : Option Mark → Type 0
+IsInvocation mark = (site : ℕ) × (mark ≡ Some (Invocation site))
+
+-- an open part is of this kind
+abbrev pub IsOfKind : Tags → Open → PartKind → Type 0
+IsOfKind tags o Call = (o.spawned ≡ false) × IsInvocation o.mark
+IsOfKind tags o SpawnedCall = (o.spawned ≡ true) × IsInvocation o.mark
+IsOfKind tags o Quiet = (o.spawned ≡ false) × (o.mark ≡ None)
+IsOfKind tags o Half = (o.spawned ≡ true) × (o.mark ≡ None)
+IsOfKind tags o (Region tag) = (o.spawned ≡ false) × (tag < tags.count) × (o.mark ≡ Some (Execution (tags.name tag)))
+
+-- what is kept of an open part, inside of these
+pub record IsPart (tags : Tags) (o : Open) (os : List Open) (p : Part) : Type 0 where
+  pub kind : IsOfKind tags o p.kind
+  pub site : p.site ≡ here_in 0 os
+  pub spawned : p.spawned ≡ has_spawned o.outer
+
+-- what is kept of all of them, the innermost first
+abbrev pub AreParts : Tags → List Open → List Part → Type 0
+AreParts tags [] [] = Unit {0}
+AreParts tags [] (p ∷ ps) = ⊥
+AreParts tags (o ∷ os) [] = ⊥
+AreParts tags (o ∷ os) (p ∷ ps) = IsPart tags o os p × AreParts tags os ps

@@ -1,0 +1,204 @@
+//! A meter of a run.
+
+ghost use Rattle.std.specs.Prelude.{◌≡◌, Some, None, true, false, IfOk, OnOk};
+ghost use Rattle.cw_model.specs.Trees.{Invocation};
+ghost use Rattle.cw_meter.specs.Meters.{Starts, Begins, BeginsRegion, Ends, Returns, Syncs};
+ghost use Rattle.cw_meter.specs.Moves.{ClosesPart, JoinsBlock, Stacks};
+ghost use Rattle.cw_meter.specs.Whole.{Reads};
+
+use crate::parts::{Part, PartKind};
+use crate::tables::Tables;
+use cw_regions::RegionRow;
+use cw_sites::table::SiteRow;
+use std::alloc::{AllocError, Global};
+
+/// Work, span and burdened span of a run.
+#[derive(Clone, Copy, Debug, PartialEq, Eq)]
+pub struct Readings {
+    /// The sum of all strands, in instructions.
+    pub work: u64,
+    /// The weight of a heaviest path, in instructions.
+    pub span: u64,
+    /// The weight of a heaviest path with a burden for each spawn whose continuation it goes along, in instructions.
+    pub burdened: u128,
+}
+
+/// What was counted over a whole run.
+#[derive(Debug, Drop)]
+pub struct Measures {
+    /// Of the whole run.
+    pub measure: Readings,
+    /// Of each call site, by its number: 0 is the call of `main` by the run itself.
+    pub sites: Vec<SiteRow>,
+    /// Of each region tag, by its number.
+    pub regions: Vec<RegionRow>,
+}
+
+/// What is counted of a run so far.
+#[derive(Debug, Drop)]
+pub struct Meter {
+    pub(crate) tables: Tables,
+    /// The open parts, the innermost last.
+    pub(crate) parts: Vec<Part>,
+}
+
+impl Meter {
+    /// The meter of a run that begins, in the call of `main` by the run itself; `burden` is the cost of a spawn in
+    /// instructions. An error where memory runs out.
+    pub fn new(alloc: Global, burden: u64) -> Result<Meter, AllocError>
+        ensures { IfOk result (λ m. Starts burden m) }
+    {
+        let tables = Tables::new(alloc, burden)?;
+        let mut parts = Vec::new(alloc);
+        parts.push(Part {
+            kind: PartKind::Call,
+            site: 0,
+            spawned: false,
+        })?;
+        Ok(Meter { tables, parts })
+    }
+
+    /// A call in place begins by the instruction after `count` ones, at the site of this number.
+    #[inline(never)]
+    pub fn call(&mut self, count: u64, site: u32) -> Result<(), AllocError>
+        ensures { OnOk result (Begins self.old self.new count false (Some (Invocation site))) }
+    {
+        self.stack(PartKind::Call)?;
+        self.tables.call(count.saturating_add(1), site)?;
+        Ok(())
+    }
+
+    /// A spawned call begins by the instruction after `count` ones, at the site of this number, in this strand.
+    #[inline(never)]
+    pub fn spawn(&mut self, count: u64, site: u32) -> Result<(), AllocError>
+        ensures { OnOk result (Begins self.old self.new count true (Some (Invocation site))) }
+    {
+        self.stack(PartKind::SpawnedCall)?;
+        self.tables.spawn(count.saturating_add(1), site)?;
+        Ok(())
+    }
+
+    /// A scope, a cut or a loop's first function begins by the instruction after `count` ones, or a loop's function
+    /// that it calls in place.
+    #[inline(never)]
+    pub fn begin(&mut self, count: u64) -> Result<(), AllocError>
+        ensures { OnOk result (Begins self.old self.new count false None) }
+    {
+        self.stack(PartKind::Quiet)?;
+        self.tables.begin(count.saturating_add(1))?;
+        Ok(())
+    }
+
+    /// Half of a loop, that is spawned, begins by the instruction after `count` ones, in this strand.
+    #[inline(never)]
+    pub fn spawn_half(&mut self, count: u64) -> Result<(), AllocError>
+        ensures { OnOk result (Begins self.old self.new count true None) }
+    {
+        self.stack(PartKind::Half)?;
+        self.tables.spawn_half(count.saturating_add(1))?;
+        Ok(())
+    }
+
+    /// A region of the tag of this number begins by the instruction after `count` ones.
+    #[inline(never)]
+    pub fn begin_region(&mut self, count: u64, tag: u32) -> Result<(), AllocError>
+        ensures { OnOk result (BeginsRegion self.old self.new count tag) }
+    {
+        self.stack(PartKind::Region(tag))?;
+        self.tables.begin_region(count.saturating_add(1), tag)?;
+        Ok(())
+    }
+
+    /// The innermost scope, cut or region joins after `count` instructions and ends by the next one.
+    #[inline(always)]
+    pub fn end(&mut self, count: u64) -> Result<(), AllocError>
+        ensures { OnOk result (Ends self.old self.new count) }
+    {
+        self.join(count)?;
+        self.close(count)?;
+        Ok(())
+    }
+
+    /// The innermost call, or function of a loop, joins after `count` instructions and ends by the next one.
+    #[inline(always)]
+    pub fn give_back(&mut self, count: u64) -> Result<(), AllocError>
+        ensures { OnOk result (Returns self.old self.new count) }
+    {
+        self.join(count)?;
+        self.close(count.saturating_add(1))?;
+        Ok(())
+    }
+
+    /// The block that runs joins after `count` instructions, by the next one.
+    #[inline(always)]
+    pub fn sync(&mut self, count: u64) -> Result<(), AllocError>
+        ensures { OnOk result (Syncs self.old self.new count) }
+    {
+        self.join(count)?;
+        Ok(())
+    }
+
+    // A part of this kind begins in the block that runs.
+    #[inline(always)]
+    fn stack(&mut self, kind: PartKind) -> Result<(), AllocError>
+        ensures { OnOk result (Stacks self.old self.new kind) }
+    {
+        self.parts.push(Part {
+            kind,
+            site: self.tables.sites.here,
+            spawned: self.tables.spawned,
+        })?;
+        Ok(())
+    }
+
+    // The block that runs joins: where it has spawned nothing, there is nothing to do.
+    #[inline(always)]
+    fn join(&mut self, count: u64) -> Result<(), AllocError>
+        ensures told { OnOk result (JoinsBlock self.old self.new count) }
+        ensures joined { OnOk result (self.new.tables.spawned ≡ false) }
+        ensures parts { OnOk result (self.new.parts.items ≡ self.old.parts.items) }
+    {
+        if self.tables.spawned {
+            self.tables.join(count)?;
+        }
+        Ok(())
+    }
+
+    // The innermost part, whose block has joined, ends at this count.
+    #[inline(never)]
+    fn close(&mut self, count: u64) -> Result<(), AllocError>
+        ensures { OnOk result (ClosesPart self.old self.new count) }
+    {
+        if let Some(part) = self.parts.pop() {
+            self.tables.close(count, part)?;
+        }
+        Ok(())
+    }
+
+    /// What was counted over a run that has ended after `count` instructions, of so many call sites, the run's own call
+    /// of `main` among them, and of so many tags.
+    pub fn finish(
+        self,
+        alloc: Global,
+        count: u64,
+        sites: usize,
+        tags: usize,
+    ) -> Result<Measures, AllocError>
+        ensures { IfOk result (λ all. Reads self count sites tags all) }
+    {
+        let mut tables = self.tables;
+        tables.settle(count)?;
+        let measure = Readings {
+            work: count,
+            span: tables.sites.path(),
+            burdened: tables.path.weight(),
+        };
+        let sites = tables.site_rows(alloc, sites)?;
+        let regions = tables.region_rows(alloc, tags)?;
+        Ok(Measures {
+            measure,
+            sites,
+            regions,
+        })
+    }
+}

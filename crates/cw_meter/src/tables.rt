@@ -1,0 +1,211 @@
+//! The tables of a run, told of one run together.
+
+ghost use Rattle.std.specs.Prelude.{◌≡◌, true, false, IfOk, OnOk, Some, None};
+ghost use Rattle.cw_model.specs.Trees.{Invocation};
+ghost use Rattle.cw_meter.specs.Moves.{ListsRegions, ListsSites};
+ghost use Rattle.cw_meter.specs.Tables.{Closes, JoinsSpawned, Opens, OpensRegion, Settles, StartsTables};
+ghost use Rattle.cw_meter.specs.declared.parts.PartKind.TheVariants.{Call, Half, Quiet, Region, SpawnedCall};
+
+use crate::parts::{Part, PartKind};
+use cw_measure::BurdenedPath;
+use cw_regions::{RegionRow, RegionTable};
+use cw_sites::table::{SiteRow, SiteTable, sum_of};
+use std::alloc::{AllocError, Global};
+
+/// The rows of call sites with the chosen path, the heaviest path with burdens, and the rows of tags, of one run so far.
+///
+/// Instructions, and joins of a block that has spawned nothing since its last join, need no call; each method is told
+/// the count of instructions at which it is called.
+#[derive(Debug, Drop)]
+pub struct Tables {
+    pub sites: SiteTable,
+    pub path: BurdenedPath,
+    pub regions: RegionTable,
+    /// The cost of a spawn, in instructions.
+    pub burden: u64,
+    /// Whether the block that runs has spawned since its last join.
+    pub spawned: bool,
+}
+
+impl Tables {
+    /// The tables of a run that begins, in the call of `main` by the run itself. An error where memory runs out.
+    pub fn new(alloc: Global, burden: u64) -> Result<Tables, AllocError>
+        ensures { IfOk result (λ t. StartsTables burden t) }
+    {
+        let mut sites = SiteTable::new(alloc, 0);
+        sites.enter(0, 0)?;
+        Ok(Tables {
+            sites,
+            path: BurdenedPath::new(alloc),
+            regions: RegionTable::new(alloc),
+            burden,
+            spawned: false,
+        })
+    }
+
+    /// All that has run up to this count is told.
+    pub fn settle(&mut self, count: u64) -> Result<(), AllocError>
+        ensures { OnOk result (Settles self.old self.new count) }
+    {
+        self.sites.note(count)?;
+        self.path.note(count);
+        Ok(())
+    }
+
+    /// A call in place begins by the instruction before `next`.
+    pub fn call(&mut self, next: u64, site: u32) -> Result<(), AllocError>
+        ensures { OnOk result (Opens self.old self.new next false (Some (Invocation site))) }
+    {
+        self.sites.enter(next, site)?;
+        self.path.note(next);
+        self.spawned = false;
+        Ok(())
+    }
+
+    /// A spawned call begins by the instruction before `next`, in this strand.
+    pub fn spawn(&mut self, next: u64, site: u32) -> Result<(), AllocError>
+        ensures { OnOk result (Opens self.old self.new next true (Some (Invocation site))) }
+    {
+        let first = !self.spawned;
+        self.sites.spawn(next, site, first)?;
+        self.path.spawn(next, first)?;
+        self.spawned = false;
+        Ok(())
+    }
+
+    /// A part in series that is neither a call nor a region begins by the instruction before `next`.
+    pub fn begin(&mut self, next: u64) -> Result<(), AllocError>
+        ensures { OnOk result (Opens self.old self.new next false None) }
+    {
+        self.settle(next)?;
+        self.spawned = false;
+        Ok(())
+    }
+
+    /// Half of a loop, that is spawned, begins by the instruction before `next`, in this strand.
+    pub fn spawn_half(&mut self, next: u64) -> Result<(), AllocError>
+        ensures { OnOk result (Opens self.old self.new next true None) }
+    {
+        let first = !self.spawned;
+        self.sites.spawn_half(next, first)?;
+        self.path.spawn(next, first)?;
+        self.spawned = false;
+        Ok(())
+    }
+
+    /// A region of the tag of this number begins by the instruction before `next`.
+    pub fn begin_region(&mut self, next: u64, tag: u32) -> Result<(), AllocError>
+        ensures { OnOk result (OpensRegion self.old self.new next tag) }
+    {
+        self.settle(next)?;
+        let path = self.sites.path();
+        let burdened = self.path.weight();
+        self.regions.begin(tag, next, path, burdened)?;
+        self.spawned = false;
+        Ok(())
+    }
+
+    /// The block that runs, which has spawned since its last join, joins at this count.
+    #[inline(never)]
+    pub fn join(&mut self, count: u64) -> Result<(), AllocError>
+        ensures told { OnOk result (JoinsSpawned self.old self.new count) }
+        ensures joined { OnOk result (self.new.spawned ≡ false) }
+    {
+        self.sites.join(count)?;
+        self.path.join(count);
+        self.spawned = false;
+        Ok(())
+    }
+
+    /// The innermost part, whose block has joined, ends at this count.
+    pub fn close(&mut self, count: u64, part: Part) -> Result<(), AllocError>
+        ensures { OnOk result (Closes self.old self.new count part) }
+    {
+        match part.kind {
+            PartKind::Call => self.end_call(count, part)?,
+            PartKind::SpawnedCall => self.end_spawned_call(count, part)?,
+            PartKind::Quiet => self.end_quiet(count, part)?,
+            PartKind::Half => self.end_half(count, part)?,
+            PartKind::Region(tag) => self.end_region(count, part, tag)?,
+        }
+        Ok(())
+    }
+
+    fn end_call(&mut self, count: u64, part: Part) -> Result<(), AllocError>
+        ensures { OnOk result (part.kind ≡ Call → Closes self.old self.new count part) }
+    {
+        self.sites.leave(count, part.site)?;
+        self.path.note(count);
+        self.spawned = part.spawned;
+        Ok(())
+    }
+
+    fn end_spawned_call(&mut self, count: u64, part: Part) -> Result<(), AllocError>
+        ensures { OnOk result (part.kind ≡ SpawnedCall → Closes self.old self.new count part) }
+    {
+        self.sites.end_child(count, part.site)?;
+        self.path.end_child(count, self.burden);
+        self.spawned = true;
+        Ok(())
+    }
+
+    fn end_quiet(&mut self, count: u64, part: Part) -> Result<(), AllocError>
+        ensures { OnOk result (part.kind ≡ Quiet → Closes self.old self.new count part) }
+    {
+        self.settle(count)?;
+        self.spawned = part.spawned;
+        Ok(())
+    }
+
+    fn end_half(&mut self, count: u64, part: Part) -> Result<(), AllocError>
+        ensures { OnOk result (part.kind ≡ Half → Closes self.old self.new count part) }
+    {
+        self.sites.end_half(count)?;
+        self.path.end_child(count, self.burden);
+        self.spawned = true;
+        Ok(())
+    }
+
+    fn end_region(&mut self, count: u64, part: Part, tag: u32) -> Result<(), AllocError>
+        ensures { OnOk result (part.kind ≡ Region tag → Closes self.old self.new count part) }
+    {
+        self.settle(count)?;
+        let path = self.sites.path();
+        let burdened = self.path.weight();
+        self.regions.end(tag, count, path, burdened)?;
+        self.spawned = part.spawned;
+        Ok(())
+    }
+
+    /// The rows of so many sites, by their numbers, once no part is open and all is told. An error where memory runs out.
+    pub fn site_rows(&self, alloc: Global, count: usize) -> Result<Vec<SiteRow>, AllocError>
+        ensures { IfOk result (λ rows. ListsSites self.now count rows.items) }
+    {
+        // So many rows as a number of 32 bits cannot count are more than memory holds.
+        let Ok(end) = u32::try_from(count) else {
+            return Err(AllocError);
+        };
+        let owns = self.sites.paths.own_by_site(alloc)?;
+        let mut rows = Vec::new(alloc);
+        for site in 0..end {
+            let own = sum_of(&owns, site);
+            rows.push(self.sites.site_with(site, own))?;
+        }
+        Ok(rows)
+    }
+
+    /// The rows of so many tags, by their numbers, once no part is open. An error where memory runs out.
+    pub fn region_rows(&self, alloc: Global, count: usize) -> Result<Vec<RegionRow>, AllocError>
+        ensures { IfOk result (λ rows. ListsRegions self.now count rows.items) }
+    {
+        // As for the rows of sites.
+        let Ok(end) = u32::try_from(count) else {
+            return Err(AllocError);
+        };
+        let mut rows = Vec::new(alloc);
+        for tag in 0..end {
+            rows.push(self.regions.region(tag))?;
+        }
+        Ok(rows)
+    }
+}
