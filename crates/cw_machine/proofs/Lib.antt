@@ -1,7 +1,23 @@
 pub mod Decided
+pub mod Places
+pub mod Writes
 pub mod Cells
 pub mod Holding
 pub mod Order
-mod Moves
 pub mod Running
+pub mod Blocks
+pub mod Rows
+pub mod Moves
+pub mod Returns
+pub mod Lends
+pub mod Back
+pub mod Begun
+pub mod Lending
+pub mod Entering
+pub mod Starting
+pub mod Sums
+pub mod Going
+pub mod Additions
+pub mod Told
+pub mod Metering
 pub mod FromMain

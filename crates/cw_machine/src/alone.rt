@@ -1,14 +1,19 @@
 //! A run with one worker.
 
-ghost use Rattle.std.specs.Prelude.{◌≡◌};
+ghost use Rattle.std.specs.Prelude.{◌≡◌, IfOk};
 ghost use Rattle.cw_code.specs.Code.{code_view};
 ghost use Rattle.cw_machine.specs.Runs as runs;
 ghost use Rattle.cw_model.specs.Answers as answers;
 
-use crate::machine::{Machine, Moved};
+use crate::machine::Moved;
+use crate::run::Run;
+use cw_code::code::Code;
+use cw_meter::Readings;
+use cw_regions::RegionRow;
+use cw_sites::table::SiteRow;
 use cw_text::Fault;
 use cw_verify::verified::Verified;
-use std::alloc::Global;
+use std::alloc::{AllocError, Global};
 use std::sync::Arc;
 
 /// The greatest limit of a run, in instructions: 2^62.
@@ -24,12 +29,20 @@ pub struct Ended {
     pub value: i64,
     /// The values printed, in order.
     pub lines: Vec<i64>,
+    /// For each reducer the sum of what was added to it, in source order.
+    pub sums: Vec<i128>,
+    /// Work, span and burdened span of the whole run, in instructions.
+    pub measure: Readings,
+    /// What is counted of each call site, by its number: 0 is the call of `main` by the run itself.
+    pub sites: Vec<SiteRow>,
+    /// What is counted of each region tag, in the order of the code's tags.
+    pub regions: Vec<RegionRow>,
 }
 
-/// Runs code on these arguments within `n` instructions: its value and the values printed, exactly where the code's
-/// meaning gives them.
+/// Runs code on these arguments within `n` instructions: its value, the values printed, the sum of each reducer and all
+/// that is counted of its strand tree, exactly where the code's meaning gives them.
 ///
-/// `burden` is the cost of a spawn in instructions; neither depends on it.
+/// `burden` is the cost of a spawn in instructions, by which the burdened spans alone are told.
 ///
 /// The error is `Arguments` exactly where the count of the arguments is not that of `main`'s parameters, or `n` is not
 /// in 1..=2^62, or `burden` is above 1,000,000,000; otherwise `OverLimit` exactly where the run costs more than `n`,
@@ -49,20 +62,51 @@ pub fn run_alone(
     if !is_asked(f.params, args.len(), n, burden) {
         return Err(Fault::Arguments);
     }
-    let mut machine = Machine::new(alloc, f, verified.room(main), args)?;
-    match machine.run(verified, n) {
-        Moved::Gave(value) => Ok(Ended {
-            value: int_given(value),
-            lines: machine.lines,
-        }),
+    let mut run = Run::new(
+        alloc,
+        f,
+        verified.room(main),
+        args,
+        verified.code.reducers.len(),
+        burden,
+    )?;
+    let (stop, count) = run.go(verified, n);
+    match stop {
+        Moved::Gave(value) => {
+            let ended = finished(alloc, &verified.code, run, value, count)?;
+            Ok(ended)
+        }
         Moved::On => Err(Fault::OverLimit),
         Moved::Trapped(trap, line) => Err(Fault::Trap {
             code: trap,
             line,
-            output: machine.lines,
+            output: run.machine.lines,
         }),
         Moved::NoMemory => Err(Fault::Memory),
     }
+}
+
+// What a run of code comes to that ended after so many instructions, with this value if it gives one.
+fn finished(
+    alloc: Global,
+    code: &Code,
+    run: Run,
+    value: Option<i64>,
+    count: u64,
+) -> Result<Ended, AllocError>
+    ensures { IfOk result (λ e. runs.IsEndOf code.now run value count e) }
+{
+    let Run { machine, meter } = run;
+    let sites = code.sites.len() + 1;
+    let all = meter.finish(alloc, count, sites, code.tags.len())?;
+    Ok(Ended {
+        value: int_given(value),
+        lines: machine.lines,
+        sums: machine.sums,
+        measure: all.measure,
+        sites: all.sites,
+        regions: all.regions,
+    })
 }
 
 // The value that a call gave, and 0 where it gave none.

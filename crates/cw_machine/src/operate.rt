@@ -1,9 +1,10 @@
 //! Operators on two values.
 
-ghost use Rattle.std.specs.Prelude.{◌≡◌, MatchResult};
+ghost use Rattle.std.specs.Prelude.{◌≡◌};
 ghost use Rattle.cw_model.specs.Ints as ints;
 ghost use Rattle.cw_model.specs.Expressions.{apply};
 ghost use Rattle.cw_code.specs.Run.{apply_unary};
+ghost use Rattle.cw_machine.specs.Shows.{IsResult};
 
 use cw_code::code::UnaryOperator;
 use cw_model::syntax::Operator;
@@ -12,7 +13,7 @@ use cw_model::trap::Trap;
 // An operator on two values: its result, or why it traps.
 #[inline(always)]
 pub fn operate(operator: Operator, v: i64, w: i64) -> Result<i64, Trap>
-    ensures { MatchResult result (λ x. apply operator v w ≡ ints.Value x) (λ trap. apply operator v w ≡ ints.Fails trap) }
+    ensures { IsResult (apply operator v w) result }
 {
     match operator {
         Operator::Equal => Ok((v == w) as i64),
@@ -44,7 +45,7 @@ pub fn operate(operator: Operator, v: i64, w: i64) -> Result<i64, Trap>
 // An operator on a value: its result, or why it traps.
 #[inline(always)]
 pub fn operate_on(operator: UnaryOperator, v: i64) -> Result<i64, Trap>
-    ensures { MatchResult result (λ x. apply_unary operator v ≡ ints.Value x) (λ trap. apply_unary operator v ≡ ints.Fails trap) }
+    ensures { IsResult (apply_unary operator v) result }
 {
     match operator {
         UnaryOperator::Negative => v.checked_neg().ok_or(Trap::Overflow),

@@ -26,6 +26,8 @@ fn place(
         gives_int,
         params,
         slots,
+        array_params: 0,
+        arrays: 0,
     })?;
     Ok(())
 }
@@ -51,15 +53,18 @@ fn add_site(
 // Code of a main with one parameter and three names, and of two functions: one gives its first parameter less its
 // second, and one prints its parameter and gives nothing. Each of the three has a site of each kind: 1 and 2 of main, 3
 // and 4 of the second, 5 and 6 of the third.
-fn code_of(alloc: Global, main: &[Instr]) -> Result<Code, AllocError> {
+pub(crate) fn code_of(alloc: Global, main: &[Instr]) -> Result<Code, AllocError> {
     let mut code = Code {
         instrs: Vec::new(alloc),
         funcs: Vec::new(alloc),
         main: 0,
+        main_line: 1,
         sites: Vec::new(alloc),
         reducers: Vec::new(alloc),
         tags: Vec::new(alloc),
+        passed: Vec::new(alloc),
     };
+    code.passed.push(Vec::new(alloc))?;
     code.reducers.push(Vec::new(alloc))?;
     code.tags.push(Vec::new(alloc))?;
     place(&mut code, true, 1, 3, main)?;
@@ -103,6 +108,7 @@ fn callee(function: u32, site: u32, target: Option<u32>) -> Callee {
         site,
         line: 9,
         target,
+        passed: 0,
     }
 }
 
@@ -110,7 +116,7 @@ fn called(function: u32, site: u32, target: Option<u32>) -> Instr {
     Instr::Call(CallKind::Plain, callee(function, site, target))
 }
 
-fn spawned(function: u32, site: u32, target: Option<u32>) -> Instr {
+pub(crate) fn spawned(function: u32, site: u32, target: Option<u32>) -> Instr {
     Instr::Call(CallKind::Spawned, callee(function, site, target))
 }
 

@@ -1,19 +1,23 @@
-use Rattle.std.proofs.Common.{rules, arith, ◌≡◌, ◌≤◌, ◌-◌, ◌++◌, pos, ◌∙◌, length, true, sym, ap, subst, w64, of_z, to_z}
-use Rattle.std.specs.Prelude.{replicate}
+use Rattle.std.proofs.Common.{arith, ◌≡◌, ℕ, ℤ, List, ◌≤◌, [], ◌∙◌, length, true, sym, subst}
 use Rattle.std.specs.Coded.{le_prop}
 use Rattle.std.proofs.Math.Bool.{Bool-set}
 use Rattle.std.proofs.Math.Logic.{∥∥₁_elim, ∥∥₁_map}
-use Rattle.std.proofs.lemmas.Int.{to_z-of_z}
-use Rattle.cw_model.specs.Answers.{int_given}
+use Rattle.cw_code.specs.declared.code.Func.{Func}
 use Rattle.cw_code.specs.Code.{code_view}
 use Rattle.cw_code.specs.Run.{first_state, code_serial}
 use Rattle.cw_text.specs.declared.fault.Fault.TheVariants as fault
 use Rattle.cw_verify.specs.declared.verified.Verified.{Verified}
 use Rattle.cw_verify.specs.Resolved.{room_of}
-use Rattle.cw_machine.specs.Shows.{Reaches}
+use Rattle.cw_machine.specs.declared.run.Run.{Run}
+use Rattle.cw_machine.specs.Metered.{IsNewRun, Reaches}
 use Rattle.cw_machine.specs.Runs.{is_asked, Runs, Why}
-use Rattle.cw_machine.proofs.FromMain.{IsEnded-prop, is_ended, is_over, was_over, IsTrapped-prop, was_trapped, requested, asked_count, main_there, main_has_room, main_room, main_frame, first_shows, ended, over, trapped}
+use Rattle.cw_machine.proofs.Metering.{gauge_of}
+use Rattle.cw_machine.proofs.FromMain.{IsEnded-prop, is_ended, is_over, was_over, IsTrapped-prop, was_trapped, requested, asked_count, asked_limit, asked_burden, main_there, main_has_room, main_room, main_frame, first_run, ended, over, trapped}
 use Rattle.cw_machine.proofs.alone.run_alone.Goals as goal
+
+-- a new run has main's room and a sum for each reducer
+is_new : {f : Func} {args : List ℤ} {room room' reducers reducers' burden : ℕ} {r : Run} → room ≡ room' → reducers ≡ reducers' → IsNewRun f args room reducers burden r → IsNewRun f args room' reducers' burden r
+is_new {f} {args} {room} {room'} {reducers} {reducers'} {burden} {r} e e' new = subst (λ k. IsNewRun f args k reducers' burden r) e (subst (λ k. IsNewRun f args room k burden r) e' new)
 
 pub func-f-requires : goal.func-f-requires
 func-f-requires c = let v = c.deref-verified.result.now in ∥∥₁_elim v.ok le_prop (λ ok. main_there v ok)
@@ -30,8 +34,8 @@ new-requires c =
     let small : f.params ≤ room_of v.rooms.items v.code.main = ∥∥₁_elim v.ok le_prop (λ ok. omega (arith, main_room v f ok c.func-f.ensures, main_frame v f ok c.func-f.ensures)) in
     omega (arith, c.room.ensures)
 
-pub run-requires : goal.run-requires
-run-requires c =
+pub go-stop-requires-clause-running : goal.go-stop-requires-clause-running
+go-stop-requires-clause-running c =
     let v = c.deref-verified.result.now in
     let f = c.func-f.result.now in
     let args = c.args.args.now in
@@ -39,8 +43,16 @@ run-requires c =
     let burden = c.args.burden in
     let asked : is_asked f.params (length args) n burden ≡ true = sym c.is_asked.ensures ∙ c.if-not-is_asked.false in
     let count = asked_count f args n burden asked in
-    let made = c.in_ok-machine.ensures in
-    ∥∥₁_map v.ok (λ ok. record { ok = ok; state = first_state f args; shows = first_shows v ok f args c.in_ok-machine.machine c.func-f.ensures count made.place made.first made.frames made.lines (made.cells ∙ ap (λ k. args ++ replicate (k - length args) (pos 0)) c.room.ensures) })
+    let light = asked_burden f args n burden asked in
+    let made : IsNewRun f args (room_of v.rooms.items v.code.main) (length v.code.reducers.items) burden c.in_ok-run.run' = is_new c.room.ensures (c.len.ensures ∙ v.code.reducers.ok.0) c.in_ok-run.ensures in
+    ∥∥₁_map v.ok (λ ok. record { ok = ok; gauge = gauge_of v ok burden light; state = first_state f args []; shows = first_run v ok (gauge_of v ok burden light) f args c.in_ok-run.run' c.func-f.ensures count made })
+
+pub go-stop-requires-clause-small : goal.go-stop-requires-clause-small
+go-stop-requires-clause-small c =
+    let f = c.func-f.result.now in
+    let args = c.args.args.now in
+    let asked : is_asked f.params (length args) c.args.n c.args.burden ≡ true = sym c.is_asked.ensures ∙ c.if-not-is_asked.false in
+    asked_limit f args c.args.n c.args.burden asked
 
 pub returns-in-Gave : goal.returns-in-Gave
 returns-in-Gave c =
@@ -50,18 +62,19 @@ returns-in-Gave c =
     let args = c.args.args.now in
     let n = c.args.n in
     let burden = c.args.burden in
-    let m = c.run.new.self in
+    let r = c.go-stop.new.self in
+    let count = c.go-stop.result.1 in
     let asked : is_asked f.params (length args) n burden ≡ true = sym c.is_asked.ensures ∙ c.if-not-is_asked.false in
-    let count = asked_count f args n burden asked in
-    let made = c.in_ok-machine.ensures in
-    let given = c.in-Gave.value in
-    let x = c.int_given.result in
+    let many = asked_count f args n burden asked in
+    let light = asked_burden f args n burden asked in
+    let made : IsNewRun f args (room_of v.rooms.items v.code.main) (length v.code.reducers.items) burden c.in_ok-run.run' = is_new c.room.ensures (c.len.ensures ∙ v.code.reducers.ok.0) c.in_ok-run.ensures in
     let serial = code_serial code args n in
-    let e = is_ended (int_given given) m.lines.items serial (∥∥₁_elim v.ok (IsEnded-prop (int_given given) m.lines.items serial) (λ ok.
-    ended v f args n burden m c.func-f.ensures asked ok given (subst (λ r. Reaches v ok r m n (first_state f args)) c.in-Gave.is (c.run.ensures ok (first_state f args) (first_shows v ok f args c.in_ok-machine.machine c.func-f.ensures count made.place made.first made.frames made.lines (made.cells ∙ ap (λ k. args ++ replicate (k - length args) (pos 0)) c.room.ensures)))))) in
-    let same : to_z w64 (of_z w64 x) ≡ int_given given = search (rules, to_z-of_z) in
-    subst (λ (w : Verified). Runs (code_view w.code) args n burden (to_z w64 (of_z w64 x)) m.lines.items) c.deref-verified.ensures
-    (subst (λ y. Runs code args n burden y m.lines.items) (sym same) (record { asked = requested code f args n burden c.func-f.ensures asked; sums = e.0; tree = e.1; answer = e.2 }))
+    let e = c.in_ok-ended-in-Gave.ended in
+    let is = is_ended code burden e serial (∥∥₁_elim v.ok (IsEnded-prop code burden e serial) (λ ok.
+    let g = gauge_of v ok burden light in
+    ended v f args n burden count r c.func-f.ensures asked ok g c.in-Gave.value e c.go-stop.ensures.within c.in_ok-ended-in-Gave.ensures (subst (λ to. Reaches v ok g count to r n (first_state f args [])) c.in-Gave.is (c.go-stop.ensures.reaches ok g (first_state f args []) (first_run v ok g f args c.in_ok-run.run' c.func-f.ensures many made))))) in
+    subst (λ (w : Verified). Runs (code_view w.code) args n burden e) c.deref-verified.ensures
+    (record { asked = requested code f args n burden c.func-f.ensures asked; tree = is.0; answer = is.1; measure = is.2.measure; sites = is.2.sites; regions = is.2.regions })
 
 pub returns-in-On : goal.returns-in-On
 returns-in-On c =
@@ -71,13 +84,18 @@ returns-in-On c =
     let args = c.args.args.now in
     let n = c.args.n in
     let burden = c.args.burden in
-    let m = c.run.new.self in
+    let r = c.go-stop.new.self in
+    let count = c.go-stop.result.1 in
     let asked : is_asked f.params (length args) n burden ≡ true = sym c.is_asked.ensures ∙ c.if-not-is_asked.false in
-    let count = asked_count f args n burden asked in
-    let made = c.in_ok-machine.ensures in
-    let e : is_over (code_serial code args n) ≡ true = ∥∥₁_elim v.ok (hlevel Bool-set) (λ ok. over v f args n burden m c.func-f.ensures asked ok (subst (λ r. Reaches v ok r m n (first_state f args)) c.in-On.is (c.run.ensures ok (first_state f args) (first_shows v ok f args c.in_ok-machine.machine c.func-f.ensures count made.place made.first made.frames made.lines (made.cells ∙ ap (λ k. args ++ replicate (k - length args) (pos 0)) c.room.ensures))))) in
+    let many = asked_count f args n burden asked in
+    let light = asked_burden f args n burden asked in
+    let made : IsNewRun f args (room_of v.rooms.items v.code.main) (length v.code.reducers.items) burden c.in_ok-run.run' = is_new c.room.ensures (c.len.ensures ∙ v.code.reducers.ok.0) c.in_ok-run.ensures in
+    let serial = code_serial code args n in
+    let e : is_over serial ≡ true = ∥∥₁_elim v.ok (hlevel Bool-set) (λ ok.
+    let g = gauge_of v ok burden light in
+    over v f args n burden count r c.func-f.ensures asked ok g (subst (λ to. Reaches v ok g count to r n (first_state f args [])) c.in-On.is (c.go-stop.ensures.reaches ok g (first_state f args []) (first_run v ok g f args c.in_ok-run.run' c.func-f.ensures many made)))) in
     subst (λ (w : Verified). Why (code_view w.code) args n burden fault.OverLimit) c.deref-verified.ensures
-    (requested code f args n burden c.func-f.ensures asked, was_over (code_serial code args n) e)
+    (requested code f args n burden c.func-f.ensures asked, was_over serial e)
 
 pub returns-in-Trapped : goal.returns-in-Trapped
 returns-in-Trapped c =
@@ -87,14 +105,18 @@ returns-in-Trapped c =
     let args = c.args.args.now in
     let n = c.args.n in
     let burden = c.args.burden in
-    let m = c.run.new.self in
+    let r = c.go-stop.new.self in
+    let count = c.go-stop.result.1 in
     let asked : is_asked f.params (length args) n burden ≡ true = sym c.is_asked.ensures ∙ c.if-not-is_asked.false in
-    let count = asked_count f args n burden asked in
-    let made = c.in_ok-machine.ensures in
+    let many = asked_count f args n burden asked in
+    let light = asked_burden f args n burden asked in
+    let made : IsNewRun f args (room_of v.rooms.items v.code.main) (length v.code.reducers.items) burden c.in_ok-run.run' = is_new c.room.ensures (c.len.ensures ∙ v.code.reducers.ok.0) c.in_ok-run.ensures in
+    let serial = code_serial code args n in
     let trap = c.in-Trapped.trap in
     let line = c.in-Trapped.line in
-    let serial = code_serial code args n in
-    let e = was_trapped trap line m.lines.items serial (∥∥₁_elim v.ok (IsTrapped-prop trap line m.lines.items serial) (λ ok.
-    trapped v f args n burden m c.func-f.ensures asked ok trap line (subst (λ r. Reaches v ok r m n (first_state f args)) c.in-Trapped.is (c.run.ensures ok (first_state f args) (first_shows v ok f args c.in_ok-machine.machine c.func-f.ensures count made.place made.first made.frames made.lines (made.cells ∙ ap (λ k. args ++ replicate (k - length args) (pos 0)) c.room.ensures)))))) in
-    subst (λ (w : Verified). Why (code_view w.code) args n burden (fault.Trap trap line m.lines)) c.deref-verified.ensures
+    let lines = r.machine.lines.items in
+    let e = was_trapped trap line lines serial (∥∥₁_elim v.ok (IsTrapped-prop trap line lines serial) (λ ok.
+    let g = gauge_of v ok burden light in
+    trapped v f args n burden count r c.func-f.ensures asked ok g trap line (subst (λ to. Reaches v ok g count to r n (first_state f args [])) c.in-Trapped.is (c.go-stop.ensures.reaches ok g (first_state f args []) (first_run v ok g f args c.in_ok-run.run' c.func-f.ensures many made))))) in
+    subst (λ (w : Verified). Why (code_view w.code) args n burden (fault.Trap trap line r.machine.lines)) c.deref-verified.ensures
     (requested code f args n burden c.func-f.ensures asked, e)

@@ -1,0 +1,19 @@
+use Rattle.std.proofs.Common.{rules, ◌≡◌, ◌+◌, length, refl, ◌∙◌, subst, w64, of_z, to_z}
+use Rattle.cw_meter.specs.Whole.{Reads}
+use Rattle.cw_machine.proofs.alone.finished.Goals as goal
+
+pub returns : goal.returns
+returns c =
+    let code = c.args.code.now in
+    let m = c.args.run.meter in
+    let all = c.in_ok-all.all in
+    let x = c.int_given.result in
+    let same : to_z w64 (of_z w64 x) ≡ x = search rules in
+    let sites : c.len-sites.result ≡ length code.sites.items = c.len-sites.ensures ∙ code.sites.ok.0 in
+    let tags : c.len.result ≡ length code.tags.items = c.len.ensures ∙ code.tags.ok.0 in
+    record {
+      value = same ∙ c.int_given.ensures;
+      lines = refl;
+      sums = refl;
+      reads = subst (λ k. Reads m c.args.count (k + 1) (length code.tags.items) all) sites (subst (λ k. Reads m c.args.count (c.len-sites.result + 1) k all) tags c.in_ok-all.ensures);
+    }

@@ -1,0 +1,212 @@
+//! What instructions on arrays do.
+
+ghost use Rattle.std.specs.Prelude.{◌≡◌, ◌+◌, ◌<◌, ◌^◌, [], length, Some, slice_set, slice_index_or};
+ghost use Rattle.cw_verify.specs.declared.op.Op.TheVariants as op;
+ghost use Rattle.cw_machine.specs.Arrays as arrays;
+ghost use Rattle.cw_machine.specs.Shows.{blocks_of, StaysBut, IsAt, Does};
+
+use crate::machine::{Machine, Moved, View};
+use cw_code::code::Halves;
+use cw_model::trap::Trap;
+use cw_verify::verified::Verified;
+
+/// The most elements of an array: 2^24.
+const MOST_ELEMENTS: i64 = 16_777_216;
+
+// Whether an index is one of so many elements.
+#[inline(always)]
+fn is_within(i: i64, len: usize) -> bool
+    ensures { result ≡ arrays.is_index i len }
+{
+    i >= 0 && (i as usize) < len
+}
+
+// The length of a new array, or why there is none.
+#[inline(always)]
+fn new_length(n: i64) -> Result<usize, Trap>
+    ensures { arrays.IsNewLength n result }
+{
+    if n < 0 || n > MOST_ELEMENTS {
+        return Err(Trap::BadLength);
+    }
+    Ok(n as usize)
+}
+
+// The place where so many elements are cut, or why there is none.
+#[inline(always)]
+fn cut_place(k: i64, len: usize) -> Result<usize, Trap>
+    ensures { arrays.IsCutPlace k len result }
+{
+    if k < 0 || k as usize > len {
+        return Err(Trap::OutOfBounds);
+    }
+    Ok(k as usize)
+}
+
+// So many places after one.
+#[inline(always)]
+fn beyond(from: usize, k: usize) -> usize
+    requires { 0 < k → from + k < 2 ^ 64 }
+    ensures { result ≡ from + k }
+{
+    from + k
+}
+
+impl Machine {
+    // Where the array in a slot lies.
+    #[inline(always)]
+    pub(crate) fn view(&self, a: u32) -> View
+        requires { self.now.first_array + a < length self.now.views.items }
+        ensures { result ≡ arrays.view self.now.views.items (self.now.first_array + a) }
+    {
+        self.views[self.first_array + a as usize]
+    }
+
+    // What a place of a block has.
+    #[inline(always)]
+    fn at(&self, block: usize, k: usize) -> i64
+        requires { k < length (slice_index_or (blocks_of self.now) block []) }
+        ensures { arrays.found (blocks_of self.now) block k ≡ Some result }
+    {
+        self.blocks[block][k]
+    }
+
+    // A value, into a place of a block.
+    #[inline(always)]
+    fn set_at(&mut self, block: usize, k: usize, x: i64)
+        requires { k < length (slice_index_or (blocks_of self.old) block []) }
+        ensures blocks { blocks_of self.new ≡ arrays.put (blocks_of self.old) block k x }
+        ensures views { self.new.views.items ≡ self.old.views.items }
+        ensures rest { StaysBut self.old self.new }
+    {
+        self.blocks[block][k] = x;
+    }
+
+    // Another view for a cell.
+    #[inline(always)]
+    fn set_view(&mut self, cell: usize, block: usize, from: usize, len: usize)
+        requires { cell < length self.old.views.items }
+        ensures views { self.new.views.items ≡ arrays.reviewed self.old.views.items cell block from len }
+        ensures blocks { self.new.blocks.items ≡ self.old.blocks.items }
+        ensures rest { StaysBut self.old self.new }
+    {
+        self.views[cell] = View { block, from, len };
+    }
+
+    // Another block for a cell.
+    fn set_block(&mut self, cell: usize, block: Vec<i64>)
+        requires { cell < length self.old.blocks.items }
+        ensures blocks { blocks_of self.new ≡ slice_set (blocks_of self.old) cell block.items }
+        ensures views { self.new.views.items ≡ self.old.views.items }
+        ensures rest { StaysBut self.old self.new }
+    {
+        self.blocks[cell] = block;
+    }
+
+    // An array of zeros, into a slot.
+    #[inline(never)]
+    pub(crate) fn new_array(&mut self, code: &Verified, d: usize, a: u32, line: u32) -> Moved
+        requires { ∥ IsAt code.now self.old (op.NewArray d a line) ∥₁ }
+        ensures { Does code.now self.old (op.NewArray d a line) result self.new }
+    {
+        let _code = code;
+        let len = match new_length(self.get(d)) {
+            Ok(len) => len,
+            Err(trap) => return Moved::Trapped(trap, line),
+        };
+        let alloc = *self.blocks.allocator();
+        match Vec::from_elem(alloc, 0i64, len) {
+            Ok(zeros) => {
+                let at = self.first_array + a as usize;
+                self.set_block(at, zeros);
+                self.set_view(at, at, 0, len);
+                self.place += 1;
+                Moved::On
+            }
+            Err(_) => Moved::NoMemory,
+        }
+    }
+
+    // The count of the elements of an array, into a cell.
+    #[inline(always)]
+    pub(crate) fn length(&mut self, code: &Verified, d: usize, a: u32) -> Moved
+        requires { ∥ IsAt code.now self.old (op.Length d a) ∥₁ }
+        ensures { Does code.now self.old (op.Length d a) result self.new }
+    {
+        let _code = code;
+        let v = self.view(a);
+        self.put(d, v.len as i64);
+        Moved::On
+    }
+
+    // An element of an array, into the cell that had its index.
+    #[inline(always)]
+    pub(crate) fn element(&mut self, code: &Verified, d: usize, a: u32, line: u32) -> Moved
+        requires { ∥ IsAt code.now self.old (op.Element d a line) ∥₁ }
+        ensures { Does code.now self.old (op.Element d a line) result self.new }
+    {
+        let _code = code;
+        let i = self.get(d);
+        let v = self.view(a);
+        if !is_within(i, v.len) {
+            return Moved::Trapped(Trap::OutOfBounds, line);
+        }
+        let x = self.at(v.block, v.from + i as usize);
+        self.put(d, x);
+        Moved::On
+    }
+
+    // The value of the cell after one with an index, into that element of an array.
+    #[inline(always)]
+    pub(crate) fn set_element(&mut self, code: &Verified, d: usize, a: u32, line: u32) -> Moved
+        requires { ∥ IsAt code.now self.old (op.SetElement d a line) ∥₁ }
+        ensures { Does code.now self.old (op.SetElement d a line) result self.new }
+    {
+        let _code = code;
+        let i = self.get(d);
+        let x = self.get(d + 1);
+        let v = self.view(a);
+        if !is_within(i, v.len) {
+            return Moved::Trapped(Trap::OutOfBounds, line);
+        }
+        self.set_at(v.block, v.from + i as usize, x);
+        self.place += 1;
+        Moved::On
+    }
+
+    // An array is cut: its parts go into two slots.
+    #[inline(always)]
+    pub(crate) fn cut(&mut self, code: &Verified, d: usize, h: &Halves, line: u32) -> Moved
+        requires { ∥ IsAt code.now self.old (op.Cut d h.now line) ∥₁ }
+        ensures { Does code.now self.old (op.Cut d h.now line) result self.new }
+    {
+        let _code = code;
+        let v = self.view(h.array);
+        let k = match cut_place(self.get(d), v.len) {
+            Ok(k) => k,
+            Err(trap) => return Moved::Trapped(trap, line),
+        };
+        let left = self.first_array + h.left as usize;
+        let right = self.first_array + h.right as usize;
+        self.set_view(left, v.block, v.from, k);
+        let from = beyond(v.from, k);
+        self.set_view(right, v.block, from, v.len - k);
+        self.place += 1;
+        Moved::On
+    }
+
+    // A cut ends: the elements of its parts lie in the array already.
+    #[inline(always)]
+    pub(crate) fn end_cut(&mut self, code: &Verified, h: &Halves) -> Moved
+        requires { ∥ IsAt code.now self.old (op.EndCut h.now) ∥₁ }
+        ensures { Does code.now self.old (op.EndCut h.now) result self.new }
+    {
+        let _code = code;
+        let left = self.first_array + h.left as usize;
+        let right = self.first_array + h.right as usize;
+        self.set_view(left, left, 0, 0);
+        self.set_view(right, right, 0, 0);
+        self.place += 1;
+        Moved::On
+    }
+}
