@@ -7,5 +7,6 @@ mod Taken
 mod Told
 mod Refusals
 mod Stages
+mod Rows
 mod Runs
 mod Tools

@@ -1,5 +1,5 @@
 -- The walk over words that start with no hyphen.
-use Rattle.std.proofs.Common.{◌≡◌, ◌∙◌, ◌<◌, ◌^◌, ◌==◌, ◌++◌, ap, ap₂, sym, refl, arith, ℕ, suc, Bool, false, List, [], ◌∷◌, drop, length, Option, Some, None, codes, unwrap_or, is_some}
+use Rattle.std.proofs.Common.{◌≡◌, ◌≢◌, ◌∙◌, ◌<◌, ◌^◌, ◌==◌, ◌++◌, ap, ap₂, sym, refl, subst, arith, ℕ, cond, slice_get, nat_eq, suc, Bool, false, List, [], ◌∷◌, drop, length, Option, Some, None, codes, unwrap_or, is_some}
 use Rattle.std.specs.List.{All, fold}
 use Rattle.std.specs.Prelude.{if◌then◌else◌}
 use Rattle.std.specs.Option.{option_map_or}
@@ -13,8 +13,8 @@ use Rattle.clap.specs.Walk.{first_of, long_or_other, short_or_plain, trailing, H
 use Rattle.clap.specs.Simple.{App, Shape, built, names_of, entered, new_shape, subcommand_of}
 use Rattle.clap.specs.Faults.{flag_word_fault, bundle_fault, other_fault, turn_fault, walk_fault, step_fault, settle_fault, defaults_fault, check_fault, entered_fault}
 use Rattle.clap.proofs.OnLiterals.{clap_on_literals}
-use Rattle.cw_cli.specs.Command.{burden_row, command_line, limit_row}
-use Rattle.cw_cli.specs.Requests.{AreRead, HaveCommand, Words, command_name, faults, numbers_of, texts_of}
+use Rattle.cw_cli.specs.Command.{burden_row, command_line, command_name, limit_row}
+use Rattle.cw_cli.specs.Requests.{AreRead, HaveCommand, Words, faults, numbers_of, texts_of}
 use Rattle.cw_cli.specs.WordLaws.{IsPlain, checking}
 use Rattle.cw_cli.specs.declared.asked.Mode.{Mode}
 use Rattle.cw_cli.specs.declared.asked.Mode.TheVariants as mode
@@ -74,14 +74,32 @@ check = first_shape line.subs
 abbrev pub run : Shape
 run = first_shape (drop 1 line.subs)
 
+abbrev pub scale : Shape
+scale = first_shape (drop 2 line.subs)
+
+abbrev pub sites : Shape
+sites = first_shape (drop 3 line.subs)
+
 abbrev pub shape_of : Mode → Shape
 shape_of mode.Check = check
 shape_of mode.Run = run
+shape_of mode.Scale = scale
+shape_of mode.Sites = sites
+
+-- a command that runs a program has the rules of `run`
+abbrev running : Text → Shape
+running name = record run { name = name }
+
+is_running : (m : Mode) → m ≢ mode.Check → shape_of m ≡ running (command_name m)
+is_running mode.Check runs = absurd (runs refl)
+is_running mode.Run runs = refl
+is_running mode.Scale runs = refl
+is_running mode.Sites runs = refl
 
 abbrev held : List Row → Option (Text × List Text) → Held
 held rows pending = record { rows = rows; pending = pending; skip = 0 }
 
--- ---- the words after `run`
+-- ---- the words after a command that runs a program
 
 -- what is given before the source: no number, a limit or a burden
 pub data Given : Type 0 where
@@ -112,24 +130,24 @@ source_step nothing file plain = step run.rules idle 1 file (before nothing) ref
 source_step (limited n) file plain = step run.rules idle 1 file (before (limited n)) refl plain
 source_step (burdened n) file plain = step run.rules idle 1 file (before (burdened n)) refl plain
 
-source_turn : (g : Given) (file : Text) → IsPlain file → turn_fault run [] (at idle 1 (before g)) file ≡ []
-source_turn nothing file plain = turn run idle 1 file (before nothing) refl plain
-source_turn (limited n) file plain = turn run idle 1 file (before (limited n)) refl plain
-source_turn (burdened n) file plain = turn run idle 1 file (before (burdened n)) refl plain
+source_turn : (name : Text) (g : Given) (file : Text) → IsPlain file → turn_fault (running name) [] (at idle 1 (before g)) file ≡ []
+source_turn name nothing file plain = turn (running name) idle 1 file (before nothing) refl plain
+source_turn name (limited n) file plain = turn (running name) idle 1 file (before (limited n)) refl plain
+source_turn name (burdened n) file plain = turn (running name) idle 1 file (before (burdened n)) refl plain
 
 first_step : (g : Given) (file v : Text) → IsPlain v → walked run.rules [] (source_met g file) v ≡ args_met g file v []
 first_step g file v plain = step run.rules idle 2 v (source_met g file).held refl plain
 
-first_turn : (g : Given) (file v : Text) → IsPlain v → turn_fault run [] (source_met g file) v ≡ []
-first_turn nothing file v plain = turn run idle 2 v (source_met nothing file).held refl plain
-first_turn (limited n) file v plain = turn run idle 2 v (source_met (limited n) file).held refl plain
-first_turn (burdened n) file v plain = turn run idle 2 v (source_met (burdened n) file).held refl plain
+first_turn : (name : Text) (g : Given) (file v : Text) → IsPlain v → turn_fault (running name) [] (source_met g file) v ≡ []
+first_turn name nothing file v plain = turn (running name) idle 2 v (source_met nothing file).held refl plain
+first_turn name (limited n) file v plain = turn (running name) idle 2 v (source_met (limited n) file).held refl plain
+first_turn name (burdened n) file v plain = turn (running name) idle 2 v (source_met (burdened n) file).held refl plain
 
 next_step : (g : Given) (file v : Text) (vs : List Text) (word : Text) → IsPlain word → walked run.rules [] (args_met g file v vs) word ≡ args_met g file v (vs ++ word ∷ [])
 next_step g file v vs word plain = step run.rules positional 2 word (args_met g file v vs).held refl plain
 
-next_turn : (g : Given) (file v : Text) (vs : List Text) (word : Text) → IsPlain word → turn_fault run [] (args_met g file v vs) word ≡ []
-next_turn g file v vs word plain = turn run positional 2 word (args_met g file v vs).held refl plain
+next_turn : (name : Text) (g : Given) (file v : Text) (vs : List Text) (word : Text) → IsPlain word → turn_fault (running name) [] (args_met g file v vs) word ≡ []
+next_turn name g file v vs word plain = turn (running name) positional 2 word (args_met g file v vs).held refl plain
 
 all_rest : (x : Text) (xs : List Text) → All IsPlain (x ∷ xs) → All IsPlain xs
 all_rest x xs h k d lt = h (suc k) d (omega (arith, lt))
@@ -140,12 +158,12 @@ rest_walk g file v vs (word ∷ rest) plain =
     ap (λ w. fold (walked run.rules []) w rest) (next_step g file v vs word (plain 0 word (omega arith)))
     ∙ rest_walk g file v (vs ++ word ∷ []) rest (all_rest word rest plain) ∙ ap (args_met g file v) (append_assoc vs (word ∷ []) rest)
 
-rest_fault : (g : Given) (file v : Text) (vs rest : List Text) → All IsPlain rest → walk_fault run [] (args_met g file v vs) rest ≡ []
+rest_fault : (name : Text) (g : Given) (file v : Text) (vs rest : List Text) → All IsPlain rest → walk_fault (running name) [] (args_met g file v vs) rest ≡ []
 unfolding walk_fault
-rest_fault g file v vs [] plain = refl
-rest_fault g file v vs (word ∷ rest) plain =
-    ap₂ (λ k w. or_else k (walk_fault run [] w rest)) (next_turn g file v vs word (plain 0 word (omega arith))) (next_step g file v vs word (plain 0 word (omega arith)))
-    ∙ rest_fault g file v (vs ++ word ∷ []) rest (all_rest word rest plain)
+rest_fault name g file v vs [] plain = refl
+rest_fault name g file v vs (word ∷ rest) plain =
+    ap₂ (λ k w. or_else k (walk_fault (running name) [] w rest)) (next_turn name g file v vs word (plain 0 word (omega arith))) (next_step g file v vs word (plain 0 word (omega arith)))
+    ∙ rest_fault name g file v (vs ++ word ∷ []) rest (all_rest word rest plain)
 
 -- the walk's end
 abbrev end : Given → Text → List Text → Walk
@@ -156,20 +174,20 @@ args_walk : (g : Given) (file : Text) (args : List Text) → All IsPlain args �
 args_walk g file [] plain = refl
 args_walk g file (v ∷ vs) plain = ap (λ w. fold (walked run.rules []) w vs) (first_step g file v (plain 0 v (omega arith))) ∙ rest_walk g file v [] vs (all_rest v vs plain)
 
-args_fault : (g : Given) (file : Text) (args : List Text) → All IsPlain args → walk_fault run [] (source_met g file) args ≡ []
+args_fault : (name : Text) (g : Given) (file : Text) (args : List Text) → All IsPlain args → walk_fault (running name) [] (source_met g file) args ≡ []
 unfolding walk_fault
-args_fault g file [] plain = refl
-args_fault g file (v ∷ vs) plain =
-    ap₂ (λ k w. or_else k (walk_fault run [] w vs)) (first_turn g file v (plain 0 v (omega arith))) (first_step g file v (plain 0 v (omega arith)))
-    ∙ rest_fault g file v [] vs (all_rest v vs plain)
+args_fault name g file [] plain = refl
+args_fault name g file (v ∷ vs) plain =
+    ap₂ (λ k w. or_else k (walk_fault (running name) [] w vs)) (first_turn name g file v (plain 0 v (omega arith))) (first_step g file v (plain 0 v (omega arith)))
+    ∙ rest_fault name g file v [] vs (all_rest v vs plain)
 
 source_walk : (g : Given) (file : Text) (args : List Text) → IsPlain file → All IsPlain args → fold (walked run.rules []) (at idle 1 (before g)) (file ∷ args) ≡ end g file args
 source_walk g file args plain plains = ap (λ w. fold (walked run.rules []) w args) (source_step g file plain) ∙ args_walk g file args plains
 
-source_fault : (g : Given) (file : Text) (args : List Text) → IsPlain file → All IsPlain args → walk_fault run [] (at idle 1 (before g)) (file ∷ args) ≡ []
+source_fault : (name : Text) (g : Given) (file : Text) (args : List Text) → IsPlain file → All IsPlain args → walk_fault (running name) [] (at idle 1 (before g)) (file ∷ args) ≡ []
 unfolding walk_fault
-source_fault g file args plain plains =
-    ap₂ (λ k w. or_else k (walk_fault run [] w args)) (source_turn g file plain) (source_step g file plain) ∙ args_fault g file args plains
+source_fault name g file args plain plains =
+    ap₂ (λ k w. or_else k (walk_fault (running name) [] w args)) (source_turn name g file plain) (source_step g file plain) ∙ args_fault name g file args plains
 
 -- ---- a number before the source
 
@@ -191,29 +209,29 @@ limit_step : walked run.rules [] (walk_from nothing_held) (codes "--limit") ≡ 
 unfolding clap_on_literals
 limit_step = refl
 
-limit_turn : turn_fault run [] (walk_from nothing_held) (codes "--limit") ≡ []
+limit_turn : (name : Text) → turn_fault (running name) [] (walk_from nothing_held) (codes "--limit") ≡ []
 unfolding clap_on_literals
-limit_turn = refl
+limit_turn name = refl
 
 burden_step : walked run.rules [] (walk_from nothing_held) (codes "--burden") ≡ waiting (codes "burden")
 unfolding clap_on_literals
 burden_step = refl
 
-burden_turn : turn_fault run [] (walk_from nothing_held) (codes "--burden") ≡ []
+burden_turn : (name : Text) → turn_fault (running name) [] (walk_from nothing_held) (codes "--burden") ≡ []
 unfolding clap_on_literals
-burden_turn = refl
+burden_turn name = refl
 
 limit_value_step : (n : Text) → IsPlain n → walked run.rules [] (waiting (codes "limit")) n ≡ at idle 1 (before (limited n))
 limit_value_step n plain = step run.rules (option (codes "limit")) 1 n (waiting (codes "limit")).held refl plain
 
-limit_value_turn : (n : Text) → IsPlain n → turn_fault run [] (waiting (codes "limit")) n ≡ []
-limit_value_turn n plain = turn run (option (codes "limit")) 1 n (waiting (codes "limit")).held refl plain
+limit_value_turn : (name : Text) (n : Text) → IsPlain n → turn_fault (running name) [] (waiting (codes "limit")) n ≡ []
+limit_value_turn name n plain = turn (running name) (option (codes "limit")) 1 n (waiting (codes "limit")).held refl plain
 
 burden_value_step : (n : Text) → IsPlain n → walked run.rules [] (waiting (codes "burden")) n ≡ at idle 1 (before (burdened n))
 burden_value_step n plain = step run.rules (option (codes "burden")) 1 n (waiting (codes "burden")).held refl plain
 
-burden_value_turn : (n : Text) → IsPlain n → turn_fault run [] (waiting (codes "burden")) n ≡ []
-burden_value_turn n plain = turn run (option (codes "burden")) 1 n (waiting (codes "burden")).held refl plain
+burden_value_turn : (name : Text) (n : Text) → IsPlain n → turn_fault (running name) [] (waiting (codes "burden")) n ≡ []
+burden_value_turn name n plain = turn (running name) (option (codes "burden")) 1 n (waiting (codes "burden")).held refl plain
 
 words_walk : (g : Given) (file : Text) (args : List Text) → IsGiven g → IsPlain file → All IsPlain args
     → fold (walked run.rules []) (walk_from nothing_held) (number_words g ++ file ∷ args) ≡ end g file args
@@ -225,16 +243,16 @@ words_walk (burdened n) file args given plain plains =
     ap (λ w. fold (walked run.rules []) w (n ∷ file ∷ args)) burden_step ∙ ap (λ w. fold (walked run.rules []) w (file ∷ args)) (burden_value_step n given)
     ∙ source_walk (burdened n) file args plain plains
 
-words_fault : (g : Given) (file : Text) (args : List Text) → IsGiven g → IsPlain file → All IsPlain args
-    → walk_fault run [] (walk_from nothing_held) (number_words g ++ file ∷ args) ≡ []
+words_fault : (name : Text) (g : Given) (file : Text) (args : List Text) → IsGiven g → IsPlain file → All IsPlain args
+    → walk_fault (running name) [] (walk_from nothing_held) (number_words g ++ file ∷ args) ≡ []
 unfolding walk_fault
-words_fault nothing file args given plain plains = source_fault nothing file args plain plains
-words_fault (limited n) file args given plain plains =
-    ap₂ (λ k w. or_else k (walk_fault run [] w (n ∷ file ∷ args))) limit_turn limit_step
-    ∙ ap₂ (λ k w. or_else k (walk_fault run [] w (file ∷ args))) (limit_value_turn n given) (limit_value_step n given) ∙ source_fault (limited n) file args plain plains
-words_fault (burdened n) file args given plain plains =
-    ap₂ (λ k w. or_else k (walk_fault run [] w (n ∷ file ∷ args))) burden_turn burden_step
-    ∙ ap₂ (λ k w. or_else k (walk_fault run [] w (file ∷ args))) (burden_value_turn n given) (burden_value_step n given) ∙ source_fault (burdened n) file args plain plains
+words_fault name nothing file args given plain plains = source_fault name nothing file args plain plains
+words_fault name (limited n) file args given plain plains =
+    ap₂ (λ k w. or_else k (walk_fault (running name) [] w (n ∷ file ∷ args))) (limit_turn name) limit_step
+    ∙ ap₂ (λ k w. or_else k (walk_fault (running name) [] w (file ∷ args))) (limit_value_turn name n given) (limit_value_step n given) ∙ source_fault name (limited n) file args plain plains
+words_fault name (burdened n) file args given plain plains =
+    ap₂ (λ k w. or_else k (walk_fault (running name) [] w (n ∷ file ∷ args))) (burden_turn name) burden_step
+    ∙ ap₂ (λ k w. or_else k (walk_fault (running name) [] w (file ∷ args))) (burden_value_turn name n given) (burden_value_step n given) ∙ source_fault name (burdened n) file args plain plains
 
 -- ---- the word after `check`
 
@@ -268,14 +286,14 @@ level s w has walk below settle =
 abbrev command_level : Shape → Walk → Kinds → Kinds
 command_level s w walk = level s w false walk [] (settle_fault s.rules s.args_override_self w.held)
 
-end_level : (g : Given) (file : Text) (args : List Text) → length args < 2 ^ 64 → command_level run (end g file args) [] ≡ []
+end_level : (name : Text) (g : Given) (file : Text) (args : List Text) → length args < 2 ^ 64 → command_level (running name) (end g file args) [] ≡ []
 unfolding defaults_fault
-end_level nothing file [] lt = refl
-end_level (limited n) file [] lt = refl
-end_level (burdened n) file [] lt = refl
-end_level nothing file (v ∷ vs) lt = ap (level run (end nothing file (v ∷ vs)) false [] []) (ap₂ or_else (range_fits (length (v ∷ vs)) lt) (values_accepted false (v ∷ vs)))
-end_level (limited n) file (v ∷ vs) lt = ap (level run (end (limited n) file (v ∷ vs)) false [] []) (ap₂ or_else (range_fits (length (v ∷ vs)) lt) (values_accepted false (v ∷ vs)))
-end_level (burdened n) file (v ∷ vs) lt = ap (level run (end (burdened n) file (v ∷ vs)) false [] []) (ap₂ or_else (range_fits (length (v ∷ vs)) lt) (values_accepted false (v ∷ vs)))
+end_level name nothing file [] lt = refl
+end_level name (limited n) file [] lt = refl
+end_level name (burdened n) file [] lt = refl
+end_level name nothing file (v ∷ vs) lt = ap (level (running name) (end nothing file (v ∷ vs)) false [] []) (ap₂ or_else (range_fits (length (v ∷ vs)) lt) (values_accepted false (v ∷ vs)))
+end_level name (limited n) file (v ∷ vs) lt = ap (level (running name) (end (limited n) file (v ∷ vs)) false [] []) (ap₂ or_else (range_fits (length (v ∷ vs)) lt) (values_accepted false (v ∷ vs)))
+end_level name (burdened n) file (v ∷ vs) lt = ap (level (running name) (end (burdened n) file (v ∷ vs)) false [] []) (ap₂ or_else (range_fits (length (v ∷ vs)) lt) (values_accepted false (v ∷ vs)))
 
 check_level : (file : Text) → command_level check (check_met file) [] ≡ []
 unfolding defaults_fault
@@ -290,11 +308,15 @@ command_step : (m : Mode) → walked line.top.rules (names_of line) (walk_from n
 unfolding clap_on_literals
 command_step mode.Check = refl
 command_step mode.Run = refl
+command_step mode.Scale = refl
+command_step mode.Sites = refl
 
 command_turn : (m : Mode) → turn_fault line.top (names_of line) (walk_from nothing_held) (command_name m) ≡ []
 unfolding clap_on_literals
 command_turn mode.Check = refl
 command_turn mode.Run = refl
+command_turn mode.Scale = refl
+command_turn mode.Sites = refl
 
 pub stopped_walk : (name : Text) (words rest : List Text) → fold (walked line.top.rules (names_of line)) (stopped_at name words) rest ≡ stopped_at name (words ++ rest)
 unfolding walked
@@ -322,10 +344,14 @@ command_faults : (m : Mode) (rest : List Text) → command_level (shape_of m) (w
 unfolding defaults_fault
 command_faults mode.Check rest none = ap₂ top_level (top_walk mode.Check rest) (top_fault mode.Check rest) ∙ ap (λ k. or_else k []) none
 command_faults mode.Run rest none = ap₂ top_level (top_walk mode.Run rest) (top_fault mode.Run rest) ∙ ap (λ k. or_else k []) none
+command_faults mode.Scale rest none = ap₂ top_level (top_walk mode.Scale rest) (top_fault mode.Scale rest) ∙ ap (λ k. or_else k []) none
+command_faults mode.Sites rest none = ap₂ top_level (top_walk mode.Sites rest) (top_fault mode.Sites rest) ∙ ap (λ k. or_else k []) none
 
 command_rows : (m : Mode) (rest : List Text) → subcommand_of command_line (command_name m ∷ rest) ≡ Some (command_name m, finished (shape_of m).rules (walk (shape_of m).rules [] nothing_held rest).held)
 command_rows mode.Check rest = ap (λ w. entered line w.stopped) (top_walk mode.Check rest)
 command_rows mode.Run rest = ap (λ w. entered line w.stopped) (top_walk mode.Run rest)
+command_rows mode.Scale rest = ap (λ w. entered line w.stopped) (top_walk mode.Scale rest)
+command_rows mode.Sites rest = ap (λ w. entered line w.stopped) (top_walk mode.Sites rest)
 
 -- ---- what the words are read as
 
@@ -334,24 +360,38 @@ numbers_given nothing = limit_row.usual ∷ burden_row.usual ∷ []
 numbers_given (limited n) = n ∷ burden_row.usual ∷ []
 numbers_given (burdened n) = limit_row.usual ∷ n ∷ []
 
-abbrev ran : Given → Text → List Text → Words
-ran g file args = record { mode = mode.Run; file = file; args = args; numbers = numbers_given g }
+abbrev ran : Mode → Given → Text → List Text → Words
+ran m g file args = record { mode = m; file = file; args = args; numbers = numbers_given g }
 
-end_rows : (words : List Text) (g : Given) (file : Text) (args : List Text) → HaveCommand words mode.Run (finished run.rules (end g file args).held) → AreRead words (ran g file args)
-end_rows words nothing file [] h = record { rows = _; command = h; file_is = refl; args_are = refl; numbers_are = refl }
-end_rows words nothing file (v ∷ vs) h = record { rows = _; command = h; file_is = refl; args_are = refl; numbers_are = refl }
-end_rows words (limited n) file [] h = record { rows = _; command = h; file_is = refl; args_are = refl; numbers_are = refl }
-end_rows words (limited n) file (v ∷ vs) h = record { rows = _; command = h; file_is = refl; args_are = refl; numbers_are = refl }
-end_rows words (burdened n) file [] h = record { rows = _; command = h; file_is = refl; args_are = refl; numbers_are = refl }
-end_rows words (burdened n) file (v ∷ vs) h = record { rows = _; command = h; file_is = refl; args_are = refl; numbers_are = refl }
+end_rows : (words : List Text) (m : Mode) (g : Given) (file : Text) (args : List Text) → HaveCommand words m (finished run.rules (end g file args).held) → AreRead words (ran m g file args)
+end_rows words m nothing file [] h = record { rows = _; command = h; file_is = refl; args_are = refl; numbers_are = refl }
+end_rows words m nothing file (v ∷ vs) h = record { rows = _; command = h; file_is = refl; args_are = refl; numbers_are = refl }
+end_rows words m (limited n) file [] h = record { rows = _; command = h; file_is = refl; args_are = refl; numbers_are = refl }
+end_rows words m (limited n) file (v ∷ vs) h = record { rows = _; command = h; file_is = refl; args_are = refl; numbers_are = refl }
+end_rows words m (burdened n) file [] h = record { rows = _; command = h; file_is = refl; args_are = refl; numbers_are = refl }
+end_rows words m (burdened n) file (v ∷ vs) h = record { rows = _; command = h; file_is = refl; args_are = refl; numbers_are = refl }
 
-pub are_read : (g : Given) (file : Text) (args : List Text) → IsGiven g → IsPlain file → All IsPlain args → length args < 2 ^ 64
-    → AreRead (codes "run" ∷ number_words g ++ file ∷ args) (ran g file args)
-are_read g file args given plain plains few =
+-- what a level says of the words, and the rows that it ends with
+abbrev level_of : Shape → List Text → Kinds
+level_of s rest = command_level s (walk s.rules [] nothing_held rest) (walk_fault s [] (walk_from nothing_held) rest)
+
+abbrev rows_at : Shape → List Text → List Row
+rows_at s rest = finished s.rules (walk s.rules [] nothing_held rest).held
+
+pub are_read : (m : Mode) (g : Given) (file : Text) (args : List Text) → m ≢ mode.Check → IsGiven g → IsPlain file → All IsPlain args → length args < 2 ^ 64
+    → AreRead (command_name m ∷ number_words g ++ file ∷ args) (ran m g file args)
+are_read m g file args runs given plain plains few =
     let rest = number_words g ++ file ∷ args in
+    let is : running (command_name m) ≡ shape_of m = sym (is_running m runs) in
     let walked_is = words_walk g file args given plain plains in
-    let none = ap₂ (command_level run) walked_is (words_fault g file args given plain plains) ∙ end_level g file args few in
-    end_rows (codes "run" ∷ rest) g file args (command_faults mode.Run rest none, command_rows mode.Run rest ∙ ap (λ w. Some (codes "run", finished run.rules w.held)) walked_is)
+    let none : level_of (running (command_name m)) rest ≡ [] =
+    ap₂ (command_level (running (command_name m))) walked_is (words_fault (command_name m) g file args given plain plains) ∙ end_level (command_name m) g file args few in
+    let rows_are : rows_at (shape_of m) rest ≡ finished run.rules (end g file args).held =
+    subst (λ s. rows_at s rest ≡ finished run.rules (end g file args).held) is (ap (λ w. finished run.rules w.held) walked_is) in
+    end_rows (command_name m ∷ rest) m g file args (
+      command_faults m rest (subst (λ s. level_of s rest ≡ []) is none),
+      command_rows m rest ∙ ap (λ rows. Some (command_name m, rows)) rows_are,
+    )
 
 pub check_is_read : (file : Text) → IsPlain file → AreRead (codes "check" ∷ file ∷ []) (checking file)
 check_is_read file plain =
@@ -379,11 +419,22 @@ name_in (Some p) = p.0
 pub same_rows : (words : List Text) (m m' : Mode) (rows rows' : List Row) → HaveCommand words m rows → HaveCommand words m' rows' → rows ≡ rows'
 same_rows words m m' rows rows' h k = ap rows_in (sym h.1 ∙ k.1)
 
+-- the command that a name is of, told by its length and its second letter
+abbrev named : Text → Mode
+named name = cond (nat_eq (length name) 3) mode.Run (by_letter (slice_get name 1))
+  where
+    by_letter : Option ℕ → Mode
+    by_letter None = mode.Check
+    by_letter (Some x) = cond (x == 104) mode.Check (cond (x == 99) mode.Scale mode.Sites)
+
+named_by : (m : Mode) → named (command_name m) ≡ m
+named_by mode.Check = refl
+named_by mode.Run = refl
+named_by mode.Scale = refl
+named_by mode.Sites = refl
+
 same_mode : (m m' : Mode) → command_name m ≡ command_name m' → m ≡ m'
-same_mode mode.Check mode.Check e = refl
-same_mode mode.Check mode.Run e = let n = ap length e in absurd (omega (arith, n))
-same_mode mode.Run mode.Check e = let n = ap length e in absurd (omega (arith, n))
-same_mode mode.Run mode.Run e = refl
+same_mode m m' e = sym (named_by m) ∙ ap named e ∙ named_by m'
 
 words_are : (a b : Words) → a.mode ≡ b.mode → a.file ≡ b.file → a.args ≡ b.args → a.numbers ≡ b.numbers → a ≡ b
 words_are a b m f xs ns =

@@ -1,13 +1,14 @@
 -- From what a run of code answers to what its program means.
-use Rattle.std.proofs.Common.{◌≡◌, ℕ, ℤ, Bool, true, false, ◌&&◌, ◌≤◌, List, [], ◌∷◌, ◌++◌, length, Some, Result, Ok, Err, MatchResult, IsErrAnd, flat_map, refl, sym, ap, ◌∙◌, subst, arith}
-use Rattle.std.specs.Prelude.{nat_eq, nat_le, map, codes}
+use Rattle.std.proofs.Common.{◌≡◌, ◌≢◌, ℕ, ℤ, Bool, true, false, ◌&&◌, ◌≤◌, List, [], ◌∷◌, ◌++◌, length, Some, Result, Ok, Err, IsErrAnd, flat_map, refl, sym, ap, ◌∙◌, subst, arith}
+use Rattle.std.specs.Prelude.{nat_eq, nat_le, codes}
+use Rattle.std.specs.Global.{Vec}
 use Rattle.std.proofs.lemmas.Bool.Decides.{nat_tests}
 use Rattle.cw_model.specs.Syntax.{Program, Reducer}
 use Rattle.cw_model.specs.Limits.{most_limit, most_burden}
 use Rattle.cw_model.specs.Trees.{Tree}
 use Rattle.cw_model.specs.Answers.{Answer, Ended, TrappedAt, OverLimit}
 use Rattle.cw_model.specs.declared.trap.Trap.{Trap}
-use Rattle.cw_model.specs.Report.{check_text, value_line, run_text, sum_lines, report_text}
+use Rattle.cw_model.specs.Report.{check_text, value_line, sum_lines, report_text}
 use Rattle.cw_code.specs.Code.{Code}
 use Rattle.cw_code.specs.Run.{code_serial}
 use Rattle.cw_code.specs.Fits.{main_params}
@@ -18,13 +19,19 @@ use Rattle.cw_text.specs.declared.fault.Fault.TheVariants as fault
 use Rattle.cw_report.specs.Seen.{Seen}
 use Rattle.cw_report.specs.Sinks.{Writes, WritesAll, WritesPart}
 use Rattle.cw_report.specs.Answers.{AnswersLess}
-use Rattle.cw_report.specs.Texts.{ended_text, handed_text}
+use Rattle.cw_report.specs.Texts.{sums_text}
+use Rattle.cw_gen.specs.Generates.{Generates}
+use Rattle.cw_types.specs.Resolved.{reducer_names}
 use Rattle.cw_cli.specs.Compiled.{IsCompiled}
 use Rattle.cw_cli.specs.Sources.{IsRefused}
 use Rattle.cw_cli.specs.Analyses as analyses
 use Rattle.cw_cli.specs.declared.asked.Mode.{Mode}
 use Rattle.cw_cli.specs.declared.asked.Mode.TheVariants as mode
 use Rattle.cw_cli.specs.declared.asked.Options.{Options}
+use Rattle.cw_cli.specs.Told.{told_of}
+use Rattle.cw_cli.proofs.Rows.{scale_is, sites_are}
+use Rattle.cw_model.specs.SiteLaw.{SitesAreNumbered}
+use Rattle.cw_model.specs.Sites.{call_sites, are_numbered}
 
 both : (a b : Bool) → (a && b) ≡ true → (a ≡ true) × (b ≡ true)
 both true b h = (refl, h)
@@ -47,18 +54,16 @@ true_both true true p q = refl
 true_both true false p q = q
 true_both false b p q = p
 
-no_reducers : (reducers : List Reducer) → map (λ r. r.line) reducers ≡ [] → reducers ≡ []
-no_reducers [] h = refl
-no_reducers (r ∷ rs) h = cc
+-- reducers by their names alone have the same lines
+named_lines : (reducers : List Reducer) (sums : List ℤ) → sums_text (reducer_names reducers) sums ≡ sum_lines reducers sums
+named_lines [] sums = refl
+named_lines (r ∷ rs) [] = refl
+named_lines (r ∷ rs) (v ∷ vs) = ap (λ lines. codes "sum " ++ (r.name ++ (codes " = " ++ (value_line v ++ lines)))) (named_lines rs vs)
 
-front : (xs ys : List ℕ) → xs ++ ys ≡ [] → xs ≡ []
-front [] ys h = refl
-front (x ∷ xs) ys h = cc
-
--- the report of a run of a program without reducers
-ended_report : (program : Program) (v : ℤ) (lines sums : List ℤ) (tree : Tree) → program.reducers ≡ [] → run_text program (Ended v lines sums tree) ≡ ended_text lines v
-ended_report program v lines sums tree none =
-    ap (λ rs. flat_map value_line lines ++ (sum_lines rs sums ++ (codes "return " ++ value_line v))) none
+-- whether a run ended, as an analysis answers it
+abbrev result_of : Result run.Ended Fault → Result (Unit {0}) Fault
+result_of (Ok e) = Ok tt
+result_of (Err f) = Err f
 
 some_is : {A : Type 0} (a b : A) → Some a ≡ Some b → a ≡ b
 some_is a b e = cc
@@ -72,20 +77,48 @@ not_over e = cc
 trap_not_over : {trap : Trap} {line : ℕ} {lines : List ℤ} → TrappedAt trap line lines ≡ OverLimit → ⊥
 trap_not_over e = cc
 
--- the report that is asked for
-report_is : (m : Mode) (program : Program) (burden : ℕ) (v : ℤ) (lines sums : List ℤ) (tree : Tree) → m ≡ mode.Run → program.reducers ≡ [] → report_text (analyses.mode_of m) program burden (Ended v lines sums tree) ≡ ended_text lines v
-report_is mode.Check program burden v lines sums tree is none = cc
-report_is mode.Run program burden v lines sums tree is none = ended_report program v lines sums tree none
+-- the report that is asked for, of code that carries what reports tell of the program
+report_is : (m : Mode) (program : Program) (code : Code) (args : List ℤ) (n burden : ℕ) (e : run.Ended) (r : Runs code args n burden e) → m ≢ mode.Check
+    → Generates program code → are_numbered 0 (call_sites program) ≡ true
+    → told_of m code (Ok e) ≡ report_text (analyses.mode_of m) program burden (Ended e.value e.lines.items e.sums.items r.tree)
+report_is mode.Check program code args n burden e r runs g numbered = absurd (runs refl)
+report_is mode.Run program code args n burden e r runs g numbered =
+    ap (λ sum_part. flat_map value_line e.lines.items ++ (sum_part ++ (codes "return " ++ value_line e.value)))
+    (ap (λ names. sums_text names e.sums.items) g.reducers ∙ named_lines program.reducers e.sums.items)
+report_is mode.Scale program code args n burden e r runs g numbered = scale_is program code burden e r.tree g.tags r.measure r.regions
+report_is mode.Sites program code args n burden e r runs g numbered = sites_are program code e r.tree g.sites g.main_line numbered r.sites
 
-printed_is : (m : Mode) (program : Program) (burden : ℕ) (trap : Trap) (line : ℕ) (lines : List ℤ) → m ≡ mode.Run → report_text (analyses.mode_of m) program burden (TrappedAt trap line lines) ≡ flat_map value_line lines
-printed_is mode.Check program burden trap line lines is = cc
-printed_is mode.Run program burden trap line lines is = refl
+printed_is : (m : Mode) (program : Program) (code : Code) (burden : ℕ) (trap : Trap) (line : ℕ) (lines : Vec ℤ) → m ≢ mode.Check
+    → told_of m code (Err (fault.Trap trap line lines)) ≡ report_text (analyses.mode_of m) program burden (TrappedAt trap line lines.items)
+printed_is mode.Check program code burden trap line lines runs = absurd (runs refl)
+printed_is mode.Run program code burden trap line lines runs = refl
+printed_is mode.Scale program code burden trap line lines runs = refl
+printed_is mode.Sites program code burden trap line lines runs = refl
+
+-- of a run that did not start or passed its limit nothing is told
+over_is : (m : Mode) (code : Code) → told_of m code (Err fault.OverLimit) ≡ []
+over_is mode.Check code = refl
+over_is mode.Run code = refl
+over_is mode.Scale code = refl
+over_is mode.Sites code = refl
+
+memory_is : (m : Mode) (code : Code) → told_of m code (Err fault.Memory) ≡ []
+memory_is mode.Check code = refl
+memory_is mode.Run code = refl
+memory_is mode.Scale code = refl
+memory_is mode.Sites code = refl
+
+arguments_are : (m : Mode) (code : Code) → told_of m code (Err fault.Arguments) ≡ []
+arguments_are mode.Check code = refl
+arguments_are mode.Run code = refl
+arguments_are mode.Scale code = refl
+arguments_are mode.Sites code = refl
 
 -- a sink that stayed as it was counts no further failed write
 no_part : {W : Type 0} (seen : W → Seen) (old new : W) (text : List ℕ) → new ≡ old → WritesPart (seen old) (seen new) text → ⊥
 no_part seen old new text same part = let e : (seen new).failures ≡ (seen old).failures = ap (λ w. (seen w).failures) same in omega (arith, e, part.failed)
 
-module _ (bytes : List ℕ) (args : List ℤ) (options : Options) (is_run : options.mode ≡ mode.Run) (code : Code) (compiled : IsCompiled bytes code) where
+module _ (bytes : List ℕ) (args : List ℤ) (options : Options) (runs : options.mode ≢ mode.Check) (law : SitesAreNumbered) (code : Code) (compiled : IsCompiled bytes code) where
   may : is_request code args options.limit options.burden ≡ true → analyses.MayRun compiled.program args options
   may h =
       let n = both (nat_eq (length args) (main_params code)) (nat_le 1 options.limit && (nat_le options.limit most_limit && nat_le options.burden most_burden)) h in
@@ -108,63 +141,75 @@ module _ (bytes : List ℕ) (args : List ℤ) (options : Options) (is_run : opti
   answer_is : analyses.MayRun compiled.program args options → (a : Answer) → code_serial code args options.limit ≡ Some a → analyses.answer_to compiled.program args options ≡ a
   answer_is m a e = some_is _ _ (sym (compiled.generates.serial args m.count options.limit) ∙ e)
 
-  none : compiled.program.reducers ≡ []
-  none = no_reducers compiled.program.reducers (front (map (λ (r : Reducer). r.line) compiled.program.reducers) _ compiled.compiles.taken)
+  -- what the mode tells of a run of the code
+  abbrev told : Result run.Ended Fault → List ℕ
+  told r = told_of options.mode code r
 
-  ended_is : (v : ℤ) (lines : List ℤ) (r : Runs code args options.limit options.burden v lines) → analyses.answer_to compiled.program args options ≡ Ended v lines r.sums r.tree
-  ended_is v lines r = answer_is (may r.asked) (Ended v lines r.sums r.tree) r.answer
+  numbered : are_numbered 0 (call_sites compiled.program) ≡ true
+  numbered = let source = compiled.compiles.accepted.source in law bytes source.tokens compiled.program source.parsed.derived
 
-  ended_text_is : (v : ℤ) (lines : List ℤ) (r : Runs code args options.limit options.burden v lines) → ended_text lines v ≡ analyses.text_of compiled.program args options
-  ended_text_is v lines r =
-      sym (ap (λ a. report_text (analyses.mode_of options.mode) compiled.program options.burden a) (ended_is v lines r) ∙ report_is options.mode compiled.program options.burden v lines r.sums r.tree is_run none)
+  ended_is : (e : run.Ended) (r : Runs code args options.limit options.burden e) → analyses.answer_to compiled.program args options ≡ Ended e.value e.lines.items e.sums.items r.tree
+  ended_is e r = answer_is (may r.asked) (Ended e.value e.lines.items e.sums.items r.tree) r.answer
 
-  printed_text_is : (trap : Trap) (line : ℕ) (lines : List ℤ) → analyses.answer_to compiled.program args options ≡ TrappedAt trap line lines → flat_map value_line lines ≡ analyses.text_of compiled.program args options
+  ended_text_is : (e : run.Ended) → Runs code args options.limit options.burden e → told (Ok e) ≡ analyses.text_of compiled.program args options
+  ended_text_is e r =
+      report_is options.mode compiled.program code args options.limit options.burden e r runs compiled.generates numbered
+      ∙ sym (ap (λ a. report_text (analyses.mode_of options.mode) compiled.program options.burden a) (ended_is e r))
+
+  printed_text_is : (trap : Trap) (line : ℕ) (lines : Vec ℤ) → analyses.answer_to compiled.program args options ≡ TrappedAt trap line lines.items
+      → told (Err (fault.Trap trap line lines)) ≡ analyses.text_of compiled.program args options
   printed_text_is trap line lines e =
-      sym (ap (λ a. report_text (analyses.mode_of options.mode) compiled.program options.burden a) e ∙ printed_is options.mode compiled.program options.burden trap line lines is_run)
+      printed_is options.mode compiled.program code options.burden trap line lines runs
+      ∙ sym (ap (λ a. report_text (analyses.mode_of options.mode) compiled.program options.burden a) e)
 
   module _ {W : Type 0} (seen : W → Seen) (old new : W) where
     -- a run that ended, and its text was written
-    reported : (v : ℤ) (lines : List ℤ) → Runs code args options.limit options.burden v lines → WritesAll (seen old) (seen new) (ended_text lines v) → analyses.IsReported seen old new bytes args options
-    reported v lines r took = record {
+    reported : (e : run.Ended) → Runs code args options.limit options.burden e → WritesAll (seen old) (seen new) (told (Ok e)) → analyses.IsReported seen old new bytes args options
+    reported e r took = record {
       program = compiled.program;
       run = run_of (may r.asked);
-      ended = subst analyses.HasEnded (sym (ended_is v lines r)) tt;
-      took = subst (λ text. WritesAll (seen old) (seen new) text) (ended_text_is v lines r) took;
+      ended = subst analyses.HasEnded (sym (ended_is e r)) tt;
+      took = subst (λ text. WritesAll (seen old) (seen new) text) (ended_text_is e r) took;
     }
 
-    -- a run that did not end, and what it printed was written
-    unreported : (f : Fault) → Why code args options.limit options.burden f → WritesAll (seen old) (seen new) (handed_text (Err f)) → (handed_text (Err f) ≡ [] → new ≡ old) → analyses.IsUnreported seen old new bytes args options f
+    -- a run that did not end, and what the mode tells of it was written
+    unreported : (f : Fault) → Why code args options.limit options.burden f → WritesAll (seen old) (seen new) (told (Err f)) → (told (Err f) ≡ [] → new ≡ old) → analyses.IsUnreported seen old new bytes args options f
     unreported fault.OverLimit h took idle =
-        record { program = compiled.program; run = run_of (may h.0); over = answer_is (may h.0) OverLimit h.1; untouched = idle refl }
+        record { program = compiled.program; run = run_of (may h.0); over = answer_is (may h.0) OverLimit h.1; untouched = idle (over_is options.mode code) }
     unreported (fault.Trap trap line lines) h took idle =
         let e = answer_is (may h.0) (TrappedAt trap line lines.items) h.1 in
         record {
           program = compiled.program;
           run = run_of (may h.0);
           trapped = e;
-          took = subst (λ text. WritesAll (seen old) (seen new) text) (printed_text_is trap line lines.items e) took;
+          took = subst (λ text. WritesAll (seen old) (seen new) text) (printed_text_is trap line lines e) took;
         }
-    unreported fault.Memory h took idle = idle refl
+    unreported fault.Memory h took idle = idle (memory_is options.mode code)
     unreported fault.Arguments h took idle =
-        record { program = compiled.program; compiles = compiled.compiles; misused = λ m. false_true (sym h ∙ must m); untouched = idle refl }
+        record { program = compiled.program; compiles = compiled.compiles; misused = λ m. false_true (sym h ∙ must m); untouched = idle (arguments_are options.mode code) }
     unreported _ h took idle = absurd h
 
-    finished_itself : (ended : Result run.Ended Fault) → RunsAsCode code args options.limit options.burden ended → WritesAll (seen old) (seen new) (handed_text ended) → (handed_text ended ≡ [] → new ≡ old) → MatchResult ended (λ _. analyses.IsReported seen old new bytes args options) (analyses.IsUnreported seen old new bytes args options)
-    finished_itself (Ok e) r took idle = reported e.value e.lines.items r took
+    finished_itself : (ended : Result run.Ended Fault) → RunsAsCode code args options.limit options.burden ended → WritesAll (seen old) (seen new) (told ended) → (told ended ≡ [] → new ≡ old) → analyses.IsRun seen old new bytes args options (result_of ended)
+    finished_itself (Ok e) r took idle = reported e r took
     finished_itself (Err f) h took idle = unreported f h took idle
 
-    -- a run whose text was written
-    pub finished : (ended other : Result run.Ended Fault) → ended ≡ other → RunsAsCode code args options.limit options.burden ended → WritesAll (seen old) (seen new) (handed_text ended) → (handed_text ended ≡ [] → new ≡ old) → MatchResult other (λ _. analyses.IsReported seen old new bytes args options) (analyses.IsUnreported seen old new bytes args options)
-    finished ended other same h took idle =
-        subst (λ r. MatchResult r (λ _. analyses.IsReported seen old new bytes args options) (analyses.IsUnreported seen old new bytes args options)) same (finished_itself ended h took idle)
+    -- a run that ended with a value, and its text was written
+    pub finished : (ended : Result run.Ended Fault) (e : run.Ended) → ended ≡ Ok e → RunsAsCode code args options.limit options.burden ended → WritesAll (seen old) (seen new) (told ended) → (told ended ≡ [] → new ≡ old) → analyses.IsReported seen old new bytes args options
+    finished ended e same h took idle =
+        subst (λ r. analyses.IsRun seen old new bytes args options (result_of r)) same (finished_itself ended h took idle)
+
+    -- one that has none
+    pub stopped : (ended : Result run.Ended Fault) (f : Fault) → ended ≡ Err f → RunsAsCode code args options.limit options.burden ended → WritesAll (seen old) (seen new) (told ended) → (told ended ≡ [] → new ≡ old) → analyses.IsUnreported seen old new bytes args options f
+    stopped ended f same h took idle =
+        subst (λ r. analyses.IsRun seen old new bytes args options (result_of r)) same (finished_itself ended h took idle)
 
     -- a write that failed
-    cut_short : (ended : Result run.Ended Fault) → RunsAsCode code args options.limit options.burden ended → WritesPart (seen old) (seen new) (handed_text ended) → (handed_text ended ≡ [] → new ≡ old) → analyses.IsCutShort seen old new bytes args options
+    cut_short : (ended : Result run.Ended Fault) → RunsAsCode code args options.limit options.burden ended → WritesPart (seen old) (seen new) (told ended) → (told ended ≡ [] → new ≡ old) → analyses.IsCutShort seen old new bytes args options
     cut_short (Ok e) r part idle = record {
       program = compiled.program;
       run = run_of (may r.asked);
-      within = λ over. not_over (sym (ended_is e.value e.lines.items r) ∙ over);
-      took = subst (λ text. WritesPart (seen old) (seen new) text) (ended_text_is e.value e.lines.items r) part;
+      within = λ over. not_over (sym (ended_is e r) ∙ over);
+      took = subst (λ text. WritesPart (seen old) (seen new) text) (ended_text_is e r) part;
     }
     cut_short (Err (fault.Trap trap line lines)) h part idle =
         let e = answer_is (may h.0) (TrappedAt trap line lines.items) h.1 in
@@ -172,12 +217,15 @@ module _ (bytes : List ℕ) (args : List ℤ) (options : Options) (is_run : opti
           program = compiled.program;
           run = run_of (may h.0);
           within = λ over. trap_not_over (sym e ∙ over);
-          took = subst (λ text. WritesPart (seen old) (seen new) text) (printed_text_is trap line lines.items e) part;
+          took = subst (λ text. WritesPart (seen old) (seen new) text) (printed_text_is trap line lines e) part;
         }
-    cut_short (Err _) h part idle = absurd (no_part seen old new [] (idle refl) part)
+    cut_short (Err fault.OverLimit) h part idle = absurd (no_part seen old new _ (idle (over_is options.mode code)) part)
+    cut_short (Err fault.Memory) h part idle = absurd (no_part seen old new _ (idle (memory_is options.mode code)) part)
+    cut_short (Err fault.Arguments) h part idle = absurd (no_part seen old new _ (idle (arguments_are options.mode code)) part)
+    cut_short (Err _) h part idle = absurd h
 
     -- a text that was not written
-    pub unwritten : (ended : Result run.Ended Fault) → RunsAsCode code args options.limit options.burden ended → (handed_text ended ≡ [] → new ≡ old) → (f : Fault) → AnswersLess seen old new (handed_text ended) f → analyses.IsUnreported seen old new bytes args options f
+    pub unwritten : (ended : Result run.Ended Fault) → RunsAsCode code args options.limit options.burden ended → (told ended ≡ [] → new ≡ old) → (f : Fault) → AnswersLess seen old new (told ended) f → analyses.IsUnreported seen old new bytes args options f
     unwritten ended r idle fault.Memory h = h
     unwritten ended r idle fault.Write h = cut_short ended r h idle
     unwritten ended r idle _ h = absurd h
@@ -205,9 +253,15 @@ module _ {W : Type 0} (seen : W → Seen) (old new : W) (bytes : List ℕ) (args
     took = subst (λ text. WritesPart (seen old) (seen new) text) (check_text_is compiled.program is) h.1;
   }))
 
+  in_running_mode : (m : Mode) → m ≢ mode.Check → (r : Result (Unit {0}) Fault) → analyses.IsRun seen old new bytes args options r → analyses.IsAnalysedIn seen old new bytes args options m r
+  in_running_mode mode.Check runs r h = absurd (runs refl)
+  in_running_mode mode.Run runs r h = h
+  in_running_mode mode.Scale runs r h = h
+  in_running_mode mode.Sites runs r h = h
+
   -- what a run answers, where a run is asked for
-  pub run_is : options.mode ≡ mode.Run → (r : Result (Unit {0}) Fault) → analyses.IsRun seen old new bytes args options r → analyses.IsAnalysed seen old new bytes args options r
-  run_is is r h = in_mode mode.Run is r h
+  pub run_is : options.mode ≢ mode.Check → (r : Result (Unit {0}) Fault) → analyses.IsRun seen old new bytes args options r → analyses.IsAnalysed seen old new bytes args options r
+  run_is runs r h = in_running_mode options.mode runs r h
 
 -- ---- bytes that are refused
 
@@ -232,6 +286,8 @@ check_refusal seen old bytes args options _ h = absurd h
 refused_in : {W : Type 0} (seen : W → Seen) (old : W) (bytes : List ℕ) (args : List ℤ) (options : Options) (m : Mode) (f : Fault) → IsRefused bytes f → analyses.IsAnalysedIn seen old old bytes args options m (Err f)
 refused_in seen old bytes args options mode.Check f h = check_refusal seen old bytes args options f h
 refused_in seen old bytes args options mode.Run f h = run_refusal seen old bytes args options f h
+refused_in seen old bytes args options mode.Scale f h = run_refusal seen old bytes args options f h
+refused_in seen old bytes args options mode.Sites f h = run_refusal seen old bytes args options f h
 
 -- bytes that are refused, in any mode
 pub refusal : {W : Type 0} (seen : W → Seen) (old : W) (bytes : List ℕ) (args : List ℤ) (options : Options) (f : Fault) → IsRefused bytes f → (r : Result (Unit {0}) Fault) → IsErrAnd r (λ x. x ≡ f) → analyses.IsAnalysed seen old old bytes args options r

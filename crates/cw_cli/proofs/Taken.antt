@@ -11,10 +11,11 @@ use Rattle.clap.specs.Simple.{Shape, new_rule, entered, names_of}
 use Rattle.clap.specs.Takes.{is_given}
 use Rattle.clap.specs.Faults.{other_fault, turn_fault, walk_fault, step_fault, flag_word_fault, bundle_fault, flags_fault, bundle_step_fault, long_fault, short_fault, check_fault, defaults_fault, entered_fault, settle_fault}
 use Rattle.clap.specs.declared.error.ErrorKind.TheVariants as kind
-use Rattle.cw_cli.specs.Requests.{AreRead, Words, command_name, faults, words_in}
+use Rattle.cw_cli.specs.Command.{command_name}
+use Rattle.cw_cli.specs.Requests.{AreRead, Words, faults, words_in}
 use Rattle.cw_cli.specs.declared.asked.Mode.{Mode}
 use Rattle.cw_cli.specs.declared.asked.Mode.TheVariants as mode
-use Rattle.cw_cli.proofs.Reading.{check, line, run, level, shape_of, stopped_at, stopped_walk}
+use Rattle.cw_cli.proofs.Reading.{check, line, run, scale, sites, level, shape_of, stopped_at, stopped_walk}
 use Rattle.cw_cli.proofs.Filled.{NamesNoSource, NotSource, filled_finished, given_first}
 
 both_none : (a b : Kinds) → or_else a b ≡ [] → (a ≡ []) × (b ≡ [])
@@ -143,16 +144,23 @@ by_name (Some name) word words (inr (inr is)) e h = absurd (no (subst (λ o. tur
     no t = cc
 
 subcommand_is : (word : Text) → (subcommand_met names idle word ≡ None) ⊎ (((m : Mode) × (subcommand_met names idle word ≡ Some (command_name m))) ⊎ (subcommand_met names idle word ≡ Some (codes "help")))
-subcommand_is word = go (bytes_eq (codes "check") word) (bytes_eq (codes "run") word) (bytes_eq (codes "help") word)
+subcommand_is word =
+    go (bytes_eq (codes "check") word) (bytes_eq (codes "run") word) (bytes_eq (codes "scale") word) (bytes_eq (codes "sites") word) (bytes_eq (codes "help") word)
   where
-    name : Bool → Bool → Bool → Option Text
-    name a b c = option_map (λ (s : Text × List Text). s.0) (cond (a || false) (Some (codes "check", [])) (cond (b || false) (Some (codes "run", [])) (cond (c || false) (Some (codes "help", [])) None)))
+    met : Bool → Text → Option (Text × List Text) → Option (Text × List Text)
+    met b name rest = cond (b || false) (Some (name, [])) rest
 
-    go : (a b c : Bool) → (name a b c ≡ None) ⊎ (((m : Mode) × (name a b c ≡ Some (command_name m))) ⊎ (name a b c ≡ Some (codes "help")))
-    go true b c = inr (inl (mode.Check, refl))
-    go false true c = inr (inl (mode.Run, refl))
-    go false false true = inr (inr refl)
-    go false false false = inl refl
+    name : (a b c d e : Bool) → Option Text
+    name a b c d e =
+        option_map (λ (s : Text × List Text). s.0) (met a (codes "check") (met b (codes "run") (met c (codes "scale") (met d (codes "sites") (met e (codes "help") None)))))
+
+    go : (a b c d e : Bool) → (name a b c d e ≡ None) ⊎ (((m : Mode) × (name a b c d e ≡ Some (command_name m))) ⊎ (name a b c d e ≡ Some (codes "help")))
+    go true b c d e = inr (inl (mode.Check, refl))
+    go false true c d e = inr (inl (mode.Run, refl))
+    go false false true d e = inr (inl (mode.Scale, refl))
+    go false false false true e = inr (inl (mode.Sites, refl))
+    go false false false false true = inr (inr refl)
+    go false false false false false = inl refl
 
 stops : (words : List Text) → walk_fault line.top names start words ≡ [] → Stops (walk_on start words)
 unfolding walk_fault walked
@@ -172,15 +180,20 @@ help_or_none : (a : Bool) → NotSource (cond a (Some (first (drop 1 check.rules
 help_or_none true = λ is. cc
 help_or_none false = tt
 
+no_number_of_source : NamesNoSource run.rules
+no_number_of_source = (
+  (λ name. number_or_help (has_long (first (drop 2 run.rules)) name) (has_long (first (drop 3 run.rules)) name) (has_long (first (drop 4 run.rules)) name)),
+  (λ x. number_or_help false false (has_short (first (drop 4 run.rules)) x)),
+)
+
 no_flag_of_source : (m : Mode) → NamesNoSource (shape_of m).rules
 no_flag_of_source mode.Check = (
   (λ name. help_or_none (has_long (first (drop 1 check.rules)) name)),
   (λ x. help_or_none (has_short (first (drop 1 check.rules)) x)),
 )
-no_flag_of_source mode.Run = (
-  (λ name. number_or_help (has_long (first (drop 2 run.rules)) name) (has_long (first (drop 3 run.rules)) name) (has_long (first (drop 4 run.rules)) name)),
-  (λ x. number_or_help false false (has_short (first (drop 4 run.rules)) x)),
-)
+no_flag_of_source mode.Run = no_number_of_source
+no_flag_of_source mode.Scale = no_number_of_source
+no_flag_of_source mode.Sites = no_number_of_source
 
 -- a source is required
 source_given : (m : Mode) (rows : List Row) → check_fault (shape_of m) rows false ≡ [] → is_given (codes "FILE") rows ≡ true
@@ -193,6 +206,8 @@ source_given m rows h = go (is_given (codes "FILE") rows) (of_mode m h)
     of_mode : (m : Mode) → check_fault (shape_of m) rows false ≡ [] → (if not (is_given (codes "FILE") rows) || false then kind.MissingRequiredArgument ∷ [] else none_of) ≡ []
     of_mode mode.Check e = e
     of_mode mode.Run e = e
+    of_mode mode.Scale e = e
+    of_mode mode.Sites e = e
 
 -- and a subcommand
 stopped_somewhere : (rows : List Row) (w : Walk) → w.stopped ≡ None → check_fault line.top rows (is_some (entered line w.stopped)) ≡ [] → ⊥
@@ -216,18 +231,24 @@ some_text None h = cc
 some_text (Some t) h = (t, refl)
 
 -- the level of a command, where the words enter it
+at_level : (s : Shape) (rest : List Text) → level s (walk s.rules [] nothing_held rest) false (walk_fault s [] start rest) [] (settle_fault s.rules s.args_override_self (walk s.rules [] nothing_held rest).held) ≡ []
+    → check_fault s (finished s.rules (walk s.rules [] nothing_held rest).held) false ≡ []
+at_level s rest h =
+    let end = walk s.rules [] nothing_held rest in
+    (level_passes s end false (walk_fault s [] start rest) [] (settle_fault s.rules s.args_override_self end.held) h).2
+
 below_of : (m : Mode) (rest : List Text) → entered_fault line (Some (command_name m, rest)) ≡ []
     → check_fault (shape_of m) (finished (shape_of m).rules (walk (shape_of m).rules [] nothing_held rest).held) false ≡ []
-below_of mode.Check rest h =
-    let end = walk check.rules [] nothing_held rest in
-    (level_passes check end false (walk_fault check [] start rest) [] (settle_fault check.rules check.args_override_self end.held) h).2
-below_of mode.Run rest h =
-    let end = walk run.rules [] nothing_held rest in
-    (level_passes run end false (walk_fault run [] start rest) [] (settle_fault run.rules run.args_override_self end.held) h).2
+below_of mode.Check rest h = at_level check rest h
+below_of mode.Run rest h = at_level run rest h
+below_of mode.Scale rest h = at_level scale rest h
+below_of mode.Sites rest h = at_level sites rest h
 
 entered_is : (m : Mode) (rest : List Text) → entered line (Some (command_name m, rest)) ≡ Some (command_name m, finished (shape_of m).rules (walk (shape_of m).rules [] nothing_held rest).held)
 entered_is mode.Check rest = refl
 entered_is mode.Run rest = refl
+entered_is mode.Scale rest = refl
+entered_is mode.Sites rest = refl
 
 pub taken : (given : List Text) → faults given ≡ [] → (words : Words) × AreRead given words
 taken given h =

@@ -102,11 +102,16 @@ module _ (bytes : List ℕ) (long : most_source_bytes < length bytes) where
     unchecked_whole (fault.Size p) h = refused_for (fault.Size p) h
     unchecked_whole fault.Code h = absurd h.refused
 
+    run_whole : (r : Result (Unit {0}) Fault) → analyses.IsRun seen old new (take most_read bytes) args options r → analyses.IsRun seen old new bytes args options r
+    run_whole (Ok done) h = absurd (no_source h.run.compiles.accepted.source.has_tokens.text)
+    run_whole (Err f) h = unreported_whole f h
+
     long_whole : (m : Mode) (r : Result (Unit {0}) Fault) → analyses.IsAnalysedIn seen old new (take most_read bytes) args options m r → analyses.IsAnalysedIn seen old new bytes args options m r
     long_whole mode.Check (Ok done) h = absurd (no_source h.compiles.accepted.source.has_tokens.text)
     long_whole mode.Check (Err f) h = unchecked_whole f h
-    long_whole mode.Run (Ok done) h = absurd (no_source h.run.compiles.accepted.source.has_tokens.text)
-    long_whole mode.Run (Err f) h = unreported_whole f h
+    long_whole mode.Run r h = run_whole r h
+    long_whole mode.Scale r h = run_whole r h
+    long_whole mode.Sites r h = run_whole r h
 
 module _ {W : Type 0} (seen : W → Seen) (old new : W) (args : List ℤ) (options : Options) where
   -- what an analysis of the bytes that were read answers is answered for the whole source
@@ -149,6 +154,8 @@ module _ {W E : Type 0} (seen : W → Seen) (seen' : E → Seen) (old new : W) (
       untouched : (bytes : List ℕ) (m : Mode) → analyses.IsAnalysedIn seen old new bytes asked.args.items asked.options m (Err fault.Memory)
       untouched bytes mode.Check = same
       untouched bytes mode.Run = same
+      untouched bytes mode.Scale = same
+      untouched bytes mode.Sites = same
 
   module _ {D : Type 0} (remaining : D → Option (List ℕ)) (source inner : D) (limit : ℕ) (before read slice : List ℕ) (args : List ℤ) where
     -- what the bytes that were read come to is the answer on the source

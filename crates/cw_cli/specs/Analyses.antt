@@ -20,6 +20,8 @@ use Rattle.cw_cli.specs.declared.asked.Options.{Options}
 abbrev pub mode_of : Mode → report.Mode
 mode_of mode.Check = report.Check
 mode_of mode.Run = report.Run
+mode_of mode.Scale = report.Scale
+mode_of mode.Sites = report.Sites
 
 -- main has so many parameters, and the limit and the burden are in range
 pub record MayRun (program : Program) (args : List ℤ) (options : Options) : Type 0 where
@@ -35,7 +37,8 @@ pub record IsRunOf (bytes : List ℕ) (args : List ℤ) (options : Options) (pro
 abbrev pub answer_to : Program → List ℤ → Options → Answer
 answer_to program args options = serial_answer program args options.limit
 
--- the report of a program; that of a check says nothing of what the program answers
+-- the report of a program; that of a check says nothing of what the program answers, and of a trap only a run writes what it
+-- printed before
 abbrev pub text_of : Program → List ℤ → Options → List ℕ
 text_of program args options = report_text (mode_of options.mode) program options.burden (answer_to program args options)
 
@@ -95,7 +98,7 @@ module _ {W : Type 0} (seen : W → Seen) (old new : W) where
       pub over : answer_to program args options ≡ OverLimit
       pub untouched : new ≡ old
 
-    -- it trapped, and the sink took what it printed before
+    -- it trapped, and the sink took the report of that: what it printed before in a run, else nothing
     pub record IsTrapped (trap : Trap) (line : ℕ) (printed : List ℤ) : Type 0 where
       pub program : Program
       pub run : IsRunOf bytes args options program
@@ -116,7 +119,7 @@ module _ {W : Type 0} (seen : W → Seen) (old new : W) where
       pub misused : ¬ (MayRun program args options)
       pub untouched : new ≡ old
 
-    -- what must hold where a run answers this fault
+    -- what must hold where a mode that runs the program answers this fault
     abbrev pub IsUnreported : Fault → Type 0
     IsUnreported fault.OverLimit = IsOverLimit
     IsUnreported (fault.Trap trap line printed) = IsTrapped trap line printed.items
@@ -125,14 +128,14 @@ module _ {W : Type 0} (seen : W → Seen) (old new : W) where
     IsUnreported fault.Arguments = IsMisused
     IsUnreported f = IsRefusedFor f
 
-    -- what a run answers
+    -- what a mode that runs the program answers
     abbrev pub IsRun : Result (Unit {0}) Fault → Type 0
     IsRun r = MatchResult r (λ _. IsReported) IsUnreported
 
     -- what an analysis in this mode answers
     abbrev pub IsAnalysedIn : Mode → Result (Unit {0}) Fault → Type 0
     IsAnalysedIn mode.Check r = MatchResult r (λ _. IsChecked) IsUnchecked
-    IsAnalysedIn mode.Run r = IsRun r
+    IsAnalysedIn m r = IsRun r
 
     -- what an analysis answers
     abbrev pub IsAnalysed : Result (Unit {0}) Fault → Type 0

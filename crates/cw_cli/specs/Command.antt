@@ -5,6 +5,8 @@ use Rattle.clap.specs.Words.{AddsSubcommand, App, Rule, Text, app_of, new_app, n
 use Rattle.clap.specs.declared.builder.Command.{Command}
 use Rattle.clap.specs.declared.builder.ArgAction.TheVariants.{Append, Set}
 use Rattle.cw_model.specs.Limits.{most_limit, most_burden}
+use Rattle.cw_cli.specs.declared.asked.Mode.{Mode}
+use Rattle.cw_cli.specs.declared.asked.Mode.TheVariants as mode
 
 -- an option that takes a number: its name, the least and the greatest number that it takes, and the word for the number
 -- where it is not given
@@ -42,13 +44,21 @@ file_rule = record (new_rule (codes "FILE")) { required = true; action = Some Se
 abbrev pub args_rule : Rule
 args_rule = record (new_rule (codes "ARGS")) { range = Some (record { start_inclusive = 0; end_inclusive = usize_max }); action = Some Append }
 
--- the command `check`, with its source alone
-abbrev pub check_line : App
-check_line = with_rule (new_app (codes "check")) file_rule
+-- the name of a command
+abbrev pub command_name : Mode → Text
+command_name mode.Check = codes "check"
+command_name mode.Run = codes "run"
+command_name mode.Scale = codes "scale"
+command_name mode.Sites = codes "sites"
 
--- the command `run`, with its source, its arguments and its numbers
-abbrev pub run_line : App
-run_line = fold with_rule (with_rule (with_rule (new_app (codes "run")) file_rule) args_rule) (map number_rule number_rows)
+-- a command that runs a program: with its source, its arguments and the numbers
+abbrev pub running_line : Text → App
+running_line name = fold with_rule (with_rule (with_rule (new_app name) file_rule) args_rule) (map number_rule number_rows)
+
+-- the words of each command: a check has its source alone
+abbrev pub line_of : Mode → App
+line_of mode.Check = with_rule (new_app (codes "check")) file_rule
+line_of m = running_line (command_name m)
 
 -- a command is of this line, also below another one
 pub record IsCommandOf (line : App) (c : Command) : Type 0 where
@@ -59,6 +69,10 @@ pub record IsCommandOf (line : App) (c : Command) : Type 0 where
 abbrev pub with_words_alone : App → App
 with_words_alone a = record a { top = record a.top { no_binary_name = true; subcommand_required = true } }
 
+-- the commands, in their order
+abbrev pub modes : List Mode
+modes = mode.Check ∷ mode.Run ∷ mode.Scale ∷ mode.Sites ∷ []
+
 -- the whole command line
 abbrev pub command_line : App
-command_line = with_subcommand (with_subcommand (with_words_alone (new_app (codes "cilkwork"))) check_line.top) run_line.top
+command_line = fold (λ above m. with_subcommand above (line_of m).top) (with_words_alone (new_app (codes "cilkwork"))) modes

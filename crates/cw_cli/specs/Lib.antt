@@ -5,6 +5,7 @@ pub mod Rows
 pub mod Sources
 pub mod Compiled
 pub mod Analyses
+pub mod Told
 pub mod Tools
 pub mod Laws
 pub mod WordLaws

@@ -1,5 +1,5 @@
 -- What the words ask for.
-use Rattle.std.specs.Prelude.{◌≡◌, ◌≢◌, ◌≤◌, ℕ, ℤ, Bool, true, false, pos, List, [], ◌∷◌, map, All, Option, Some, unwrap_or, codes, string_bytes, is_some}
+use Rattle.std.specs.Prelude.{◌≡◌, ◌≢◌, ◌≤◌, ℕ, ℤ, Bool, true, false, pos, List, [], ◌∷◌, map, All, Option, Some, None, unwrap_or, codes, string_bytes, is_some}
 use Rattle.std.specs.Option.{SomeIff}
 use Rattle.clap.specs.Words.{IsAmong, Kinds, Row, Text, all_of, fault_of, first_of, subcommand_of}
 use Rattle.clap.specs.declared.error.ErrorKind.{ErrorKind}
@@ -9,7 +9,7 @@ use Rattle.cw_model.specs.Pieces.{value_of}
 use Rattle.cw_text.specs.declared.fault.Fault.{Fault}
 use Rattle.cw_text.specs.declared.fault.Fault.TheVariants as fault
 use Rattle.cw_cli.specs.Numbers.{IsNumberWithin}
-use Rattle.cw_cli.specs.Command.{NumberRow, command_line, number_rows}
+use Rattle.cw_cli.specs.Command.{NumberRow, command_line, command_name, number_rows}
 use Rattle.cw_cli.specs.declared.asked.Mode.{Mode}
 use Rattle.cw_cli.specs.declared.asked.Mode.TheVariants as mode
 use Rattle.cw_cli.specs.declared.asked.Options.{Options}
@@ -27,10 +27,14 @@ pub record AreInRange (options : Options) : Type 0 where
 abbrev pub usual_options : Options
 usual_options = record { mode = mode.Run; limit = usual_limit; burden = usual_burden }
 
--- the name of a command
-abbrev pub command_name : Mode → Text
-command_name mode.Check = codes "check"
-command_name mode.Run = codes "run"
+-- the command of this name, if there is one
+abbrev pub IsModeNamed : Text → Option Mode → Type 0
+IsModeNamed name None = (m : Mode) → command_name m ≢ name
+IsModeNamed name (Some m) = command_name m ≡ name
+
+-- what is entered is no command
+abbrev pub NamesNoCommand : Option (Text × List Row) → Type 0
+NamesNoCommand entered = (m : Mode) (rows : List Row) → entered ≢ Some (command_name m, rows)
 
 -- what a command's words are: its mode, its source, the arguments of main, and a word for each row of the table of numbers
 pub record Words : Type 0 where

@@ -1,28 +1,32 @@
 //! From bytes to a report.
 
-ghost use Rattle.std.specs.Prelude.{◌≡◌, ◌<◌, ◌-◌, ◌^◌, ℕ, List};
+ghost use Rattle.std.specs.Prelude.{◌≡◌, ◌≢◌, ◌<◌, ◌-◌, ◌^◌, ℕ, List, []};
 ghost use Rattle.cw_code.specs.Code.{code_view};
 ghost use Rattle.cw_cli.specs.declared.asked.Mode.TheVariants as mode;
 ghost use Rattle.cw_cli.specs.Compiled.{IsCompiled};
 ghost use Rattle.cw_cli.specs.Analyses.{IsAnalysed, IsRun};
+ghost use Rattle.cw_cli.specs.Told.{told_of};
+ghost use Rattle.cw_report.specs.Answers.{AnswersText};
 
 use crate::asked::{Mode, Options};
 use crate::compiling::compile;
-use cw_machine::alone::run_alone;
-use cw_report::{Sink, answer, ok};
+use cw_machine::alone::{Ended, run_alone};
+use cw_model::laws::derived_sites_are_numbered;
+use cw_report::{Sink, answer, ok, scale, sites};
 use cw_text::Fault;
 use cw_verify::verified::Verified;
 use std::alloc::Global;
 use std::sync::Arc;
 
-/// Analyses the program that these bytes are the source of, and writes its report, with one worker.
+/// Analyses the program that these bytes are the source of, and writes the report of the mode, with
+/// one worker.
 ///
 /// The errors, in this order: what `compile` answers; and but for a check, which reads no arguments
 /// and runs nothing, `Arguments` where the count of the arguments is not that of `main`'s
 /// parameters, or an option is out of range; `OverLimit` where the serial elision costs more than
-/// the limit, `Trap` where it traps, after what it printed before was written. `Write` where a write
-/// of the report failed, and `Memory` where memory ran out: no byte was written then. Nothing is
-/// written at any other error but `Trap` and `Write`.
+/// the limit, `Trap` where it traps: in mode `Run` after what it printed before was written, else
+/// with nothing written. `Write` where a write of the report failed, and `Memory` where memory ran
+/// out: no byte was written then. Nothing is written at any other error but `Trap` and `Write`.
 ///
 /// Fewer than 2^64 - 1 writes to the sink failed before.
 pub fn analyse_alone<W: Sink>(
@@ -38,7 +42,7 @@ pub fn analyse_alone<W: Sink>(
     let code = compile(alloc, bytes)?;
     match options.mode {
         Mode::Check => ok(out),
-        Mode::Run => run(alloc, code, args, options, out),
+        _ => run(alloc, code, args, options, out),
     }
 }
 
@@ -51,13 +55,34 @@ fn run<W: Sink>(
     out: &mut W,
 ) -> Result<(), Fault>
     requires { (W.seen out.old).failures < 2 ^ 64 - 1 }
-    ensures { (bytes : List ℕ) → options.mode ≡ mode.Run → IsCompiled bytes (code_view code.code)
+    ensures { (bytes : List ℕ) → options.mode ≢ mode.Check → IsCompiled bytes (code_view code.code)
         → IsRun W.seen out.old out.new bytes args.now options result }
 {
+    derived_sites_are_numbered();
     let code = Arc::new(alloc, code)?;
     let share = Arc::try_clone(&code)?;
     let ended = run_alone(alloc, share, args, options.limit, options.burden);
-    answer(alloc, &code, &ended, out)?;
+    report(alloc, options.mode, &code, &ended, out)?;
     ended?;
     Ok(())
+}
+
+// Writes what the mode tells of a run. A check tells nothing of one.
+fn report<W: Sink>(
+    alloc: Global,
+    mode: Mode,
+    code: &Verified,
+    ended: &Result<Ended, Fault>,
+    out: &mut W,
+) -> Result<(), Fault>
+    requires { (W.seen out.old).failures < 2 ^ 64 - 1 }
+    ensures idle { told_of mode (code_view code.now.code) ended.now ≡ [] → out.new ≡ out.old }
+    ensures answers { AnswersText W.seen out.old out.new (told_of mode (code_view code.now.code) ended.now) result }
+{
+    match mode {
+        Mode::Check => Ok(()),
+        Mode::Run => answer(alloc, code, ended, out),
+        Mode::Scale => scale(alloc, code, ended, out),
+        Mode::Sites => sites(alloc, code, ended, out),
+    }
 }

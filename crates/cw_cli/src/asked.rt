@@ -17,11 +17,16 @@ pub const USUAL_BURDEN: u64 = 15_000;
 pub enum Mode {
     /// That the source compiles. Nothing is run.
     Check,
-    /// The value that the program's `main` gives.
+    /// What the program prints, its sums, and the value that its `main` gives.
     Run,
+    /// Work and span, with and without the burden: of the whole run, and of each tag of the source.
+    Scale,
+    /// Calls, work and span of each call site.
+    Sites,
 }
 
-/// How to analyse a program. A check uses neither the limit nor the burden, and a run not the burden.
+/// How to analyse a program. A check uses neither the limit nor the burden; `Run` and `Sites` take the
+/// burden and do not use it.
 #[derive(Clone, Copy, Debug, PartialEq, Eq)]
 pub struct Options {
     /// What to write.

@@ -36,8 +36,9 @@ pub fn one_answer()
     cw_parse::laws::no_tree_beside_a_fault();
 }
 
-/// A word after `check` that starts with no hyphen is the source. Such words after `run` are the
-/// source and the arguments, and `--limit` or `--burden` with a word before them is that number.
+/// A word after `check` that starts with no hyphen is the source. Such words after another command
+/// are the source and the arguments, and `--limit` or `--burden` with a word before them is that
+/// number.
 pub fn plain_words()
     ensures check { CheckIsRead }
     ensures usual { PlainWordsAreRead }

@@ -5,6 +5,7 @@ mod analysis;
 mod asked;
 mod command;
 mod compiling;
+mod help;
 mod later;
 pub mod laws;
 mod number;

@@ -8,22 +8,26 @@ ghost use Rattle.std.specs.Prelude.{
   All,
   IfErr,
   IfOk,
+  MatchOption,
   OnOk,
+  Some,
   map,
   pos,
   string_bytes,
 };
 ghost use Rattle.clap.specs.Words.{FailsBy, kind_of, rows_of, found_of, subcommand_of, subcommand_rows_of};
 ghost use Rattle.cw_model.specs.Pieces.{value_of};
-ghost use Rattle.cw_cli.specs.Command.{command_line};
+ghost use Rattle.cw_cli.specs.Command.{command_line, command_name};
 ghost use Rattle.cw_cli.specs.Requests.{
   AreProper,
   Asks,
   IsArgument,
   IsAskedBy,
   IsFaultUnless,
+  IsModeNamed,
   IsSaidAt,
   IsSaidOf,
+  NamesNoCommand,
   faults,
 };
 ghost use Rattle.cw_cli.specs.Rows.{IsGivenNumber};
@@ -51,12 +55,33 @@ pub fn request(alloc: Global, words: &[String]) -> Result<Request, Said>
         Ok(matches) => matches,
         Err(error) => return Err(said_of(alloc, &error)),
     };
-    if let Some(given) = matches.subcommand_matches("check") {
-        return Ok(asked_by(alloc, Mode::Check, given)?);
-    }
-    match matches.subcommand_matches("run") {
-        Some(given) => Ok(asked_by(alloc, Mode::Run, given)?),
-        None => Err(Said::Fault(Fault::Arguments)),
+    let Some((mode, given)) = command_given(&matches) else {
+        return Err(Said::Fault(Fault::Arguments));
+    };
+    let request = asked_by(alloc, mode, given)?;
+    Ok(request)
+}
+
+// The command that is given, with the matches of its words.
+fn command_given<'a, 'b>(matches: &'b ArgMatches<'a>) -> Option<(Mode, &'b ArgMatches<'a>)>
+    ensures { MatchOption result (NamesNoCommand (subcommand_rows_of matches.now))
+        (λ p. subcommand_rows_of matches.now ≡ Some (command_name p.0, rows_of (found_of p.1.now))) }
+{
+    let (name, given) = matches.subcommand()?;
+    let mode = mode_named(name)?;
+    Some((mode, given))
+}
+
+// The command of this name, if there is one.
+fn mode_named(name: &str) -> Option<Mode>
+    ensures { IsModeNamed name.now result }
+{
+    match name {
+        "check" => Some(Mode::Check),
+        "run" => Some(Mode::Run),
+        "scale" => Some(Mode::Scale),
+        "sites" => Some(Mode::Sites),
+        _ => None,
     }
 }
 

@@ -3,6 +3,7 @@ use Rattle.std.proofs.Common.{◌≡◌, ◌==◌, false, [], ◌∷◌, ℕ, �
 use Rattle.std.specs.Io.KnownBytes.{Appends}
 use Rattle.std.proofs.lemmas.List.{take_rest}
 use Rattle.cw_report.specs.Seen.{Seen}
+use Rattle.cw_report.specs.Answers.{AnswersText}
 use Rattle.cw_report.specs.Sinks.{AppendsBefore, AppendsPart, WritesAll, WritesPart, Writes}
 use Rattle.cw_text.specs.declared.fault.Fault.{Fault}
 use Rattle.cw_text.specs.declared.fault.Fault.TheVariants as fault
@@ -50,3 +51,8 @@ some_left left text a b (done, split, wrote) none some = rest done left (sym spl
     rest [] [] e h = cc
     rest [] (y ∷ ys) e h = cc
     rest (x ∷ xs) ys e h = cc
+
+-- a text that was written is the answer
+pub answered : {W : Type 0} (seen : W → Seen) (old new : W) (text : List ℕ) (r : Result (Unit {0}) Fault) → Writes (seen old) (seen new) text r → AnswersText seen old new text r
+answered seen old new text (Ok u) w = w
+answered seen old new text (Err e) w = rw (w.0) w.1

@@ -1,12 +1,14 @@
-//! What a check and a run are answered with.
+//! What a check and a run are answered with: each text is made whole and then written.
 
 ghost use Rattle.std.specs.Prelude.{◌≡◌, [], ◌<◌, ◌-◌, ◌^◌};
+ghost use Rattle.cw_code.specs.Code.{code_view};
 ghost use Rattle.cw_model.specs.Report.{check_text};
 ghost use Rattle.cw_report.specs.Sinks.{Writes};
-ghost use Rattle.cw_report.specs.Texts.{handed_text};
+ghost use Rattle.cw_report.specs.Texts.{handed_text, scale_of, sites_of};
 ghost use Rattle.cw_report.specs.Answers.{AnswersText};
 
 use crate::sink::Sink;
+use crate::tables::{scale_text, sites_text};
 use crate::text::{ended_text, printed_text};
 use crate::writing::write_text;
 use cw_machine::alone::Ended;
@@ -26,33 +28,87 @@ pub fn ok<W: Sink>(to: &mut W) -> Result<(), Fault>
     write_text(to, b"ok\n")
 }
 
-/// Writes the report of a run: the values that it printed, each on a line, and the line of its value,
-/// or, where it trapped, the values that it printed before. Of any other fault nothing is written, and the sink is left
-/// alone; the line of the fault itself is for `write_fault`.
+/// Writes the report of a run: the values that it printed, the sum of each reducer of the code, and the
+/// value of `main`, each on a line, or, where it trapped, the values that it printed before. Of any
+/// other fault nothing is written, and the sink is left alone; the line of the fault itself is for
+/// `write_fault`.
 ///
 /// The error is `Memory` where there is none for the text: nothing was written then. It is `Write`
 /// where a write failed or took no byte: the sink took a beginning of the text, and counts one more
 /// failed write.
 ///
-/// It asks that fewer than 2^64 - 1 writes to the sink failed before. The code has the call sites,
-/// for the reports that will tell of them.
+/// It asks that fewer than 2^64 - 1 writes to the sink failed before.
 pub fn answer<W: Sink>(
     alloc: Global,
-    _code: &Verified,
+    code: &Verified,
     ended: &Result<Ended, Fault>,
     to: &mut W,
 ) -> Result<(), Fault>
     requires { (W.seen to.old).failures < 2 ^ 64 - 1 }
-    ensures idle { handed_text ended.now ≡ [] → to.new ≡ to.old }
-    ensures answers { AnswersText W.seen to.old to.new (handed_text ended.now) result }
+    ensures idle { handed_text (code_view code.now.code) ended.now ≡ [] → to.new ≡ to.old }
+    ensures answers { AnswersText W.seen to.old to.new (handed_text (code_view code.now.code) ended.now) result }
 {
     match ended {
         Ok(ended) => {
-            let text = ended_text(alloc, ended.lines.as_slice(), ended.value)?;
+            let text = ended_text(alloc, &code.code, ended)?;
             write_text(to, text.as_slice())
         }
         Err(Fault::Trap { output, .. }) => {
             let text = printed_text(alloc, output.as_slice())?;
+            write_text(to, text.as_slice())
+        }
+        Err(_) => Ok(()),
+    }
+}
+
+/// Writes the work and the span of a run, with and without burdens, and its parallelism: on one line of the whole run,
+/// with an empty tag, and then on one for each tag of the code. Of a run that did not end nothing is written, and the
+/// sink is left alone.
+///
+/// The error is `Memory` where there is none for the text: nothing was written then. It is `Write` where a write failed
+/// or took no byte: the sink took a beginning of the text, and counts one more failed write.
+///
+/// It asks that fewer than 2^64 - 1 writes to the sink failed before.
+pub fn scale<W: Sink>(
+    alloc: Global,
+    code: &Verified,
+    ended: &Result<Ended, Fault>,
+    to: &mut W,
+) -> Result<(), Fault>
+    requires { (W.seen to.old).failures < 2 ^ 64 - 1 }
+    ensures idle { scale_of (code_view code.now.code) ended.now ≡ [] → to.new ≡ to.old }
+    ensures answers { AnswersText W.seen to.old to.new (scale_of (code_view code.now.code) ended.now) result }
+{
+    match ended {
+        Ok(ended) => {
+            let text = scale_text(alloc, &code.code, ended)?;
+            write_text(to, text.as_slice())
+        }
+        Err(_) => Ok(()),
+    }
+}
+
+/// Writes what is counted of each call site over a run: on one line of the call of `main` by the run itself, with the
+/// number 0, and then on one for each call site of the code. Of a run that did not end nothing is written, and the sink
+/// is left alone.
+///
+/// The error is `Memory` where there is none for the text: nothing was written then. It is `Write` where a write failed
+/// or took no byte: the sink took a beginning of the text, and counts one more failed write.
+///
+/// It asks that fewer than 2^64 - 1 writes to the sink failed before.
+pub fn sites<W: Sink>(
+    alloc: Global,
+    code: &Verified,
+    ended: &Result<Ended, Fault>,
+    to: &mut W,
+) -> Result<(), Fault>
+    requires { (W.seen to.old).failures < 2 ^ 64 - 1 }
+    ensures idle { sites_of (code_view code.now.code) ended.now ≡ [] → to.new ≡ to.old }
+    ensures answers { AnswersText W.seen to.old to.new (sites_of (code_view code.now.code) ended.now) result }
+{
+    match ended {
+        Ok(ended) => {
+            let text = sites_text(alloc, &code.code, ended)?;
             write_text(to, text.as_slice())
         }
         Err(_) => Ok(()),

@@ -4,14 +4,18 @@
 
 mod answering;
 mod counted;
+mod fields;
 mod input;
 mod sink;
+#[cfg(test)]
+mod table_tests;
+mod tables;
 #[cfg(test)]
 mod tests;
 mod text;
 mod writing;
 
-pub use answering::{answer, ok};
+pub use answering::{answer, ok, scale, sites};
 pub use counted::Counted;
 pub use input::Input;
 pub use sink::Sink;

@@ -4,6 +4,9 @@ use crate::counted::Counted;
 use crate::sink::Sink;
 use crate::text::{ended_text, printed_text};
 use crate::writing::{write_fault, write_text};
+use cw_code::code::Code;
+use cw_machine::alone::Ended;
+use cw_meter::Readings;
 use cw_model::trap::Trap;
 use cw_text::{Fault, Place};
 use std::alloc::Global;
@@ -67,10 +70,46 @@ fn a_flush_that_fails_is_told_and_not_counted(rt: HostRuntime) -> Result<(), Fai
     Ok(())
 }
 
+// A code of no function that has these reducers.
+fn code_with(alloc: Global, names: &[&[u8]]) -> Result<Code, Fail> {
+    let mut reducers = Vec::new(alloc);
+    for name in names {
+        reducers.push(Vec::from_slice(alloc, name)?)?;
+    }
+    Ok(Code {
+        instrs: Vec::new(alloc),
+        funcs: Vec::new(alloc),
+        main: 0,
+        main_line: 1,
+        sites: Vec::new(alloc),
+        reducers,
+        tags: Vec::new(alloc),
+        passed: Vec::new(alloc),
+    })
+}
+
+// A run that left this value, and printed and added up these.
+fn ended_with(alloc: Global, value: i64, lines: &[i64], sums: &[i128]) -> Result<Ended, Fail> {
+    Ok(Ended {
+        value,
+        lines: Vec::from_slice(alloc, lines)?,
+        sums: Vec::from_slice(alloc, sums)?,
+        measure: Readings {
+            work: 1,
+            span: 1,
+            burdened: 1,
+        },
+        sites: Vec::new(alloc),
+        regions: Vec::new(alloc),
+    })
+}
+
 #[test]
 fn prints_numbers(rt: HostRuntime) -> Result<(), Fail> {
     let alloc = rt.alloc();
-    let least = ended_text(alloc, &[], -9223372036854775808)?;
+    let code = code_with(alloc, &[])?;
+    let ended = ended_with(alloc, -9223372036854775808, &[], &[])?;
+    let least = ended_text(alloc, &code, &ended)?;
     assert_eq!(rt;
         least.as_slice(),
         b"return -9223372036854775808\n".as_slice()
@@ -79,6 +118,24 @@ fn prints_numbers(rt: HostRuntime) -> Result<(), Fail> {
     assert_eq!(rt;
         printed.as_slice(),
         b"0\n-1\n9223372036854775807\n".as_slice()
+    );
+    Ok(())
+}
+
+#[test]
+fn prints_sums_of_more_than_64_bits(rt: HostRuntime) -> Result<(), Fail> {
+    let alloc = rt.alloc();
+    let code = code_with(alloc, &[b"total", b"least"])?;
+    let ended = ended_with(
+        alloc,
+        3,
+        &[7],
+        &[9223372036854775808, -42535295865117307932921825928971026432],
+    )?;
+    let text = ended_text(alloc, &code, &ended)?;
+    assert_eq!(rt;
+        text.as_slice(),
+        b"7\nsum total = 9223372036854775808\nsum least = -42535295865117307932921825928971026432\nreturn 3\n".as_slice()
     );
     Ok(())
 }

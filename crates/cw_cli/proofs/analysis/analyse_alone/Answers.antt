@@ -8,6 +8,6 @@ returns-in_err-code g c = refusal g.W.Sink.seen c.args.out.now c.args.bytes.now 
 pub returns-in-Check : goal.returns-in-Check
 returns-in-Check g c = checked g.W.Sink.seen c.args.out.now c.ok.new.to c.args.bytes.now c.args.args.now c.args.options _ c.in_ok-code.ensures c.in-Check.is c.ok.result c.ok.ensures
 
-pub returns-in-Run : goal.returns-in-Run
-returns-in-Run g c =
-    run_is g.W.Sink.seen c.args.out.now c.run.new.out c.args.bytes.now c.args.args.now c.args.options c.in-Run.is c.run.result (c.run.ensures c.args.bytes.now c.in-Run.is c.in_ok-code.ensures)
+pub returns-in_default : goal.returns-in_default
+returns-in_default g c =
+    run_is g.W.Sink.seen c.args.out.now c.run.new.out c.args.bytes.now c.args.args.now c.args.options c.in_default.not-Check c.run.result (c.run.ensures c.args.bytes.now c.in_default.not-Check c.in_ok-code.ensures)

@@ -1,10 +1,17 @@
 use Rattle.std.proofs.Common.{◌≡◌, ◌∙◌, ap, codes, rules}
-use Rattle.clap.specs.Words.{app_of, new_app, with_subcommand}
-use Rattle.cw_cli.specs.Command.{check_line, run_line, with_words_alone}
+use Rattle.clap.specs.Words.{App, app_of, new_app, with_subcommand}
+use Rattle.cw_cli.specs.Command.{line_of, with_words_alone}
+use Rattle.cw_cli.specs.declared.asked.Mode.{Mode}
+use Rattle.cw_cli.specs.declared.asked.Mode.TheVariants as mode
 use Rattle.cw_cli.proofs.command.command.Goals as goal
+
+abbrev below : Mode → App → App
+below m above = with_subcommand above (line_of m).top
 
 pub returns : goal.returns
 returns c =
     let new_is : app_of c.subcommand_required.result ≡ with_words_alone (new_app (codes "cilkwork")) = search rules in
-    c.in_ok-run.ensures.below _ _ c.in_ok-command.ensures
-    ∙ ap (λ a. with_subcommand a run_line.top) (c.in_ok-check.ensures.below _ _ c.in_ok-subcommand.ensures ∙ ap (λ a. with_subcommand a check_line.top) new_is)
+    c.in_ok-sites.ensures.below _ _ c.in_ok-command.ensures
+    ∙ ap (below mode.Sites) (c.in_ok-scale.ensures.below _ _ c.in_ok-subcommand-3.ensures
+    ∙ ap (below mode.Scale) (c.in_ok-run.ensures.below _ _ c.in_ok-subcommand-2.ensures
+    ∙ ap (below mode.Run) (c.in_ok-check.ensures.below _ _ c.in_ok-subcommand.ensures ∙ ap (below mode.Check) new_is)))

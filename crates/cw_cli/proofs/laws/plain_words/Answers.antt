@@ -4,7 +4,7 @@ use Rattle.cw_cli.proofs.laws.plain_words.Goals as goal
 pub returns : goal.returns
 returns c = record {
   check = check_is_read;
-  usual = λ file args plain plains few. are_read nothing file args tt plain plains few;
-  limited = λ limit file args plain plain_file plains few. are_read (limited limit) file args plain plain_file plains few;
-  burdened = λ burden file args plain plain_file plains few. are_read (burdened burden) file args plain plain_file plains few;
+  usual = λ m file args runs plain plains few. are_read m nothing file args runs tt plain plains few;
+  limited = λ m limit file args runs plain plain_file plains few. are_read m (limited limit) file args runs plain plain_file plains few;
+  burdened = λ m burden file args runs plain plain_file plains few. are_read m (burdened burden) file args runs plain plain_file plains few;
 }

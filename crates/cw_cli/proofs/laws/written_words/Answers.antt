@@ -26,11 +26,13 @@ read = (
   record { rows = _; command = (refl, refl); file_is = refl; args_are = refl; numbers_are = refl },
   record { rows = _; command = (refl, refl); file_is = refl; args_are = refl; numbers_are = refl },
   record { rows = _; command = (refl, refl); file_is = refl; args_are = refl; numbers_are = refl },
+  record { rows = _; command = (refl, refl); file_is = refl; args_are = refl; numbers_are = refl },
+  record { rows = _; command = (refl, refl); file_is = refl; args_are = refl; numbers_are = refl },
 )
 
 refused : RefusalExamples
 unfolding clap_on_literals
-refused = (refl, refl, refl, refl, refl, refl, refl, refl, refl, refl, refl, refl)
+refused = (refl, refl, refl, refl, refl, refl, refl, refl, refl, refl, refl, refl, refl, refl, refl, refl, refl, refl, refl)
 
 pub returns : goal.returns
 returns c = record { usual = usual; read = read; refused = refused }

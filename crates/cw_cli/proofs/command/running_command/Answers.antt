@@ -1,10 +1,10 @@
-use Rattle.std.proofs.Common.{◌≡◌, ◌∙◌, ap, ap₂, codes, rules, Bool, false, Some}
+use Rattle.std.proofs.Common.{◌≡◌, ◌∙◌, ap, ap₂, rules, Bool, false, Some}
 use Rattle.clap.specs.Words.{App, Rule, app_of, new_app, rule_of, with_rule, with_subcommand}
 use Rattle.clap.specs.declared.builder.Arg.{Arg}
 use Rattle.clap.specs.declared.builder.ArgAction.TheVariants.{Append}
-use Rattle.cw_cli.specs.Command.{args_rule, run_line}
+use Rattle.cw_cli.specs.Command.{args_rule, running_line}
 use Rattle.cw_cli.proofs.Commands.{with_range_of}
-use Rattle.cw_cli.proofs.command.run_command.Goals as goal
+use Rattle.cw_cli.proofs.command.running_command.Goals as goal
 
 abbrev is_global : Arg → Bool
 is_global a = a.global
@@ -18,8 +18,8 @@ returns c =
     let file_is_local : c.file.result.global ≡ false = c.file.ensures.local in
     let limit_is_local : c.number.result.global ≡ false = c.number.ensures.local in
     let burden_is_local : c.number-2.result.global ≡ false = c.number-2.ensures.local in
-    let new_is : app_of c.after_help.result ≡ new_app (codes "run") = search rules in
-    let shape : app_of c.in_ok-command.command ≡ run_line =
+    let new_is : app_of c.after_help.result ≡ new_app c.args.name.now = search rules in
+    let shape : app_of c.in_ok-command.command ≡ running_line c.args.name.now =
     c.in_ok-command.ensures.shape burden_is_local
     ∙ ap₂ with_rule (c.in_ok-arg-3.ensures.shape limit_is_local
     ∙ ap₂ with_rule (c.in_ok-arg-2.ensures.shape args_is_local

@@ -1,0 +1,95 @@
+-- The rows that a run tells of are those of its tree.
+use Rattle.std.proofs.Common.{◌≡◌, ◌∙◌, ◌+◌, ℕ, suc, Bool, true, false, ◌&&◌, List, [], ◌∷◌, ◌++◌, length, Some, Ok, flat_map, refl, sym, ap, ap₂, subst, arith}
+use Rattle.std.specs.Prelude.{nat_eq, slice_get, decimal}
+use Rattle.std.proofs.lemmas.Bool.Decides.{nat_tests}
+use Rattle.std.proofs.lemmas.List.{length-map}
+use Rattle.cw_model.specs.Syntax.{Program, Name}
+use Rattle.cw_model.specs.Trees.{Tree}
+use Rattle.cw_model.specs.Answers.{Ended}
+use Rattle.cw_model.specs.Rows.{site_row}
+use Rattle.cw_model.specs.Sites.{CallSite, call_sites, root_site, are_numbered}
+use Rattle.cw_model.specs.Report.{csv_line, scale_header, scale_line, scale_text, sites_header, sites_text, site_kind_text, site_line, region_line, tags_of}
+use Rattle.cw_sites.specs.declared.table.SiteRow.{SiteRow}
+use Rattle.cw_sites.specs.Tables as sites
+use Rattle.cw_regions.specs.declared.table.RegionRow.{RegionRow}
+use Rattle.cw_meter.specs.Whole.{AreReadings, AreSiteRows, AreRegionRows}
+use Rattle.cw_code.specs.Code.{Code, told_sites}
+use Rattle.cw_machine.specs.declared.alone.Ended as run
+use Rattle.cw_report.specs.Texts.{tag_lines, scale_of, counts_of, row_line, row_lines, root_at, sites_of}
+
+-- ---- tags
+
+-- the line of a whole run, or of a tag
+line_is : (tag : Name) (work work' span span' burdened burdened' : ℕ) → work ≡ work' → span ≡ span' → burdened ≡ burdened' → scale_line tag work span burdened ≡ scale_line tag work' span' burdened'
+line_is tag work work' span span' burdened burdened' w s b =
+    ap (λ x. scale_line tag x span burdened) w ∙ ap (λ x. scale_line tag work' x burdened) s ∙ ap (scale_line tag work' span') b
+
+tags_are : (tags : List Name) (rows : List RegionRow) (burden : ℕ) (t : Tree) → AreRegionRows burden tags t rows → tag_lines tags rows ≡ flat_map (region_line burden t) tags
+tags_are [] rows burden t h = refl
+tags_are (tag ∷ tags) [] burden t h = let e = h.as_many in absurd (omega (arith, e))
+tags_are (tag ∷ tags) (row ∷ rows) burden t h =
+    let is = h.are 0 row tag refl refl in
+    let e = h.as_many in
+    ap₂ (λ a b. a ++ b) (line_is tag _ _ _ _ _ _ is.work is.span is.burdened)
+    (tags_are tags rows burden t (record { as_many = omega (arith, e); are = λ k r g there named. h.are (suc k) r g there named }))
+
+pub scale_is : (program : Program) (code : Code) (burden : ℕ) (e : run.Ended) (t : Tree) → code.tags ≡ tags_of program → AreReadings burden t e.measure → AreRegionRows burden code.tags t e.regions.items
+    → scale_of code (Ok e) ≡ scale_text program burden (Ended e.value e.lines.items e.sums.items t)
+scale_is program code burden e t tags whole rows =
+    ap₂ (λ a b. scale_header ++ (a ++ b)) (line_is [] _ _ _ _ _ _ whole.work whole.span whole.burdened)
+    (tags_are code.tags e.regions.items burden t rows ∙ ap (flat_map (region_line burden t)) tags)
+
+-- ---- sites
+
+both : (a b : Bool) → (a && b) ≡ true → (a ≡ true) × (b ≡ true)
+both true b h = (refl, h)
+both false b h = cc
+
+is_same : (a b : ℕ) → nat_eq a b ≡ true → a ≡ b
+is_same a b h = grind (arith, nat_tests)
+
+-- the rows from this number on are those of a tree
+abbrev AreRowsFrom : ℕ → Tree → List SiteRow → Type 0
+AreRowsFrom n t rows = (k site : ℕ) (row : SiteRow) → site ≡ n + k → slice_get rows k ≡ Some row → sites.IsRow row (site_row site t)
+
+counts_are : (t : Tree) (number : ℕ) (row : SiteRow) → sites.IsRow row (site_row number t)
+    → counts_of row ≡ decimal (site_row number t).calls ∷ decimal (site_row number t).own_work ∷ decimal (site_row number t).own_span ∷ decimal (site_row number t).work ∷ decimal (site_row number t).span ∷ []
+counts_are t number row is =
+    ap (λ x. decimal x ∷ decimal row.own_work ∷ decimal row.own_span ∷ decimal row.work ∷ decimal row.span ∷ []) is.calls
+    ∙ ap (λ x. decimal (site_row number t).calls ∷ decimal x ∷ decimal row.own_span ∷ decimal row.work ∷ decimal row.span ∷ []) is.own_work
+    ∙ ap (λ x. decimal (site_row number t).calls ∷ decimal (site_row number t).own_work ∷ decimal x ∷ decimal row.work ∷ decimal row.span ∷ []) is.own_span
+    ∙ ap (λ x. decimal (site_row number t).calls ∷ decimal (site_row number t).own_work ∷ decimal (site_row number t).own_span ∷ decimal x ∷ decimal row.span ∷ []) is.work
+    ∙ ap (λ x. decimal (site_row number t).calls ∷ decimal (site_row number t).own_work ∷ decimal (site_row number t).own_span ∷ decimal (site_row number t).work ∷ decimal x ∷ []) is.span
+
+row_is : (t : Tree) (s : CallSite) (row : SiteRow) → sites.IsRow row (site_row s.number t) → row_line s row ≡ site_line t s
+row_is t s row is = ap (λ counts. csv_line (decimal s.number ∷ site_kind_text s.kind ∷ decimal s.line ∷ s.callee ∷ counts)) (counts_are t s.number row is)
+
+rows_are : (n : ℕ) (all : List CallSite) (rows : List SiteRow) (t : Tree) → length rows ≡ length all → are_numbered n all ≡ true → AreRowsFrom (suc n) t rows → row_lines all rows ≡ flat_map (site_line t) all
+rows_are n [] rows t count numbered h = refl
+rows_are n (s ∷ all) [] t count numbered h = absurd (omega (arith, count))
+rows_are n (s ∷ all) (row ∷ rows) t count numbered h =
+    let split = both (nat_eq s.number (suc n)) (are_numbered (suc n) all) numbered in
+    let number : s.number ≡ suc n = is_same s.number (suc n) split.0 in
+    ap₂ (λ a b. a ++ b) (row_is t s row (h 0 s.number row (omega (arith, number)) refl))
+    (rows_are (suc n) all rows t (omega (arith, count)) split.1 (λ k site r at there. h (suc k) site r (omega (arith, at)) there))
+
+-- the root's row, and those of the call statements behind it
+all_rows_are : (root : CallSite) (all : List CallSite) (rows : List SiteRow) (t : Tree) → root.number ≡ 0 → are_numbered 0 all ≡ true → AreSiteRows (length all + 1) t rows
+    → row_lines (root ∷ all) rows ≡ flat_map (site_line t) (root ∷ all)
+all_rows_are root all [] t first numbered h = let e = h.as_many in absurd (omega (arith, e))
+all_rows_are root all (row ∷ rows) t first numbered h =
+    let e = h.as_many in
+    let from : AreRowsFrom 1 t rows = λ k site r at there. h.are site r (there_at k site r (omega (arith, at)) there) in
+    let root_is : sites.IsRow row (site_row root.number t) = h.are root.number row (ap (slice_get (row ∷ rows)) first) in
+    ap₂ (λ a b. a ++ b) (row_is t root row root_is) (rows_are 0 all rows t (omega (arith, e)) numbered from)
+  where
+    there_at : (k site : ℕ) (r : SiteRow) → site ≡ suc k → slice_get rows k ≡ Some r → slice_get (row ∷ rows) site ≡ Some r
+    there_at k site r at there = ap (slice_get (row ∷ rows)) at ∙ there
+
+pub sites_are : (program : Program) (code : Code) (e : run.Ended) (t : Tree) → told_sites code ≡ call_sites program → code.main_line ≡ (root_site program).line
+    → are_numbered 0 (call_sites program) ≡ true → AreSiteRows (length code.sites + 1) t e.sites.items
+    → sites_of code (Ok e) ≡ sites_text program (Ended e.value e.lines.items e.sums.items t)
+sites_are program code e t told line numbered rows =
+    let count : length code.sites ≡ length (call_sites program) = sym (length-map code.sites (λ s. s.told)) ∙ ap length told in
+    ap₂ (λ l all. sites_header ++ row_lines (root_at l ∷ all) e.sites.items) line told
+    ∙ ap (λ text. sites_header ++ text) (all_rows_are (root_site program) (call_sites program) e.sites.items t refl numbered (subst (λ n. AreSiteRows (n + 1) t e.sites.items) count rows))

@@ -1,0 +1,151 @@
+//! What stands below commands and options in the help.
+
+/// Of the program, below its commands.
+pub const OF_PROGRAM: &str = "\
+Without any word the program runs the source on standard input, on no arguments
+and with the usual numbers. 'cilkwork COMMAND --help' tells of one command.
+
+What is written to standard output:
+  check  'ok', where the source compiles
+  run    printed values, sums of reducers and the value of main, a line each
+  scale  a table of work, span and parallelism, of the run and of each tag
+  sites  a table of calls, work and span, of each call in the source
+In a table commas stand between fields, and the first line names the columns.
+Work, span, limit and burden are counted in instructions.
+
+A number is one or more decimal digits; zeros in front are allowed:
+  ARGS      from 0 to 9223372036854775807, as many as main has parameters
+  --limit   from 1 to 4611686018427387904; a run that needs all of the usual
+            limit may take some seconds
+  --burden  from 0 to 1000000000; what a path is charged at each spawn where it
+            goes on behind it
+
+Exit status and standard error (L is a line of the source):
+  0                     the report is on standard output
+  2  refused 1 line L   a byte that starts no token or is above 127, or a number
+                        above 9223372036854775807
+  2  refused 2 line L   a token that no source has there, or the source ends
+  2  refused 3 line L   a rule of names and types is broken
+  2  refused 4 line L   a rule of ownership is broken
+  2  refused 5 line L   a limit on the size of programs is passed, or a
+                        statement is not compiled yet
+  2  refused 6          code that the verifier refuses
+  3  trap C line L      C is 1 for overflow, 2 division by 0, 3 index, 4 length,
+                        5 turns of a loop, 6 depth of calls
+  4  over limit         the run costs more than its limit
+  5  arguments          not as many arguments as main takes, a number that is
+                        none or out of range, or words that are no text
+  5  file               the source cannot be opened or read
+  5  error: ..          other words than the commands take
+  6  memory             no memory is left
+  7  write failed       standard output does not take the whole report";
+
+/// Of `check`, below its options.
+pub const OF_CHECK: &str = "\
+Writes 'ok' where the source compiles. It takes no arguments of main and runs
+nothing. The limits on programs and what a refusal says: 'cilkwork --help'.
+Without any word cilkwork does not check but runs the source on standard input.
+
+Exit status and standard error:
+  0                     'ok' is on standard output
+  2  refused N line L   the source is refused for reason N at its line L
+  5  file               the source cannot be opened or read
+  5  error: ..          other words than a check takes
+  6  memory             no memory is left
+  7  write failed       standard output does not take the whole report";
+
+/// Of `run`, below its options.
+pub const OF_RUN: &str = "\
+Writes each printed value on a line, then 'sum NAME = V' for each reducer of the
+source, and 'return V' with the value V of main. Without any word cilkwork runs
+the source on standard input, on no arguments and with the usual numbers.
+
+ARGS are as many as main has parameters, each from 0 to 9223372036854775807.
+--limit is counted in instructions, from 1 to 4611686018427387904; a run that
+needs all of the usual limit may take some seconds. --burden is counted in
+instructions too, from 0 to 1000000000; run takes it and does not use it.
+A number is one or more decimal digits; zeros in front are allowed.
+
+Exit status and standard error:
+  0                     the report is on standard output
+  2  refused N line L   the source is refused for reason N at its line L
+  3  trap C line L      the run stopped at line L; standard output has what was
+                        printed before
+  4  over limit         the run costs more than its limit
+  5  arguments          not as many arguments as main takes, or a number that is
+                        none or out of range
+  5  file               the source cannot be opened or read
+  5  error: ..          other words than a run takes
+  6  memory             no memory is left
+  7  write failed       standard output does not take the whole report";
+
+/// Of `scale`, below its options.
+pub const OF_SCALE: &str = "\
+Writes a table with commas between fields, and none of what the program prints.
+The first line names the columns. The second, with an empty tag, is of the whole
+run. Then each tag of the source has a line, by its first place, also where it
+never ran; what is counted of it are its executions that lie in no other of it.
+  tag                   the name of the region
+  work                  instructions that were executed
+  span                  instructions on a longest path
+  parallelism           work by span, to three digits and rounded down; 0.000
+                        where the span is 0
+  burdened_span         span where each path is charged the burden at each spawn
+                        behind which it goes on
+  burdened_parallelism  work by burdened span, in the same way
+Without any word cilkwork runs the source on standard input as 'run' does.
+
+ARGS are as many as main has parameters, each from 0 to 9223372036854775807.
+--limit is counted in instructions, from 1 to 4611686018427387904; a run that
+needs all of the usual limit may take some seconds. --burden is counted in
+instructions too, from 0 to 1000000000.
+A number is one or more decimal digits; zeros in front are allowed.
+
+Exit status and standard error:
+  0                     the table is on standard output
+  2  refused N line L   the source is refused for reason N at its line L
+  3  trap C line L      the run stopped at line L; no table is written
+  4  over limit         the run costs more than its limit
+  5  arguments          not as many arguments as main takes, or a number that is
+                        none or out of range
+  5  file               the source cannot be opened or read
+  5  error: ..          other words than scale takes
+  6  memory             no memory is left
+  7  write failed       standard output does not take the whole table";
+
+/// Of `sites`, below its options.
+pub const OF_SITES: &str = "\
+Writes a table with commas between fields, and none of what the program prints.
+The first line names the columns. The second, of site 0, is of main itself. Then
+each call in the source has a line, by its place, also where it never ran.
+  site      0, or the place of the call among the calls of the source, from 1
+  kind      root of site 0, else spawn or call
+  line      the line of the call; of site 0 that of the word main
+  callee    the function that is called
+  calls     how often it was called there
+  own_work  instructions of these calls, without those of calls inside them
+  own_span  those of them that lie on a longest path of the whole run
+  work      instructions of these calls, with those of calls inside them
+  span      instructions on longest paths of these calls, added up
+In work and span a call inside another one of the same site is not counted
+again. The own work of all sites adds up to the work of the run, and their own
+span to its span.
+Without any word cilkwork runs the source on standard input as 'run' does.
+
+ARGS are as many as main has parameters, each from 0 to 9223372036854775807.
+--limit is counted in instructions, from 1 to 4611686018427387904; a run that
+needs all of the usual limit may take some seconds. --burden is counted in
+instructions too, from 0 to 1000000000; sites takes it and does not use it.
+A number is one or more decimal digits; zeros in front are allowed.
+
+Exit status and standard error:
+  0                     the table is on standard output
+  2  refused N line L   the source is refused for reason N at its line L
+  3  trap C line L      the run stopped at line L; no table is written
+  4  over limit         the run costs more than its limit
+  5  arguments          not as many arguments as main takes, or a number that is
+                        none or out of range
+  5  file               the source cannot be opened or read
+  5  error: ..          other words than sites takes
+  6  memory             no memory is left
+  7  write failed       standard output does not take the whole table";
