@@ -2,6 +2,10 @@
 #![tactic(auto)]
 
 #[cfg(test)]
+mod arrays;
+#[cfg(test)]
+mod examples;
+#[cfg(test)]
 mod integers;
 #[cfg(test)]
 mod owning;
@@ -15,6 +19,8 @@ mod refusals;
 mod rows;
 #[cfg(test)]
 mod sinks;
+#[cfg(test)]
+mod tables;
 #[cfg(test)]
 mod typing;
 #[cfg(test)]

@@ -114,22 +114,9 @@ const NO_PROGRAMS: &[(&str, &str)] = &[
         "int main() {\nregion t01234567890123456789012345678901 { }\nreturn 0; }",
         "refused 5 line 2\n",
     ),
-    // what is not taken so far: arrays, parallel loops and reducers, after ownership
-    ("int main() {\nint a[1];\nreturn 0; }", "refused 5 line 2\n"),
-    (
-        "int main() { return 0; }\nint f(int a[]) { return 0; }",
-        "refused 5 line 2\n",
-    ),
+    // what is not taken so far: parallel loops, after ownership
     (
         "int main() {\ncilk_for (int i = 0; i < 2; i++) { }\nreturn 0; }",
-        "refused 5 line 2\n",
-    ),
-    (
-        "int main() { return 0; }\nreducer sum s;",
-        "refused 5 line 2\n",
-    ),
-    (
-        "int main() {\ns += 1;\nreturn 0; }\nreducer sum s;",
         "refused 5 line 2\n",
     ),
     (
@@ -169,11 +156,11 @@ fn calls(alloc: Global, count: usize) -> Result<String, AllocError> {
 fn refuses_too_many_call_statements(rt: HostRuntime) -> Result<(), Fail> {
     let alloc = rt.alloc();
     let most = calls(alloc, 65_535)?;
-    let (status, out, err) = answer(alloc, "run f", most.as_bytes())?;
+    let (status, out, err) = answer(alloc, "check f", most.as_bytes())?;
     assert_eq!(rt; (status, err.len()), (0, 0));
-    assert_eq!(rt; out.as_slice(), b"return 0\n".as_slice());
+    assert_eq!(rt; out.as_slice(), b"ok\n".as_slice());
     let more = calls(alloc, 65_536)?;
-    let (status, out, err) = answer(alloc, "run f", more.as_bytes())?;
+    let (status, out, err) = answer(alloc, "check f", more.as_bytes())?;
     assert_eq!(rt; (status, out.len()), (2, 0));
     assert_eq!(rt; err.as_slice(), b"refused 5 line 1\n".as_slice());
     Ok(())

@@ -64,6 +64,27 @@ fn reads_requests(rt: HostRuntime) -> Result<(), Fail> {
             7,
             1_000_000_000,
         ),
+        (
+            "scale f.cilk",
+            Mode::Scale,
+            [].as_slice(),
+            1_000_000_000,
+            15_000,
+        ),
+        (
+            "scale --burden 0 f.cilk 3 --limit 9",
+            Mode::Scale,
+            [3].as_slice(),
+            9,
+            0,
+        ),
+        (
+            "sites f.cilk 4 --burden=007 -- 5",
+            Mode::Sites,
+            [4, 5].as_slice(),
+            1_000_000_000,
+            7,
+        ),
     ] {
         let asked = asked(alloc, line)?;
         let options = Options {
@@ -91,6 +112,10 @@ const REFUSED: &[(&str, &str)] = &[
     ("run f --burden 1000000001", "arguments\n"),
     ("run f --burden +0", "arguments\n"),
     ("run f --burden x --limit 9", "arguments\n"),
+    ("scale f --burden 1000000001", "arguments\n"),
+    ("scale f 9223372036854775808", "arguments\n"),
+    ("sites f --limit 0", "arguments\n"),
+    ("sites f 1 x", "arguments\n"),
     // words
     ("run f -1", "error: unexpected argument '-1' found\n"),
     (
@@ -118,6 +143,19 @@ const REFUSED: &[(&str, &str)] = &[
         "run f --burden 1 --burden 1",
         "error: the argument '--burden <N>' cannot be used multiple times\n",
     ),
+    (
+        "check f --burden 9",
+        "error: unexpected argument '--burden' found\n",
+    ),
+    (
+        "scale",
+        "error: the following required arguments were not provided:\n",
+    ),
+    (
+        "sites f --burden",
+        "error: a value is required for '--burden <N>'",
+    ),
+    ("scales f", "error: unrecognized subcommand 'scales'\n"),
     ("walk f", "error: unrecognized subcommand 'walk'\n"),
     ("f", "error: unrecognized subcommand 'f'\n"),
 ];
@@ -126,9 +164,21 @@ const REFUSED: &[(&str, &str)] = &[
 const HELPED: &[(&str, &str, &str)] = &[
     ("--help", "Checks and runs", "standard input"),
     ("--help", "Checks and runs", "  4  over limit "),
+    ("--help", "Checks and runs", "  sites  "),
+    ("--help", "Checks and runs", "may take some seconds"),
     ("check --help", "Compiles a program", "  6  memory "),
+    ("check --help", "Compiles a program", "standard input"),
     ("run --help", "Runs a program", "4611686018427387904"),
+    ("run --help", "Runs a program", "'sum NAME = V'"),
+    ("run --help", "Runs a program", "standard input"),
     ("help run", "Runs a program", "1000000000"),
+    ("scale --help", "Runs a program", "  burdened_parallelism  "),
+    ("scale --help", "Runs a program", "from 0 to 1000000000."),
+    ("scale --help", "Runs a program", "15000"),
+    ("scale --help", "Runs a program", "standard input"),
+    ("sites --help", "Runs a program", "  own_span  "),
+    ("sites --help", "Runs a program", "may take some seconds"),
+    ("help sites", "Runs a program", "standard input"),
 ];
 
 #[test]

@@ -1,0 +1,225 @@
+//! Runs of the language with arrays: elements, lengths, calls that take arrays, cuts, and their traps. The limits are
+//! exact: one instruction less is over.
+
+use crate::program::answer;
+use std::alloc::Global;
+use std::process::Abort;
+use std::test::Fail;
+
+// The words, the source, the exit status, standard output and standard error.
+type Row<'a> = (&'a str, &'a str, u8, &'a str, &'a str);
+
+// Each of these rows holds.
+fn all_hold(rt: &impl Abort, alloc: Global, rows: &[Row]) -> Result<(), Fail> {
+    for row in rows {
+        let (status, out, err) = answer(alloc, row.0, row.1.as_bytes())?;
+        assert_eq!(rt; status, row.2, "{}: {}", row.0, row.1);
+        assert_eq!(rt; out.as_slice(), row.3.as_bytes(), "{}: {}", row.0, row.1);
+        assert_eq!(rt; err.as_slice(), row.4.as_bytes(), "{}: {}", row.0, row.1);
+    }
+    Ok(())
+}
+
+const CUT_AT_3: &str = "int main() { int a[3]; cut a at 3 as l, r { } return 0; }";
+
+const CUT_AT_4: &str = "int main() { int a[3]; cut a at 4 as l, r { } return 0; }";
+
+const CUT_BELOW_0: &str = "int main() { int a[3]; cut a at -1 as l, r { } return 0; }";
+
+const EMPTY_PART: &str = "int main() { int a[3]; cut a at 3 as l, r { print(len(r)); } return 0; }";
+
+const FILL: &str = "int fill(int a[], int v) { a[0] = v; return len(a); } int main() { int a[4]; \
+int x = 0; int y = 0; cut a at 2 as l, r { x = cilk_spawn fill(l, 5); y = fill(r, 7); } \
+return a[0] * 10 + a[2]; }";
+
+// one part is cut again, and both of its parts are given away before the first end
+const CUT_TWICE: &str = "void set(int a[], int v) { a[len(a) - 1] = v; }
+int main() {
+  int a[5];
+  cut a at 1 as l, r {
+    cut r at 3 as m, n {
+      cilk_spawn set(m, 3);
+      cilk_spawn set(n, 4);
+      l[0] = 1;
+    }
+    r[0] = r[2] + r[3];
+  }
+  return a[0] * 10000 + a[1] * 1000 + a[2] * 100 + a[3] * 10 + a[4];
+}
+";
+
+// the array comes back at the join of the scope
+const SPAWNED: &str =
+    "void twice(int a[]) { int i = 0; while (i < len(a)) { a[i] = a[i] * 2; i = i + 1; } }
+int main() {
+  int a[3];
+  int b[2];
+  a[0] = 4;
+  a[2] = 21;
+  cilk_scope { cilk_spawn twice(a); b[1] = 7; twice(b); }
+  print(a[2]);
+  return a[0] + b[1] + b[0];
+}
+";
+
+// an array of each turn begins with zeros
+const FRESH: &str = "int main() {
+  int i = 0;
+  int total = 0;
+  while (i < 3) { int a[i + 1]; total = total + a[i] + len(a); a[i] = 100; i = i + 1; }
+  return total;
+}
+";
+
+// the numbers below n that no smaller one but 1 divides, by striking out
+const SIEVE: &str = "int main(int n) {
+  int struck[n];
+  int count = 0;
+  int p = 2;
+  int k = 0;
+  while (p < n) {
+    if (struck[p] == 0) {
+      count = count + 1;
+      k = p * p;
+      while (k < n) { struck[k] = 1; k = k + p; }
+    }
+    p = p + 1;
+  }
+  return count;
+}
+";
+
+#[test]
+fn runs_arrays_and_cuts(rt: HostRuntime) -> Result<(), Fail> {
+    let rows: &[Row] = &[
+        // the array 2, the cut 2, its end 1, return 2
+        ("run f --limit 7", CUT_AT_3, 0, "return 0\n", ""),
+        ("run f --limit 6", CUT_AT_3, 4, "", "over limit\n"),
+        ("run f --limit 9", EMPTY_PART, 0, "0\nreturn 0\n", ""),
+        ("run f --limit 8", EMPTY_PART, 4, "", "over limit\n"),
+        ("run f --limit 31", FILL, 0, "return 57\n", ""),
+        ("run f --limit 30", FILL, 4, "", "over limit\n"),
+        ("run f", CUT_TWICE, 0, "return 17034\n", ""),
+        ("run f", SPAWNED, 0, "42\nreturn 22\n", ""),
+        ("run f", FRESH, 0, "return 6\n", ""),
+        ("run f 100", SIEVE, 0, "return 25\n", ""),
+        (
+            "run f",
+            "int main() { int a[0]; return len(a); }",
+            0,
+            "return 0\n",
+            "",
+        ),
+    ];
+    all_hold(&rt, rt.alloc(), rows)
+}
+
+#[test]
+fn traps_outside_an_array(rt: HostRuntime) -> Result<(), Fail> {
+    let rows: &[Row] = &[
+        ("run f", CUT_AT_4, 3, "", "trap 3 line 1\n"),
+        ("run f --limit 4", CUT_AT_4, 3, "", "trap 3 line 1\n"),
+        ("run f --limit 3", CUT_AT_4, 4, "", "over limit\n"),
+        ("run f", CUT_BELOW_0, 3, "", "trap 3 line 1\n"),
+        (
+            "run f",
+            "int main() { int a[0 - 1]; return 0; }",
+            3,
+            "",
+            "trap 4 line 1\n",
+        ),
+        (
+            "run f",
+            "int main() { int a[16777217]; return 0; }",
+            3,
+            "",
+            "trap 4 line 1\n",
+        ),
+        (
+            "run f",
+            "int main() {\nint a[2];\nreturn a[2]; }",
+            3,
+            "",
+            "trap 3 line 3\n",
+        ),
+        (
+            "run f",
+            "int main() {\nint a[2];\nreturn a[-1]; }",
+            3,
+            "",
+            "trap 3 line 3\n",
+        ),
+        // the index, and then the value, whose trap comes first
+        (
+            "run f",
+            "int main() {\nint a[2];\nprint(5);\na[2] = 1 / 0;\nreturn 0; }",
+            3,
+            "5\n",
+            "trap 2 line 4\n",
+        ),
+        (
+            "run f",
+            "int main() {\nint a[2];\na[1 + 1] =\n1;\nreturn 0; }",
+            3,
+            "",
+            "trap 3 line 3\n",
+        ),
+        (
+            "run f",
+            "void f(int a[], int i) {\na[i] = 1; }\nint main() {\nint a[2];\ncilk_spawn f(a, 2);\nprint(1);\ncilk_sync;\nreturn 0; }",
+            3,
+            "",
+            "trap 3 line 2\n",
+        ),
+    ];
+    all_hold(&rt, rt.alloc(), rows)
+}
+
+const TWO_ADDITIONS: &str = "reducer sum s; void add() { s += 9223372036854775807; } \
+int main() { cilk_spawn add(); cilk_spawn add(); cilk_sync; return 0; }";
+
+const TWO_REDUCERS: &str = "reducer sum up;
+void add(int v) { up += v; down += 0 - v; print(v); }
+int main() {
+  int i = 0;
+  while (i < 4) { cilk_spawn add(i); i = i + 1; }
+  return 9;
+}
+reducer sum down;
+reducer sum unused;
+";
+
+// what was added before a trap is not told
+const ADDED_BEFORE_A_TRAP: &str =
+    "reducer sum s; int main(int z) { s += 3; print(4); s += 1 / z; return 0; }";
+
+#[test]
+fn runs_sums(rt: HostRuntime) -> Result<(), Fail> {
+    let rows: &[Row] = &[
+        // each spawn 1, each addition 2 and the end of its function 1, the sync 1, return 2
+        (
+            "run f --limit 11",
+            TWO_ADDITIONS,
+            0,
+            "sum s = 18446744073709551614\nreturn 0\n",
+            "",
+        ),
+        ("run f --limit 10", TWO_ADDITIONS, 4, "", "over limit\n"),
+        (
+            "run f",
+            TWO_REDUCERS,
+            0,
+            "0\n1\n2\n3\nsum up = 6\nsum down = -6\nsum unused = 0\nreturn 9\n",
+            "",
+        ),
+        ("run f 0", ADDED_BEFORE_A_TRAP, 3, "4\n", "trap 2 line 1\n"),
+        (
+            "run f 1",
+            ADDED_BEFORE_A_TRAP,
+            0,
+            "4\nsum s = 4\nreturn 0\n",
+            "",
+        ),
+    ];
+    all_hold(&rt, rt.alloc(), rows)
+}

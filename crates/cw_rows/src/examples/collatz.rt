@@ -1,0 +1,49 @@
+//! The program examples/collatz.cilk, and the files beside it.
+
+use crate::examples::Example;
+
+pub const EXAMPLE: Example = Example {
+    words: "collatz.cilk 5",
+    source: "// For each number from 1 to n, the steps that halving and tripling take to reach 1; prints the steps of each
+// number, in the order of the numbers, whatever runs beside what.
+// cilkwork run collatz.cilk 5
+// 1: 0 steps; 2: 1; 3, 10, 5, 16, 8, 4, 2, 1: 7; 4: 2; 5, 16, 8, 4, 2, 1: 5.
+
+void collatz(int n) {
+  int count = 0;
+  while (n != 1) {
+    if (n % 2 == 0) {
+      n = n / 2;
+    } else {
+      n = 3 * n + 1;
+    }
+    count = count + 1;
+  }
+  print(count);
+}
+
+int main(int n) {
+  int i = 1;
+  while (i <= n) {
+    cilk_spawn collatz(i);
+    i = i + 1;
+  }
+  cilk_sync;
+  return 0;
+}
+",
+    run: "0
+1
+7
+2
+5
+return 0
+",
+    scale: "tag,work,span,parallelism,burdened_span,burdened_parallelism
+,412,184,2.239,75064,0.005
+",
+    sites: "site,kind,line,callee,calls,own_work,own_span,work,span
+0,root,19,main,1,64,33,412,184
+1,spawn,22,collatz,5,348,151,348,348
+",
+};

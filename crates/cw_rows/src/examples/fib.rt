@@ -1,0 +1,41 @@
+//! The program examples/fib.cilk, and the files beside it.
+
+use crate::examples::Example;
+
+pub const EXAMPLE: Example = Example {
+    words: "fib.cilk 20",
+    source: "// The n-th Fibonacci number by recursion, where each call spawns one of its two calls, however little there is to do.
+// fib_cutoff.cilk spawns no small ones.
+// cilkwork run fib.cilk 20
+// With 0 and 1 as the first two, the 20th after 0 is 6765.
+
+int fib(int n) {
+  if (n < 2) {
+    return n;
+  }
+  int x = 0;
+  int y = 0;
+  x = cilk_spawn fib(n - 1);
+  y = fib(n - 2);
+  cilk_sync;
+  return x + y;
+}
+
+int main(int n) {
+  int r = 0;
+  r = fib(n);
+  return r;
+}
+",
+    run: "return 6765
+",
+    scale: "tag,work,span,parallelism,burdened_span,burdened_parallelism
+,295527,339,871.761,150222,1.967
+",
+    sites: "site,kind,line,callee,calls,own_work,own_span,work,span
+0,root,18,main,1,6,6,295527,339
+1,spawn,12,fib,10945,167130,310,295305,1626
+2,call,13,fib,10945,128370,6,295116,2783
+3,call,20,fib,1,21,17,295521,333
+",
+};

@@ -1,0 +1,55 @@
+//! The program examples/fib_cutoff.cilk, and the files beside it.
+
+use crate::examples::Example;
+
+pub const EXAMPLE: Example = Example {
+    words: "fib_cutoff.cilk 20",
+    source: "// The n-th Fibonacci number as in fib.cilk, with a cut-off: below 14 a call goes on without spawns.
+// cilkwork run fib_cutoff.cilk 20
+// With 0 and 1 as the first two, the 20th after 0 is 6765.
+
+int serial(int n) {
+  if (n < 2) {
+    return n;
+  }
+  int x = 0;
+  int y = 0;
+  x = serial(n - 1);
+  y = serial(n - 2);
+  return x + y;
+}
+
+int fib(int n) {
+  int x = 0;
+  int y = 0;
+  if (n < 14) {
+    x = serial(n);
+    return x;
+  }
+  x = cilk_spawn fib(n - 1);
+  y = fib(n - 2);
+  cilk_sync;
+  return x + y;
+}
+
+int main(int n) {
+  int r = 0;
+  r = fib(n);
+  return r;
+}
+",
+    run: "return 6765
+",
+    scale: "tag,work,span,parallelism,burdened_span,burdened_parallelism
+,285023,9919,28.735,66140,4.309
+",
+    sites: "site,kind,line,callee,calls,own_work,own_span,work,span
+0,root,29,main,1,6,6,285023,9919
+1,call,11,serial,10912,159706,5504,279632,279632
+2,call,12,serial,10912,123530,4258,275812,275812
+3,call,20,serial,34,680,20,283916,283916
+4,spawn,23,fib,33,576,114,278883,39380
+5,call,24,fib,33,504,0,275076,65069
+6,call,31,fib,1,21,17,285017,9913
+",
+};

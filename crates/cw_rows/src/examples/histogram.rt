@@ -1,0 +1,49 @@
+//! The program examples/histogram.cilk, and the files beside it.
+
+use crate::examples::Example;
+
+pub const EXAMPLE: Example = Example {
+    words: "histogram.cilk 1000",
+    source: "// How many of n numbers lie below 10, from 10 to 29, from 30 to 59 and above: a reducer for each range.
+// cilkwork run histogram.cilk 1000
+// The numbers are 21 * i + 63 mod 100 for i from 0 on. Since 21 and 100 have no common divisor, each hundred of them
+// has each remainder once: of a thousand there are 100, 200, 300 and 400.
+
+reducer sum least;
+reducer sum lower;
+reducer sum upper;
+reducer sum greatest;
+
+int main(int n) {
+  cilk_for (int i = 0; i < n; i++) grain 50 {
+    int v = (21 * i + 63) % 100;
+    if (v < 10) {
+      least += 1;
+    } else {
+      if (v < 30) {
+        lower += 1;
+      } else {
+        if (v < 60) {
+          upper += 1;
+        } else {
+          greatest += 1;
+        }
+      }
+    }
+  }
+  return 0;
+}
+",
+    run: "sum least = 100
+sum lower = 200
+sum upper = 300
+sum greatest = 400
+return 0
+",
+    scale: "tag,work,span,parallelism,burdened_span,burdened_parallelism
+,33104,1149,28.811,76149,0.434
+",
+    sites: "site,kind,line,callee,calls,own_work,own_span,work,span
+0,root,11,main,1,33104,1149,33104,1149
+",
+};

@@ -1,0 +1,40 @@
+//! The program examples/later.cilk, and the files beside it.
+
+use crate::examples::Example;
+
+pub const EXAMPLE: Example = Example {
+    words: "later.cilk 3 4",
+    source: "// main takes two arguments; two calls are spawned before one sync.
+// cilkwork run later.cilk 3 4
+
+int first(int a, int b) {
+  return a;
+}
+
+int second(int a, int b) {
+  return b;
+}
+
+int main(int a, int b) {
+  int x = 0;
+  int y = 0;
+  x = cilk_spawn second(a, b);
+  y = cilk_spawn first(a, b);
+  cilk_sync;
+  int z = 0;
+  z = second(y, x);
+  return z;
+}
+",
+    run: "return 4
+",
+    scale: "tag,work,span,parallelism,burdened_span,burdened_parallelism
+,24,22,1.090,30020,0.000
+",
+    sites: "site,kind,line,callee,calls,own_work,own_span,work,span
+0,root,12,main,1,18,18,24,22
+1,spawn,15,second,1,2,0,2,2
+2,spawn,16,first,1,2,2,2,2
+3,call,19,second,1,2,2,2,2
+",
+};

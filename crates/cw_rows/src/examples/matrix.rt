@@ -1,0 +1,47 @@
+//! The program examples/matrix.cilk, and the files beside it.
+
+use crate::examples::Example;
+
+pub const EXAMPLE: Example = Example {
+    words: "matrix.cilk 16",
+    source: "// The product of two matrices of n by n numbers, a number of the product in each turn of a loop. Prints the sum of the
+// numbers on its diagonal and its last number.
+// cilkwork run matrix.cilk 16
+// With a(i, j) = i + j and b(i, j) = i - j the diagonal has the sum of (i + k)(k - i) over all i and k, which is that of
+// k * k - i * i and so 0; the last number is the sum of (n - 1 + k)(k - n + 1), for 16 that of k * k - 225: 1240 - 3600.
+
+int main(int n) {
+  int c[n * n];
+  int diagonal = 0;
+  int d = 0;
+  cilk_for (int p = 0; p < n * n; p++) grain 16 over (c) {
+    int i = p / n;
+    int j = p % n;
+    int k = 0;
+    int total = 0;
+    while (k < n) {
+      total = total + (i + k) * (k - j);
+      k = k + 1;
+    }
+    c[p] = total;
+  }
+  while (d < n) {
+    diagonal = diagonal + c[d * n + d];
+    d = d + 1;
+  }
+  print(diagonal);
+  print(c[n * n - 1]);
+  return 0;
+}
+",
+    run: "0
+-2360
+return 0
+",
+    scale: "tag,work,span,parallelism,burdened_span,burdened_parallelism
+,86977,5819,14.947,65819,1.321
+",
+    sites: "site,kind,line,callee,calls,own_work,own_span,work,span
+0,root,7,main,1,86977,5819,86977,5819
+",
+};

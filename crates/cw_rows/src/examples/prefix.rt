@@ -1,0 +1,68 @@
+//! The program examples/prefix.cilk, and the files beside it.
+
+use crate::examples::Example;
+
+pub const EXAMPLE: Example = Example {
+    words: "prefix.cilk 4000",
+    source: "// Prefix sums of n ones: the sums of both halves beside each other, and then the last sum of the left half is added to
+// each of the right half, by halves too. Parts of up to 256 numbers are not halved. Prints the last sum.
+// cilkwork run prefix.cilk 4000
+// The sum of n ones is n.
+
+void add(int a[], int v) {
+  int i = 0;
+  if (len(a) <= 256) {
+    while (i < len(a)) {
+      a[i] = a[i] + v;
+      i = i + 1;
+    }
+    return;
+  }
+  cut a at len(a) / 2 as l, r {
+    cilk_spawn add(l, v);
+    add(r, v);
+  }
+}
+
+void sums(int a[]) {
+  int i = 1;
+  if (len(a) <= 256) {
+    while (i < len(a)) {
+      a[i] = a[i] + a[i - 1];
+      i = i + 1;
+    }
+    return;
+  }
+  cut a at len(a) / 2 as l, r {
+    cilk_spawn sums(l);
+    sums(r);
+    cilk_sync;
+    add(r, l[len(l) - 1]);
+  }
+}
+
+int main(int n) {
+  int a[n];
+  add(a, 1);
+  sums(a);
+  print(a[n - 1]);
+  return 0;
+}
+",
+    run: "4000
+return 0
+",
+    scale: "tag,work,span,parallelism,burdened_span,burdened_parallelism
+,253240,23550,10.753,233550,1.084
+",
+    sites: "site,kind,line,callee,calls,own_work,own_span,work,span
+0,root,38,main,1,12,12,253240,23550
+1,spawn,16,add,32,75412,0,120624,56591
+2,call,17,add,32,75412,15140,120624,56591
+3,spawn,31,sums,15,36084,0,131648,40722
+4,call,32,sums,15,36084,4553,131648,40722
+5,call,34,add,15,30200,3809,120624,56591
+6,call,40,add,1,16,16,60416,3825
+7,call,41,sums,1,20,20,192812,19713
+",
+};

@@ -1,0 +1,62 @@
+//! The program examples/primes.cilk, and the files beside it.
+
+use crate::examples::Example;
+
+pub const EXAMPLE: Example = Example {
+    words: "primes.cilk 1000",
+    source: "// How many primes lie below n: ranges are halved down to 16 numbers, and the first half is spawned.
+// cilkwork run primes.cilk 1000
+// There are 168 primes below 1000.
+
+int is_prime(int n) {
+  if (n < 2) {
+    return 0;
+  }
+  int d = 2;
+  while (d * d <= n) {
+    if (n % d == 0) {
+      return 0;
+    }
+    d = d + 1;
+  }
+  return 1;
+}
+
+int primes(int from, int to) {
+  int count = 0;
+  if (to - from <= 16) {
+    int p = 0;
+    while (from < to) {
+      p = is_prime(from);
+      count = count + p;
+      from = from + 1;
+    }
+    return count;
+  }
+  int middle = from + (to - from) / 2;
+  int rest = 0;
+  count = cilk_spawn primes(from, middle);
+  rest = primes(middle, to);
+  cilk_sync;
+  return count + rest;
+}
+
+int main(int n) {
+  int count = 0;
+  count = primes(0, n);
+  return count;
+}
+",
+    run: "return 168
+",
+    scale: "tag,work,span,parallelism,burdened_span,burdened_parallelism
+,112591,2772,40.617,92275,1.220
+",
+    sites: "site,kind,line,callee,calls,own_work,own_span,work,span
+0,root,38,main,1,7,7,112591,2772
+1,call,24,is_prime,1000,94733,2356,94733,94733
+2,spawn,32,primes,63,8731,267,110316,15022
+3,call,33,primes,63,9091,113,111814,10036
+4,call,40,primes,1,29,29,112584,2765
+",
+};

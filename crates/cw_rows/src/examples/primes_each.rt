@@ -1,0 +1,48 @@
+//! The program examples/primes_each.cilk, and the files beside it.
+
+use crate::examples::Example;
+
+pub const EXAMPLE: Example = Example {
+    words: "primes_each.cilk 2000",
+    source: "// How many primes lie below n, by a spawn for each number, one after another: each of them is too small to be worth it,
+// and each stands behind all those before it. primes_loop.cilk has the same work in a loop that is halved.
+// cilkwork run primes_each.cilk 2000
+// There are 303 primes below 2000.
+
+reducer sum primes;
+
+void test(int n) {
+  int d = 2;
+  if (n < 2) {
+    return;
+  }
+  while (d * d <= n) {
+    if (n % d == 0) {
+      return;
+    }
+    d = d + 1;
+  }
+  primes += 1;
+}
+
+int main(int n) {
+  int i = 0;
+  while (i < n) {
+    cilk_spawn test(i);
+    i = i + 1;
+  }
+  cilk_sync;
+  return 0;
+}
+",
+    run: "sum primes = 303
+return 0
+",
+    scale: "tag,work,span,parallelism,burdened_span,burdened_parallelism
+,257707,22746,11.329,30022009,0.008
+",
+    sites: "site,kind,line,callee,calls,own_work,own_span,work,span
+0,root,22,main,1,22009,22000,257707,22746
+1,spawn,25,test,2000,235698,746,235698,235698
+",
+};

@@ -1,0 +1,44 @@
+//! The program examples/primes_loop.cilk, and the files beside it.
+
+use crate::examples::Example;
+
+pub const EXAMPLE: Example = Example {
+    words: "primes_loop.cilk 2000",
+    source: "// How many primes lie below n, as in primes_each.cilk, by a loop that is halved down to 125 numbers.
+// cilkwork run primes_loop.cilk 2000
+// There are 303 primes below 2000.
+
+reducer sum primes;
+
+void test(int n) {
+  int d = 2;
+  if (n < 2) {
+    return;
+  }
+  while (d * d <= n) {
+    if (n % d == 0) {
+      return;
+    }
+    d = d + 1;
+  }
+  primes += 1;
+}
+
+int main(int n) {
+  cilk_for (int i = 0; i < n; i++) grain 125 {
+    test(i);
+  }
+  return 0;
+}
+",
+    run: "sum primes = 303
+return 0
+",
+    scale: "tag,work,span,parallelism,burdened_span,burdened_parallelism
+,262242,21022,12.474,81022,3.236
+",
+    sites: "site,kind,line,callee,calls,own_work,own_span,work,span
+0,root,21,main,1,26544,1728,262242,21022
+1,call,23,test,2000,235698,19294,235698,235698
+",
+};

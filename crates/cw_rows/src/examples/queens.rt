@@ -1,0 +1,77 @@
+//! The program examples/queens.cilk, and the files beside it.
+
+use crate::examples::Example;
+
+pub const EXAMPLE: Example = Example {
+    words: "queens.cilk 7",
+    source: "// How many ways there are to put n queens on a board of n by n squares, none of them in reach of another. The columns of
+// a row are halved, and one half is searched beside the other, on a board of its own; the reducer counts.
+// cilkwork run queens.cilk 7
+// There are 40 ways for 7 queens.
+
+reducer sum ways;
+
+// whether a queen in this row and column is in reach of none above it
+int is_free(int board[], int row, int column) {
+  int r = 0;
+  while (r < row) {
+    if (board[r] == column) {
+      return 0;
+    }
+    if (board[r] - column == row - r) {
+      return 0;
+    }
+    if (column - board[r] == row - r) {
+      return 0;
+    }
+    r = r + 1;
+  }
+  return 1;
+}
+
+void search(int board[], int row, int from, int to) {
+  int fits = 0;
+  int column = from;
+  int r = 0;
+  if (to - from == 1) {
+    fits = is_free(board, row, column);
+    if (fits) {
+      if (row + 1 == len(board)) {
+        ways += 1;
+      } else {
+        board[row] = column;
+        search(board, row + 1, 0, len(board));
+      }
+    }
+    return;
+  }
+  int other[len(board)];
+  while (r < row) {
+    other[r] = board[r];
+    r = r + 1;
+  }
+  cilk_spawn search(other, row, from, from + (to - from) / 2);
+  search(board, row, from + (to - from) / 2, to);
+}
+
+int main(int n) {
+  int board[n];
+  search(board, 0, 0, n);
+  return 0;
+}
+",
+    run: "sum ways = 40
+return 0
+",
+    scale: "tag,work,span,parallelism,burdened_span,burdened_parallelism
+,630747,2483,254.026,212429,2.969
+",
+    sites: "site,kind,line,callee,calls,own_work,own_span,work,span
+0,root,51,main,1,8,8,630747,2483
+1,call,31,is_free,3584,263752,701,263752,263752
+2,call,37,search,511,49036,487,630218,16210
+3,spawn,47,search,3072,139655,505,630394,11619
+4,call,48,search,3072,178257,743,630485,9409
+5,call,53,search,1,39,39,630739,2475
+",
+};

@@ -1,0 +1,77 @@
+//! The program examples/roots.cilk, and the files beside it.
+
+use crate::examples::Example;
+
+pub const EXAMPLE: Example = Example {
+    words: "roots.cilk 4000",
+    source: "// The sum of the integer square roots of n numbers. The numbers are made by one call, the roots are found side by side,
+// and one call adds them up: both calls are serial, and roots_mended.cilk has neither.
+// cilkwork run roots.cilk 4000
+// The numbers are 421 * i + 1663 mod 7875. Python's math.isqrt gives the sum 234691 of 4000 of them.
+
+void fill(int a[]) {
+  int i = 0;
+  while (i < len(a)) {
+    a[i] = (421 * i + 1663) % 7875;
+    i = i + 1;
+  }
+}
+
+int root(int v) {
+  int low = 0;
+  int high = 128;
+  while (1 < high - low) {
+    int middle = (low + high) / 2;
+    if (middle * middle <= v) {
+      low = middle;
+    } else {
+      high = middle;
+    }
+  }
+  return low;
+}
+
+int total(int a[]) {
+  int i = 0;
+  int t = 0;
+  while (i < len(a)) {
+    t = t + a[i];
+    i = i + 1;
+  }
+  return t;
+}
+
+int main(int n) {
+  int a[n];
+  int t = 0;
+  region fill_numbers {
+    fill(a);
+  }
+  region find_roots {
+    cilk_for (int i = 0; i < n; i++) grain 125 over (a) {
+      int r = 0;
+      r = root(a[i]);
+      a[i] = r;
+    }
+  }
+  region add_up {
+    t = total(a);
+  }
+  return t;
+}
+",
+    run: "return 234691
+",
+    scale: "tag,work,span,parallelism,burdened_span,burdened_parallelism
+,870734,151350,5.753,226349,3.846
+fill_numbers,72008,72008,1.000,72008,1.000
+find_roots,742703,23319,31.849,98318,7.554
+add_up,56011,56011,1.000,56011,1.000
+",
+    sites: "site,kind,line,callee,calls,own_work,own_span,work,span
+0,root,38,main,1,93271,3027,870734,151350
+1,call,42,fill,1,72007,72007,72007,72007
+2,call,47,root,4000,649446,20306,649446,649446
+3,call,52,total,1,56010,56010,56010,56010
+",
+};

@@ -1,0 +1,50 @@
+//! The program examples/roots_mended.cilk, and the files beside it.
+
+use crate::examples::Example;
+
+pub const EXAMPLE: Example = Example {
+    words: "roots_mended.cilk 4000",
+    source: "// The sum of the integer square roots of n numbers, as in roots.cilk: each number is made in the turn that needs it, and
+// a reducer adds the roots up.
+// cilkwork run roots_mended.cilk 4000
+// The numbers are 421 * i + 1663 mod 7875. Python's math.isqrt gives the sum 234691 of 4000 of them.
+
+reducer sum roots;
+
+int root(int v) {
+  int low = 0;
+  int high = 128;
+  while (1 < high - low) {
+    int middle = (low + high) / 2;
+    if (middle * middle <= v) {
+      low = middle;
+    } else {
+      high = middle;
+    }
+  }
+  return low;
+}
+
+int main(int n) {
+  region find_roots {
+    cilk_for (int i = 0; i < n; i++) grain 125 {
+      int r = 0;
+      r = root((421 * i + 1663) % 7875);
+      roots += r;
+    }
+  }
+  return 0;
+}
+",
+    run: "sum roots = 234691
+return 0
+",
+    scale: "tag,work,span,parallelism,burdened_span,burdened_parallelism
+,742552,23298,31.871,98297,7.554
+find_roots,742548,23294,31.877,98293,7.554
+",
+    sites: "site,kind,line,callee,calls,own_work,own_span,work,span
+0,root,22,main,1,93106,2992,742552,23298
+1,call,26,root,4000,649446,20306,649446,649446
+",
+};

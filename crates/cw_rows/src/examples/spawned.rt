@@ -1,0 +1,33 @@
+//! The program examples/spawned.cilk, and the files beside it.
+
+use crate::examples::Example;
+
+pub const EXAMPLE: Example = Example {
+    words: "spawned.cilk",
+    source: "// A spawned call may run beside what follows it, up to the sync.
+// cilkwork run spawned.cilk
+
+int same(int v) {
+  return v;
+}
+
+int main() {
+  int x = 0;
+  int y = 0;
+  x = cilk_spawn same(41);
+  y = same(1);
+  cilk_sync;
+  return x;
+}
+",
+    run: "return 41
+",
+    scale: "tag,work,span,parallelism,burdened_span,burdened_parallelism
+,15,13,1.153,15013,0.000
+",
+    sites: "site,kind,line,callee,calls,own_work,own_span,work,span
+0,root,8,main,1,11,11,15,13
+1,spawn,11,same,1,2,0,2,2
+2,call,12,same,1,2,2,2,2
+",
+};
