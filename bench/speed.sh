@@ -34,4 +34,8 @@ while read -r name small large; do
 done <<ROWS
 fib 10 24
 chain 1 400
+sieve 100 100000
+mergesort 10 20000
+matrix 4 40
+queens 4 8
 ROWS

@@ -1,0 +1,213 @@
+"""Hostile sources, limits and surroundings, against the built program.
+
+    python3 bench/hostile.py PROGRAM rows      rows of hostile sources, each with its answer, on 1 MiB of stack
+    python3 bench/hostile.py PROGRAM limits    every limit from 1 to 400 on five programs that use every instruction
+    python3 bench/hostile.py PROGRAM sources   the worst source of about 1 MiB of each kind: time and memory of a check
+    python3 bench/hostile.py PROGRAM cuts      100,000 cuts and passes of an array of 16,777,216 elements
+    python3 bench/hostile.py PROGRAM memory    the same programs with less and less memory: an answer, or `memory`
+
+The last line is `all as expected`, or the count of rows that were not. Expected answers are worked out by the rules of
+docs/LANGUAGE.md.
+"""
+
+import pathlib
+import resource
+import subprocess
+import sys
+import tempfile
+import time
+
+STACK = 1 << 20
+MOST_SECONDS = 2.0
+MOST_BYTES = 600 << 20
+
+
+def answer(program, words, source, memory=None):
+    """The status, standard output, standard error, seconds and greatest memory in bytes of one run."""
+    with tempfile.NamedTemporaryFile("w", suffix=".cilk") as file:
+        file.write(source)
+        file.flush()
+
+        def limits():
+            resource.setrlimit(resource.RLIMIT_STACK, (STACK, STACK))
+            if memory is not None:
+                resource.setrlimit(resource.RLIMIT_AS, (memory, memory))
+
+        began = time.monotonic()
+        # /usr/bin/time would count itself: wait4 tells what the child took
+        child = subprocess.Popen(
+            [program, words[0], file.name, *words[1:]],
+            stdin=subprocess.DEVNULL,
+            stdout=subprocess.PIPE,
+            stderr=subprocess.PIPE,
+            preexec_fn=limits,
+        )
+        out, err = child.communicate()
+        seconds = time.monotonic() - began
+    peak = resource.getrusage(resource.RUSAGE_CHILDREN).ru_maxrss * 1024
+    return child.returncode, out.decode(), err.decode(), seconds, peak
+
+
+def gives(value):
+    return 0, f"return {value}\n", ""
+
+
+def refused(number, line=1):
+    return 2, "", f"refused {number} line {line}\n"
+
+
+def trap(number, line=1):
+    return 3, "", f"trap {number} line {line}\n"
+
+
+OVER = (4, "", "over limit\n")
+CALLS = "int f(){return 0;}int main(){" + "f();" * 65535 + "return 0;}"
+RECURSION = (
+    "int f(int n) { if (n < 1) { return 0; } int x = 0; x = cilk_spawn f(n - 1); cilk_sync; return x + 1; }"
+    " int main(int n) { int r = 0; r = f(n); return r; }"
+)
+LOOP = "int main() {{ cilk_for (int i = {}; i < 9223372036854775807; i++) {{ }} return 0; }}"
+ROWS = [
+    ("63 parentheses", "int main(){return " + "(" * 63 + "0" + ")" * 63 + ";}", ["run"], gives(0)),
+    ("64 parentheses", "int main(){return " + "(" * 64 + "0" + ")" * 64 + ";}", ["run"], refused(5)),
+    ("254 signs at their cost", "int main(){return " + "-" * 254 + "1;}", ["run", "--limit", "256"], gives(1)),
+    ("254 signs, one less", "int main(){return " + "-" * 254 + "1;}", ["run", "--limit", "255"], OVER),
+    ("255 signs", "int main(){return " + "-" * 255 + "1;}", ["run"], refused(5)),
+    ("65,535 call statements", CALLS, ["run", "--limit", "196607"], gives(0)),
+    ("65,535 call statements, one less", CALLS, ["run", "--limit", "196606"], OVER),
+    ("65,536 call statements", CALLS.replace("main(){", "main(){f();"), ["run"], refused(5)),
+    ("2^64 - 1 turns", LOOP.format("-9223372036854775807 - 1"), ["run"], trap(5)),
+    ("one turn at the greatest number", LOOP.format("9223372036854775806"), ["run", "--limit", "30"], gives(0)),
+    ("one turn, one less", LOOP.format("9223372036854775806"), ["run", "--limit", "29"], OVER),
+    ("depth 10,000", RECURSION, ["run", "9998"], gives(9998)),
+    ("depth 10,001", RECURSION, ["run", "9999"], trap(6)),
+    (
+        "257 declarations",
+        "int main(){" + "".join(f"int x{n}=0;" for n in range(257)) + "return 0;}",
+        ["run"],
+        refused(5),
+    ),
+    ("a tag of 33 bytes", "int main(){region " + "t" * 33 + " { } return 0;}", ["run"], refused(5)),
+    ("a tag of 32 bytes", "int main(){region " + "t" * 32 + " { } return 0;}", ["run"], gives(0)),
+    ("2^63 as a number", "int main(){return 9223372036854775808;}", ["run"], refused(1)),
+    ("the least number by -1", "int main(){int a=-9223372036854775807-1;return a/(0-1);}", ["run"], trap(1)),
+    ("endless", "int main(){while(1){}return 0;}", ["run", "--limit", "1000000"], OVER),
+    ("an array too long", "int main(){int a[16777217];return 0;}", ["run"], trap(4)),
+    ("an array of a length below 0", "int main(){int a[0-1];return 0;}", ["run"], trap(4)),
+]
+
+# programs that use every instruction, each with its cost and what it answers within it
+PROGRAMS = [
+    (
+        "int fib(int n) { if (n < 2) { return n; } int x = 0; int y = 0; x = cilk_spawn fib(n - 1); y = fib(n - 2);"
+        " cilk_sync; return x + y; } int main() { int r = 0; r = fib(5); print(r); return r; }",
+        "5\nreturn 5\n",
+    ),
+    (
+        "int fill(int a[], int v) { a[0] = v; return len(a); } int main() { int a[4]; int x = 0; int y = 0;"
+        " cut a at 2 as l, r { x = cilk_spawn fill(l, 5); y = fill(r, 7); } print(x * y); return a[0] * 10 + a[2]; }",
+        "4\nreturn 57\n",
+    ),
+    (
+        "int main() { int a[4]; cilk_for (int i = 0; i < 4; i++) grain 2 over (a) { a[i] = i * i; }"
+        " print(a[3]); return 0; }",
+        "9\nreturn 0\n",
+    ),
+    (
+        "reducer sum s; void add(int v) { s += v; } int main() { region out { cilk_scope { cilk_spawn add(3);"
+        " cilk_spawn add(-5); } } if (!0) { print(7 % 4); } else { print(0); } return 2; }",
+        "3\nsum s = -2\nreturn 2\n",
+    ),
+    (
+        "void p(int v) { print(v); } int main() { cilk_spawn p(1); cilk_spawn p(2); print(3); cilk_sync;"
+        " int n = 3; while (n >= 1) { n = n - 1; } return n; }",
+        "1\n2\n3\nreturn 0\n",
+    ),
+]
+
+
+def rows(program):
+    wrong = 0
+    for name, source, words, wanted in ROWS:
+        got = answer(program, words, source)
+        fine = got[:3] == wanted
+        wrong += not fine
+        print(f"{'ok ' if fine else 'BAD'} {name}: {got[3]:.2f} s" + ("" if fine else f", got {got[:3]}, wanted {wanted}"))
+    return wrong
+
+
+def limits(program):
+    wrong = 0
+    for number, (source, text) in enumerate(PROGRAMS):
+        cost = None
+        for limit in range(1, 401):
+            got = answer(program, ["run", "--limit", str(limit)], source)
+            if got[:3] == (0, text, ""):
+                cost = cost or limit
+            elif got[:3] != OVER or cost is not None:
+                wrong += 1
+                print(f"BAD program {number} within {limit}: {got[:3]}")
+        print(f"program {number}: over limit up to {cost - 1 if cost else 400}, then its answer")
+        wrong += cost is None
+    return wrong
+
+
+def sources(program):
+    here = pathlib.Path(__file__).parent
+    wrong = 0
+    with tempfile.TemporaryDirectory() as folder:
+        for script in ("parse_sources.py", "type_sources.py"):
+            subprocess.run([sys.executable, str(here / script), folder], check=True)
+        for shape, count in (("nested", 136), ("beside", 136), ("uses", 72), ("deep", 180), ("calls", 65535)):
+            with open(f"{folder}/own_{shape}.cilk", "w") as file:
+                subprocess.run(["sh", str(here / "own_sources.sh"), shape, str(count)], stdout=file, check=True)
+        for path in sorted(pathlib.Path(folder).glob("*.cilk")):
+            if path.stem.endswith(("_half", "_tree")):
+                continue
+            timed = subprocess.run(
+                ["/usr/bin/env", "bash", "-c", f"ulimit -s {STACK >> 10}; exec /usr/bin/time -f '%e %M' {program} check {path}"],
+                capture_output=True,
+                text=True,
+            )
+            last = timed.stderr.strip().splitlines()[-1].split()
+            seconds, peak = float(last[0]), int(last[1]) << 10
+            fine = timed.returncode in (0, 2) and seconds <= MOST_SECONDS and peak <= MOST_BYTES
+            wrong += not fine
+            said = (timed.stdout + timed.stderr).splitlines()[0]
+            print(f"{'ok ' if fine else 'BAD'} {path.stem}: {path.stat().st_size} bytes, {seconds:.2f} s, {peak >> 20} MiB, {said}")
+    return wrong
+
+
+CUTS = (
+    "void f(int a[]) { } int main() { int a[16777216]; int n = 0; while (n < 100000) {"
+    " cut a at n as l, r { cilk_spawn f(l); f(r); } n = n + 1; } return n; }"
+)
+
+
+def cuts(program):
+    got = answer(program, ["run"], CUTS)
+    fine = got[:3] == gives(100000) and got[3] < 1.0
+    print(f"{'ok ' if fine else 'BAD'} 100,000 cuts and passes of 16,777,216 elements: {got[3]:.2f} s, {got[:3]}")
+    return not fine
+
+
+def memory(program):
+    wrong = 0
+    for number, (source, text) in enumerate(PROGRAMS):
+        for kib in range(1024, 16384, 256):
+            got = answer(program, ["run"], source, kib << 10)
+            said = "memory" if got[:3] == (6, "", "memory\n") else "answer" if got[:3] == (0, text, "") else "start"
+            if said == "start" and got[0] in (0, 6):
+                wrong += 1
+                print(f"BAD program {number} in {kib} KiB: {got[:3]}")
+        print(f"program {number}: its answer, `memory`, or no start in each")
+    return wrong
+
+
+if __name__ == "__main__":
+    parts = {"rows": rows, "limits": limits, "sources": sources, "cuts": cuts, "memory": memory}
+    if len(sys.argv) != 3 or sys.argv[2] not in parts:
+        sys.exit(__doc__)
+    bad = parts[sys.argv[2]](str(pathlib.Path(sys.argv[1]).resolve()))
+    print("all as expected" if not bad else f"{bad} not as expected")
+    sys.exit(bad != 0)

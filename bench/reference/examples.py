@@ -1,0 +1,65 @@
+#!/usr/bin/env python3
+"""Writes what the other implementation says of each program of examples/, or compares it with what stands there.
+
+    examples.py [--check]
+
+Beside NAME.cilk and NAME.args (an argument a line) stand NAME.out (what `cilkwork run` prints), NAME.scale.csv and
+NAME.sites.csv. All of them are also written as constants of tests, into crates/cw_rows/src/examples.
+"""
+import glob
+import os
+import sys
+
+import ref
+from ref import Program, Run, report
+from rules import broken
+
+TOP = os.path.normpath(os.path.join(os.path.dirname(os.path.abspath(__file__)), "..", ".."))
+MODES = [("run", ".out"), ("scale", ".scale.csv"), ("sites", ".sites.csv")]
+
+
+def read(path):
+    with open(path) as file:
+        return file.read()
+
+
+def constant(name, texts):
+    """The texts of an example as a constant of Rattle."""
+    lines = ["//! The program examples/%s.cilk, and the files beside it." % name, "", "use crate::examples::Example;"]
+    lines += ["", "pub const EXAMPLE: Example = Example {"]
+    for field, text in texts:
+        escaped = text.replace("\\", "\\\\").replace('"', '\\"')
+        lines.append('    %s: "%s",' % (field, escaped))
+    return "\n".join(lines + ["};", ""])
+
+
+def texts_of(name, path):
+    """The files of an example, by their paths, with the constant of its tests."""
+    source, arguments = read(path + ".cilk"), read(path + ".args").split()
+    why = broken(Program(source))
+    if why:
+        raise SystemExit("%s.cilk: refused %d line %d: %s" % ((path,) + why))
+    run = Run(Program(source), [int(word) for word in arguments], 1000000000)
+    texts = {path + ending: report(mode, run, 15000)[1] for mode, ending in MODES}
+    fields = [("words", " ".join([name + ".cilk"] + arguments)), ("source", source)]
+    fields += [(mode, texts[path + ending]) for mode, ending in MODES]
+    texts[os.path.join(TOP, "crates", "cw_rows", "src", "examples", name + ".rt")] = constant(name, fields)
+    return texts
+
+
+def main():
+    stale = 0
+    for path in sorted(glob.glob(os.path.join(TOP, "examples", "*.cilk"))):
+        path = path[: -len(".cilk")]
+        for file, text in texts_of(os.path.basename(path), path).items():
+            if "--check" not in sys.argv:
+                with open(file, "w") as out:
+                    out.write(text)
+            elif not os.path.exists(file) or read(file) != text:
+                stale += 1
+                print("differs:", os.path.relpath(file, TOP))
+    return 1 if stale else 0
+
+
+if __name__ == "__main__":
+    sys.exit(ref.deep(main))

@@ -1,0 +1,98 @@
+#!/usr/bin/env python3
+"""Compares the built program with the other implementation, byte for byte, on random programs.
+
+    fuzz.py EXE START COUNT [no-loops]
+
+For each seed from START on, the program of that seed is checked, and run in the modes run, scale and sites: within a
+wide limit, within just what it costs, and within one instruction less. Exit status and both streams must be those that
+`ref.py` gives. Then three programs that differ from it in one statement are checked: each must be accepted, or refused
+in its line, as `rules.py` says.
+"""
+import collections
+import os
+import re
+import subprocess
+import sys
+import tempfile
+
+import ref
+from gen import Generator, mutant
+from ref import Program, Run, report
+from rules import broken
+
+WIDE = 200000
+OVER = (4, "", "over limit\n")
+
+
+def arguments_of(source, seed):
+    """Small numbers, one for each parameter of main."""
+    params = re.search(r"int main\(([^)]*)\)", source).group(1)
+    return [(seed * 7 + place * 3) % 11 for place in range(params.count("int"))]
+
+
+def answers(source, arguments, burden):
+    """What the program is asked in each mode, and what it must answer."""
+    run = Run(Program(source), arguments, WIDE)
+    yield ["check"], (0, "ok\n", "")
+    for mode in ("run", "scale", "sites"):
+        wanted = report(mode, run, burden)
+        yield [mode, WIDE], wanted
+        if not run.is_over:
+            yield [mode, run.cost], wanted
+            if run.cost > 1:
+                yield [mode, run.cost - 1], OVER
+
+
+def asked(exe, path, words, arguments, burden):
+    mode, *limit = words
+    command = [exe, mode, path]
+    if limit:
+        command += [str(value) for value in arguments] + ["--limit", str(limit[0]), "--burden", str(burden)]
+    done = subprocess.run(command, capture_output=True, text=True)
+    return done.returncode, done.stdout, done.stderr
+
+
+def compare(exe, seed, with_loops, path, seen):
+    """Counts the answers of one program by mode and exit status; gives how many of them are wrong."""
+    source, bad = Generator(seed, with_loops).program(), 0
+    write(path, source)
+    arguments, burden = arguments_of(source, seed), [0, 1, 10, 100, 15000, 1000000000][seed % 6]
+    for words, wanted in answers(source, arguments, burden):
+        found = asked(exe, path, words, arguments, burden)
+        seen["%s %d" % (words[0], wanted[0])] += 1
+        if found != wanted:
+            bad += 1
+            print("seed", seed, words, arguments, "burden", burden, "wanted", wanted, "answered", found)
+    return bad + sum(compare_mutant(exe, mutant(source, 3 * seed + k), path, seen) for k in range(3))
+
+
+def compare_mutant(exe, source, path, seen):
+    """Whether the program is refused otherwise than by the rules."""
+    write(path, source)
+    breaks = broken(Program(source))
+    wanted = (2, "", "refused %d line %d\n" % breaks[:2]) if breaks else (0, "ok\n", "")
+    found = asked(exe, path, ["check"], [], 0)
+    seen["mutant refused %d" % breaks[0] if breaks else "mutant accepted"] += 1
+    if found != wanted:
+        print("wanted", wanted, breaks, "answered", found, "of", source)
+    return found != wanted
+
+
+def write(path, source):
+    with open(path, "w") as file:
+        file.write(source)
+
+
+def fuzz():
+    exe, start, count = sys.argv[1], int(sys.argv[2]), int(sys.argv[3])
+    with_loops = sys.argv[4:] != ["no-loops"]
+    seen, bad = collections.Counter(), 0
+    with tempfile.TemporaryDirectory() as folder:
+        for seed in range(start, start + count):
+            bad += compare(exe, seed, with_loops, os.path.join(folder, "program.cilk"), seen)
+    print(dict(seen), bad, "wrong")
+    return 1 if bad else 0
+
+
+if __name__ == "__main__":
+    sys.exit(ref.deep(fuzz))

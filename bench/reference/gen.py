@@ -1,0 +1,305 @@
+#!/usr/bin/env python3
+"""Random programs of the profile that keep its rules, by a seed: functions that call themselves and others, arrays,
+cuts, loops, regions and reducers. Most of them end; some trap, and few run long.
+
+    gen.py SEED [no-loops]
+"""
+import random
+import re
+import sys
+
+SMALL = "0 1 2 3 4 5 6 7 10 100".split()
+GREAT = ["9223372036854775807", "-9223372036854775807"]
+USUAL = "+ - * < <= > >= == != + - + - *".split()
+TAGS = ["red", "green", "blue"]
+DEEPEST = 3  # blocks inside one another
+CALL = re.compile(r"( *)(\w+ = )?(f\d+\(.*\);)")
+
+
+def indented(lines):
+    return ["  " + line for line in lines]
+
+
+class Function:
+    """Parameters by kind: i an integer, a an array, d a count by which a function that calls itself counts down."""
+
+    def __init__(self, name, gives_value, params):
+        self.name, self.gives_value, self.params = name, gives_value, params
+
+
+class Names:
+    """What is known at a place: integers and arrays, those never to be written, the arrays of cuts and loops around,
+    and for each sync block around what its spawns have taken."""
+
+    def __init__(self):
+        self.known, self.arrays, self.fixed = [], set(), set()
+        self.cut, self.loop_arrays, self.loop_variable, self.taken = [], [], None, [set()]
+
+    def is_free(self, name):
+        return name not in self.cut and not any(name in block for block in self.taken)
+
+    def integers(self):
+        return [name for name in self.known if name not in self.arrays and self.is_free(name)]
+
+    def written(self):
+        return [name for name in self.integers() if name not in self.fixed]
+
+    def free_arrays(self):
+        return [name for name in self.known if name in self.arrays and self.is_free(name)]
+
+    def add(self, name, is_array=False, is_fixed=False):
+        self.known.append(name)
+        if is_array:
+            self.arrays.add(name)
+        if is_fixed:
+            self.fixed.add(name)
+
+    def in_loop(self, variable, over):
+        inner = Names()
+        for name in self.integers():
+            inner.add(name, is_fixed=True)
+        inner.add(variable, is_fixed=True)
+        inner.loop_arrays, inner.loop_variable = over, variable
+        return inner
+
+
+class Generator:
+    def __init__(self, seed, with_loops=True):
+        self.random, self.with_loops = random.Random(seed), with_loops
+        self.made, self.lines, self.functions, self.reducers = 0, [], [], []
+        self.names, self.itself, self.count = Names(), None, None
+
+    def chance(self, share):
+        return self.random.random() < share
+
+    def pick(self, items):
+        return self.random.choice(items)
+
+    def new(self, letter):
+        self.made += 1
+        return "%s%d" % (letter, self.made)
+
+    # Expressions.
+
+    def expr(self, depth=0):
+        integers = self.names.integers()
+        kind = self.random.random()
+        if depth > 2 or kind < 0.35:
+            if integers and self.chance(0.7):
+                return self.pick(integers)
+            return self.pick(SMALL if self.chance(0.98) else GREAT)
+        if kind < 0.6:
+            return self.of_array(depth) or self.expr(depth + 1)
+        if kind < 0.68:
+            return "%s(%s)" % (self.pick("-!"), self.expr(depth + 1))
+        operator = self.pick(USUAL) if self.chance(0.96) else self.pick("/%")
+        return "(%s %s %s)" % (self.expr(depth + 1), operator, self.expr(depth + 1))
+
+    def of_array(self, depth):
+        if self.names.loop_arrays and self.chance(0.4):
+            return "%s[%s]" % (self.pick(self.names.loop_arrays), self.names.loop_variable)
+        if not self.names.free_arrays():
+            return None
+        array = self.pick(self.names.free_arrays())
+        if self.chance(0.4):
+            return "len(%s)" % array
+        return "%s[%s]" % (array, self.index(depth))
+
+    def index(self, depth):
+        return self.pick("012") if self.chance(0.98) else self.expr(depth + 1)
+
+    # Statements: each gives its lines, and none where nothing is there that it could be about.
+
+    def statement(self, depth):
+        kinds = ["declare"] * 14 + ["array"] * 6 + ["assign"] * 14 + ["put"] * 12 + ["show"] * 4 + ["add"] * 4
+        kinds += ["sync"] * 4 + ["call"] * 20
+        if depth < DEEPEST:
+            kinds += ["branch"] * 6 + ["turns"] * 6 + ["scope"] * 3 + ["region"] * 4 + ["cut"] * 7 + ["again"] * 6
+        if depth < 2 and self.with_loops and not self.names.loop_arrays:
+            kinds += ["loop"] * 6
+        return getattr(self, "a_" + self.pick(kinds))(depth)
+
+    def block(self, depth):
+        """Some statements; what they declare ends with them, so what is taken of it is joined first."""
+        outside, lines = len(self.names.known), []
+        for _ in range(self.random.randint(1, 4)):
+            lines += self.statement(depth)
+        if not all(self.names.is_free(name) for name in self.names.known[outside:]):
+            lines += self.a_sync(depth)
+        del self.names.known[outside:]
+        return lines
+
+    def sync_block(self, depth):
+        self.names.taken.append(set())
+        lines = self.block(depth)
+        self.names.taken.pop()
+        return lines
+
+    def a_declare(self, depth):
+        value, name = self.expr(), self.new("x")
+        self.names.add(name)
+        return ["int %s = %s;" % (name, value)]
+
+    def a_array(self, depth):
+        length = str(self.random.randint(3, 6)) if self.chance(0.95) else self.expr()
+        name = self.new("a")
+        self.names.add(name, is_array=True)
+        return ["int %s[%s];" % (name, length)]
+
+    def a_assign(self, depth):
+        written = self.names.written()
+        return ["%s = %s;" % (self.pick(written), self.expr())] if written else []
+
+    def a_put(self, depth):
+        if self.names.loop_arrays and self.chance(0.5):
+            return ["%s[%s] = %s;" % (self.pick(self.names.loop_arrays), self.names.loop_variable, self.expr())]
+        arrays = self.names.free_arrays()
+        return ["%s[%s] = %s;" % (self.pick(arrays), self.index(1), self.expr())] if arrays else []
+
+    def a_show(self, depth):
+        return ["print(%s);" % self.expr()]
+
+    def a_add(self, depth):
+        return ["%s += %s;" % (self.pick(self.reducers), self.expr())] if self.reducers else []
+
+    def a_sync(self, depth):
+        self.names.taken[-1].clear()
+        return ["cilk_sync;"]
+
+    def a_branch(self, depth):
+        test, before = self.expr(), [set(block) for block in self.names.taken]
+        lines = ["if (%s) {" % test] + indented(self.block(depth + 1)) + ["}"]
+        if self.chance(0.5):
+            after, self.names.taken = self.names.taken, before
+            lines[-1:] = ["} else {"] + indented(self.block(depth + 1)) + ["}"]
+            before = after
+        self.names.taken = [one | other for one, other in zip(before, self.names.taken)]
+        return lines
+
+    def a_turns(self, depth):
+        """A `while` of a few turns; what a turn takes is joined at its end, so that the next one finds it free."""
+        count, before = self.new("w"), [set(block) for block in self.names.taken]
+        self.names.add(count, is_fixed=True)
+        body = self.block(depth + 1)
+        if self.names.taken[-1]:
+            body += self.a_sync(depth)
+        self.names.taken = before
+        body.append("%s = %s + 1;" % (count, count))
+        head = "while (%s < %d) {" % (count, self.random.randint(1, 3))
+        return ["int %s = 0;" % count, head] + indented(body) + ["}"]
+
+    def a_scope(self, depth):
+        return ["cilk_scope {"] + indented(self.sync_block(depth + 1)) + ["}"]
+
+    def a_region(self, depth):
+        return ["region %s {" % self.pick(TAGS)] + indented(self.sync_block(depth + 1)) + ["}"]
+
+    def a_cut(self, depth):
+        if not self.names.free_arrays():
+            return []
+        array, left, right = self.pick(self.names.free_arrays()), self.new("l"), self.new("r")
+        place = self.pick(["len(%s) / 2" % array, "0", "1", "len(%s)" % array]) if self.chance(0.97) else self.expr()
+        self.names.cut.append(array)
+        self.names.add(left, is_array=True)
+        self.names.add(right, is_array=True)
+        body = self.sync_block(depth + 1)
+        self.names.cut.pop()
+        del self.names.known[-2:]
+        return ["cut %s at %s as %s, %s {" % (array, place, left, right)] + indented(body) + ["}"]
+
+    def a_loop(self, depth):
+        arrays = self.names.free_arrays()
+        over = self.random.sample(arrays, min(len(arrays), self.random.randint(0, 2)))
+        variable = self.new("i")
+        first = self.pick("001") if over else self.pick(["0", "0", "1", "-2", "3"])
+        end = "len(%s)" % over[0] if len(over) == 1 else self.pick("0123") if over else str(self.random.randint(0, 9))
+        outside, self.names = self.names, self.names.in_loop(variable, over)
+        body = self.block(depth + 1)
+        self.names = outside
+        head = "cilk_for (int %s = %s; %s < %s; %s++)" % (variable, first, variable, end, variable)
+        head += " grain %d" % self.random.randint(1, 4) if self.chance(0.7) else ""
+        head += " over (%s)" % ", ".join(over) if over else ""
+        return [head + " {"] + indented(body) + ["}"]
+
+    def a_call(self, depth):
+        return self.called(self.pick(self.functions)) if self.functions else []
+
+    def a_again(self, depth):
+        call = self.called(self.itself) if self.itself else []
+        return ["if (%s > 0) {" % self.count] + indented(call) + ["}"] if call else []
+
+    def called(self, function):
+        """A call or spawn of this function, where there are arrays enough for it."""
+        given, arguments = [], []
+        for kind in function.params:
+            arrays = [name for name in self.names.free_arrays() if name not in given]
+            if kind == "a" and not arrays:
+                return []
+            if kind == "a":
+                given.append(self.pick(arrays))
+                arguments.append(given[-1])
+            elif kind == "i":
+                arguments.append(self.expr(1))
+            else:
+                arguments.append(self.count + " - 1" if function is self.itself else self.pick("0123"))
+        targets = self.names.written()
+        target = self.pick(targets) if function.gives_value and targets and self.chance(0.7) else None
+        spawns = self.chance(0.6)
+        if spawns:
+            self.names.taken[-1].update(given + [target] * (target is not None))
+        words = (target + " = " if target else "") + ("cilk_spawn " if spawns else "")
+        return ["%s%s(%s);" % (words, function.name, ", ".join(arguments))]
+
+    # Items.
+
+    def function(self, name, gives_value, params):
+        function = Function(name, gives_value, params)
+        self.names, self.itself, self.count, heads = Names(), None, None, []
+        for kind in params:
+            param = self.new("q" if kind == "a" else "p")
+            self.names.add(param, is_array=kind == "a", is_fixed=kind == "d")
+            heads.append("int %s%s" % (param, "[]" if kind == "a" else ""))
+            if kind == "d":
+                self.itself, self.count = function, param
+        body = []
+        for _ in range(self.random.randint(6, 12) if name == "main" else self.random.randint(2, 7)):
+            body += self.statement(0)
+        if gives_value:
+            body.append("return %s;" % self.expr())
+        elif self.chance(0.2):
+            body.append("return;")
+        self.lines += ["%s %s(%s) {" % ("int" if gives_value else "void", name, ", ".join(heads))]
+        self.lines += indented(body) + ["}"]
+        return function
+
+    def program(self):
+        self.reducers = ["s%d" % number for number in range(self.random.randint(0, 2))]
+        self.lines = ["reducer sum %s;" % name for name in self.reducers]
+        for number in range(self.random.randint(1, 4)):
+            params = ["d"] * self.chance(0.5) + [self.pick("iia") for _ in range(self.random.randint(0, 3))]
+            self.functions.append(self.function("f%d" % number, self.chance(0.5), params))
+        self.function("main", True, ["i"] * self.random.randint(0, 2))
+        return "\n".join(self.lines) + "\n"
+
+
+def mutant(source, seed):
+    """The source with a sync dropped, a call made a spawn, or a statement doubled or exchanged: it may break a rule."""
+    lines, chosen = source.splitlines(), random.Random(seed)
+    places = [place for place, line in enumerate(lines) if line.startswith("  ") and line.endswith(";")]
+    syncs = [place for place in places if lines[place].strip() == "cilk_sync;"]
+    calls = [place for place in places if CALL.fullmatch(lines[place])]
+    one, other, kind = chosen.choice(places), chosen.choice(places), chosen.randrange(6)
+    if kind < 2 and syncs:
+        del lines[chosen.choice(syncs)]
+    elif kind < 4 and calls:
+        one = chosen.choice(calls)
+        lines[one] = CALL.sub(r"\1\2cilk_spawn \3", lines[one])
+    elif kind == 4:
+        lines.insert(one, lines[one])
+    else:
+        lines[one], lines[other] = lines[other], lines[one]
+    return "\n".join(lines) + "\n"
+
+
+if __name__ == "__main__":
+    print(Generator(int(sys.argv[1]), len(sys.argv) == 2).program(), end="")

@@ -1,0 +1,345 @@
+#!/usr/bin/env python3
+"""Whether a program keeps the rules of names and types, and of ownership: yes, or the least line that breaks one.
+
+    rules.py FILE..
+
+It tests no limit, and no head of a loop with different names.
+"""
+import sys
+
+from syntax import Program
+
+
+class Faults:
+    """The lines that break a rule, each with why, and the line that is looked at."""
+
+    def __init__(self):
+        self.found, self.line = [], 1
+
+    def want(self, holds, why):
+        if not holds:
+            self.found.append((self.line, why))
+
+
+def names_in(e):
+    """The names that an expression reads, each with whether it is read as an array."""
+    kind = e[0]
+    if kind == "number":
+        return []
+    if kind in ("name", "length"):
+        return [(e[1], kind == "length")]
+    if kind == "element":
+        return [(e[1], True)] + names_in(e[2])
+    return [found for part in e[1:] if isinstance(part, tuple) for found in names_in(part)]
+
+
+class Types(Faults):
+    """The rules of names and types."""
+
+    def __init__(self, program):
+        super().__init__()
+        self.program, self.globals = program, set()
+        self.want("main" in program.functions, "no main")
+        for name, self.line in program.items:
+            self.want(name not in self.globals, name + " is known")
+            self.globals.add(name)
+        for function in program.written:
+            self.function(function)
+
+    def function(self, function):
+        self.known, self.line, self.gives_value = {}, function.line, function.gives_value
+        for name, is_array in function.params:
+            self.declare(name, is_array)
+        self.want(not self.gives_value or surely_returns(function.body), "may not return")
+        arrays = any(is_array for _, is_array in function.params)
+        self.want(function.name != "main" or self.gives_value and not arrays, "another main")
+        self.block(function.body, True)
+
+    def declare(self, name, is_array):
+        self.want(name not in self.known and name not in self.globals, name + " is known")
+        self.known[name] = is_array
+
+    def use(self, name, is_array):
+        self.want(self.known.get(name) == is_array, name + " is not known so")
+
+    def expr(self, e):
+        for name, is_array in names_in(e):
+            self.use(name, is_array)
+
+    def block(self, body, may_return, declared=()):
+        outside = dict(self.known)
+        for name, is_array in declared:
+            self.declare(name, is_array)
+        for place, (line, kind, *rest) in enumerate(body):
+            self.line = line
+            self.want(place + 1 == len(body) or not surely_returns([body[place]]), "what follows is never reached")
+            getattr(self, "of_" + kind)(may_return, *rest)
+        self.known = outside
+
+    def of_declare(self, may_return, name, e):
+        self.expr(e)
+        self.declare(name, False)
+
+    def of_array(self, may_return, name, e):
+        self.expr(e)
+        self.declare(name, True)
+
+    def of_assign(self, may_return, name, e):
+        self.use(name, False)
+        self.expr(e)
+
+    def of_put(self, may_return, name, index, e):
+        self.use(name, True)
+        self.expr(index)
+        self.expr(e)
+
+    def of_add(self, may_return, name, e):
+        self.want(name in self.program.reducers, "no reducer")
+        self.expr(e)
+
+    def of_print(self, may_return, e):
+        self.expr(e)
+
+    def of_sync(self, may_return):
+        pass
+
+    def of_return(self, may_return, e):
+        self.want(may_return and (e is not None) == self.gives_value, "no place to return so")
+        if e is not None:
+            self.expr(e)
+
+    def of_if(self, may_return, e, then, other):
+        self.expr(e)
+        self.block(then, may_return)
+        self.block(other or [], may_return)
+
+    def of_while(self, may_return, e, body):
+        self.expr(e)
+        self.block(body, may_return)
+
+    def of_scope(self, may_return, body):
+        self.block(body, False)
+
+    def of_region(self, may_return, tag, body):
+        self.block(body, False)
+
+    def of_cut(self, may_return, name, e, left, right, body):
+        self.use(name, True)
+        self.expr(e)
+        self.block(body, False, [(left, True), (right, True)])
+
+    def of_loop(self, may_return, name, first, end, grain, over, body):
+        self.expr(first)
+        self.expr(end)
+        for array in over:
+            self.use(array, True)
+        self.want(1 <= grain <= 1000000, "no such grain")
+        self.block(body, False, [(name, False)])
+
+    def of_call(self, may_return, spawns, site, target, callee, arguments):
+        function = self.program.functions.get(callee)
+        self.want(function and callee != "main", "no such function")
+        if function is None:
+            return
+        self.want(len(arguments) == len(function.params), "another count of arguments")
+        for (_, is_array), e in zip(function.params, arguments):
+            if is_array:
+                self.want(e[0] == "name" and self.known.get(e[1]), "no array")
+            else:
+                self.expr(e)
+        if target is not None:
+            self.use(target, False)
+            self.want(function.gives_value, "a call that gives nothing")
+
+
+def surely_returns(body):
+    if not body:
+        return False
+    _, kind, *rest = body[-1]
+    return kind == "return" or kind == "if" and rest[2] is not None and all(map(surely_returns, rest[1:]))
+
+
+class Ownership(Faults):
+    """The rules of ownership. What is taken is a set of names, each with the depth of the sync block that took it."""
+
+    def __init__(self, program):
+        super().__init__()
+        self.program, self.depth = program, 0
+        self.outer, self.loop_arrays, self.variable = set(), set(), None
+        for function in program.written:
+            self.block(function.body, frozenset(), joins=True)
+
+    def free(self, taken, *names):
+        for name in names:
+            self.want(all(name != other for other, _ in taken), name + " is taken")
+
+    def expr(self, taken, e):
+        self.free(taken, *(name for name, _ in names_in(e)))
+        self.in_loop(e)
+
+    def in_loop(self, e):
+        """In a loop over an array only its own element is read; no other array from outside is named."""
+        if e[0] == "element" and e[1] in self.loop_arrays:
+            self.want(e[2] == ("name", self.variable), "another element of a loop's array")
+        elif e[0] in ("element", "length"):
+            self.inner(e[1])
+        for part in e[1:]:
+            if isinstance(part, tuple):
+                self.in_loop(part)
+
+    def inner(self, *names):
+        for name in names:
+            self.want(name not in self.outer | self.loop_arrays, name + " is from outside of a loop")
+
+    def joined(self, taken):
+        return frozenset(pair for pair in taken if pair[1] != self.depth)
+
+    def block(self, body, taken, joins=False):
+        """What is taken after a block; a sync block joins its own spawns before its names end."""
+        self.depth += joins
+        own = {}
+        for line, kind, *rest in body:
+            self.line = line
+            taken = getattr(self, "of_" + kind)(taken, *rest)
+            if kind in ("declare", "array"):
+                own[rest[0]] = line
+        if joins:
+            taken = self.joined(taken)
+            self.depth -= 1
+        for name, self.line in own.items():
+            self.free(taken, name)
+        return frozenset(pair for pair in taken if pair[0] not in own)
+
+    def of_declare(self, taken, name, e):
+        self.expr(taken, e)
+        return taken
+
+    of_array = of_declare
+
+    def of_assign(self, taken, name, e):
+        self.expr(taken, e)
+        self.free(taken, name)
+        self.inner(name)
+        return taken
+
+    def of_put(self, taken, name, index, e):
+        self.expr(taken, ("element", name, index))
+        self.expr(taken, e)
+        return taken
+
+    def of_add(self, taken, name, e):
+        self.expr(taken, e)
+        return taken
+
+    def of_print(self, taken, e):
+        self.expr(taken, e)
+        return taken
+
+    def of_sync(self, taken):
+        return self.joined(taken)
+
+    def of_return(self, taken, e):
+        if e is not None:
+            self.expr(taken, e)
+        return self.joined(taken)
+
+    def of_if(self, taken, e, then, other):
+        self.expr(taken, e)
+        ways = [(body, self.block(body, taken)) for body in (then, other or [])]
+        return frozenset().union(*(after for body, after in ways if not surely_returns(body)))
+
+    def of_while(self, taken, e, body):
+        line = self.line
+        while True:
+            self.line = line
+            self.expr(taken, e)
+            more = taken | self.block(body, taken)
+            if more == taken:
+                return taken
+            taken = more
+
+    def of_scope(self, taken, body):
+        return self.block(body, taken, joins=True)
+
+    def of_region(self, taken, tag, body):
+        return self.block(body, taken, joins=True)
+
+    def of_cut(self, taken, name, e, left, right, body):
+        self.expr(taken, e)
+        self.free(taken, name)
+        self.inner(name)
+        return self.block(body, taken | {(name, None)}, joins=True) - {(name, None)}
+
+    def of_loop(self, taken, name, first, end, grain, over, body):
+        self.expr(taken, first)
+        self.expr(taken, end)
+        self.inner(*(array for array, is_array in names_in(first) + names_in(end) if is_array))
+        self.free(taken, *over)
+        self.inner(*over)
+        self.want(len(set(over)) == len(over), "one array twice")
+        outside = self.outer, self.loop_arrays, self.variable
+        self.outer = self.outer | self.loop_arrays | self.known_outside(body) - set(over)
+        self.loop_arrays, self.variable = set(over), name
+        self.block(body, taken, joins=True)
+        self.outer, self.loop_arrays, self.variable = outside
+        return taken
+
+    def known_outside(self, body):
+        """The names of a loop's body that it does not declare itself, and its variable, which it may only read."""
+        named, own = names_of(body)
+        return named - own
+
+    def of_call(self, taken, spawns, site, target, callee, arguments):
+        params = self.program.functions[callee].params
+        arrays = [e[1] for (_, is_array), e in zip(params, arguments) if is_array]
+        for (_, is_array), e in zip(params, arguments):
+            if not is_array:
+                self.expr(taken, e)
+        self.free(taken, *arrays)
+        self.inner(*arrays)
+        self.want(len(set(arrays)) == len(arrays), "one array twice")
+        if target is not None:
+            self.free(taken, target)
+            self.inner(target)
+        given = arrays + [target] * (target is not None)
+        return taken | {(name, self.depth) for name in given} if spawns else taken
+
+
+def names_of(body):
+    """All names in a body, and those that it declares."""
+    named, own = set(), set()
+    for _, kind, *rest in body:
+        if kind in ("declare", "array"):
+            own.add(rest[0])
+        if kind in ("assign", "put", "cut"):
+            named.add(rest[0])
+        if kind == "cut":
+            own.update(rest[2:4])
+        if kind == "loop":
+            own.add(rest[0])
+            named.update(rest[4])
+        if kind == "call":
+            named.update(rest[2:3] if rest[2] else [])
+        for part in (rest[4] if kind == "call" else rest):
+            if isinstance(part, tuple):
+                named.update(name for name, _ in names_in(part))
+            elif isinstance(part, list) and part and isinstance(part[0], tuple) and isinstance(part[0][0], int):
+                inner, declared = names_of(part)
+                named |= inner
+                own |= declared
+    return named, own
+
+
+def broken(program):
+    """The number of the refusal of a program that breaks a rule, its line, and why; or None."""
+    for number, rules in ((3, Types), (4, Ownership)):
+        found = rules(program).found
+        if found:
+            return (number,) + min(found)
+    return None
+
+
+if __name__ == "__main__":
+    for path in sys.argv[1:]:
+        with open(path) as file:
+            print(path, *broken(Program(file.read())) or ["ok"])
