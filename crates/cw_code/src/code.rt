@@ -1,6 +1,6 @@
 //! Instructions, functions and call sites.
 
-use cw_model::syntax::{CallKind, Operator};
+use cw_model::syntax::{CallKind, Name, Operator};
 
 /// What a call names.
 #[derive(Clone, Copy, Debug, PartialEq, Eq)]
@@ -142,7 +142,7 @@ pub struct Site {
     /// Its line, from 1.
     pub line: u32,
     /// The name of the function that it calls.
-    pub callee: Vec<u8>,
+    pub callee: Name,
     /// The index of that function in the code.
     pub function: u32,
 }
@@ -161,9 +161,9 @@ pub struct Code {
     /// The call sites, in source order.
     pub sites: Vec<Site>,
     /// The names of the reducers, in source order.
-    pub reducers: Vec<Vec<u8>>,
+    pub reducers: Vec<Name>,
     /// The different tags of the regions, in the order of their first places.
-    pub tags: Vec<Vec<u8>>,
+    pub tags: Vec<Name>,
     /// Lists of array slots whose arrays a call takes, in the order of its array parameters.
     pub passed: Vec<Vec<u32>>,
 }
