@@ -1,8 +1,14 @@
--- Why a text has no token cut.
+-- The tokens of a text, or why it has no token cut.
 use Rattle.std.specs.Prelude.{ℕ, List}
-use Rattle.cw_model.specs.Tokens.{HasLexicalFault, HasNameFault}
+use Rattle.std.specs.Global.{Vec}
+use Rattle.cw_model.specs.declared.token.Token.{Token}
+use Rattle.cw_model.specs.Tokens.{IsTokenCut, HasLexicalFault, HasNameFault}
 use Rattle.cw_text.specs.declared.fault.Fault.{Fault}
 use Rattle.cw_text.specs.declared.fault.Fault.TheVariants as fault
+
+-- these tokens are the token cut of the text
+abbrev pub IsCut : List ℕ → Vec Token → Type 0
+IsCut text tokens = IsTokenCut text tokens.items
 
 -- what must hold of the text where this fault is answered for it
 abbrev pub HasNoCut : List ℕ → Fault → Type 0

@@ -1,8 +1,7 @@
 //! The walk over a text from its first byte to its last.
 
 ghost use Rattle.std.specs.Prelude.{◌<◌, length, drop, MatchResult};
-ghost use Rattle.cw_model.specs.Tokens.{IsTokenCut};
-ghost use Rattle.cw_lex.specs.Faults.{HasNoCut};
+ghost use Rattle.cw_lex.specs.Faults.{IsCut, HasNoCut};
 ghost use Rattle.cw_lex.specs.Front.{IsFront};
 
 use crate::front::{Front, front_of};
@@ -25,7 +24,7 @@ fn front_at(text: &[u8], at: usize) -> Front
 /// a number above 9,223,372,036,854,775,807, `Size` at the line of a name of more than 64 bytes.
 /// `Memory` where there is none for the list. No other fault is answered.
 pub fn lex(alloc: Global, source: &Source) -> Result<Vec<Token>, Fault>
-    ensures { MatchResult result (λ tokens. IsTokenCut source.now tokens.items) (HasNoCut source.now) }
+    ensures { MatchResult result (IsCut source.now) (HasNoCut source.now) }
 {
     let text = source.bytes();
     let mut tokens = Vec::new(alloc);

@@ -5,6 +5,7 @@ use Rattle.cw_model.specs.Lines.{IsLeastLine}
 use Rattle.cw_model.specs.Sizes.{limit_faults}
 use Rattle.cw_model.specs.Typing.{type_faults}
 use Rattle.cw_types.specs.declared.tree.Tree.{Tree}
+use Rattle.cw_types.specs.declared.typed.Typed.{Typed}
 use Rattle.cw_types.specs.View.{program_of}
 use Rattle.cw_text.specs.declared.fault.Fault.{Fault}
 use Rattle.cw_text.specs.declared.fault.Fault.TheVariants as fault
@@ -19,6 +20,10 @@ pub record IsTyped (program : Program) (tree : Tree) : Type 0 where
   pub same : program_of tree ≡ program
   pub within : limit_faults program ≡ []
   pub typed : type_faults program ≡ []
+
+-- a tree of this program that the check accepts
+abbrev pub IsTypedOf : Program → Typed → Type 0
+IsTypedOf program found = IsTyped program found.tree
 
 -- what must hold of the program where this fault is answered for it
 abbrev pub IsIllTyped : Program → Fault → Type 0

@@ -1,5 +1,5 @@
 -- What the code answers where it has looked names up.
-use Rattle.std.specs.Prelude.{◌≡◌, ◌≤◌, ◌+◌, ℕ, List, length, map, Option, option_map}
+use Rattle.std.specs.Prelude.{◌≡◌, ◌≤◌, ◌+◌, ◌++◌, ℕ, List, length, map, Option, option_map}
 use Rattle.std.specs.Global.{Vec}
 use Rattle.cw_model.specs.Limits.{most_declared}
 use Rattle.cw_model.specs.Syntax.{Name}
@@ -10,6 +10,7 @@ use Rattle.cw_parse.specs.declared.tree.Function.{Function}
 use Rattle.cw_parse.specs.declared.tree.Head.{Head}
 use Rattle.cw_parse.specs.declared.tree.Line.{Line}
 use Rattle.cw_parse.specs.declared.tree.Param.{Param}
+use Rattle.cw_parse.specs.declared.tree.Reducer.{Reducer}
 use Rattle.cw_parse.specs.declared.tree.Stmt.{Stmt}
 use Rattle.cw_parse.specs.View as parsed
 use Rattle.cw_types.specs.declared.lists.Lists.{Lists}
@@ -21,13 +22,14 @@ use Rattle.cw_types.specs.declared.tree.Expr as made_expr
 use Rattle.cw_types.specs.declared.tree.Function as made_function
 use Rattle.cw_types.specs.declared.tree.Head as made_head
 use Rattle.cw_types.specs.declared.tree.Line as made_line
+use Rattle.cw_types.specs.declared.tree.Reducer as made_reducer
 use Rattle.cw_types.specs.declared.tree.Stmt as made_stmt
 use Rattle.cw_types.specs.declared.tree.Use as made_use
 use Rattle.cw_types.specs.Declares.{declares_in_block}
 use Rattle.cw_types.specs.Heads.{call_of, resolved_call, resolved_head, resolved_cut}
 use Rattle.cw_types.specs.Locals.{locals_view, lists_view}
 use Rattle.cw_types.specs.Resolved as spec
-use Rattle.cw_types.specs.View.{use_of, expr_of, argument_of, head_of, parts_of, stmt_of, block_of, function_of}
+use Rattle.cw_types.specs.View.{use_of, expr_of, argument_of, head_of, parts_of, stmt_of, block_of, function_of, reducer_of}
 
 -- an expression, where these locals are known
 abbrev pub IsExpr : Locals → Expr → made_expr.Expr → Type 0
@@ -89,6 +91,18 @@ abbrev pub AreFunctions : Lists → List Function → List made_function.Functio
 AreFunctions lists fs found =
     map function_of found ≡ map (spec.resolved_function (lists_view lists)) (map parsed.function_of fs)
 
+-- reducers in their order
+abbrev pub AreReducers : List Reducer → List made_reducer.Reducer → Type 0
+AreReducers rs found = map reducer_of found ≡ map parsed.reducer_of rs
+
+-- the integers among the first so many that a block reads
+abbrev pub AreCaptured : ℕ → List made_line.Line → Vec made_use.Use → Type 0
+AreCaptured count body found = map use_of found.items ≡ spec.captured_in count (block_of body)
+
+-- the integers that arguments read
+abbrev pub read_by : List made_argument.Argument → List spec.Use
+read_by es = spec.arguments_read (map argument_of es)
+
 -- behind the uses found before there is this one, if it has one of the first so many slots and none has that slot
 abbrev pub FindsOne : ℕ → spec.Use → (before after : Vec made_use.Use) → Type 0
 FindsOne count used before after = map use_of after.items ≡ spec.with_first count (map use_of before.items) used
@@ -104,6 +118,14 @@ int_params params = (spec.locals_of (map parsed.param_of params)).ints
 -- the arrays among them
 abbrev pub array_params : List Param → List Name
 array_params params = (spec.locals_of (map parsed.param_of params)).arrays
+
+-- the integers among parameters stand behind those known before
+abbrev pub AddsInts : List Param → (before after : Locals) → Type 0
+AddsInts params before after = after.ints ≡ before.ints ++ int_params params
+
+-- and the arrays among them behind those
+abbrev pub AddsArrays : List Param → (before after : Locals) → Type 0
+AddsArrays params before after = after.arrays ≡ before.arrays ++ array_params params
 
 -- the locals after a statement's own declaration
 abbrev pub Declared : Stmt → (before after : Locals) → Type 0

@@ -17,3 +17,4 @@ pub mod Named
 pub mod Noted
 pub mod Within
 pub mod Faults
+pub mod Grows

@@ -1,6 +1,6 @@
 -- What noting lines leaves of the least one, and of the room under a limit.
-use Rattle.std.specs.Prelude.{◌≡◌, ℕ, nat_le, List, [], ◌∷◌, ◌++◌, length, map, drop}
-use Rattle.cw_model.specs.Limits.{most_tag_bytes, most_tags}
+use Rattle.std.specs.Prelude.{◌≡◌, ℕ, nat_le, List, [], ◌∷◌, ◌++◌, length, map, drop, Result, OnOk}
+use Rattle.cw_model.specs.Limits.{most_functions, most_reducers, most_tag_bytes, most_tags}
 use Rattle.cw_model.specs.Lines.{lowest, unless}
 use Rattle.cw_model.specs.Sizes.{first_places, lines_beyond}
 use Rattle.cw_model.specs.Syntax.{Name}
@@ -9,10 +9,16 @@ use Rattle.cw_parse.specs.declared.tree.Function.{Function}
 use Rattle.cw_parse.specs.declared.tree.Reducer.{Reducer}
 use Rattle.cw_parse.specs.View.{function_of, reducer_of}
 use Rattle.cw_text.specs.declared.least.LeastLine.{LeastLine}
+use Rattle.cw_types.specs.declared.regions.Marked.{Marked}
+use Rattle.cw_types.specs.Regions.{region_of}
 
 -- these lines were noted
 abbrev pub Noted : List ℕ → (before after : LeastLine) → Type 0
 Noted lines before after = after.line ≡ lowest before.line lines
+
+-- these lines were noted, where memory did not run out
+abbrev pub Notes : {R E : Type 0} → List ℕ → (before after : LeastLine) → Result R E → Type 0
+Notes lines before after r = OnOk r (Noted lines before after)
 
 -- the lines of functions
 abbrev pub function_lines : List Function → List ℕ
@@ -21,6 +27,14 @@ function_lines functions = map (λ f. f.line) (map function_of functions)
 -- the lines of reducers
 abbrev pub reducer_lines : List Reducer → List ℕ
 reducer_lines reducers = map (λ r. r.line) (map reducer_of reducers)
+
+-- the lines of functions behind the most of them
+abbrev pub functions_past : List Function → List ℕ
+functions_past functions = lines_beyond most_functions (function_lines functions)
+
+-- the lines of reducers behind the most of them
+abbrev pub reducers_past : List Reducer → List ℕ
+reducers_past reducers = lines_beyond most_reducers (reducer_lines reducers)
 
 -- the line of a region whose tag is too long
 abbrev pub long_tag : Name × ℕ → List ℕ
@@ -40,8 +54,8 @@ abbrev pub places_behind : Known → List (Name × ℕ) → List ℕ
 places_behind seen regions = map (λ d. d.1) (first_places regions (map (λ k. k.0) seen))
 
 -- of the first places of tags, before which there is this room, one region's was noted where it is past it
-abbrev pub TakesTag : (room : ℕ) → Name × ℕ → (seen after_seen : Known) → (before after : LeastLine) → (left : ℕ) → Type 0
+abbrev pub TakesTag : (room : ℕ) → Marked → (seen after_seen : Known) → (before after : LeastLine) → (left : ℕ) → Type 0
 TakesTag room region seen after_seen before after left =
     (more : List (Name × ℕ)) →
     lowest after.line (drop left (places_behind after_seen more))
-    ≡ lowest before.line (drop room (places_behind seen (region ∷ more)))
+    ≡ lowest before.line (drop room (places_behind seen (region_of region ∷ more)))

@@ -1,7 +1,7 @@
 -- The regions of a program, as the code lists them.
-use Rattle.std.specs.Prelude.{◌≡◌, ℕ, List, ◌++◌, map, flat_map}
+use Rattle.std.specs.Prelude.{◌≡◌, ℕ, List, [], ◌++◌, map, flat_map}
 use Rattle.std.specs.Global.{Vec}
-use Rattle.cw_model.specs.Sizes.{regions_in_block}
+use Rattle.cw_model.specs.Sizes.{first_places, regions_in_block}
 use Rattle.cw_model.specs.Syntax.{Name}
 use Rattle.cw_parse.specs.declared.tree.Function.{Function}
 use Rattle.cw_parse.specs.View.{function_of}
@@ -22,6 +22,10 @@ tags_of ms = map (λ m. m.tag.now) ms
 -- the regions of functions
 abbrev pub regions_of_all : List Function → List (Name × ℕ)
 regions_of_all functions = flat_map (λ f. regions_in_block f.body) (map function_of functions)
+
+-- the first region of each tag
+abbrev pub AreFirst : List Marked → Vec Marked → Type 0
+AreFirst regions found = regions_of found.items ≡ first_places (regions_of regions) []
 
 -- behind the regions found before there are these
 abbrev pub Adds : List (Name × ℕ) → (before after : Vec Marked) → Type 0

@@ -1,14 +1,16 @@
 -- The rules of names and types by the parts that the code tests them in.
-use Rattle.std.specs.Prelude.{ℕ, ◌-◌, Bool, true, false, not, ◌&&◌, ◌||◌, List, [], ◌∷◌, ◌++◌, length, drop, Option, Some, None, if◌then◌else◌}
+use Rattle.std.specs.Prelude.{ℕ, ◌-◌, Bool, true, false, not, ◌&&◌, ◌||◌, List, [], ◌∷◌, ◌++◌, length, map, drop, Option, Some, None, if◌then◌else◌}
 use Rattle.cw_model.specs.Syntax.{Name, Param, Function, Program, Stmt, Declare, DeclareArray, Assign, AssignElement, AddTo, Call, Start, Begin, Sync, If, IfElse, While, For, Scope, Cut, Region, Print, Return}
 use Rattle.cw_model.specs.Names.{same_name}
-use Rattle.cw_model.specs.Typing.{Known, Returns, Nowhere, is_fine, is_new, is_int, is_array, is_reducer, is_call, called, is_head_of_loop, is_cut, may_return, block_returns, faults_in_block}
+use Rattle.cw_model.specs.Typing.{Known, Returns, Nowhere, is_fine, is_new, is_int, is_array, is_reducer, is_call, called, are_arguments, is_head_of_loop, is_cut, may_return, block_returns, faults_in_block}
 use Rattle.std.specs.List.{list_any}
 use Rattle.cw_model.specs.Answers.{main_name}
 use Rattle.cw_parse.specs.declared.tree.Call.{Call as Made}
+use Rattle.cw_parse.specs.declared.tree.Expr.{Expr}
 use Rattle.cw_parse.specs.declared.tree.Head.{Head}
 use Rattle.cw_parse.specs.declared.tree.Cut.{Cut as Parts}
-use Rattle.cw_parse.specs.View.{expr_of, exprs_of}
+use Rattle.cw_parse.specs.declared.tree.Param as code_param
+use Rattle.cw_parse.specs.View.{param_of, expr_of, exprs_of}
 
 -- the newest name that is spelled so is an array, or an integer, if there is one
 abbrev pub kind_of : Name → Known → Option Bool
@@ -27,6 +29,10 @@ is_head program known h =
 -- a call of the code keeps the rules
 abbrev pub calls : Program → Known → Made → Bool
 calls program known c = is_call known c.target (called c.callee program.functions) (exprs_of c.arguments.items)
+
+-- expressions of the code may be passed as these parameters
+abbrev pub are_passed : Known → List code_param.Param → List Expr → Bool
+are_passed known params es = are_arguments known (map param_of params) (exprs_of es)
 
 -- a cut of the code keeps the rules
 abbrev pub cuts : Program → Known → Parts → Bool

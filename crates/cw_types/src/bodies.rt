@@ -3,8 +3,7 @@
 ghost use Rattle.std.specs.Prelude.{◌≡◌, not, ◌||◌, OnOk};
 ghost use Rattle.cw_model.specs.Typing.{declares, surely_returns, ends_block};
 ghost use Rattle.cw_parse.specs.View.{stmt_of, block_of};
-ghost use Rattle.cw_types.specs.Noted.{Noted};
-ghost use Rattle.cw_types.specs.Within.{block_faults, inner_faults};
+ghost use Rattle.cw_types.specs.Within.{NotesBlock, NotesInner};
 
 use crate::globals::Globals;
 use crate::known::Known;
@@ -22,7 +21,7 @@ pub fn block<'a>(
     lines: &'a [Line],
     least: &mut LeastLine,
 ) -> Result<(), AllocError>
-    ensures lines { OnOk result (Noted (block_faults globals.now returns known.old lines.now) least.old least.new) }
+    ensures lines { NotesBlock globals.now returns known.old lines.now least.old least.new result }
     ensures known { OnOk result (known.new ≡ known.old) }
 {
     let before = known.len();
@@ -46,7 +45,7 @@ fn inside<'a>(
     stmt: &'a Stmt,
     least: &mut LeastLine,
 ) -> Result<(), AllocError>
-    ensures lines { OnOk result (Noted (inner_faults globals.now returns known.old stmt.now) least.old least.new) }
+    ensures lines { NotesInner globals.now returns known.old stmt.now least.old least.new result }
     ensures known { OnOk result (known.new ≡ known.old) }
 {
     match stmt {

@@ -1,10 +1,10 @@
 //! The integers from outside that the body of a loop reads.
 #![tactic(auto, using(crate::proofs::Reading::uses, std::proofs::lemmas::Grind::common_steps))]
 
-ghost use Rattle.std.specs.Prelude.{◌≡◌, [], map, IfOk, OnOk};
-ghost use Rattle.cw_types.specs.Found.{Finds, FindsOne};
-ghost use Rattle.cw_types.specs.Resolved.{reads, argument_reads, arguments_read, head_reads};
-ghost use Rattle.cw_types.specs.Resolved.{reads_in, reads_in_block, captured_in, is_slot_in};
+ghost use Rattle.std.specs.Prelude.{◌≡◌, map, IfOk, OnOk};
+ghost use Rattle.cw_types.specs.Found.{AreCaptured, Finds, FindsOne, read_by};
+ghost use Rattle.cw_types.specs.Resolved.{reads, argument_reads, head_reads};
+ghost use Rattle.cw_types.specs.Resolved.{reads_in, reads_in_block, is_slot_in};
 ghost use Rattle.cw_types.specs.View.{use_of, expr_of, argument_of, head_of, stmt_of, block_of};
 
 use crate::tree::{Argument, Expr, Head, Line, Stmt, Use};
@@ -14,7 +14,7 @@ use std::alloc::{AllocError, Global};
 /// The integers that a body reads of those that have the first so many slots, each once and in the
 /// order of their first use.
 pub fn captured(alloc: Global, count: u32, body: &[Line]) -> Result<Vec<Use>, AllocError>
-    ensures { IfOk result (λ found. map use_of found.items ≡ captured_in count (block_of body.now)) }
+    ensures { IfOk result (AreCaptured count body.now) }
 {
     let mut found = Vec::new(alloc);
     block(alloc, count, &mut found, body)?;
@@ -90,7 +90,7 @@ fn arguments(
     found: &mut Vec<Use>,
     es: &[Argument],
 ) -> Result<(), AllocError>
-    ensures { OnOk result (Finds count (arguments_read (map argument_of es.now)) found.old found.new) }
+    ensures { OnOk result (Finds count (read_by es.now) found.old found.new) }
 {
     for e in es {
         argument(alloc, count, found, e)?;

@@ -5,7 +5,7 @@ ghost use Rattle.cw_model.specs.Lines.{lowest};
 ghost use Rattle.cw_model.specs.Sizes.{limit_faults};
 ghost use Rattle.cw_model.specs.Typing.{type_faults};
 ghost use Rattle.cw_parse.specs.View.{program_of};
-ghost use Rattle.cw_types.specs.Faults.{IsTyped, IsIllTyped};
+ghost use Rattle.cw_types.specs.Faults.{IsTypedOf, IsIllTyped};
 
 use crate::functions::functions_faults;
 use crate::globals::Globals;
@@ -26,7 +26,7 @@ use std::alloc::{AllocError, Global};
 /// for the resolved tree. A program without `main` breaks a rule in line 1. The tree that was given
 /// is let go in each case.
 pub fn check(alloc: Global, ast: Ast) -> Result<Typed, Fault>
-    ensures { MatchResult result (λ typed. IsTyped (program_of ast) typed.tree) (IsIllTyped (program_of ast)) }
+    ensures { MatchResult result (IsTypedOf (program_of ast)) (IsIllTyped (program_of ast)) }
 {
     let size = limits(alloc, &ast)?;
     if let Some(line) = size.line {

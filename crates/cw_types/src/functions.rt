@@ -3,11 +3,11 @@
 ghost use Rattle.std.specs.Prelude.{◌≡◌, ◌++◌, ◌&&◌, map, IfOk, OnOk};
 ghost use Rattle.std.specs.List.{list_any};
 ghost use Rattle.cw_model.specs.Typing.{known_of};
-ghost use Rattle.cw_parse.specs.View.{program_of, function_of, param_of};
-ghost use Rattle.cw_types.specs.Noted.{Noted};
+ghost use Rattle.cw_parse.specs.View.{function_of, param_of};
+ghost use Rattle.cw_types.specs.Noted.{Notes};
 ghost use Rattle.cw_types.specs.Returned as returned;
 ghost use Rattle.cw_types.specs.Typing as spec;
-ghost use Rattle.cw_types.specs.Within.{faults_of_all, faults_in_function, params_are_new};
+ghost use Rattle.cw_types.specs.Within.{faults_in_all, faults_in_function, params_are_new};
 
 use crate::bodies::block;
 use crate::globals::Globals;
@@ -23,7 +23,7 @@ pub fn functions_faults(
     globals: &Globals,
     least: &mut LeastLine,
 ) -> Result<(), AllocError>
-    ensures { OnOk result (Noted (faults_of_all (program_of globals.now.ast.now)) least.old least.new) }
+    ensures { Notes (faults_in_all globals.now) least.old least.new result }
 {
     for function in &globals.ast.functions {
         function_faults(alloc, globals, function, least)?;
@@ -38,7 +38,7 @@ fn function_faults(
     function: &Function,
     least: &mut LeastLine,
 ) -> Result<(), AllocError>
-    ensures { OnOk result (Noted (faults_in_function globals.now function.now) least.old least.new) }
+    ensures { Notes (faults_in_function globals.now function.now) least.old least.new result }
 {
     let mut known = Known::new(alloc);
     let are_new = declare_params(globals, &mut known, &function.params)?;

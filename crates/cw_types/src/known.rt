@@ -1,8 +1,9 @@
 //! The names that are known, the newest before older ones of its spelling.
 
-ghost use Rattle.std.specs.Prelude.{◌≡◌, ◌≤◌, ◌-◌, ◌∷◌, [], length, map, MatchResult};
+ghost use Rattle.std.specs.Prelude.{◌≡◌, ◌≤◌, ◌-◌, ◌∷◌, [], length, map};
 ghost use Rattle.cw_model.specs.Names.{is_among};
 ghost use Rattle.cw_model.specs.Typing.{is_int, is_array};
+ghost use Rattle.cw_types.specs.Grows.{Becomes};
 ghost use Rattle.cw_types.specs.Typing.{kind_of, oldest};
 
 use std::alloc::{AllocError, Global};
@@ -93,7 +94,7 @@ impl<'a> Known<'a> {
 
     /// One name more. Where memory runs out the names are as they were.
     pub fn declare(&mut self, name: &'a [u8], is_array: bool) -> Result<(), AllocError>
-        ensures { MatchResult result (λ _. self.new ≡ (name.now, is_array) ∷ self.old) (λ _. self.new ≡ self.old) }
+        ensures { Becomes ((name.now, is_array) ∷ self.old) self.old self.new result }
     {
         let shadowed = self.kinds.get(name).copied();
         self.entries.push(Entry {

@@ -1,14 +1,13 @@
 //! The limits of a program.
 
-ghost use Rattle.std.specs.Prelude.{◌≡◌, ◌∷◌, [], None, map, flat_map, IfOk, OnOk};
+ghost use Rattle.std.specs.Prelude.{◌≡◌, ◌∷◌, [], None, map, flat_map, IfOk};
 ghost use Rattle.cw_model.specs.Lines.{lowest};
-ghost use Rattle.cw_model.specs.Sizes.{limit_faults, function_limits as limits_of, lines_beyond};
+ghost use Rattle.cw_model.specs.Sizes.{limit_faults, function_limits as limits_of};
 ghost use Rattle.cw_model.specs.Sizes.{declaring_lines, declaring_lines_in};
-ghost use Rattle.cw_model.specs.Limits.{most_functions, most_reducers};
 ghost use Rattle.cw_parse.specs.View.{program_of, function_of, block_of, stmt_of};
-ghost use Rattle.cw_types.specs.Noted.{Noted, TakesRoom, TakesTag};
-ghost use Rattle.cw_types.specs.Noted.{function_lines, reducer_lines, long_tag, tags_past};
-ghost use Rattle.cw_types.specs.Regions.{region_of, regions_of};
+ghost use Rattle.cw_types.specs.Noted.{Noted, Notes, TakesRoom, TakesTag};
+ghost use Rattle.cw_types.specs.Noted.{functions_past, reducers_past, long_tag, tags_past};
+ghost use Rattle.cw_types.specs.Regions.{regions_of};
 
 use crate::known::Known;
 use crate::regions::{Marked, regions};
@@ -53,7 +52,7 @@ pub fn limits(alloc: Global, ast: &Ast) -> Result<LeastLine, AllocError>
 
 // Notes the lines of the functions behind the most of them.
 fn functions_beyond(functions: &[Function], least: &mut LeastLine)
-    ensures { Noted (lines_beyond most_functions (function_lines functions.now)) least.old least.new }
+    ensures { Noted (functions_past functions.now) least.old least.new }
 {
     let mut room = MOST_FUNCTIONS;
     for function in functions {
@@ -63,7 +62,7 @@ fn functions_beyond(functions: &[Function], least: &mut LeastLine)
 
 // Notes the lines of the reducers behind the most of them.
 fn reducers_beyond(reducers: &[Reducer], least: &mut LeastLine)
-    ensures { Noted (lines_beyond most_reducers (reducer_lines reducers.now)) least.old least.new }
+    ensures { Noted (reducers_past reducers.now) least.old least.new }
 {
     let mut room = MOST_REDUCERS;
     for reducer in reducers {
@@ -167,7 +166,7 @@ fn long_tags(regions: &[Marked], least: &mut LeastLine)
 
 // Notes the lines of the first places of tags behind the most of them.
 fn tags_beyond(alloc: Global, regions: &[Marked], least: &mut LeastLine) -> Result<(), AllocError>
-    ensures { OnOk result (Noted (tags_past (regions_of regions.now)) least.old least.new) }
+    ensures { Notes (tags_past (regions_of regions.now)) least.old least.new result }
 {
     let mut seen = Known::new(alloc);
     let mut room = MOST_TAGS;
@@ -184,7 +183,7 @@ fn tag_beyond<'a>(
     region: Marked<'a>,
     least: &mut LeastLine,
 ) -> Result<usize, AllocError>
-    ensures { IfOk result (TakesTag room (region_of region.entry) seen.old seen.new least.old least.new) }
+    ensures { IfOk result (TakesTag room region.entry seen.old seen.new least.old least.new) }
 {
     if seen.has(region.tag) {
         return Ok(room);

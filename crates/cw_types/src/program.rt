@@ -1,12 +1,12 @@
 //! Names looked up in a whole program.
 
-ghost use Rattle.std.specs.Prelude.{◌≡◌, ◌<◌, ◌+◌, ◌++◌, ◌^◌, [], map, length, All, IfOk, OnOk};
+ghost use Rattle.std.specs.Prelude.{◌≡◌, ◌<◌, ◌+◌, ◌^◌, [], map, length, All, IfOk, OnOk};
 ghost use Rattle.cw_model.specs.Sizes.{limit_faults};
 ghost use Rattle.cw_parse.specs.View as parsed;
-ghost use Rattle.cw_types.specs.Found.{DeclaresFew, IsFunction, AreFunctions, int_params, array_params};
+ghost use Rattle.cw_types.specs.Found.{AddsInts, AddsArrays, AreFunctions, AreReducers, DeclaresFew, IsFunction};
 ghost use Rattle.cw_types.specs.Locals.{locals_count};
 ghost use Rattle.cw_types.specs.Resolved as spec;
-ghost use Rattle.cw_types.specs.View.{resolved_of, param_of, reducer_of};
+ghost use Rattle.cw_types.specs.View.{resolved_of, param_of};
 
 use crate::frames::{arrays_of_block, ints_of_block};
 use crate::globals::{function_names, reducer_names};
@@ -50,7 +50,7 @@ pub fn resolve(alloc: Global, ast: &Ast) -> Result<tree::Tree, AllocError>
 
 // The reducers in their order.
 fn reducers(alloc: Global, reducers: &[Reducer]) -> Result<Vec<tree::Reducer>, AllocError>
-    ensures { IfOk result (λ found. map reducer_of found.items ≡ map parsed.reducer_of reducers.now) }
+    ensures { IfOk result (λ found. AreReducers reducers.now found.items) }
 {
     let mut found = Vec::new(alloc);
     for reducer in reducers {
@@ -106,8 +106,8 @@ fn function(alloc: Global, lists: &Lists, f: &Function) -> Result<tree::Function
 // Declares the parameters.
 fn declare_params<'a>(locals: &mut Locals<'a>, params: &'a [Param]) -> Result<(), AllocError>
     requires { locals_count locals.old + length params.now < 2 ^ 32 }
-    ensures ints { OnOk result (locals.new.ints ≡ locals.old.ints ++ int_params params.now) }
-    ensures arrays { OnOk result (locals.new.arrays ≡ locals.old.arrays ++ array_params params.now) }
+    ensures ints { OnOk result (AddsInts params.now locals.old locals.new) }
+    ensures arrays { OnOk result (AddsArrays params.now locals.old locals.new) }
 {
     for param in params {
         let name = param.name.as_bytes();

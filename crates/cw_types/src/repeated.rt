@@ -1,9 +1,9 @@
 //! Names of functions and reducers that are there twice.
 
-ghost use Rattle.std.specs.Prelude.{◌≡◌, [], nat_le, if◌then◌else◌, OnOk};
+ghost use Rattle.std.specs.Prelude.{◌≡◌, [], nat_le, if◌then◌else◌};
 ghost use Rattle.cw_model.specs.Typing.{repeated};
 ghost use Rattle.cw_types.specs.Named.{listed_functions, listed_reducers, shared_lines, lines_shared_by};
-ghost use Rattle.cw_types.specs.Noted.{Noted};
+ghost use Rattle.cw_types.specs.Noted.{Noted, Notes};
 
 use crate::known::Known;
 use cw_parse::tree::{Function, Reducer};
@@ -16,7 +16,7 @@ pub fn repeated_functions(
     functions: &[Function],
     least: &mut LeastLine,
 ) -> Result<(), AllocError>
-    ensures { OnOk result (Noted (repeated (listed_functions functions.now) []) least.old least.new) }
+    ensures { Notes (repeated (listed_functions functions.now) []) least.old least.new result }
 {
     let mut earlier = Known::new(alloc);
     for function in functions {
@@ -33,7 +33,7 @@ pub fn repeated_reducers(
     reducers: &[Reducer],
     least: &mut LeastLine,
 ) -> Result<(), AllocError>
-    ensures { OnOk result (Noted (repeated (listed_reducers reducers.now) []) least.old least.new) }
+    ensures { Notes (repeated (listed_reducers reducers.now) []) least.old least.new result }
 {
     let mut earlier = Known::new(alloc);
     for reducer in reducers {

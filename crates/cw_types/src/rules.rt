@@ -1,13 +1,13 @@
 //! The rules of names and types, statement by statement.
 
-ghost use Rattle.std.specs.Prelude.{◌≡◌, true, false, map, option_map, not, ◌||◌};
+ghost use Rattle.std.specs.Prelude.{◌≡◌, true, false, not, ◌||◌};
 ghost use Rattle.std.specs.List.{list_all};
 ghost use Rattle.cw_model.specs.Names.{same_name};
 ghost use Rattle.cw_model.specs.Answers.{main_name};
 ghost use Rattle.cw_model.specs.Typing as rule;
 ghost use Rattle.cw_parse.specs.View.{program_of, function_of, param_of, expr_of, stmt_of, block_of};
 ghost use Rattle.cw_parse.specs.declared.tree.Stmt.TheOpen.{Stmt-F};
-ghost use Rattle.cw_types.specs.Returned.{returns_of};
+ghost use Rattle.cw_types.specs.Returned.{may_give};
 ghost use Rattle.cw_types.specs.Typing as spec;
 ghost use Rattle.cw_types.specs.Within.{line_keeps};
 
@@ -88,7 +88,7 @@ fn is_argument(known: &Known, param: &Param, e: &Expr) -> bool
 
 // Whether there is one argument for each parameter.
 fn are_arguments(known: &Known, params: &[Param], arguments: &[Expr]) -> bool
-    ensures { result ≡ rule.are_arguments known.now (map param_of params.now) (map expr_of arguments.now) }
+    ensures { result ≡ spec.are_passed known.now params.now arguments.now }
 {
     if params.len() != arguments.len() {
         return false;
@@ -172,7 +172,7 @@ fn is_cut(globals: &Globals, known: &Known, cut: &Cut) -> bool
 
 // Whether a return may stand here.
 fn may_return(returns: Returns, known: &Known, value: &Option<Expr>) -> bool
-    ensures { result ≡ rule.may_return (returns_of returns) known.now (option_map expr_of value.now) }
+    ensures { result ≡ may_give returns known.now value.now }
 {
     match (returns, value) {
         (Returns::WithInt, Some(e)) => is_fine(known, e),

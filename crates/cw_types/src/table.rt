@@ -1,7 +1,8 @@
 //! Names by their places.
 
-ghost use Rattle.std.specs.Prelude.{◌≡◌, ◌<◌, ◌≤◌, ◌+◌, ◌-◌, ◌^◌, [], ◌∷◌, ◌++◌, length, take, MatchResult};
+ghost use Rattle.std.specs.Prelude.{◌≡◌, ◌<◌, ◌≤◌, ◌+◌, ◌-◌, ◌^◌, [], ◌∷◌, ◌++◌, length, take};
 ghost use Rattle.cw_model.specs.Names.{is_among};
+ghost use Rattle.cw_types.specs.Grows.{Becomes};
 ghost use Rattle.cw_types.specs.Resolved.{slot_of};
 
 use std::alloc::{AllocError, Global};
@@ -65,7 +66,7 @@ impl<'a> Table<'a> {
     /// One name more, at the end. Where memory runs out the table is as it was.
     pub fn add(&mut self, name: &'a [u8]) -> Result<(), AllocError>
         requires { length self.old + 1 < 2 ^ 32 }
-        ensures { MatchResult result (λ _. self.new ≡ self.old ++ name.now ∷ []) (λ _. self.new ≡ self.old) }
+        ensures { Becomes (self.old ++ name.now ∷ []) self.old self.new result }
     {
         let place = self.names.len() as u32;
         self.names.push(name)?;

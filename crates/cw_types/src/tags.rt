@@ -1,8 +1,7 @@
 //! The different tags of a program.
 
-ghost use Rattle.std.specs.Prelude.{◌≡◌, ◌<◌, ◌^◌, [], map, length, IfOk};
-ghost use Rattle.cw_model.specs.Sizes.{first_places};
-ghost use Rattle.cw_types.specs.Regions.{regions_of, tags_of};
+ghost use Rattle.std.specs.Prelude.{◌≡◌, ◌<◌, ◌^◌, length, IfOk};
+ghost use Rattle.cw_types.specs.Regions.{AreFirst, tags_of};
 
 use crate::known::Known;
 use crate::regions::Marked;
@@ -12,7 +11,7 @@ use std::alloc::{AllocError, Global};
 
 /// The first region of each tag.
 pub fn different<'a>(alloc: Global, regions: &[Marked<'a>]) -> Result<Vec<Marked<'a>>, AllocError>
-    ensures { IfOk result (λ found. regions_of found.items ≡ first_places (regions_of regions.now) []) }
+    ensures { IfOk result (AreFirst regions.now) }
 {
     let mut seen = Known::new(alloc);
     let mut found = Vec::new(alloc);
