@@ -114,7 +114,7 @@ arrays_differ (p ∷ ps) h = let d = others_differ p ps h in go p.is_array (no_k
     go false alone more = more
 
 -- at the head of a function
-begins : (fs : List Function) (ps : List Param) (returns : Returns) → differ (names_of ps) ≡ true → Agree (nothing_around fs) (integers_of ps) (arrays_of ps) (known_of ps) (names_of ps) NoLoop returns
+pub begins : (fs : List Function) (ps : List Param) (returns : Returns) → differ (names_of ps) ≡ true → Agree (nothing_around fs) (integers_of ps) (arrays_of ps) (known_of ps) (names_of ps) NoLoop returns
 begins fs ps returns h = record {
   ints_are = int_kind ps h;
   arrays_are = array_kind ps h;

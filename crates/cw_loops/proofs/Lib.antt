@@ -32,12 +32,12 @@ pub mod Rows
 pub mod Sameness
 pub mod Equal
 pub mod Views
-mod Naming
-mod Knowing
-mod Seeing
-mod Declaring
+pub mod Naming
+pub mod Knowing
+pub mod Seeing
+pub mod Declaring
 mod Lowering
-mod Accepting
+pub mod Accepting
 mod Deriving
 mod Shifting
 mod Taken
@@ -48,3 +48,5 @@ mod LoopTexts
 mod BySlot
 mod WholeSlots
 mod RightSlots
+mod FewUses
+mod SmallLoops

@@ -156,13 +156,13 @@ module _ (fs : List Function) (can : list_all (can_lower_function fs) fs ≡ tru
   abbrev fs' : List Function
   fs' = lower_functions 0 fs ++ made_of 0 fs
 
-  all_found : Found fs' (made_of 0 fs)
+  pub all_found : Found fs' (made_of 0 fs)
   all_found = found_numbered (made_of 0 fs) (lower_functions 0 fs) 0 (made_functions fs 0).numbered (λ j le. lowered_plain fs fs 0 can j)
 
   looked : (g : Name) → is_plain g ≡ true → Looked fs fs' fs g
   looked g plain = looked_in fs fs' g plain fs 0 (made_of 0 fs) 0 (made_functions fs 0).numbered can all_found refl
 
-  params_same : (g : Name) → is_plain g ≡ true → (function_of g fs').params ≡ (function_of g fs).params
+  pub params_same : (g : Name) → is_plain g ≡ true → (function_of g fs').params ≡ (function_of g fs).params
   params_same g plain = let l = looked g plain in ap (λ (f : Function). f.params) l.is' ∙ sym (ap (λ (f : Function). f.params) l.is)
 
   params_once : (g : Name) → is_plain g ≡ true → Fresh [] (arrays_of (function_of g fs).params)

@@ -84,7 +84,7 @@ count_all (f ∷ fs) =
 none_left : (n : ℕ) (xs : List ℕ) → drop n xs ≡ [] → length xs ≤ n
 none_left n xs h = let e : length xs - n ≡ 0 = sym (length-drop n xs) ∙ ap length h in omega (arith, e)
 
-few_loops : (program : Program) → loop_faults program ≡ [] → count_of program.functions ≤ 4096
+pub few_loops : (program : Program) → loop_faults program ≡ [] → count_of program.functions ≤ 4096
 few_loops program h =
     let lines = flat_map (λ (f : Function). loops_in_block f.body) program.functions in
     let some : length lines ≤ 4096 = none_left 4096 lines h in

@@ -10,6 +10,10 @@ pub mod Lowers
 pub mod Same
 pub mod Expanded
 pub mod Seen
+pub mod Cores
+pub mod LoopLines
+pub mod Made
 pub mod Examples
 pub mod SlotExamples
 pub mod SlotLaws
+pub mod Small

@@ -28,9 +28,13 @@ made_bodies n loops (f ∷ fs) =
     let here = made_body n (arrays_from 0 f.params) loops f.body in
     with_body here.block (made_bodies n here.loops fs)
 
+-- the bodies of the functions of a source, and the loops in them
+abbrev pub made_of : List source.Function → Bodies
+made_of functions = made_bodies (slot (length functions)) [] functions
+
 -- the bodies of a resolved tree, and its loops
 abbrev pub made_of_tree : source.Resolved → Bodies
-made_of_tree tree = made_bodies (slot (length tree.functions)) [] tree.functions
+made_of_tree tree = made_of tree.functions
 
 -- bodies and loops of the code as those of the definitions
 abbrev pub bodies_of : Tree → Bodies

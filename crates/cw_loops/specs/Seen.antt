@@ -10,7 +10,8 @@ use Rattle.cw_types.specs.View.{program_of, resolved_of}
 use Rattle.cw_loops.specs.declared.tree.Tree.{Tree}
 use Rattle.cw_loops.specs.SourceLike.{is_source_like}
 use Rattle.cw_loops.specs.Slotted.{Function, slotted_functions}
-use Rattle.cw_loops.specs.Lowers.{bodies_of}
+use Rattle.cw_loops.specs.Lowers.{bodies_of, made_of_tree}
+use Rattle.cw_loops.specs.Same.{same_bodies}
 use Rattle.cw_loops.specs.Expanded.{expanded}
 
 -- the functions of a lowered tree, over the tree of its source: those of the source first, then those of the loops, each
@@ -23,6 +24,10 @@ functions_of source tree = expanded (resolved_of source) (bodies_of tree)
 abbrev pub IsLowered : source_code.Tree → Tree → Type 0
 IsLowered source tree =
     is_source_like (program_of source) ≡ true → functions_of source tree ≡ slotted_functions (program_of source)
+
+-- the test whether a tree is what lowering makes of its source says yes
+abbrev pub IsMadeOf : source_code.Tree → Tree → Type 0
+IsMadeOf source tree = same_bodies (bodies_of tree) (made_of_tree (resolved_of source)) ≡ true
 
 -- why a source isn't lowered: it has too many loops, or memory ran out
 abbrev pub WhyNotLowered : Program → Fault → Type 0

@@ -1,11 +1,10 @@
 //! Bodies whose loops are lowered.
 
-ghost use Rattle.std.specs.Prelude.{◌≡◌, [], map, IfOk, OnOk};
-ghost use Rattle.cw_types.specs.Resolved as resolved;
+ghost use Rattle.std.specs.Prelude.{◌≡◌, IfOk, OnOk};
 ghost use Rattle.cw_types.specs.View as source;
+ghost use Rattle.cw_loops.specs.Made.{IsBlock, IsStmt, IsFor, IsCut};
+ghost use Rattle.cw_loops.specs.Made.{LoopsOfBlock, LoopsOfStmt, LoopsOfFor, LoopsOfCut};
 ghost use Rattle.cw_loops.specs.Moved as spec;
-ghost use Rattle.cw_loops.specs.Moving.{moves_view};
-ghost use Rattle.cw_loops.specs.View as view;
 
 use crate::moves::{Moves, moves_of, slot};
 use crate::parts::{alone, beginning, expression};
@@ -40,8 +39,8 @@ pub(crate) fn block(
     lines: &[Line],
     loops: &mut Vec<Loop>,
 ) -> Result<Vec<tree::Line>, AllocError>
-    ensures lines { IfOk result (λ made. view.block_of made.items ≡ (spec.made_block here.entry.functions (moves_view here.entry.moves) here.entry.arrays (map view.loop_of loops.old.items) (source.block_of lines.now)).block) }
-    ensures loops { OnOk result (map view.loop_of loops.new.items ≡ (spec.made_block here.entry.functions (moves_view here.entry.moves) here.entry.arrays (map view.loop_of loops.old.items) (source.block_of lines.now)).loops) }
+    ensures lines { IfOk result (λ made. IsBlock here.entry lines.now loops.old made.items) }
+    ensures loops { OnOk result (LoopsOfBlock here.entry lines.now loops.old loops.new) }
 {
     let mut made = Vec::new(alloc);
     let mut arrays = here.arrays;
@@ -70,8 +69,8 @@ fn statement(
     stmt: &Stmt,
     loops: &mut Vec<Loop>,
 ) -> Result<tree::Stmt, AllocError>
-    ensures stmt { IfOk result (λ made. view.stmt_of made ≡ (spec.made_stmt here.entry.functions (moves_view here.entry.moves) here.entry.arrays (map view.loop_of loops.old.items) line (source.stmt_of stmt.now)).stmt) }
-    ensures loops { OnOk result (map view.loop_of loops.new.items ≡ (spec.made_stmt here.entry.functions (moves_view here.entry.moves) here.entry.arrays (map view.loop_of loops.old.items) line (source.stmt_of stmt.now)).loops) }
+    ensures stmt { IfOk result (IsStmt here.entry line stmt.now loops.old) }
+    ensures loops { OnOk result (LoopsOfStmt here.entry line stmt.now loops.old loops.new) }
 {
     match stmt {
         Stmt::If(e, b) => {
@@ -122,8 +121,8 @@ fn lowered(
     body: &[Line],
     loops: &mut Vec<Loop>,
 ) -> Result<tree::Stmt, AllocError>
-    ensures stmt { IfOk result (λ made. view.stmt_of made ≡ (spec.made_stmt here.entry.functions (moves_view here.entry.moves) here.entry.arrays (map view.loop_of loops.old.items) line (resolved.For (source.head_of head.now) (source.block_of body.now))).stmt) }
-    ensures loops { OnOk result (map view.loop_of loops.new.items ≡ (spec.made_stmt here.entry.functions (moves_view here.entry.moves) here.entry.arrays (map view.loop_of loops.old.items) line (resolved.For (source.head_of head.now) (source.block_of body.now))).loops) }
+    ensures stmt { IfOk result (IsFor here.entry line head.now body.now loops.old) }
+    ensures loops { OnOk result (LoopsOfFor here.entry line head.now body.now loops.old loops.new) }
 {
     let inside = Here {
         functions: here.functions,
@@ -152,8 +151,8 @@ fn in_cut(
     body: &[Line],
     loops: &mut Vec<Loop>,
 ) -> Result<tree::Stmt, AllocError>
-    ensures stmt { IfOk result (λ made. view.stmt_of made ≡ (spec.made_stmt here.entry.functions (moves_view here.entry.moves) here.entry.arrays (map view.loop_of loops.old.items) 0 (resolved.Cut (source.parts_of cut.now) (source.block_of body.now))).stmt) }
-    ensures loops { OnOk result (map view.loop_of loops.new.items ≡ (spec.made_stmt here.entry.functions (moves_view here.entry.moves) here.entry.arrays (map view.loop_of loops.old.items) 0 (resolved.Cut (source.parts_of cut.now) (source.block_of body.now))).loops) }
+    ensures stmt { IfOk result (IsCut here.entry cut.now body.now loops.old) }
+    ensures loops { OnOk result (LoopsOfCut here.entry cut.now body.now loops.old loops.new) }
 {
     let at = expression(alloc, here.moves, &cut.at)?;
     let inside = Here {

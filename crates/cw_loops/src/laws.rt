@@ -4,6 +4,7 @@ ghost use Rattle.cw_loops.specs.Examples.{LoweredExamples};
 ghost use Rattle.cw_loops.specs.SlotExamples.{SlotExamples};
 ghost use Rattle.cw_loops.specs.Seen.{IsLowered};
 ghost use Rattle.cw_loops.specs.SlotLaws.{LoweringIsBySlot};
+ghost use Rattle.cw_loops.specs.Small.{IsSmallTree};
 ghost use Rattle.cw_loops.specs.Same.{SameTreesAreEqual};
 ghost use Rattle.cw_loops.specs.LoweringLaws.{DerivedIsSourceLike, LoweredAnswersAsItsSource, LoweredHasItsCalls, LoweredHasNoLoop, LoweredIsAsLong, LoweringKeepsAnswers, LoweringKeepsDerivedAnswers, LoweringKeepsSize, OwnedIsLowerable};
 
@@ -69,4 +70,10 @@ pub fn lowering_is_by_slot()
 /// Every core is seen as the lowered program of its source, each name looked up, by its type alone.
 pub fn core_is_lowered(core: &Core)
     ensures { IsLowered core.now.source.typed.tree core.now.tree }
+{}
+
+/// A core has a body for each function of its source, at most 1,024 functions and 4,096 loops; a leaf of a loop has at most
+/// 1,000,000 turns, and a loop takes along at most 256 integers and 256 arrays.
+pub fn core_is_small(core: &Core)
+    ensures { IsSmallTree core.now.source.typed.tree core.now.tree }
 {}

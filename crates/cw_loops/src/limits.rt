@@ -1,11 +1,11 @@
 //! The limit on loops.
 
-ghost use Rattle.std.specs.Prelude.{◌≡◌, ℕ, List, ◌++◌, ◌∷◌, None, map, flat_map, drop};
-ghost use Rattle.cw_model.specs.Limits.{most_loops};
+ghost use Rattle.std.specs.Prelude.{◌≡◌, ◌∷◌, [], None};
 ghost use Rattle.cw_model.specs.Lines.{lowest};
-ghost use Rattle.cw_model.specs.Sizes.{lines_beyond, loop_faults, loops_in, loops_in_block};
-ghost use Rattle.cw_types.specs.Resolved.{plain_block, plain_function, plain_stmt};
-ghost use Rattle.cw_types.specs.View.{block_of, function_of, program_of, stmt_of};
+ghost use Rattle.cw_model.specs.Sizes.{loop_faults};
+ghost use Rattle.cw_types.specs.Noted.{Noted, TakesRoom};
+ghost use Rattle.cw_types.specs.View.{program_of};
+ghost use Rattle.cw_loops.specs.LoopLines.{lines_in, lines_in_block, loops_past};
 
 use cw_text::LeastLine;
 use cw_types::tree::{Function, Line, Stmt, Tree};
@@ -24,7 +24,7 @@ pub(crate) fn limits(tree: &Tree) -> LeastLine
 
 // Notes the lines of the loops in functions that pass the limit.
 fn functions_beyond(functions: &[Function], least: &mut LeastLine)
-    ensures { least.new.line ≡ lowest least.old.line (lines_beyond most_loops (flat_map (λ f. loops_in_block f.body) (map plain_function (map function_of functions.now)))) }
+    ensures { Noted (loops_past functions.now) least.old least.new }
 {
     let mut room = MOST_LOOPS;
     for function in functions {
@@ -35,8 +35,7 @@ fn functions_beyond(functions: &[Function], least: &mut LeastLine)
 // What room is left after the loops in statements; notes the line of what has no room.
 #[cycle(counting)]
 fn block_beyond(room: usize, lines: &[Line], least: &mut LeastLine) -> usize
-    // The lines to come give the least line past the room left that they give past `room` with these loops first.
-    ensures { (more : List ℕ) → lowest least.new.line (drop result more) ≡ lowest least.old.line (drop room (loops_in_block (plain_block (block_of lines.now)) ++ more)) }
+    ensures { TakesRoom room result (lines_in_block lines.now) least.old least.new }
 {
     let mut left = room;
     for line in lines {
@@ -48,7 +47,7 @@ fn block_beyond(room: usize, lines: &[Line], least: &mut LeastLine) -> usize
 // The same of a statement of a line.
 #[cycle(counting)]
 fn statement_beyond(room: usize, line: u32, stmt: &Stmt, least: &mut LeastLine) -> usize
-    ensures { (more : List ℕ) → lowest least.new.line (drop result more) ≡ lowest least.old.line (drop room (loops_in line (plain_stmt (stmt_of stmt.now)) ++ more)) }
+    ensures { TakesRoom room result (lines_in line stmt.now) least.old least.new }
 {
     match stmt {
         Stmt::If(_, b)
@@ -78,8 +77,7 @@ fn statement_beyond(room: usize, line: u32, stmt: &Stmt, least: &mut LeastLine) 
 
 // One loop more, which breaks the limit where there is no room left for it; what room is left then.
 fn beyond(room: usize, line: u32, least: &mut LeastLine) -> usize
-    // The lines to come give the least line past the room left that they give past `room` with this one first.
-    ensures { (more : List ℕ) → lowest least.new.line (drop result more) ≡ lowest least.old.line (drop room (line ∷ more)) }
+    ensures { TakesRoom room result (line ∷ []) least.old least.new }
 {
     if room == 0 {
         least.note(false, line);

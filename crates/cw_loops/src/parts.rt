@@ -1,9 +1,8 @@
 //! What stands in a statement beside its blocks, with each local where it went.
 
-ghost use Rattle.std.specs.Prelude.{◌≡◌, [], map, option_map, IfOk};
-ghost use Rattle.cw_types.specs.View as source;
+ghost use Rattle.std.specs.Prelude.{◌≡◌, IfOk};
+ghost use Rattle.cw_loops.specs.Made as moved;
 ghost use Rattle.cw_loops.specs.Moved as spec;
-ghost use Rattle.cw_loops.specs.Moving.{moves_view, uses_of};
 ghost use Rattle.cw_loops.specs.View as view;
 
 use crate::moves::Moves;
@@ -26,7 +25,7 @@ fn from_low(alloc: Global, is_over: bool, e: tree::Expr) -> Result<tree::Expr, A
 
 /// An expression.
 pub(crate) fn expression(alloc: Global, moves: Moves, e: &Expr) -> Result<tree::Expr, AllocError>
-    ensures { IfOk result (λ made. view.expr_of made ≡ spec.moved_expr (moves_view moves.entry) (source.expr_of e.now)) }
+    ensures { IfOk result (moved.IsExpr moves.entry e.now) }
 {
     match e {
         Expr::Number(n) => Ok(tree::Expr::Number(*n)),
@@ -57,7 +56,7 @@ pub(crate) fn expression(alloc: Global, moves: Moves, e: &Expr) -> Result<tree::
 
 // An argument.
 fn argument(alloc: Global, moves: Moves, e: &Argument) -> Result<tree::Argument, AllocError>
-    ensures { IfOk result (λ made. view.argument_of made ≡ spec.moved_argument (moves_view moves.entry) (source.argument_of e.now)) }
+    ensures { IfOk result (moved.IsArgument moves.entry e.now) }
 {
     match e {
         Argument::Int(e) => {
@@ -74,7 +73,7 @@ fn arguments(
     moves: Moves,
     es: &[Argument],
 ) -> Result<Vec<tree::Argument>, AllocError>
-    ensures { IfOk result (λ made. map view.argument_of made.items ≡ map (spec.moved_argument (moves_view moves.entry)) (map source.argument_of es.now)) }
+    ensures { IfOk result (λ made. moved.AreArguments moves.entry es.now made.items) }
 {
     let mut made = Vec::new(alloc);
     for e in es {
@@ -86,7 +85,7 @@ fn arguments(
 
 // The integer that a result goes to.
 fn target(moves: Moves, target: &Option<Use>) -> Option<u32>
-    ensures { result ≡ spec.moved_target (moves_view moves.entry) (option_map source.use_of target.now) }
+    ensures { moved.IsTarget moves.entry target.now result }
 {
     match target {
         None => None,
@@ -96,7 +95,7 @@ fn target(moves: Moves, target: &Option<Use>) -> Option<u32>
 
 // What is returned.
 fn returned(alloc: Global, moves: Moves, e: &Option<Expr>) -> Result<Option<tree::Expr>, AllocError>
-    ensures { IfOk result (λ made. option_map view.expr_of made ≡ spec.moved_return (moves_view moves.entry) (option_map source.expr_of e.now)) }
+    ensures { IfOk result (moved.IsReturned moves.entry e.now) }
 {
     match e {
         None => Ok(None),
@@ -109,7 +108,7 @@ fn returned(alloc: Global, moves: Moves, e: &Option<Expr>) -> Result<Option<tree
 
 // The integers that a loop takes along, where they are as it begins.
 fn ints(alloc: Global, moves: Moves, uses: &[Use]) -> Result<Vec<u32>, AllocError>
-    ensures { IfOk result (λ made. made.items ≡ spec.moved_ints (moves_view moves.entry) (uses_of uses.now)) }
+    ensures { IfOk result (λ made. moved.AreInts moves.entry uses.now made.items) }
 {
     let mut made = Vec::new(alloc);
     for used in uses {
@@ -120,7 +119,7 @@ fn ints(alloc: Global, moves: Moves, uses: &[Use]) -> Result<Vec<u32>, AllocErro
 
 // The same of its arrays.
 fn arrays(alloc: Global, moves: Moves, uses: &[Use]) -> Result<Vec<u32>, AllocError>
-    ensures { IfOk result (λ made. made.items ≡ spec.moved_arrays (moves_view moves.entry) (uses_of uses.now)) }
+    ensures { IfOk result (λ made. moved.AreArrays moves.entry uses.now made.items) }
 {
     let mut made = Vec::new(alloc);
     for used in uses {
@@ -136,7 +135,7 @@ pub(crate) fn beginning(
     callee: u32,
     head: &Head,
 ) -> Result<tree::Stmt, AllocError>
-    ensures { IfOk result (λ made. view.stmt_of made ≡ spec.moved_head (moves_view moves.entry) callee (source.head_of head.now)) }
+    ensures { IfOk result (moved.IsBeginning moves.entry callee head.now) }
 {
     let from = expression(alloc, moves, &head.from)?;
     let to = expression(alloc, moves, &head.to)?;
@@ -153,7 +152,7 @@ pub(crate) fn beginning(
 
 // A call statement.
 fn call(alloc: Global, moves: Moves, c: &Call) -> Result<tree::Stmt, AllocError>
-    ensures { IfOk result (λ made. view.stmt_of made ≡ spec.moved_alone (moves_view moves.entry) (source.stmt_of (Stmt.Call c.now))) }
+    ensures { IfOk result (moved.IsAlone moves.entry (Stmt.Call c.now)) }
 {
     let arguments = arguments(alloc, moves, &c.arguments)?;
     Ok(tree::Stmt::Call(tree::Call {
@@ -167,7 +166,7 @@ fn call(alloc: Global, moves: Moves, c: &Call) -> Result<tree::Stmt, AllocError>
 
 /// A statement without blocks.
 pub(crate) fn alone(alloc: Global, moves: Moves, stmt: &Stmt) -> Result<tree::Stmt, AllocError>
-    ensures { IfOk result (λ made. view.stmt_of made ≡ spec.moved_alone (moves_view moves.entry) (source.stmt_of stmt.now)) }
+    ensures { IfOk result (moved.IsAlone moves.entry stmt.now) }
 {
     match stmt {
         Stmt::Declare(x, e) => {

@@ -1,10 +1,9 @@
 //! Programs whose loops are lowered.
 
-ghost use Rattle.std.specs.Prelude.{◌≡◌, [], true};
+ghost use Rattle.std.specs.Prelude.{◌≡◌, []};
 ghost use Rattle.cw_model.specs.Sizes.{loop_faults};
-ghost use Rattle.cw_types.specs.View.{program_of, resolved_of};
-ghost use Rattle.cw_loops.specs.Lowers.{bodies_of, made_of_tree};
-ghost use Rattle.cw_loops.specs.Same.{same_bodies};
+ghost use Rattle.cw_types.specs.View.{program_of};
+ghost use Rattle.cw_loops.specs.Seen.{IsMadeOf};
 
 use crate::tree::Tree;
 use cw_own::Owned;
@@ -16,7 +15,7 @@ pub struct Core {
     pub source: Owned,
     pub tree: Tree,
     // The tree is what lowering makes of the source, in which each slot is right.
-    pub ghost lowered: { same_bodies (bodies_of tree) (made_of_tree (resolved_of source.typed.tree)) ≡ true },
+    pub ghost lowered: { IsMadeOf source.typed.tree tree },
     // The source has no more than 4,096 loops.
     pub ghost few: { loop_faults (program_of source.typed.tree) ≡ [] },
 }

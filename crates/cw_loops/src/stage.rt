@@ -1,10 +1,11 @@
 //! Lowering of a whole program.
 
-ghost use Rattle.std.specs.Prelude.{◌≡◌, [], length, map, IfOk, MatchResult};
-ghost use Rattle.cw_types.specs.View as source;
-ghost use Rattle.cw_loops.specs.Lowers.{arrays_from, bodies_of, made_bodies};
-ghost use Rattle.cw_loops.specs.Moved as spec;
-ghost use Rattle.cw_loops.specs.Seen.{IsLowering, WhyNotLowered};
+ghost use Rattle.std.specs.Prelude.{◌≡◌, map, IfOk, MatchResult};
+ghost use Rattle.cw_types.specs.View.{param_of, program_of};
+ghost use Rattle.cw_loops.specs.Cores.{IsCoreOf};
+ghost use Rattle.cw_loops.specs.Lowers.{arrays_from};
+ghost use Rattle.cw_loops.specs.Made.{AreBodies};
+ghost use Rattle.cw_loops.specs.Seen.{WhyNotLowered};
 
 use crate::bodies::{Here, block};
 use crate::limits::limits;
@@ -24,7 +25,7 @@ use std::alloc::{AllocError, Global};
 /// Answers `Size` exactly where the program has more than 4,096 loops, at the line of the 4,097th by place, before
 /// anything is lowered, and `Memory` where memory runs out. The program is let go then.
 pub fn lower(alloc: Global, owned: Owned) -> Result<Core, Fault>
-    ensures { MatchResult result (λ core. IsLowering owned.typed.tree core.source.typed.tree core.tree) (WhyNotLowered (source.program_of owned.typed.tree)) }
+    ensures { MatchResult result (IsCoreOf owned) (WhyNotLowered (program_of owned.typed.tree)) }
 {
     let beyond = limits(&owned.typed.tree);
     match beyond.line {
@@ -41,7 +42,7 @@ pub fn lower(alloc: Global, owned: Owned) -> Result<Core, Fault>
 
 // The bodies of functions, and the loops in them.
 fn functions(alloc: Global, functions: &[Function]) -> Result<Tree, AllocError>
-    ensures { IfOk result (λ tree. bodies_of tree ≡ made_bodies (spec.slot (length (map source.function_of functions.now))) [] (map source.function_of functions.now)) }
+    ensures { IfOk result (AreBodies functions.now) }
 {
     let count = slot(functions.len());
     let mut bodies = Vec::new(alloc);
@@ -60,7 +61,7 @@ fn functions(alloc: Global, functions: &[Function]) -> Result<Tree, AllocError>
 
 // How many of the parameters are arrays.
 fn arrays_taken(params: &[Param]) -> u32
-    ensures { result ≡ arrays_from 0 (map source.param_of params.now) }
+    ensures { result ≡ arrays_from 0 (map param_of params.now) }
 {
     let mut arrays: u32 = 0;
     for param in params {

@@ -1,0 +1,14 @@
+use Rattle.cw_types.specs.View.{resolved_of}
+use Rattle.cw_loops.specs.Lowers.{bodies_of, made_of_tree}
+use Rattle.cw_loops.proofs.Equal.{bodies_equal}
+use Rattle.cw_loops.proofs.SmallLoops.{tree_small}
+use Rattle.cw_loops.proofs.laws.core_is_small.Goals as goal
+
+pub returns : goal.returns
+returns c =
+    let core = c.args.core.now in
+    let typed = core.source.typed in
+    let small =
+    tree_small (resolved_of typed.tree) (bodies_of core.tree) typed.resolved typed.typed core.source.owned typed.within core.few
+    (bodies_equal (bodies_of core.tree) (made_of_tree (resolved_of typed.tree)) core.lowered) in
+    record { bodies = small.bodies; functions = small.functions; loops = small.loops; each = small.each }

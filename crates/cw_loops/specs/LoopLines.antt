@@ -1,0 +1,25 @@
+-- The lines of the loops in the code of a source.
+use Rattle.std.specs.Prelude.{ℕ, List, map, flat_map}
+use Rattle.cw_model.specs.Limits.{most_loops}
+use Rattle.cw_model.specs.Sizes.{lines_beyond, loops_in, loops_in_block}
+use Rattle.cw_types.specs.declared.tree.Function.{Function}
+use Rattle.cw_types.specs.declared.tree.Line.{Line}
+use Rattle.cw_types.specs.declared.tree.Stmt.{Stmt}
+use Rattle.cw_types.specs.Resolved.{plain_block, plain_function, plain_stmt}
+use Rattle.cw_types.specs.View.{block_of, function_of, stmt_of}
+
+-- the lines of the loops in a block
+abbrev pub lines_in_block : List Line → List ℕ
+lines_in_block lines = loops_in_block (plain_block (block_of lines))
+
+-- the lines of the loops in a statement of a line
+abbrev pub lines_in : (line : ℕ) → Stmt → List ℕ
+lines_in line s = loops_in line (plain_stmt (stmt_of s))
+
+-- the lines of the loops in functions
+abbrev pub lines_in_all : List Function → List ℕ
+lines_in_all functions = flat_map (λ f. loops_in_block f.body) (map plain_function (map function_of functions))
+
+-- the lines of the loops in functions behind the most of them
+abbrev pub loops_past : List Function → List ℕ
+loops_past functions = lines_beyond most_loops (lines_in_all functions)
