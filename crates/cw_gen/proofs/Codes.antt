@@ -10,17 +10,19 @@ use Rattle.cw_model.specs.Meaning.{Returned, Completion, going, returned_arrays}
 use Rattle.cw_model.specs.Answers.{main_frame}
 use Rattle.cw_model.specs.Typing.{Returns, Nowhere, WithInt, Alone, surely_returns, block_returns}
 use Rattle.cw_model.specs.Ownership.{Taken}
-use Rattle.cw_types.specs.Resolved.{Lists, Locals, slot_of, locals_after, use_of, listed_in, resolved_expr, resolved_argument, resolved_name, resolved_stmt, resolved_block, locals_of, plain_stmt, plain_block}
-use Rattle.cw_types.specs.Resolved as resolved
+use Rattle.cw_types.specs.Resolved.{Locals, slot_of, locals_of}
+use Rattle.cw_loops.specs.Slotted.{slotted_argument}
+use Rattle.cw_loops.specs.Slotted as slotted
 use Rattle.cw_code.specs.declared.code.Func.{Func}
-use Rattle.cw_code.specs.declared.code.Instr.{Instr}
 use Rattle.cw_code.specs.Run.{Slots, Around, State, Went, is_full, on_slot, settled, full, slots_of, arrays_of, arguments_of}
-use Rattle.cw_gen.specs.Emit.{most_jump, distance, emitted_expr, emitted_arg, emitted_args, emitted_stmt, emitted_block, emitted_end}
+use Rattle.cw_gen.specs.Emit.{most_jump, distance, emitted_arg}
+use Rattle.cw_gen.proofs.Texts.{expr_code}
 use Rattle.cw_gen.proofs.Decided.{first_true, second_true}
 use Rattle.cw_gen.proofs.Fine.{NoArray, ArgFine, Room, Begins}
 use Rattle.cw_gen.proofs.Stores.{Store, Outside, array_waits, Agrees}
 use Rattle.cw_gen.proofs.Names.{names_in, values_in, names_more, values_more, all_of}
 
+-- all are dropped
 pub drop_all : (xs : List ℤ) (n : ℕ) → n ≡ length xs → drop n xs ≡ []
 drop_all xs n e = ap (λ m. drop m xs) e ∙ none xs
   where
@@ -28,6 +30,7 @@ drop_all xs n e = ap (λ m. drop m xs) e ∙ none xs
     none [] = refl
     none (x ∷ xs) = none xs
 
+-- all are taken
 pub take_all : (xs : List ℤ) (n : ℕ) → n ≡ length xs → take n xs ≡ xs
 take_all xs n e = ap (λ m. take m xs) e ∙ whole xs
   where
@@ -47,6 +50,7 @@ pub record Bound (ps : List Param) (vs : List ℤ) (xss : List (List ℤ)) (befo
   pub elements : values_in after.arrays ≡ values_in before.arrays ++ xss
   pub whole : after.sliced ≡ before.sliced
 
+-- no parameter
 pub bound_none : (g : Frame) → Bound [] [] [] g g
 bound_none g = record { ints = sym (append-nil (names_in g.ints)); values = sym (append-nil (values_in g.ints)); arrays = sym (append-nil (names_in g.arrays)); elements = sym (append-nil (values_in g.arrays)); whole = refl }
 
@@ -127,34 +131,14 @@ distance_is n le = least n most_jump le
     least : (a b : ℕ) → a ≤ b → min a b ≡ a
     least a b h = omega (arith, h)
 
--- the code of an expression where these locals are known
-abbrev pub expr_code : Locals → (line : ℕ) → Expr → List Instr
-expr_code locals line e = emitted_expr line (resolved_expr locals e)
-
-abbrev pub args_code : Locals → (line : ℕ) → List Expr → List Instr
-args_code locals line es = emitted_args line (map (resolved_argument locals) es)
-
-abbrev pub stmt_code : Lists → Locals → (line : ℕ) → Stmt → List Instr
-stmt_code lists locals line s = emitted_stmt line (resolved_stmt lists locals s)
-
-abbrev pub block_code : Lists → Locals → Block → List Instr
-block_code lists locals b = emitted_block (resolved_block lists locals b)
-
-abbrev pub function_code : Lists → Function → List Instr
-function_code lists f = block_code lists (locals_of f.params) f.body ++ emitted_end f.gives_int
-
--- what the returns of a function give
-abbrev pub returns_of : Function → Returns
-returns_of f = if f.gives_int then WithInt else Alone
-
 -- an integer as an argument
-pub arg_code : (locals : Locals) (line : ℕ) (e : Expr) → NoArray locals e → emitted_arg line (resolved_argument locals e) ≡ expr_code locals line e
-arg_code locals line (Variable x) h = ap (λ b. emitted_arg line (if b then resolved.Array (use_of locals.arrays x) else resolved.Int (resolved.Variable (use_of locals.ints x)))) h
+pub arg_code : (locals : Locals) (line : ℕ) (e : Expr) → NoArray locals e → emitted_arg line (slotted_argument locals e) ≡ expr_code locals line e
+arg_code locals line (Variable x) h = ap (λ b. emitted_arg line (if b then slotted.Array (slot_of x locals.arrays) else slotted.Int (slotted.Variable (slot_of x locals.ints)))) h
 arg_code locals line _ h = refl
 
 -- an array as an argument
-pub array_code : (locals : Locals) (taken : Taken) (line : ℕ) (e : Expr) → ArgFine true locals taken e → emitted_arg line (resolved_argument locals e) ≡ []
-array_code locals taken line (Variable x) h = ap (λ b. emitted_arg line (if b then resolved.Array (use_of locals.arrays x) else resolved.Int (resolved.Variable (use_of locals.ints x)))) h.declared
+pub array_code : (locals : Locals) (taken : Taken) (line : ℕ) (e : Expr) → ArgFine true locals taken e → emitted_arg line (slotted_argument locals e) ≡ []
+array_code locals taken line (Variable x) h = ap (λ b. emitted_arg line (if b then slotted.Array (slot_of x locals.arrays) else slotted.Int (slotted.Variable (slot_of x locals.ints)))) h.declared
 array_code locals taken line _ h = absurd h
 
 -- the state of a call at a place

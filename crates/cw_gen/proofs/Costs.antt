@@ -8,8 +8,9 @@ use Rattle.cw_model.specs.Expressions.{Evaluated, Gives, Traps, done_at, and_the
 use Rattle.cw_model.specs.Frames.{Frame}
 use Rattle.cw_model.specs.Names.{is_among}
 use Rattle.cw_model.specs.Syntax.{Name, Expr}
-use Rattle.cw_model.specs.Outcome.{Outcome, Done, Trapped, Over, shows, after, then_do, pay_for}
+use Rattle.cw_model.specs.Outcome.{Outcome, Done, Trapped, Over, Trace, shows, after, then_do, pay, pay_for}
 
+-- instructions are counted one after another
 pub works_more : (a b : ℕ) → works (a + b) ≡ works a ++ works b
 works_more zero b = let e : 0 + b ≡ b = omega arith in ap works e
 works_more (suc a) b = let e : suc a + b ≡ suc (a + b) = omega arith in ap works e ∙ ap (λ es. Work 1 ∷ es) (works_more a b)
@@ -95,3 +96,25 @@ not_dearer a e frame h = ap (λ l. dearer (if is_among a l then 2 else 0) (evalu
     none : (x : Evaluated) → dearer 0 x ≡ x
     none (Traps trap c) = refl
     none (Gives v c) = let e : c + 0 ≡ c = omega arith in ap (Gives v) e
+
+-- nothing is paid
+pub pay_none : (left : ℕ) → pay 0 left ≡ Done tt left (shows [])
+pay_none left = grind (arith, nat_tests)
+
+-- so much is left, and this was shown
+abbrev done : ℕ → Trace → Outcome (Unit {0})
+done left t = Done tt left t
+
+-- a cost is paid in two parts
+pub pay_more : (c c' left : ℕ) → pay (c + c') left ≡ then_do (pay c left) (λ _ l. pay c' l)
+pay_more c c' left =
+    ap (λ z. if z then Over else done (left - (c + c')) (shows (works (c + c')))) (two_tests left c c') ∙ cases (nat_lt left c) (nat_lt (left - c) c') ∙ sym (outer (nat_lt left c))
+  where
+    cases : (x y : Bool) → (if (if x then true else y) then Over else done (left - (c + c')) (shows (works (c + c')))) ≡ (if x then Over else after (shows (works c)) (if y then Over else done (left - c - c') (shows (works c'))))
+    cases true y = refl
+    cases false true = refl
+    cases false false = let e : left - (c + c') ≡ left - c - c' = omega arith in ap (λ k. done k (shows (works (c + c')))) e ∙ ap (λ es. done (left - c - c') (shows es)) (works_more c c')
+
+    outer : (x : Bool) → then_do (if x then Over else done (left - c) (shows (works c))) (λ _ l. if nat_lt l c' then Over else done (l - c') (shows (works c'))) ≡ (if x then Over else after (shows (works c)) (if nat_lt (left - c) c' then Over else done (left - c - c') (shows (works c'))))
+    outer true = refl
+    outer false = refl

@@ -1,21 +1,24 @@
 -- Code has as many instructions as the static size of its program.
-use Rattle.std.proofs.Common.{◌≡◌, ℕ, ◌+◌, List, [], ◌∷◌, ◌++◌, length, Bool, true, false, if◌then◌else◌, Some, None, refl, sym, ap, ◌∙◌, arith, length-append}
+use Rattle.std.proofs.Common.{◌≡◌, ℕ, suc, ◌+◌, List, [], ◌∷◌, ◌++◌, length, Bool, true, false, if◌then◌else◌, Some, None, refl, sym, ap, ◌∙◌, arith, length-append}
 use Rattle.std.specs.Prelude.{sum_by, map}
 use Rattle.std.proofs.lemmas.List.Sums.{sum_by-cons}
-use Rattle.cw_model.specs.Syntax.{Expr, Number, Variable, Element, Length, Negative, Not, Binary, Stmt, Declare, DeclareArray, Assign, AssignElement, AddTo, Call, Sync, If, IfElse, While, Scope, Cut, Region, Print, Return, Block, End, Then, Param, Function, Program}
+use Rattle.cw_model.specs.Syntax.{Name, Expr, Number, Variable, Element, Length, Negative, Not, Binary, Stmt, Declare, DeclareArray, Assign, AssignElement, AddTo, Call, Start, Begin, Sync, If, IfElse, While, Scope, Cut, Region, Print, Return, Block, End, Then, Param, Function, Program}
 use Rattle.cw_model.specs.Meaning.{function_of}
 use Rattle.cw_model.specs.Typing.{Returns, Nowhere, WithInt, Alone}
-use Rattle.cw_model.specs.Ownership.{CutOf, Taken, taken_after}
+use Rattle.cw_model.specs.Ownership.{CutOf, Taken}
 use Rattle.cw_model.specs.Sizes.{size_of, arguments_size, stmt_size, block_size, function_size, static_size}
-use Rattle.cw_types.specs.Resolved.{Lists, Locals, slot_of, with_array, locals_after, locals_of, lists_of, resolved_argument, resolved_block, plain_block, resolved_function}
-use Rattle.cw_model.specs.Typing as typing
+use Rattle.cw_types.specs.Resolved.{Lists, Locals, slot_of, with_array, locals_after, locals_of}
+use Rattle.cw_loops.specs.Lowered.{lowered}
+use Rattle.cw_loops.specs.Slotted.{slotted_argument, slotted_block, slotted_function, lowered_lists}
 use Rattle.cw_code.specs.declared.code.Instr.{Instr}
 use Rattle.cw_code.specs.declared.code.Instr.TheVariants as instr
-use Rattle.cw_gen.specs.Emit.{distance, past, emitted_arg, emitted_end, emitted_instrs, emitted_over}
+use Rattle.cw_gen.specs.Emit as emit
+use Rattle.cw_gen.specs.Emit.{Tables, first_list, distance, past, whole_of, emitted_arg, emitted_loads, emitted_end, emitted_instrs, emitted_over}
+use Rattle.cw_gen.proofs.Held.{held_after}
 use Rattle.cw_gen.proofs.Fine.{Room, room_of, ExprFine, ArgFine, ArgsFine, ReturnFine, StmtFine, BlockFine, FunctionFine, FunctionsFine, ProgramFine}
-use Rattle.cw_gen.proofs.Laws.{expr_code, args_code, stmt_code, block_code, function_code, arg_code, array_code}
-use Rattle.cw_gen.proofs.Cutting.{cut_halves}
-use Rattle.cw_gen.proofs.Program.{code_of}
+use Rattle.cw_gen.proofs.Codes.{arg_code, array_code}
+use Rattle.cw_gen.proofs.Texts.{expr_code, args_code, stmt_code, block_code, function_code, tables_in, code_of}
+use Rattle.cw_gen.proofs.Rows.{halves_at}
 
 one_more : (is : List Instr) (i : Instr) → length (is ++ i ∷ []) ≡ length is + 1
 one_more is i = length-append is (i ∷ [])
@@ -39,25 +42,32 @@ args_count locals taken line [] (e ∷ es) fine = absurd fine
 args_count locals taken line (p ∷ ps) [] fine = absurd fine
 args_count locals taken line (p ∷ ps) (e ∷ es) fine = one p.is_array e fine.0 (args_count locals taken line ps es fine.1)
   where
-    one : (b : Bool) (e : Expr) → ArgFine b locals taken e → length (args_code locals line es) ≡ arguments_size [] ps es → length (emitted_arg line (resolved_argument locals e) ++ args_code locals line es) ≡ (if b then 0 else size_of [] e) + arguments_size [] ps es
+    one : (b : Bool) (e : Expr) → ArgFine b locals taken e → length (args_code locals line es) ≡ arguments_size [] ps es → length (emitted_arg line (slotted_argument locals e) ++ args_code locals line es) ≡ (if b then 0 else size_of [] e) + arguments_size [] ps es
     one true e h more = let z : arguments_size [] ps es ≡ 0 + arguments_size [] ps es = omega arith in ap (λ is. length (is ++ args_code locals line es)) (array_code locals taken line e h) ∙ more ∙ z
     one false e h more =
-        length-append (emitted_arg line (resolved_argument locals e)) (args_code locals line es)
+        length-append (emitted_arg line (slotted_argument locals e)) (args_code locals line es)
         ∙ ap (λ k. k + length (args_code locals line es)) (ap length (arg_code locals line e h.1) ∙ expr_count locals taken line e h.0)
         ∙ ap (λ k. size_of [] e + k) more
+
+loads_count : (locals : Locals) (xs : List Name) → length (emitted_loads (map (λ x. slot_of x locals.ints) xs)) ≡ length xs
+loads_count locals [] = refl
+loads_count locals (x ∷ xs) = ap suc (loads_count locals xs)
 
 end_count : (b : Bool) → length (emitted_end b) ≡ (if b then 0 else 1)
 end_count true = refl
 end_count false = refl
 
-module _ (fs : List Function) (lists : Lists) (passed : List (List ℕ)) where
+module _ (fs : List Function) (lists : Lists) (tables : Tables) where
+  abbrev first : ℕ
+  first = first_list tables.sites
+
   returned_count : (returns : Returns) (locals : Locals) (taken : Taken) (e : Expr) → ReturnFine returns locals taken (Some e) → ExprFine locals taken e
   returned_count Nowhere locals taken e fine = absurd fine
   returned_count WithInt locals taken e fine = fine
   returned_count Alone locals taken e fine = absurd fine
 
   mutual
-    stmt_count : (size : Room) (returns : Returns) (level : ℕ) (locals : Locals) (taken : Taken) (line : ℕ) (s : Stmt) → StmtFine fs lists passed size returns level locals taken s → length (stmt_code lists locals line s) ≡ stmt_size fs [] s
+    stmt_count : (size : Room) (returns : Returns) (level : ℕ) (locals : Locals) (taken : Taken) (line : ℕ) (s : Stmt) → StmtFine fs lists tables size returns level locals taken s → length (stmt_code first lists locals line s) ≡ stmt_size fs [] s
     stmt_count size returns level locals taken line (Declare x e) fine = one_more (expr_code locals line e) _ ∙ ap (λ k. k + 1) (expr_count locals taken line e fine.1)
     stmt_count size returns level locals taken line (DeclareArray x e) fine = one_more (expr_code locals line e) _ ∙ ap (λ k. k + 1) (expr_count locals taken line e fine.1)
     stmt_count size returns level locals taken line (AssignElement a i e) fine =
@@ -69,55 +79,63 @@ module _ (fs : List Function) (lists : Lists) (passed : List (List ℕ)) where
     stmt_count size returns level locals taken line (Print e) fine = one_more (expr_code locals line e) _ ∙ ap (λ k. k + 1) (expr_count locals taken line e fine)
     stmt_count size returns level locals taken line (Call kind site target f es) fine =
         one_more (args_code locals line es) _ ∙ ap (λ k. k + 1) (args_count locals taken line (function_of f fs).params es fine.2)
+    stmt_count size returns level locals taken line (Start kind f es) fine =
+        one_more (args_code locals line es) _ ∙ ap (λ k. k + 1) (args_count locals taken line (function_of f fs).params es fine.2)
+    stmt_count size returns level locals taken line (Begin f from to captured over) fine =
+        let cf = expr_code locals line from in
+        let ct = expr_code locals line to in
+        let loads = emitted_loads (map (λ x. slot_of x locals.ints) captured) in
+        let i = instr.Start (whole_of first (slot_of f lists.functions)) line in
+        omega (arith, length-append cf (ct ++ (loads ++ i ∷ [])), length-append ct (loads ++ i ∷ []), one_more loads i, expr_count locals taken line from fine.2, expr_count locals taken line to fine.3, loads_count locals captured)
     stmt_count size returns level locals taken line Sync fine = refl
     stmt_count size returns level locals taken line (If e b) fine =
         let ce = expr_code locals line e in
-        let cb = block_code lists locals b in
+        let cb = block_code first lists locals b in
         omega (arith, length-append ce (emitted_over cb), expr_count locals taken line e fine.0, block_count size returns level locals taken b fine.1)
     stmt_count size returns level locals taken line (IfElse e b c) fine =
         let ce = expr_code locals line e in
-        let cb = block_code lists locals b in
-        let other = block_code lists locals c in
-        let j = instr.Skip (past (typing.block_returns (plain_block (resolved_block lists locals b))) (length other)) in
+        let cb = block_code first lists locals b in
+        let other = block_code first lists locals c in
+        let j = instr.Skip (past (emit.returns (slotted_block lists locals b)) (length other)) in
         omega (arith, length-append ce (emitted_over (cb ++ j ∷ []) ++ other), length-append (emitted_over (cb ++ j ∷ [])) other, one_more cb j, expr_count locals taken line e fine.0, block_count size returns level locals taken b fine.1.0, block_count size returns level locals taken c fine.2.0)
     stmt_count size returns level locals taken line (While e b) fine =
-        let all = taken_after fs level (While e b) taken in
+        let all = held_after fs level (While e b) taken in
         let ce = expr_code locals line e in
-        let cb = block_code lists locals b in
+        let cb = block_code first lists locals b in
         let j = instr.GoBack (distance (length ce + 1 + length cb)) in
         omega (arith, length-append ce (emitted_over (cb ++ j ∷ [])), one_more cb j, expr_count locals all line e fine.0, block_count size returns level locals all b fine.1)
     stmt_count size returns level locals taken line (Scope b) fine =
-        let cb = block_code lists locals b in
+        let cb = block_code first lists locals b in
         omega (arith, one_more cb instr.Close, block_count size Nowhere (level + 1) locals taken b fine.0)
     stmt_count size returns level locals taken line (Cut a e l r b) fine =
         let ce = expr_code locals line e in
         let inner = with_array r (with_array l locals) in
-        let cb = block_code lists inner b in
-        let h = cut_halves locals a l in
+        let cb = block_code first lists inner b in
+        let h = halves_at locals a in
         omega (arith, length-append ce (instr.Cut h line ∷ (cb ++ instr.EndCut ∷ [])), one_more cb instr.EndCut, expr_count locals taken line e fine.1, block_count size Nowhere (level + 1) inner ((a, CutOf) ∷ taken) b fine.3)
     stmt_count size returns level locals taken line (Region tag b) fine =
-        let cb = block_code lists locals b in
+        let cb = block_code first lists locals b in
         omega (arith, one_more cb instr.Close, block_count size Nowhere (level + 1) locals taken b fine.1)
     stmt_count size returns level locals taken line (Return None) fine = refl
     stmt_count size returns level locals taken line (Return (Some e)) fine = one_more (expr_code locals line e) _ ∙ ap (λ k. k + 1) (expr_count locals taken line e (returned_count returns locals taken e fine.0))
     stmt_count size returns level locals taken line _ fine = absurd fine
 
-    block_count : (size : Room) (returns : Returns) (level : ℕ) (locals : Locals) (taken : Taken) (b : Block) → BlockFine fs lists passed size returns level locals taken b → length (block_code lists locals b) ≡ block_size fs [] b
+    block_count : (size : Room) (returns : Returns) (level : ℕ) (locals : Locals) (taken : Taken) (b : Block) → BlockFine fs lists tables size returns level locals taken b → length (block_code first lists locals b) ≡ block_size fs [] b
     block_count size returns level locals taken End fine = refl
     block_count size returns level locals taken (Then line s b) fine =
-        omega (arith, length-append (stmt_code lists locals line s) (block_code lists (locals_after locals s) b), stmt_count size returns level locals taken line s fine.0, block_count size returns level (locals_after locals s) (taken_after fs level s taken) b fine.1)
+        omega (arith, length-append (stmt_code first lists locals line s) (block_code first lists (locals_after locals s) b), stmt_count size returns level locals taken line s fine.0, block_count size returns level (locals_after locals s) (held_after fs level s taken) b fine.1)
 
-  function_count : (f : Function) → FunctionFine fs lists passed f → length (function_code lists f) ≡ function_size fs f
+  function_count : (f : Function) → FunctionFine fs lists tables f → length (function_code first lists f) ≡ function_size fs f
   function_count f fine =
-      omega (arith, length-append (block_code lists (locals_of f.params) f.body) (emitted_end f.gives_int), end_count f.gives_int, block_count (room_of lists f) (if f.gives_int then WithInt else Alone) 1 (locals_of f.params) [] f.body fine.body)
+      omega (arith, length-append (block_code first lists (locals_of f.params) f.body) (emitted_end f.gives_int), end_count f.gives_int, block_count (room_of lists f) (if f.gives_int then WithInt else Alone) 1 (locals_of f.params) [] f.body fine.body)
 
-  functions_count : (gs : List Function) → FunctionsFine fs lists passed gs → length (emitted_instrs (map (resolved_function lists) gs)) ≡ sum_by (function_size fs) gs
+  functions_count : (gs : List Function) → FunctionsFine fs lists tables gs → length (emitted_instrs first (map (slotted_function lists) gs)) ≡ sum_by (function_size fs) gs
   functions_count [] fine = refl
   functions_count (g ∷ gs) fine =
-      length-append (function_code lists g) (emitted_instrs (map (resolved_function lists) gs))
-      ∙ ap (λ k. k + length (emitted_instrs (map (resolved_function lists) gs))) (function_count g fine.0)
+      length-append (function_code first lists g) (emitted_instrs first (map (slotted_function lists) gs))
+      ∙ ap (λ k. k + length (emitted_instrs first (map (slotted_function lists) gs))) (function_count g fine.0)
       ∙ ap (λ k. function_size fs g + k) (functions_count gs fine.1)
       ∙ sym (sum_by-cons (function_size fs) g gs)
 
-pub code_count : (program : Program) → ProgramFine program (code_of program).passed → length (code_of program).instrs ≡ static_size program
-code_count program fine = functions_count program.functions (lists_of program) (code_of program).passed program.functions fine.functions
+pub code_count : (program : Program) → ProgramFine (lowered program) (lowered_lists program) (tables_in (code_of program)) → length (code_of program).instrs ≡ static_size (lowered program)
+code_count program fine = functions_count (lowered program).functions (lowered_lists program) (tables_in (code_of program)) (lowered program).functions fine.functions

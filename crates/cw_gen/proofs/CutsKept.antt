@@ -4,15 +4,16 @@ use Rattle.std.specs.Prelude.{map}
 use Rattle.std.proofs.lemmas.List.{append-nil}
 use Rattle.std.proofs.lemmas.Slice.Eq.{bytes_eq-Decides}
 use Rattle.cw_model.specs.declared.syntax.CallKind.TheVariants.{Plain, Spawned}
-use Rattle.cw_model.specs.Syntax.{Name, Stmt, Declare, DeclareArray, Assign, AssignElement, AddTo, Call, Sync, If, IfElse, While, Scope, Cut, Region, Print, Return, Block, End, Then, Function}
+use Rattle.cw_model.specs.Syntax.{Name, Stmt, Declare, DeclareArray, Assign, AssignElement, AddTo, Call, Start, Begin, Sync, If, IfElse, While, Scope, Cut, Region, Print, Return, Block, End, Then, Function}
 use Rattle.cw_model.specs.Names.{same_name, is_among}
 use Rattle.cw_model.specs.Typing.{Nowhere, surely_returns, block_returns}
-use Rattle.cw_model.specs.Ownership.{Holder, SpawnIn, CutOf, Taken, is_taken, is_spawn_in, is_cut_of, freed, without, own_names, where_it_goes_on, target_names, given, taken_after, taken_after_all, Closing, Joins, Leaves, at_end}
+use Rattle.cw_model.specs.Ownership.{Holder, SpawnIn, CutOf, Taken, is_taken, is_spawn_in, is_cut_of, freed, without, own_names, where_it_goes_on, target_names, given, Closing, Joins, Leaves, at_end}
 use Rattle.cw_types.specs.Resolved.{Lists, Locals, with_array, locals_after}
 use Rattle.cw_gen.proofs.Decided.{first_false}
+use Rattle.cw_gen.specs.Emit.{Tables}
+use Rattle.cw_gen.proofs.Held.{held_after, held_after_all}
 use Rattle.cw_gen.proofs.Fine.{Room, StmtFine, BlockFine}
-use Rattle.cw_gen.proofs.Staying.{In, in_taken}
-use Rattle.cw_gen.proofs.Rows.{Opened, CutsOpen, cuts_kept}
+use Rattle.cw_gen.proofs.Rows.{In, in_taken, Opened, CutsOpen, cuts_kept}
 
 in_kept : (p : (Name × Holder) → Bool) (t : Name × Holder) (us : Taken) → In t us → p t ≡ true → In t (filter p us)
 in_kept p t [] h e = h
@@ -48,21 +49,21 @@ in_left q own closing depth after_it free h = in_kept (λ t. not (is_among t.0 o
 in_freed : (q : Name) (depth : ℕ) (taken : Taken) → In (q, CutOf) taken → In (q, CutOf) (freed depth taken)
 in_freed q depth taken h = in_kept (λ t. not (is_spawn_in depth t.1)) (q, CutOf) taken h refl
 
-module _ (fs : List Function) (lists : Lists) (passed : List (List ℕ)) (size : Room) where
+module _ (fs : List Function) (lists : Lists) (tables : Tables) (size : Room) where
   mutual
     -- where no return may stand nothing surely returns
-    stmt_goes : (level : ℕ) (locals : Locals) (taken : Taken) (s : Stmt) → StmtFine fs lists passed size Nowhere level locals taken s → surely_returns s ≡ false
+    stmt_goes : (level : ℕ) (locals : Locals) (taken : Taken) (s : Stmt) → StmtFine fs lists tables size Nowhere level locals taken s → surely_returns s ≡ false
     stmt_goes level locals taken (Return e) fine = absurd fine.0
     stmt_goes level locals taken (IfElse e b c) fine = first_false (block_returns b) (block_returns c) (block_goes level locals taken b fine.1.0)
     stmt_goes level locals taken _ fine = refl
 
-    block_goes : (level : ℕ) (locals : Locals) (taken : Taken) (b : Block) → BlockFine fs lists passed size Nowhere level locals taken b → block_returns b ≡ false
+    block_goes : (level : ℕ) (locals : Locals) (taken : Taken) (b : Block) → BlockFine fs lists tables size Nowhere level locals taken b → block_returns b ≡ false
     block_goes level locals taken End fine = refl
     block_goes level locals taken (Then line s End) fine = stmt_goes level locals taken s fine.0
-    block_goes level locals taken (Then line s (Then line' s' b)) fine = block_goes level (locals_after locals s) (taken_after fs level s taken) (Then line' s' b) fine.1
+    block_goes level locals taken (Then line s (Then line' s' b)) fine = block_goes level (locals_after locals s) (held_after fs level s taken) (Then line' s' b) fine.1
 
   mutual
-    stmt_keeps : (level : ℕ) (locals : Locals) (taken : Taken) (s : Stmt) (q : Name) → StmtFine fs lists passed size Nowhere level locals taken s → In (q, CutOf) taken → In (q, CutOf) (taken_after fs level s taken)
+    stmt_keeps : (level : ℕ) (locals : Locals) (taken : Taken) (s : Stmt) (q : Name) → StmtFine fs lists tables size Nowhere level locals taken s → In (q, CutOf) taken → In (q, CutOf) (held_after fs level s taken)
     stmt_keeps level locals taken (Declare x e) q fine h = h
     stmt_keeps level locals taken (DeclareArray x e) q fine h = h
     stmt_keeps level locals taken (Assign x e) q fine h = h
@@ -71,21 +72,24 @@ module _ (fs : List Function) (lists : Lists) (passed : List (List ℕ)) (size :
     stmt_keeps level locals taken (Print e) q fine h = h
     stmt_keeps level locals taken (Call Plain site target f es) q fine h = h
     stmt_keeps level locals taken (Call Spawned site target f es) q fine h = in_behind (q, CutOf) (map (λ x. (x, SpawnIn level)) (target_names target ++ given fs f es)) taken h
+    stmt_keeps level locals taken (Start Plain f es) q fine h = h
+    stmt_keeps level locals taken (Start Spawned f es) q fine h = in_behind (q, CutOf) (map (λ x. (x, SpawnIn level)) (given fs f es)) taken h
+    stmt_keeps level locals taken (Begin f from to captured over) q fine h = h
     stmt_keeps level locals taken Sync q fine h = in_freed q level taken h
-    stmt_keeps level locals taken (If e b) q fine h = in_behind (q, CutOf) (where_it_goes_on (block_returns b) (without (own_names b) (taken_after_all fs level b taken))) taken h
+    stmt_keeps level locals taken (If e b) q fine h = in_behind (q, CutOf) (where_it_goes_on (block_returns b) (without (own_names b) (held_after_all fs level b taken))) taken h
     stmt_keeps level locals taken (IfElse e b c) q fine h =
-        let left = without (own_names b) (taken_after_all fs level b taken) in
-        in_before (q, CutOf) (where_it_goes_on (block_returns b) left) (where_it_goes_on (block_returns c) (without (own_names c) (taken_after_all fs level c taken)))
-        (subst (λ r. In (q, CutOf) (where_it_goes_on r left)) (sym (block_goes level locals taken b fine.1.0)) (in_left q (own_names b) Leaves level (taken_after_all fs level b taken) fine.1.1 (block_keeps level locals taken b q fine.1.0 h)))
-    stmt_keeps level locals taken (While e b) q fine h = in_before (q, CutOf) taken (where_it_goes_on (block_returns b) (without (own_names b) (taken_after_all fs level b taken))) h
+        let left = without (own_names b) (held_after_all fs level b taken) in
+        in_before (q, CutOf) (where_it_goes_on (block_returns b) left) (where_it_goes_on (block_returns c) (without (own_names c) (held_after_all fs level c taken)))
+        (subst (λ r. In (q, CutOf) (where_it_goes_on r left)) (sym (block_goes level locals taken b fine.1.0)) (in_left q (own_names b) Leaves level (held_after_all fs level b taken) fine.1.1 (block_keeps level locals taken b q fine.1.0 h)))
+    stmt_keeps level locals taken (While e b) q fine h = in_before (q, CutOf) taken (where_it_goes_on (block_returns b) (without (own_names b) (held_after_all fs level b taken))) h
     stmt_keeps level locals taken (Scope b) q fine h =
-        in_freed q (level + 1) (without (own_names b) (taken_after_all fs (level + 1) b taken)) (in_left q (own_names b) Joins (level + 1) (taken_after_all fs (level + 1) b taken) fine.1 (block_keeps (level + 1) locals taken b q fine.0 h))
+        in_freed q (level + 1) (without (own_names b) (held_after_all fs (level + 1) b taken)) (in_left q (own_names b) Joins (level + 1) (held_after_all fs (level + 1) b taken) fine.1 (block_keeps (level + 1) locals taken b q fine.0 h))
     stmt_keeps level locals taken (Region tag b) q fine h =
-        in_freed q (level + 1) (without (own_names b) (taken_after_all fs (level + 1) b taken)) (in_left q (own_names b) Joins (level + 1) (taken_after_all fs (level + 1) b taken) fine.2 (block_keeps (level + 1) locals taken b q fine.1 h))
+        in_freed q (level + 1) (without (own_names b) (held_after_all fs (level + 1) b taken)) (in_left q (own_names b) Joins (level + 1) (held_after_all fs (level + 1) b taken) fine.2 (block_keeps (level + 1) locals taken b q fine.1 h))
     stmt_keeps level locals taken (Cut a e l r b) q fine h =
         let inner = (a, CutOf) ∷ taken in
         let own = l ∷ r ∷ own_names b in
-        let after_it = taken_after_all fs (level + 1) b inner in
+        let after_it = held_after_all fs (level + 1) b inner in
         in_kept (λ t. not (is_cut_of a t)) (q, CutOf) (freed (level + 1) (without own after_it))
         (in_freed q (level + 1) (without own after_it) (in_left q own Joins (level + 1) after_it fine.4 (block_keeps (level + 1) (with_array r (with_array l locals)) inner b q fine.3 (inr h))))
         (ap not (other (same_name a q) refl))
@@ -96,9 +100,9 @@ module _ (fs : List Function) (lists : Lists) (passed : List (List ℕ)) (size :
     stmt_keeps level locals taken (Return e) q fine h = absurd fine.0
     stmt_keeps level locals taken _ q fine h = absurd fine
 
-    block_keeps : (level : ℕ) (locals : Locals) (taken : Taken) (b : Block) (q : Name) → BlockFine fs lists passed size Nowhere level locals taken b → In (q, CutOf) taken → In (q, CutOf) (taken_after_all fs level b taken)
+    block_keeps : (level : ℕ) (locals : Locals) (taken : Taken) (b : Block) (q : Name) → BlockFine fs lists tables size Nowhere level locals taken b → In (q, CutOf) taken → In (q, CutOf) (held_after_all fs level b taken)
     block_keeps level locals taken End q fine h = h
-    block_keeps level locals taken (Then line s b) q fine h = block_keeps level (locals_after locals s) (taken_after fs level s taken) b q fine.1 (stmt_keeps level locals taken s q fine.0 h)
+    block_keeps level locals taken (Then line s b) q fine h = block_keeps level (locals_after locals s) (held_after fs level s taken) b q fine.1 (stmt_keeps level locals taken s q fine.0 h)
 
   -- the arrays behind those that are known
   arrays_next : (locals : Locals) (s : Stmt) → (more : List Name) × ((locals_after locals s).arrays ≡ locals.arrays ++ more)
@@ -106,10 +110,10 @@ module _ (fs : List Function) (lists : Lists) (passed : List (List ℕ)) (size :
   arrays_next locals _ = ([], sym (append-nil locals.arrays))
 
   -- after a statement
-  pub cuts_next : (opened : Opened) (level : ℕ) (locals : Locals) (taken : Taken) (s : Stmt) → StmtFine fs lists passed size Nowhere level locals taken s → CutsOpen opened locals taken → CutsOpen opened (locals_after locals s) (taken_after fs level s taken)
+  pub cuts_next : (opened : Opened) (level : ℕ) (locals : Locals) (taken : Taken) (s : Stmt) → StmtFine fs lists tables size Nowhere level locals taken s → CutsOpen opened locals taken → CutsOpen opened (locals_after locals s) (held_after fs level s taken)
   cuts_next opened level locals taken s fine h =
       let n = arrays_next locals s in
-      cuts_kept opened locals (locals_after locals s) n.0 taken (taken_after fs level s taken) n.1 (λ q k. stmt_keeps level locals taken s q fine k) h
+      cuts_kept opened locals (locals_after locals s) n.0 taken (held_after fs level s taken) n.1 (λ q k. stmt_keeps level locals taken s q fine k) h
 
 -- where more is taken
 pub cuts_more : (opened : Opened) (level : ℕ) (locals : Locals) (taken more : Taken) → CutsOpen opened locals taken → CutsOpen opened locals (taken ++ more)

@@ -2,18 +2,17 @@
 use Rattle.std.proofs.Common.{◌≡◌, ℕ, ◌+◌, ◌-◌, ◌≤◌, List, [], ◌∷◌, ◌++◌, length, Bool, false, refl, sym, ap, ◌∙◌, arith, append_assoc, length-append}
 use Rattle.std.specs.Prelude.{slice_set}
 use Rattle.std.proofs.Math.Seq.{set-append_seam}
-use Rattle.cw_model.specs.Syntax.{Block, End, Then}
-use Rattle.cw_model.specs.Typing.{surely_returns, block_returns}
+use Rattle.cw_loops.specs.Slotted.{Block, End, Then}
 use Rattle.cw_code.specs.declared.code.Instr.{Instr}
 use Rattle.cw_code.specs.declared.code.Instr.TheVariants as instr
-use Rattle.cw_gen.specs.Emit.{distance, emitted_over, past, emitted_branches, emitted_turn}
+use Rattle.cw_gen.specs.Emit.{stmt_returns, returns, distance, emitted_over, past, emitted_branches, emitted_turn}
 
 -- whether a block surely returns, where what came before it did or did not
 abbrev pub returns_after : Bool → Block → Bool
-returns_after returns End = returns
-returns_after returns (Then line s b) = returns_after (surely_returns s) b
+returns_after before End = before
+returns_after before (Then line s b) = returns_after (stmt_returns s) b
 
-pub block_returns_after : (b : Block) → returns_after false b ≡ block_returns b
+pub block_returns_after : (b : Block) → returns_after false b ≡ returns b
 block_returns_after End = refl
 block_returns_after (Then line s End) = refl
 block_returns_after (Then line s (Then line' s' b)) = block_returns_after (Then line' s' b)
@@ -33,10 +32,10 @@ over_filled old body all i n is at =
     ∙ filled old body i (instr.SkipIfZero (distance (length body)))
 
 -- two branches
-pub branches_filled : (old one other first all : List Instr) (returns : Bool) (i : Instr) (k n m : ℕ) → first ≡ ((old ++ i ∷ []) ++ one) ++ instr.Skip k ∷ [] → n ≡ distance (length first - length old - 1) →
-    all ≡ slice_set first (length old) (instr.SkipIfZero n) ++ other → m ≡ past returns (length all - length ((old ++ i ∷ []) ++ one) - 1) →
-    slice_set all (length ((old ++ i ∷ []) ++ one)) (instr.Skip m) ≡ old ++ emitted_branches returns one other
-branches_filled old one other first all returns i k n m is at whole at' =
+pub branches_filled : (old one other first all : List Instr) (does : Bool) (i : Instr) (k n m : ℕ) → first ≡ ((old ++ i ∷ []) ++ one) ++ instr.Skip k ∷ [] → n ≡ distance (length first - length old - 1) →
+    all ≡ slice_set first (length old) (instr.SkipIfZero n) ++ other → m ≡ past does (length all - length ((old ++ i ∷ []) ++ one) - 1) →
+    slice_set all (length ((old ++ i ∷ []) ++ one)) (instr.Skip m) ≡ old ++ emitted_branches does one other
+branches_filled old one other first all does i k n m is at whole at' =
     let jump = instr.Skip k in
     let test = instr.SkipIfZero (distance (length (one ++ jump ∷ []))) in
     let place = length ((old ++ i ∷ []) ++ one) in
@@ -45,14 +44,14 @@ branches_filled old one other first all returns i k n m is at whole at' =
     let lands : slice_set first (length old) (instr.SkipIfZero n) ≡ old ++ emitted_over (one ++ jump ∷ []) = over_filled old (one ++ jump ∷ []) first i n (is ∙ append_assoc (old ++ i ∷ []) one (jump ∷ [])) at in
     let all_is : all ≡ (front ++ jump ∷ []) ++ other = whole ∙ ap (λ l. l ++ other) (lands ∙ sym (append_assoc old (test ∷ one) (jump ∷ []))) in
     let left : length all - place - 1 ≡ length other = omega (arith, ap length all_is, length-append (front ++ jump ∷ []) other, length-append front (jump ∷ []), n_front) in
-    let same_length : length (one ++ jump ∷ []) ≡ length (one ++ instr.Skip (past returns (length other)) ∷ []) = omega (arith, length-append one (jump ∷ []), length-append one (instr.Skip (past returns (length other)) ∷ [])) in
-    ap (λ q. slice_set all place (instr.Skip q)) (at' ∙ ap (past returns) left)
-    ∙ ap (λ l. slice_set l place (instr.Skip (past returns (length other)))) all_is
-    ∙ ap (λ p. slice_set ((front ++ jump ∷ []) ++ other) p (instr.Skip (past returns (length other)))) n_front
-    ∙ filled front other jump (instr.Skip (past returns (length other)))
-    ∙ append_assoc old (test ∷ one) (instr.Skip (past returns (length other)) ∷ other)
-    ∙ ap (λ q. old ++ instr.SkipIfZero (distance q) ∷ (one ++ instr.Skip (past returns (length other)) ∷ other)) same_length
-    ∙ ap (λ l. old ++ instr.SkipIfZero (distance (length (one ++ instr.Skip (past returns (length other)) ∷ []))) ∷ l) (sym (append_assoc one (instr.Skip (past returns (length other)) ∷ []) other))
+    let same_length : length (one ++ jump ∷ []) ≡ length (one ++ instr.Skip (past does (length other)) ∷ []) = omega (arith, length-append one (jump ∷ []), length-append one (instr.Skip (past does (length other)) ∷ [])) in
+    ap (λ q. slice_set all place (instr.Skip q)) (at' ∙ ap (past does) left)
+    ∙ ap (λ l. slice_set l place (instr.Skip (past does (length other)))) all_is
+    ∙ ap (λ p. slice_set ((front ++ jump ∷ []) ++ other) p (instr.Skip (past does (length other)))) n_front
+    ∙ filled front other jump (instr.Skip (past does (length other)))
+    ∙ append_assoc old (test ∷ one) (instr.Skip (past does (length other)) ∷ other)
+    ∙ ap (λ q. old ++ instr.SkipIfZero (distance q) ∷ (one ++ instr.Skip (past does (length other)) ∷ other)) same_length
+    ∙ ap (λ l. old ++ instr.SkipIfZero (distance (length (one ++ instr.Skip (past does (length other)) ∷ []))) ∷ l) (sym (append_assoc one (instr.Skip (past does (length other)) ∷ []) other))
 
 -- a turn
 pub turn_filled : (old body mid all : List Instr) (start : ℕ) (i : Instr) (n m : ℕ) → start ≤ length old → mid ≡ (old ++ i ∷ []) ++ body → n ≡ distance (length mid - start) → all ≡ mid ++ instr.GoBack n ∷ [] → m ≡ distance (length all - length old - 1) →
@@ -63,10 +62,10 @@ turn_filled old body mid all start i n m le is at whole at' =
     over_filled old (body ++ jump ∷ []) all i m (whole ∙ ap (λ k. mid ++ instr.GoBack k ∷ []) (at ∙ ap distance back) ∙ ap (λ l. l ++ jump ∷ []) is ∙ append_assoc (old ++ i ∷ []) body (jump ∷ [])) at'
 
 -- the code of both branches, from what each step of the emission leaves
-pub if_else_emitted : (start test_code h0 h1 b1 first landed all new one other : List Instr) (test end : ℕ) (returns found : Bool) → h0 ≡ start ++ test_code → h1 ≡ h0 ++ instr.Skip 0 ∷ [] → test ≡ length h0 → b1 ≡ h1 ++ one → found ≡ returns →
+pub if_else_emitted : (start test_code h0 h1 b1 first landed all new one other : List Instr) (test end : ℕ) (does found : Bool) → h0 ≡ start ++ test_code → h1 ≡ h0 ++ instr.Skip 0 ∷ [] → test ≡ length h0 → b1 ≡ h1 ++ one → found ≡ does →
     first ≡ b1 ++ instr.Skip 0 ∷ [] → end ≡ length b1 → landed ≡ slice_set first test (instr.SkipIfZero (distance (length first - test - 1))) → all ≡ landed ++ other → new ≡ slice_set all end (instr.Skip (past found (length all - end - 1))) →
-    new ≡ start ++ (test_code ++ emitted_branches returns one other)
-if_else_emitted start test_code h0 h1 b1 first landed all new one other test end returns found eh0 eh1 etest eb1 er efirst eend elanded eall enew =
+    new ≡ start ++ (test_code ++ emitted_branches does one other)
+if_else_emitted start test_code h0 h1 b1 first landed all new one other test end does found eh0 eh1 etest eb1 er efirst eend elanded eall enew =
     let i = instr.Skip 0 in
     let b1_is : b1 ≡ (h0 ++ i ∷ []) ++ one = eb1 ∙ ap (λ l. l ++ one) eh1 in
     let first_is : first ≡ ((h0 ++ i ∷ []) ++ one) ++ i ∷ [] = efirst ∙ ap (λ l. l ++ i ∷ []) b1_is in
@@ -75,9 +74,9 @@ if_else_emitted start test_code h0 h1 b1 first landed all new one other test end
     enew
     ∙ ap (λ p. slice_set all p (instr.Skip (past found (length all - p - 1)))) (eend ∙ ap length b1_is)
     ∙ ap (λ q. slice_set all place (instr.Skip (past q (length all - place - 1)))) er
-    ∙ branches_filled h0 one other first all returns i 0 (distance (length first - length h0 - 1)) (past returns (length all - place - 1)) first_is refl all_is refl
-    ∙ ap (λ l. l ++ emitted_branches returns one other) eh0
-    ∙ append_assoc start test_code (emitted_branches returns one other)
+    ∙ branches_filled h0 one other first all does i 0 (distance (length first - length h0 - 1)) (past does (length all - place - 1)) first_is refl all_is refl
+    ∙ ap (λ l. l ++ emitted_branches does one other) eh0
+    ∙ append_assoc start test_code (emitted_branches does one other)
 
 -- the code of a loop
 pub while_emitted : (start test_code h0 new body : List Instr) (from : ℕ) → from ≡ length start → h0 ≡ start ++ test_code → new ≡ h0 ++ emitted_turn (length h0 - from) body → new ≡ start ++ (test_code ++ emitted_turn (length test_code) body)

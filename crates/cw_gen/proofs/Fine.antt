@@ -1,12 +1,17 @@
--- Programs that the rules accept and the generator takes, as the laws read them.
-use Rattle.std.specs.Prelude.{◌≡◌, ◌++◌, suc, map, not, ℕ, ◌+◌, if◌then◌else◌, ◌<◌, ◌≤◌, Bool, true, false, List, [], ◌∷◌, length, Option, Some, None, slice_get}
-use Rattle.cw_model.specs.Syntax.{Name, Expr, Number, Variable, Element, Length, Negative, Not, Binary, Stmt, Declare, DeclareArray, Assign, AssignElement, AddTo, Call, Sync, If, IfElse, While, Scope, Cut, Region, Print, Return, Block, End, Then, Param, Function, Program}
+-- Lowered programs whose code does what they do, as the laws read them.
+use Rattle.std.specs.Prelude.{◌≡◌, ◌++◌, suc, map, not, ℕ, ◌+◌, if◌then◌else◌, ◌-◌, ◌<◌, ◌≤◌, Bool, true, false, List, [], ◌∷◌, length, Option, Some, None, slice_get}
+use Rattle.cw_model.specs.Syntax.{Name, Expr, Number, Variable, Element, Length, Negative, Not, Binary, Stmt, Declare, DeclareArray, Assign, AssignElement, AddTo, Call, Start, Begin, Sync, If, IfElse, While, Scope, Cut, Region, Print, Return, Block, End, Then, Param, Function, Program}
 use Rattle.cw_model.specs.Names.{same_name, is_among, differ}
 use Rattle.cw_model.specs.Meaning.{function_of}
 use Rattle.cw_model.specs.Typing.{Returns, Nowhere, WithInt, Alone, block_returns}
-use Rattle.cw_model.specs.Ownership.{Taken, CutOf, is_taken, given, taken_after, taken_after_all, own_names, Closing, Joins, Leaves, at_end}
-use Rattle.cw_types.specs.Resolved.{Lists, Locals, slot_of, with_array, locals_after, locals_of, lists_of, resolved_argument, resolved_function}
-use Rattle.cw_gen.specs.Emit.{passed_in}
+use Rattle.cw_model.specs.Ownership.{Taken, CutOf, is_taken, given, own_names, Closing, Joins, Leaves, at_end}
+use Rattle.cw_types.specs.Resolved.{Lists, Locals, slot_of, with_array, locals_after, locals_of}
+use Rattle.cw_loops.specs.Slotted.{slotted_argument, slotted_block}
+use Rattle.cw_model.specs.declared.syntax.CallKind.{CallKind}
+use Rattle.cw_model.specs.Sites.{Of}
+use Rattle.cw_code.specs.Code.{CodeSite}
+use Rattle.cw_gen.specs.Emit.{Tables, first_list, whole_list, half_list, passed_in, ints_in_block, arrays_in_block}
+use Rattle.cw_gen.proofs.Held.{held_after, held_after_all, has_no_half_in}
 use Rattle.cw_model.specs.Answers.{main_name}
 use Rattle.std.specs.List.{list_all}
 use Rattle.cw_code.specs.Fits.{are_apart}
@@ -65,7 +70,7 @@ IsListed names x = slice_get names (slot_of x names) ≡ Some x
 
 -- as a block ends, none of these names is taken
 abbrev pub FreeAtEnd : List Function → (depth : ℕ) → Closing → Taken → List Name → Block → Type 0
-FreeAtEnd fs depth closing taken own b = (x : Name) → is_among x own ≡ true → is_taken (at_end closing depth (taken_after_all fs depth b taken)) x ≡ false
+FreeAtEnd fs depth closing taken own b = (x : Name) → is_among x own ≡ true → is_taken (at_end closing depth (held_after_all fs depth b taken)) x ≡ false
 
 -- as a block ends, none of its names is taken
 abbrev pub EndsFree : List Function → (depth : ℕ) → Closing → Taken → Block → Type 0
@@ -86,6 +91,32 @@ pub record Begins (given names : List Name) : Type 0 where
 abbrev pub IsPassed : List (List ℕ) → (site : ℕ) → List ℕ → Type 0
 IsPassed passed site slots = slice_get passed site ≡ Some slots
 
+-- the call site of this number is there, of this kind and of this function
+pub record HasSite (sites : List CodeSite) (kind : CallKind) (number function : ℕ) : Type 0 where
+  pub site : CodeSite
+  pub positive : 0 < number
+  pub there : slice_get sites (number - 1) ≡ Some site
+  pub numbered : site.told.number ≡ number
+  pub of_kind : site.told.kind ≡ Of kind
+  pub calls : site.function ≡ function
+
+-- each of these names is known, and not taken
+abbrev pub AllUsable : List Name → Taken → List Name → Type 0
+AllUsable names taken [] = Unit {0}
+AllUsable names taken (x ∷ xs) = IsUsable names taken x × AllUsable names taken xs
+
+-- integers come before arrays among parameters
+abbrev pub ints_first : List Param → Bool
+ints_first [] = true
+ints_first (p ∷ ps) = if p.is_array then list_all (λ q. q.is_array) ps else ints_first ps
+
+-- the function of a loop takes the two ends of a range, then so many integers, and these arrays, by their names
+pub record TakesRange (f : Function) (captured over : List Name) : Type 0 where
+  pub ints : length (locals_of f.params).ints ≡ suc (suc (length captured))
+  pub arrays : (locals_of f.params).arrays ≡ over
+  pub gives : f.gives_int ≡ false
+  pub order : ints_first f.params ≡ true
+
 -- the parts of a cut are new names, and there is a slot for each
 pub record PartsFine (room : Room) (locals : Locals) (l r : Name) : Type 0 where
   pub left : is_among l locals.arrays ≡ false
@@ -95,77 +126,97 @@ pub record PartsFine (room : Room) (locals : Locals) (l r : Name) : Type 0 where
 
 abbrev mutual
   -- a statement in so many sync blocks, with these names known and these taken, in a call of so much room
-  pub StmtFine : List Function → Lists → (passed : List (List ℕ)) → Room → Returns → (depth : ℕ) → Locals → Taken → Stmt → Type 0
-  StmtFine fs lists passed room returns depth locals taken (Declare x e) = (length locals.ints < room.ints) × ExprFine locals taken e
-  StmtFine fs lists passed room returns depth locals taken (DeclareArray a e) =
+  pub StmtFine : List Function → Lists → (tables : Tables) → Room → Returns → (depth : ℕ) → Locals → Taken → Stmt → Type 0
+  StmtFine fs lists tables room returns depth locals taken (Declare x e) = (length locals.ints < room.ints) × ExprFine locals taken e
+  StmtFine fs lists tables room returns depth locals taken (DeclareArray a e) =
       (length locals.arrays < room.arrays) × ExprFine locals taken e × Begins room.given locals.arrays
-  StmtFine fs lists passed room returns depth locals taken (AssignElement a i e) =
+  StmtFine fs lists tables room returns depth locals taken (AssignElement a i e) =
       IsUsable locals.arrays taken a × ExprFine locals taken i × ExprFine locals taken e
-  StmtFine fs lists passed room returns depth locals taken (Assign x e) = IsUsable locals.ints taken x × ExprFine locals taken e
-  StmtFine fs lists passed room returns depth locals taken (AddTo s e) = IsListed lists.reducers s × ExprFine locals taken e
-  StmtFine fs lists passed room returns depth locals taken (Call kind site target f es) =
+  StmtFine fs lists tables room returns depth locals taken (Assign x e) = IsUsable locals.ints taken x × ExprFine locals taken e
+  StmtFine fs lists tables room returns depth locals taken (AddTo s e) = IsListed lists.reducers s × ExprFine locals taken e
+  StmtFine fs lists tables room returns depth locals taken (Call kind site target f es) =
       (is_function f fs ≡ true)
       × TargetFine locals taken (function_of f fs) target
       × ArgsFine locals taken (function_of f fs).params es
       × (differ (given fs f es) ≡ true)
-      × IsPassed passed site (passed_in (map (resolved_argument locals) es))
-  StmtFine fs lists passed room returns depth locals taken Sync = Unit {0}
-  StmtFine fs lists passed room returns depth locals taken (If e b) =
-      ExprFine locals taken e × BlockFine fs lists passed room returns depth locals taken b × EndsFree fs depth Leaves taken b
-  StmtFine fs lists passed room returns depth locals taken (IfElse e b c) =
+      × IsPassed tables.passed site (passed_in (map (slotted_argument locals) es))
+      × HasSite tables.sites kind site (slot_of f lists.functions)
+  StmtFine fs lists tables room returns depth locals taken (Start kind f es) =
+      (is_function f fs ≡ true)
+      × ((function_of f fs).gives_int ≡ false)
+      × ArgsFine locals taken (function_of f fs).params es
+      × (differ (given fs f es) ≡ true)
+      × IsPassed tables.passed (half_list (first_list tables.sites) kind (slot_of f lists.functions)) (passed_in (map (slotted_argument locals) es))
+  StmtFine fs lists tables room returns depth locals taken (Begin f from to captured over) =
+      (is_function f fs ≡ true)
+      × TakesRange (function_of f fs) captured over
+      × ExprFine locals taken from
+      × ExprFine locals taken to
+      × AllUsable locals.ints taken captured
+      × AllUsable locals.arrays taken over
+      × (differ over ≡ true)
+      × IsPassed tables.passed (whole_list (first_list tables.sites) (slot_of f lists.functions)) (map (λ a. slot_of a locals.arrays) over)
+  StmtFine fs lists tables room returns depth locals taken Sync = Unit {0}
+  StmtFine fs lists tables room returns depth locals taken (If e b) =
+      ExprFine locals taken e × BlockFine fs lists tables room returns depth locals taken b × EndsFree fs depth Leaves taken b
+  StmtFine fs lists tables room returns depth locals taken (IfElse e b c) =
       ExprFine locals taken e
-      × (BlockFine fs lists passed room returns depth locals taken b × EndsFree fs depth Leaves taken b)
-      × (BlockFine fs lists passed room returns depth locals taken c × EndsFree fs depth Leaves taken c)
-  StmtFine fs lists passed room returns depth locals taken (While e b) =
-      let all = taken_after fs depth (While e b) taken in
-      ExprFine locals all e × BlockFine fs lists passed room returns depth locals all b × EndsFree fs depth Leaves all b
-  StmtFine fs lists passed room returns depth locals taken (Scope b) =
-      BlockFine fs lists passed room Nowhere (depth + 1) locals taken b × EndsFree fs (depth + 1) Joins taken b
-  StmtFine fs lists passed room returns depth locals taken (Cut a e l r b) =
+      × (BlockFine fs lists tables room returns depth locals taken b × EndsFree fs depth Leaves taken b)
+      × (BlockFine fs lists tables room returns depth locals taken c × EndsFree fs depth Leaves taken c)
+  StmtFine fs lists tables room returns depth locals taken (While e b) =
+      let all = held_after fs depth (While e b) taken in
+      ExprFine locals all e × BlockFine fs lists tables room returns depth locals all b × EndsFree fs depth Leaves all b × (has_no_half_in b ≡ true)
+  StmtFine fs lists tables room returns depth locals taken (Scope b) =
+      BlockFine fs lists tables room Nowhere (depth + 1) locals taken b × EndsFree fs (depth + 1) Joins taken b
+  StmtFine fs lists tables room returns depth locals taken (Cut a e l r b) =
       let inner = (a, CutOf) ∷ taken in
       IsUsable locals.arrays taken a
       × ExprFine locals taken e
       × PartsFine room locals l r
-      × BlockFine fs lists passed room Nowhere (depth + 1) (with_array r (with_array l locals)) inner b
+      × BlockFine fs lists tables room Nowhere (depth + 1) (with_array r (with_array l locals)) inner b
       × FreeAtEnd fs (depth + 1) Joins inner (l ∷ r ∷ own_names b) b
-  StmtFine fs lists passed room returns depth locals taken (Region tag b) =
-      IsListed lists.tags tag × BlockFine fs lists passed room Nowhere (depth + 1) locals taken b × EndsFree fs (depth + 1) Joins taken b
-  StmtFine fs lists passed room returns depth locals taken (Print e) = ExprFine locals taken e
-  StmtFine fs lists passed room returns depth locals taken (Return e) = ReturnFine returns locals taken e × Begins room.given locals.arrays
-  StmtFine fs lists passed room returns depth locals taken _ = ⊥
+  StmtFine fs lists tables room returns depth locals taken (Region tag b) =
+      IsListed lists.tags tag × BlockFine fs lists tables room Nowhere (depth + 1) locals taken b × EndsFree fs (depth + 1) Joins taken b
+  StmtFine fs lists tables room returns depth locals taken (Print e) = ExprFine locals taken e
+  StmtFine fs lists tables room returns depth locals taken (Return e) = ReturnFine returns locals taken e × Begins room.given locals.arrays
+  StmtFine fs lists tables room returns depth locals taken _ = ⊥
 
   -- the statements of a block
-  pub BlockFine : List Function → Lists → (passed : List (List ℕ)) → Room → Returns → (depth : ℕ) → Locals → Taken → Block → Type 0
-  BlockFine fs lists passed room returns depth locals taken End = Unit {0}
-  BlockFine fs lists passed room returns depth locals taken (Then line s b) =
-      StmtFine fs lists passed room returns depth locals taken s
-      × BlockFine fs lists passed room returns depth (locals_after locals s) (taken_after fs depth s taken) b
+  pub BlockFine : List Function → Lists → (tables : Tables) → Room → Returns → (depth : ℕ) → Locals → Taken → Block → Type 0
+  BlockFine fs lists tables room returns depth locals taken End = Unit {0}
+  BlockFine fs lists tables room returns depth locals taken (Then line s b) =
+      StmtFine fs lists tables room returns depth locals taken s
+      × BlockFine fs lists tables room returns depth (locals_after locals s) (held_after fs depth s taken) b
 
--- the room of a call of a function
+-- the slots of a call of a function: those of its parameters, and those of what its text declares
 abbrev pub room_of : Lists → Function → Room
-room_of lists f = record {
-  ints = (resolved_function lists f).ints;
-  arrays = (resolved_function lists f).arrays;
-  given = (locals_of f.params).arrays;
-}
+room_of lists f =
+    let locals = locals_of f.params in
+    let body = slotted_block lists locals f.body in
+    record {
+      ints = ints_in_block (length locals.ints) body;
+      arrays = arrays_in_block (length locals.arrays) body;
+      given = locals.arrays;
+    }
 
 -- a function
-pub record FunctionFine (fs : List Function) (lists : Lists) (passed : List (List ℕ)) (f : Function) : Type 0 where
+pub record FunctionFine (fs : List Function) (lists : Lists) (tables : Tables) (f : Function) : Type 0 where
   pub apart : differ (map (λ p. p.name) f.params) ≡ true
-  pub room : length (locals_of f.params).ints ≤ (resolved_function lists f).ints
-  pub array_room : length (locals_of f.params).arrays ≤ (resolved_function lists f).arrays
-  pub body : BlockFine fs lists passed (room_of lists f) (if f.gives_int then WithInt else Alone) 1 (locals_of f.params) [] f.body
+  pub room : length (locals_of f.params).ints ≤ (room_of lists f).ints
+  pub array_room : length (locals_of f.params).arrays ≤ (room_of lists f).arrays
+  pub body : BlockFine fs lists tables (room_of lists f) (if f.gives_int then WithInt else Alone) 1 (locals_of f.params) [] f.body
   pub returns : f.gives_int ≡ true → block_returns f.body ≡ true
 
 -- functions in a row
-abbrev pub FunctionsFine : List Function → Lists → List (List ℕ) → List Function → Type 0
-FunctionsFine all lists passed [] = Unit {0}
-FunctionsFine all lists passed (f ∷ fs) = FunctionFine all lists passed f × FunctionsFine all lists passed fs
+abbrev pub FunctionsFine : List Function → Lists → Tables → List Function → Type 0
+FunctionsFine all lists tables [] = Unit {0}
+FunctionsFine all lists tables (f ∷ fs) = FunctionFine all lists tables f × FunctionsFine all lists tables fs
 
--- a program, and the lists of array slots that its calls pass
-pub record ProgramFine (program : Program) (passed : List (List ℕ)) : Type 0 where
-  pub functions : FunctionsFine program.functions (lists_of program) passed program.functions
+-- a lowered program, the names that it lists, and what its calls rely on
+pub record ProgramFine (program : Program) (lists : Lists) (tables : Tables) : Type 0 where
+  pub functions : FunctionsFine program.functions lists tables program.functions
+  pub names : lists.functions ≡ map (λ f. f.name) program.functions
   pub main : is_function main_name program.functions ≡ true
   pub gives : (function_of main_name program.functions).gives_int ≡ true
   pub ints : list_all (λ p. not p.is_array) (function_of main_name program.functions).params ≡ true
-  pub reducers : are_apart (map (λ r. r.name) program.reducers) ≡ true
+  pub reducers : are_apart lists.reducers ≡ true

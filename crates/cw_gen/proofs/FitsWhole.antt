@@ -1,35 +1,32 @@
 -- The code of each function fits, and the functions lie one after another.
 use Rattle.std.proofs.Common.{◌≡◌, ℕ, zero, suc, ◌+◌, ◌-◌, ◌<◌, ◌≤◌, List, [], ◌∷◌, ◌++◌, length, Bool, true, false, not, if◌then◌else◌, Option, Some, None, refl, sym, ap, ◌∙◌, subst, arith, append_assoc, length-append, true≢false}
-use Rattle.std.specs.Prelude.{slice_get, map, flat_map, nat_eq, replicate}
+use Rattle.std.specs.Prelude.{slice_get, map, replicate}
 use Rattle.std.proofs.Math.Seq.{get_or-append_seam}
-use Rattle.std.proofs.lemmas.Bool.Decides.{nat_tests}
-use Rattle.std.proofs.lemmas.List.{append-nil, length-replicate, map-append}
+use Rattle.std.proofs.lemmas.List.{append-nil, length-replicate}
 use Rattle.std.proofs.lemmas.Option.{slice_get-get_or, slice_get_within}
-use Rattle.cw_model.specs.Syntax.{Stmt, Declare, DeclareArray, Assign, AssignElement, AddTo, Call, Sync, If, IfElse, While, Scope, Cut, Region, Print, Return, Block, End, Then, Function, Program}
-use Rattle.cw_model.specs.Sites.{sites_in, sites_in_block, call_sites}
+use Rattle.cw_model.specs.Syntax.{Function, Program}
 use Rattle.cw_model.specs.Answers.{main_name}
-use Rattle.cw_model.specs.Typing.{Returns, Nowhere, WithInt, Alone, block_returns}
-use Rattle.cw_model.specs.Ownership.{CutOf, Taken, taken_after}
+use Rattle.cw_model.specs.Typing.{WithInt, Alone, block_returns}
 use Rattle.cw_model.specs.Meaning.{function_of}
-use Rattle.cw_gen.proofs.Tags.{tags_are_apart}
-use Rattle.cw_gen.proofs.Codes.{main_locals}
-use Rattle.cw_types.specs.Resolved.{Lists, Locals, with_array, locals_after, locals_of, lists_of, resolved_stmt, resolved_block, resolved_function}
+use Rattle.cw_types.specs.Resolved.{Lists, Locals, locals_of}
+use Rattle.cw_loops.specs.Lowered.{lowered}
+use Rattle.cw_loops.specs.Slotted.{slotted_function, lowered_lists}
 use Rattle.cw_code.specs.declared.code.Func.{Func}
 use Rattle.cw_code.specs.declared.code.Instr.{Instr}
-use Rattle.cw_code.specs.Code.{CodeSite, Code, told_sites}
-use Rattle.cw_code.specs.Fits.{gives_value, array_params_of, names_well, Shape, first_shape, Leads, FitsFunc, LieFrom, Fits}
-use Rattle.cw_gen.specs.Emit.{most_jump, emitted_end, emitted_func, emitted_instrs, emitted_funcs, emitted_sites, emitted_sites_in, emitted_sites_of}
-use Rattle.cw_model.specs.Sites.{are_numbered}
-use Rattle.cw_gen.proofs.Decided.{first_true, second_true}
-use Rattle.cw_gen.proofs.Fine.{Room, room_of, StmtFine, BlockFine, FunctionFine, FunctionsFine, ProgramFine}
-use Rattle.cw_gen.proofs.Laws as laws
-use Rattle.cw_gen.proofs.Laws.{block_code, function_code}
+use Rattle.cw_code.specs.Code.{Code}
+use Rattle.cw_code.specs.Fits.{gives_value, array_params_of, are_apart, names_well, Shape, first_shape, Leads, FitsFunc, LieFrom, Fits}
+use Rattle.cw_gen.specs.Emit.{Tables, first_list, most_jump, emitted_end, emitted_func, emitted_instrs, emitted_funcs}
+use Rattle.cw_gen.proofs.Codes.{main_locals}
+use Rattle.cw_gen.proofs.Entries.{ints_of, arrays_of, params_counted, as_counted, main_slot}
+use Rattle.cw_gen.proofs.Fine.{Room, room_of, is_function, BlockFine, FunctionFine, FunctionsFine, ProgramFine}
+use Rattle.cw_gen.proofs.Texts as texts
+use Rattle.cw_gen.proofs.Texts.{block_code, function_code, tables_in, code_of, room_of_func, TurnsClose}
 use Rattle.cw_gen.proofs.Places.{HasAt, has_all, length_within}
-use Rattle.cw_gen.proofs.Program.{code_of, TurnsClose, table_of}
 use Rattle.cw_gen.proofs.Rows.{row, length-row, covers_none}
 use Rattle.cw_gen.proofs.Shapes.{Shapes, shape_at, reached, end_shape, block_shapes, block_as_many}
-use Rattle.cw_gen.proofs.Fitting as fitting
-use Rattle.cw_gen.proofs.Fitting.{StandsAt, stands_front, stands_back, SitesAt, sites_front, sites_back, flat, exact, takes_less, block_enters, block_fits}
+use Rattle.cw_gen.proofs.Settings.{Setting, StandsAt, stands_front, stands_back, flat, table_of, exact, takes_less, Returning, FitsAt, AllFit, both_fit}
+use Rattle.cw_gen.proofs.FittingFirsts.{block_enters}
+use Rattle.cw_gen.proofs.Fitting.{block_fits}
 
 -- a list stands in a longer one behind what comes before it
 stands_all : (before now later : Shapes) → StandsAt (before ++ (now ++ later)) (length before) now
@@ -41,66 +38,6 @@ stands_all before (s ∷ now) later =
     let rest = subst (λ l. StandsAt l (length (before ++ s ∷ [])) now) (append_assoc before (s ∷ []) (now ++ later)) (stands_all (before ++ s ∷ []) now later) in
     (at, subst (λ m. StandsAt (before ++ s ∷ (now ++ later)) m now) n rest)
 
-is_equal : (a b : ℕ) → nat_eq a b ≡ true → a ≡ b
-is_equal a b h = grind (arith, nat_tests)
-
--- numbered sites stand at their numbers
-sites_all : (before now : List CodeSite) → are_numbered (length before) (map (λ s. s.told) now) ≡ true → SitesAt (before ++ now) (length before) now
-sites_all before [] h = tt
-sites_all before (s ∷ now) h =
-    let within : length before < length (before ++ s ∷ now) = omega (arith, length-append before (s ∷ now)) in
-    let at = slice_get-get_or (before ++ s ∷ now) (length before) s within ∙ ap Some (get_or-append_seam before s now s) in
-    let n : length (before ++ s ∷ []) ≡ length before + 1 = omega (arith, length-append before (s ∷ [])) in
-    let next : suc (length before) ≡ length (before ++ s ∷ []) = omega (arith, n) in
-    let here = nat_eq s.told.number (suc (length before)) in
-    let there = are_numbered (suc (length before)) (map (λ q. q.told) now) in
-    let more : are_numbered (length (before ++ s ∷ [])) (map (λ q. q.told) now) ≡ true = subst (λ m. are_numbered m (map (λ q. q.told) now) ≡ true) next (second_true here there h) in
-    let rest = subst (λ l. SitesAt l (length (before ++ s ∷ [])) now) (append_assoc before (s ∷ []) now) (sites_all (before ++ s ∷ []) now more) in
-    (at, is_equal s.told.number (suc (length before)) (first_true here there h), subst (λ m. SitesAt (before ++ s ∷ now) m now) n rest)
-
--- the sites of the code are those of the program
-module _ (fs : List Function) (lists : Lists) (passed : List (List ℕ)) (size : Room) where
-  mutual
-    told_stmt : (returns : Returns) (level : ℕ) (locals : Locals) (taken : Taken) (line : ℕ) (s : Stmt) → StmtFine fs lists passed size returns level locals taken s → map (λ q. q.told) (emitted_sites line (resolved_stmt lists locals s)) ≡ sites_in line s
-    told_stmt returns level locals taken line (Declare x e) fine = refl
-    told_stmt returns level locals taken line (DeclareArray x e) fine = refl
-    told_stmt returns level locals taken line (AssignElement x i e) fine = refl
-    told_stmt returns level locals taken line (Assign x e) fine = refl
-    told_stmt returns level locals taken line (AddTo s e) fine = refl
-    told_stmt returns level locals taken line (Print e) fine = refl
-    told_stmt returns level locals taken line (Call kind site target f es) fine = refl
-    told_stmt returns level locals taken line Sync fine = refl
-    told_stmt returns level locals taken line (If e b) fine = told_block returns level locals taken b fine.1
-    told_stmt returns level locals taken line (IfElse e b c) fine =
-        map-append (λ q. q.told) (emitted_sites_in (resolved_block lists locals b)) (emitted_sites_in (resolved_block lists locals c))
-        ∙ ap (λ l. l ++ map (λ q. q.told) (emitted_sites_in (resolved_block lists locals c))) (told_block returns level locals taken b fine.1.0)
-        ∙ ap (λ l. sites_in_block b ++ l) (told_block returns level locals taken c fine.2.0)
-    told_stmt returns level locals taken line (While e b) fine = told_block returns level locals (taken_after fs level (While e b) taken) b fine.1
-    told_stmt returns level locals taken line (Scope b) fine = told_block Nowhere (level + 1) locals taken b fine.0
-    told_stmt returns level locals taken line (Cut a e l r b) fine = told_block Nowhere (level + 1) (with_array r (with_array l locals)) ((a, CutOf) ∷ taken) b fine.3
-    told_stmt returns level locals taken line (Region tag b) fine = told_block Nowhere (level + 1) locals taken b fine.1
-    told_stmt returns level locals taken line (Return e) fine = refl
-    told_stmt returns level locals taken line _ fine = absurd fine
-
-    told_block : (returns : Returns) (level : ℕ) (locals : Locals) (taken : Taken) (b : Block) → BlockFine fs lists passed size returns level locals taken b → map (λ q. q.told) (emitted_sites_in (resolved_block lists locals b)) ≡ sites_in_block b
-    told_block returns level locals taken End fine = refl
-    told_block returns level locals taken (Then line s b) fine =
-        map-append (λ q. q.told) (emitted_sites line (resolved_stmt lists locals s)) (emitted_sites_in (resolved_block lists (locals_after locals s) b))
-        ∙ ap (λ l. l ++ map (λ q. q.told) (emitted_sites_in (resolved_block lists (locals_after locals s) b))) (told_stmt returns level locals taken line s fine.0)
-        ∙ ap (λ l. sites_in line s ++ l) (told_block returns level (locals_after locals s) (taken_after fs level s taken) b fine.1)
-
-told_of : (all : List Function) (lists : Lists) (passed : List (List ℕ)) (gs : List Function) → FunctionsFine all lists passed gs → map (λ q. q.told) (emitted_sites_of (map (resolved_function lists) gs)) ≡ flat_map (λ f. sites_in_block f.body) gs
-told_of all lists passed [] fine = refl
-told_of all lists passed (g ∷ gs) fine =
-    let here = emitted_sites_in (resolved_block lists (locals_of g.params) g.body) in
-    let there = emitted_sites_of (map (resolved_function lists) gs) in
-    map-append (λ q. q.told) here there
-    ∙ ap (λ l. l ++ map (λ q. q.told) there) (told_block all lists passed (room_of lists g) (if g.gives_int then WithInt else Alone) 1 (locals_of g.params) [] g.body fine.0.body)
-    ∙ ap (λ l. sites_in_block g.body ++ l) (told_of all lists passed gs fine.1)
-
-pub same_sites : (program : Program) → ProgramFine program (code_of program).passed → told_sites (code_of program) ≡ call_sites program
-same_sites program fine = told_of program.functions (lists_of program) (code_of program).passed program.functions fine.functions
-
 -- nothing stands before the first place of a function
 within_shapes : (start : ℕ) (ss : Shapes) (place : ℕ) (shape : Shape) → flat (slice_get (replicate start None ++ ss) place) ≡ Some shape → (start ≤ place) × (place < start + length ss)
 within_shapes zero ss place shape h = (omega arith, there (slice_get ss place) refl h)
@@ -111,25 +48,30 @@ within_shapes zero ss place shape h = (omega arith, there (slice_get ss place) r
 within_shapes (suc start) ss zero shape h = cc
 within_shapes (suc start) ss (suc place) shape h = let more = within_shapes start ss place shape h in (omega (arith, more.0), omega (arith, more.1))
 
-module _ (code : Code) (fs : List Function) (lists : Lists) (small : length code.instrs ≤ most_jump) (functions : laws.Table code fs lists small) (reducers_are : code.reducers ≡ lists.reducers) (tags_are : code.tags ≡ lists.tags) (least : TurnsClose fs) where
+module _ (code : Code) (fs : List Function) (lists : Lists) (small : length code.instrs ≤ most_jump) (functions : texts.Table code fs lists) (reducers_are : code.reducers ≡ lists.reducers) (tags_are : code.tags ≡ lists.tags) (least : TurnsClose fs) where
+  abbrev first : ℕ
+  first = first_list code.sites
+
+  abbrev tables : Tables
+  tables = tables_in code
+
   -- what the places of a function find
-  abbrev function_shapes : Function → Shapes
-  function_shapes g =
-      let size = room_of lists g in
+  abbrev function_shapes : Room → Function → Shapes
+  function_shapes size g =
       block_shapes fs size [] (locals_of g.params) [] g.body ++ (if g.gives_int then [] else reached (block_returns g.body) (end_shape fs size [] (locals_of g.params) [] g.body) ∷ [])
 
-  module _ (g : Function) (start n : ℕ) (fine : FunctionFine fs lists code.passed g) (stands_code : HasAt code.instrs start (function_code lists g)) (sites : SitesAt code.sites n (emitted_sites_in (resolved_block lists (locals_of g.params) g.body))) where
+  module _ (g : Function) (start : ℕ) (fine : FunctionFine fs lists tables g) (stands_code : HasAt code.instrs start (function_code first lists g)) where
     abbrev f : Func
-    f = emitted_func start (resolved_function lists g)
+    f = emitted_func first start (slotted_function lists g)
 
     abbrev size : Room
-    size = room_of lists g
+    size = room_of_func g f
 
     abbrev locals : Locals
     locals = locals_of g.params
 
     abbrev body : List Instr
-    body = block_code lists locals g.body
+    body = block_code first lists locals g.body
 
     abbrev body_shapes : Shapes
     body_shapes = block_shapes fs size [] locals [] g.body
@@ -141,26 +83,49 @@ module _ (code : Code) (fs : List Function) (lists : Lists) (small : length code
     end_shapes b = if b then [] else last ∷ []
 
     abbrev shapes : Shapes
-    shapes = function_shapes g
+    shapes = function_shapes size g
 
     abbrev tab : Shapes
     tab = replicate start None ++ shapes
 
+    -- the entry has the room that its text needs
+    same_room : room_of lists g ≡ size
+    same_room = as_counted lists g first start
+
+    fine_body : BlockFine fs lists tables size (if g.gives_int then WithInt else Alone) 1 locals [] g.body
+    fine_body = subst (λ q. BlockFine fs lists tables q (if g.gives_int then WithInt else Alone) 1 locals [] g.body) same_room fine.body
+
     room : (length locals.ints ≤ size.ints) × (length locals.arrays ≤ size.arrays)
-    room = (fine.room, fine.array_room)
+    room = (omega (arith, fine.room, ap ints_of same_room), omega (arith, fine.array_room, ap arrays_of same_room))
 
     body_count : length body_shapes ≡ length body
-    body_count = block_as_many fs lists code.passed size (if g.gives_int then WithInt else Alone) 1 [] locals [] g.body refl fine.body
+    body_count = block_as_many fs lists tables size (if g.gives_int then WithInt else Alone) 1 [] locals [] g.body refl fine_body
 
     end_count : (b : Bool) → length (end_shapes b) ≡ length (emitted_end b)
     end_count true = refl
     end_count false = refl
 
-    count : length shapes ≡ length (function_code lists g)
+    count : length shapes ≡ length (function_code first lists g)
     count = omega (arith, length-append body_shapes (end_shapes g.gives_int), length-append body (emitted_end g.gives_int), body_count, end_count g.gives_int)
 
     within : (place : ℕ) (shape : Shape) → flat (slice_get tab place) ≡ Some shape → (f.start ≤ place) × (place < f.end)
     within place shape h = let is = within_shapes start shapes place shape h in (is.0, omega (arith, is.1, count))
+
+    abbrev setting : Setting
+    setting = record {
+      code = code;
+      fs = fs;
+      lists = lists;
+      functions = functions;
+      reducers_are = reducers_are;
+      tags_are = tags_are;
+      least = least;
+      f = f;
+      given_arrays = locals.arrays;
+      few_given = (params_counted g.params).1;
+      tab = tab;
+      within = within;
+    }
 
     stands : StandsAt tab start shapes
     stands =
@@ -179,40 +144,40 @@ module _ (code : Code) (fs : List Function) (lists : Lists) (small : length code
         cases true e = absurd (true≢false (sym (fine.returns e) ∙ goes))
         cases false e = refl
 
-    closes : block_returns g.body ≡ false → Leads (fitting.table_of tab) (start + length body) (end_shape fs size [] locals [] g.body)
+    closes : block_returns g.body ≡ false → Leads (table_of tab) (start + length body) (end_shape fs size [] locals [] g.body)
     closes goes =
         let here : StandsAt tab (start + length body) (end_shapes false) = subst (λ b. StandsAt tab (start + length body) (end_shapes b)) (no_value goes) at_end in
         exact tab (start + length body) (end_shape fs size [] locals [] g.body) (here.0 ∙ ap (λ r. Some (reached r (end_shape fs size [] locals [] g.body))) goes)
 
     short : length body ≤ most_jump
-    short = omega (arith, length_within code.instrs start (function_code lists g) stands_code, small, length-append body (emitted_end g.gives_int))
+    short = omega (arith, length_within code.instrs start (function_code first lists g) stands_code, small, length-append body (emitted_end g.gives_int))
 
-    returning : (b : Bool) → g.gives_int ≡ b → fitting.Returning (if b then WithInt else Alone) [] g.gives_int
+    returning : (b : Bool) → g.gives_int ≡ b → Returning (if b then WithInt else Alone) [] g.gives_int
     returning true e = (refl, e)
     returning false e = (refl, e)
 
-    ends : (b : Bool) → g.gives_int ≡ b → (r : Bool) → fitting.AllFit code fs lists small functions reducers_are tags_are least f size.given refl tab within (start + length body) (if b then [] else reached r (end_shape fs size [] locals [] g.body) ∷ []) (emitted_end b)
+    ends : (b : Bool) → g.gives_int ≡ b → (r : Bool) → AllFit setting (start + length body) (if b then [] else reached r (end_shape fs size [] locals [] g.body) ∷ []) (emitted_end b)
     ends true e r = tt
     ends false e true = (ap not e, tt)
     ends false e false = ((ap not e, refl, tt), tt)
 
-    all_fit : fitting.AllFit code fs lists small functions reducers_are tags_are least f size.given refl tab within start shapes (function_code lists g)
+    all_fit : AllFit setting start shapes (function_code first lists g)
     all_fit =
-        fitting.both_fit code fs lists small functions reducers_are tags_are least f size.given refl tab within start body_shapes (end_shapes g.gives_int) body (emitted_end g.gives_int)
-        (block_fits code fs lists small functions reducers_are tags_are least f size.given refl tab within (if g.gives_int then WithInt else Alone) 1 [] locals [] g.body start n refl room tt (returning g.gives_int refl) fine.body short (stands_front tab start body_shapes (end_shapes g.gives_int) stands) sites closes)
+        both_fit setting start body_shapes (end_shapes g.gives_int) body (emitted_end g.gives_int)
+        (block_fits setting (if g.gives_int then WithInt else Alone) 1 [] locals [] g.body start refl room tt (returning g.gives_int refl) fine_body short (stands_front tab start body_shapes (end_shapes g.gives_int) stands) closes)
         (ends g.gives_int refl (block_returns g.body))
 
-    starts : Leads (fitting.table_of tab) start (first_shape f)
+    starts : Leads (table_of tab) start (first_shape f)
     starts =
-        takes_less (fitting.table_of tab) start (first_shape f) (shape_at size [] locals [] 0)
-        (block_enters code fs lists small functions reducers_are tags_are least f size.given refl tab within (if g.gives_int then WithInt else Alone) 1 [] locals [] g.body start refl room tt fine.body (stands_front tab start body_shapes (end_shapes g.gives_int) stands) closes)
+        takes_less (table_of tab) start (first_shape f) (shape_at size [] locals [] 0)
+        (block_enters setting (if g.gives_int then WithInt else Alone) 1 [] locals [] g.body start refl room tt fine_body (stands_front tab start body_shapes (end_shapes g.gives_int) stands) closes)
         refl (covers_none (row size.ints 1 locals.ints []) size.ints (length-row size.ints 1 locals.ints []), covers_none (row size.arrays 1 locals.arrays []) size.arrays (length-row size.arrays 1 locals.arrays []), tt)
 
     abbrev FitsHere : ℕ → Option Shape → Instr → Type 0
-    FitsHere place o i = fitting.FitsAt code fs lists small functions reducers_are tags_are least f size.given refl tab within place o i
+    FitsHere place o i = FitsAt setting place o i
 
     -- what one place finds
-    at_place : (ss : Shapes) (is : List Instr) (place m : ℕ) (i : Instr) → fitting.AllFit code fs lists small functions reducers_are tags_are least f size.given refl tab within place ss is → StandsAt tab place ss → HasAt code.instrs place is → m < length is → slice_get code.instrs (place + m) ≡ Some i → FitsHere (place + m) (flat (slice_get tab (place + m))) i
+    at_place : (ss : Shapes) (is : List Instr) (place m : ℕ) (i : Instr) → AllFit setting place ss is → StandsAt tab place ss → HasAt code.instrs place is → m < length is → slice_get code.instrs (place + m) ≡ Some i → FitsHere (place + m) (flat (slice_get tab (place + m))) i
     at_place [] [] place m i fit stand has below e = absurd (omega (arith, below))
     at_place [] (i' ∷ is) place m i fit stand has below e = absurd fit
     at_place (s ∷ ss) [] place m i fit stand has below e = absurd fit
@@ -228,7 +193,7 @@ module _ (code : Code) (fs : List Function) (lists : Lists) (small : length code
     fits_at : (place : ℕ) (i : Instr) → start ≤ place → place < f.end → slice_get code.instrs place ≡ Some i → FitsHere place (flat (slice_get tab place)) i
     fits_at place i le below e =
         let p : start + (place - start) ≡ place = omega (arith, le) in
-        subst (λ q. FitsHere q (flat (slice_get tab q)) i) p (at_place shapes (function_code lists g) start (place - start) i all_fit stands stands_code (omega (arith, below, le)) (ap (slice_get code.instrs) p ∙ e))
+        subst (λ q. FitsHere q (flat (slice_get tab q)) i) p (at_place shapes (function_code first lists g) start (place - start) i all_fit stands stands_code (omega (arith, below, le)) (ap (slice_get code.instrs) p ∙ e))
 
     named : (o : Option Shape) (place : ℕ) (i : Instr) → FitsHere place o i → names_well code f place i ≡ true
     named None place i h = h
@@ -239,10 +204,10 @@ module _ (code : Code) (fs : List Function) (lists : Lists) (small : length code
 
     pub function_fits : FitsFunc code f
     function_fits = record {
-      room = fine.room;
-      array_room = fine.array_room;
+      room = omega (arith, room.0, (params_counted g.params).0);
+      array_room = omega (arith, room.1, (params_counted g.params).1);
       names = λ place i le below e. named (flat (slice_get tab place)) place i (fits_at place i le below e);
-      table = fitting.table_of tab;
+      table = table_of tab;
       is_table = record {
         starts = starts;
         within = within;
@@ -256,45 +221,44 @@ module _ (code : Code) (fs : List Function) (lists : Lists) (small : length code
 
   -- functions in a row
   record RowFits (start : ℕ) (gs : List Function) : Type 0 where
-    pub lie : LieFrom start (emitted_funcs start (map (resolved_function lists) gs)) (start + length (emitted_instrs (map (resolved_function lists) gs)))
-    pub each : (k : ℕ) (f : Func) → slice_get (emitted_funcs start (map (resolved_function lists) gs)) k ≡ Some f → FitsFunc code f
+    pub lie : LieFrom start (emitted_funcs first start (map (slotted_function lists) gs)) (start + length (emitted_instrs first (map (slotted_function lists) gs)))
+    pub each : (k : ℕ) (f : Func) → slice_get (emitted_funcs first start (map (slotted_function lists) gs)) k ≡ Some f → FitsFunc code f
 
-  row_fits : (pre : List Instr) (n : ℕ) (gs : List Function) → code.instrs ≡ pre ++ emitted_instrs (map (resolved_function lists) gs) → FunctionsFine fs lists code.passed gs → SitesAt code.sites n (emitted_sites_of (map (resolved_function lists) gs)) → RowFits (length pre) gs
-  row_fits pre n [] e fine sites = record { lie = omega arith; each = λ k f e'. cc }
-  row_fits pre n (g ∷ gs) e fine sites =
-      let here = function_code lists g in
-      let there = emitted_instrs (map (resolved_function lists) gs) in
-      let here_sites = emitted_sites_in (resolved_block lists (locals_of g.params) g.body) in
+  row_fits : (pre : List Instr) (gs : List Function) → code.instrs ≡ pre ++ emitted_instrs first (map (slotted_function lists) gs) → FunctionsFine fs lists tables gs → RowFits (length pre) gs
+  row_fits pre [] e fine = record { lie = omega arith; each = λ k f e'. cc }
+  row_fits pre (g ∷ gs) e fine =
+      let here = function_code first lists g in
+      let there = emitted_instrs first (map (slotted_function lists) gs) in
       let stands_here : HasAt code.instrs (length pre) here = subst (λ l. HasAt l (length pre) here) (sym e) (has_all pre here there) in
-      let sites_here = sites_front code.sites n here_sites (emitted_sites_of (map (resolved_function lists) gs)) sites in
-      let more = row_fits (pre ++ here) (n + length here_sites) gs (e ∙ sym (append_assoc pre here there)) fine.1 (sites_back code.sites n here_sites (emitted_sites_of (map (resolved_function lists) gs)) sites) in
+      let more = row_fits (pre ++ here) gs (e ∙ sym (append_assoc pre here there)) fine.1 in
       let at : length (pre ++ here) ≡ length pre + length here = length-append pre here in
       let more' : RowFits (length pre + length here) gs = subst (λ m. RowFits m gs) at more in
       let whole : length pre + length here + length there ≡ length pre + length (here ++ there) = omega (arith, length-append here there) in
       record {
-        lie = (refl, not_empty g (length pre) n fine.0 stands_here sites_here, subst (λ m. LieFrom (length pre + length here) (emitted_funcs (length pre + length here) (map (resolved_function lists) gs)) m) whole more'.lie);
-        each = λ k f e'. pick k f e' (function_fits g (length pre) n fine.0 stands_here sites_here) more'.each;
+        lie = (refl, not_empty g (length pre) fine.0 stands_here, subst (λ m. LieFrom (length pre + length here) (emitted_funcs first (length pre + length here) (map (slotted_function lists) gs)) m) whole more'.lie);
+        each = λ k f e'. pick k f e' (function_fits g (length pre) fine.0 stands_here) more'.each;
       }
     where
-      pick : (k : ℕ) (f : Func) → slice_get (emitted_func (length pre) (resolved_function lists g) ∷ emitted_funcs (length pre + length (function_code lists g)) (map (resolved_function lists) gs)) k ≡ Some f → FitsFunc code (emitted_func (length pre) (resolved_function lists g)) →
-          ((k' : ℕ) (f' : Func) → slice_get (emitted_funcs (length pre + length (function_code lists g)) (map (resolved_function lists) gs)) k' ≡ Some f' → FitsFunc code f') → FitsFunc code f
-      pick zero f e' first rest = let same : emitted_func (length pre) (resolved_function lists g) ≡ f = cc e' in subst (λ q. FitsFunc code q) same first
-      pick (suc k) f e' first rest = rest k f e'
+      pick : (k : ℕ) (f : Func) → slice_get (emitted_func first (length pre) (slotted_function lists g) ∷ emitted_funcs first (length pre + length (function_code first lists g)) (map (slotted_function lists) gs)) k ≡ Some f → FitsFunc code (emitted_func first (length pre) (slotted_function lists g)) →
+          ((k' : ℕ) (f' : Func) → slice_get (emitted_funcs first (length pre + length (function_code first lists g)) (map (slotted_function lists) gs)) k' ≡ Some f' → FitsFunc code f') → FitsFunc code f
+      pick zero f e' here rest = let same : emitted_func first (length pre) (slotted_function lists g) ≡ f = cc e' in subst (λ q. FitsFunc code q) same here
+      pick (suc k) f e' here rest = rest k f e'
 
-pub generated_fits : (program : Program) → length (code_of program).instrs ≤ most_jump → TurnsClose program.functions → are_numbered 0 (call_sites program) ≡ true → ProgramFine program (code_of program).passed → Fits (code_of program)
-generated_fits program small least numbered fine =
+-- where functions are compiled, the code of a lowered program fits
+pub generated_fits : (program : Program) → is_function main_name program.functions ≡ true → length (code_of program).instrs ≤ most_jump → TurnsClose (lowered program).functions → texts.Table (code_of program) (lowered program).functions (lowered_lists program) →
+    ProgramFine (lowered program) (lowered_lists program) (tables_in (code_of program)) → are_apart (code_of program).tags ≡ true → Fits (code_of program)
+generated_fits program is_main small least functions fine apart =
     let code = code_of program in
-    let lists = lists_of program in
-    let functions = table_of program small fine in
+    let main = function_of main_name (lowered program).functions in
     let entry = functions.entry main_name fine.main in
-    let sites : SitesAt code.sites 0 code.sites = sites_all [] code.sites (ap (are_numbered 0) (same_sites program fine) ∙ numbered) in
+    let at : slice_get code.funcs code.main ≡ Some entry.0 = ap (slice_get code.funcs) (main_slot program is_main) ∙ entry.1 in
     let none_before : 0 + length code.instrs ≡ length code.instrs = omega arith in
-    let all = row_fits code program.functions lists small functions refl refl least [] 0 program.functions refl fine.functions sites in
+    let all = row_fits code (lowered program).functions (lowered_lists program) small functions refl refl least [] (lowered program).functions refl fine.functions in
     record {
-      main = ap gives_value entry.1 ∙ entry.2.gives ∙ fine.gives;
-      of_integers = ap array_params_of entry.1 ∙ entry.2.array_params ∙ (main_locals (function_of main_name program.functions).params fine.ints).1;
+      main = ap gives_value at ∙ entry.2.gives ∙ fine.gives;
+      of_integers = ap array_params_of at ∙ entry.2.array_params ∙ (main_locals main.params fine.ints).1;
       reducers = fine.reducers;
-      tags = tags_are_apart program;
+      tags = apart;
       lie = subst (λ m. LieFrom 0 code.funcs m) none_before all.lie;
       each = all.each;
     }

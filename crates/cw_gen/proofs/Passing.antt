@@ -11,11 +11,12 @@ use Rattle.cw_model.specs.Frames.{Frame, array_of, set_array, set_result}
 use Rattle.cw_model.specs.Meaning.{returned_array, returned_arrays}
 use Rattle.cw_model.specs.Ownership.{Taken, names_in, arrays_given}
 use Rattle.cw_code.specs.Run.{Slots, Results, Whole, moved_out, and_array, arrays_in, and_result, settled, full, given_back}
-use Rattle.cw_types.specs.Resolved.{Locals, slot_of, use_of, locals_of, resolved_argument}
-use Rattle.cw_types.specs.Resolved as resolved
+use Rattle.cw_types.specs.Resolved.{Locals, slot_of, locals_of}
+use Rattle.cw_loops.specs.Slotted.{slotted_argument}
+use Rattle.cw_loops.specs.Slotted as slotted
 use Rattle.cw_gen.specs.Emit.{passed_in}
 use Rattle.cw_gen.proofs.Decided.{first_true, second_true}
-use Rattle.cw_gen.proofs.Fine.{IsUsable, ArgFine, ArgsFine}
+use Rattle.cw_gen.proofs.Fine.{IsUsable, AllUsable, ArgFine, ArgsFine}
 use Rattle.cw_gen.proofs.Takens.{holds}
 use Rattle.cw_gen.proofs.Names.{Entries, values_in, all_of, get-other, length-settled, slots_apart, settled_append, AgreesOf, AllHeld, HeldBy}
 use Rattle.cw_gen.proofs.Names as holding
@@ -25,11 +26,7 @@ use Rattle.cw_gen.proofs.Stores.{Store, Outside, int_waits, array_waits, Agrees}
 abbrev pub slots_for : (names given : List Name) → List ℕ
 slots_for names given = map (λ a. slot_of a names) given
 
--- each of these names may be used
-abbrev pub AllUsable : List Name → Taken → List Name → Type 0
-AllUsable names taken [] = Unit {0}
-AllUsable names taken (a ∷ given) = IsUsable names taken a × AllUsable names taken given
-
+-- the arrays among arguments may be used
 pub usable_args : (locals : Locals) (taken : Taken) (ps : List Param) (es : List Expr) → ArgsFine locals taken ps es → AllUsable locals.arrays taken (arrays_given ps es)
 usable_args locals taken [] [] fine = tt
 usable_args locals taken [] (e ∷ es) fine = absurd fine
@@ -42,16 +39,16 @@ usable_args locals taken (p ∷ ps) (e ∷ es) fine = one (arrays_given ps es) p
     one rest true _ h k = absurd h
 
 -- the list of a call is the slots of its arrays
-pub passed_slots : (locals : Locals) (taken : Taken) (ps : List Param) (es : List Expr) → ArgsFine locals taken ps es → passed_in (map (resolved_argument locals) es) ≡ slots_for locals.arrays (arrays_given ps es)
+pub passed_slots : (locals : Locals) (taken : Taken) (ps : List Param) (es : List Expr) → ArgsFine locals taken ps es → passed_in (map (slotted_argument locals) es) ≡ slots_for locals.arrays (arrays_given ps es)
 passed_slots locals taken [] [] fine = refl
 passed_slots locals taken [] (e ∷ es) fine = absurd fine
 passed_slots locals taken (p ∷ ps) [] fine = absurd fine
-passed_slots locals taken (p ∷ ps) (e ∷ es) fine = one (map (resolved_argument locals) es) (arrays_given ps es) (passed_slots locals taken ps es fine.1) p.is_array e fine.0
+passed_slots locals taken (p ∷ ps) (e ∷ es) fine = one (map (slotted_argument locals) es) (arrays_given ps es) (passed_slots locals taken ps es fine.1) p.is_array e fine.0
   where
-    one : (args : List resolved.Argument) (rest : List Name) → passed_in args ≡ slots_for locals.arrays rest → (b : Bool) (e : Expr) → ArgFine b locals taken e → passed_in (resolved_argument locals e ∷ args) ≡ slots_for locals.arrays ((if b then names_in e else []) ++ rest)
-    one args rest more false (Variable x) h = ap (λ c. passed_in ((if c then resolved.Array (use_of locals.arrays x) else resolved.Int (resolved.Variable (use_of locals.ints x))) ∷ args)) h.1 ∙ more
+    one : (args : List slotted.Argument) (rest : List Name) → passed_in args ≡ slots_for locals.arrays rest → (b : Bool) (e : Expr) → ArgFine b locals taken e → passed_in (slotted_argument locals e ∷ args) ≡ slots_for locals.arrays ((if b then names_in e else []) ++ rest)
+    one args rest more false (Variable x) h = ap (λ c. passed_in ((if c then slotted.Array (slot_of x locals.arrays) else slotted.Int (slotted.Variable (slot_of x locals.ints))) ∷ args)) h.1 ∙ more
     one args rest more false _ h = more
-    one args rest more true (Variable a) h = ap (λ c. passed_in ((if c then resolved.Array (use_of locals.arrays a) else resolved.Int (resolved.Variable (use_of locals.ints a))) ∷ args)) h.declared ∙ ap (λ l. slot_of a locals.arrays ∷ l) more
+    one args rest more true (Variable a) h = ap (λ c. passed_in ((if c then slotted.Array (slot_of a locals.arrays) else slotted.Int (slotted.Variable (slot_of a locals.ints))) ∷ args)) h.declared ∙ ap (λ l. slot_of a locals.arrays ∷ l) more
     one args rest more true _ h = absurd h
 
 -- as many arrays are given given are taken
@@ -75,6 +72,7 @@ not_same x given b h = cases (same_name x b) refl h
     cases true e h' = cc
     cases false e h' = (e, h')
 
+-- what is not so
 pub negated : (b : Bool) → not b ≡ true → b ≡ false
 negated true h = cc
 negated false h = refl
@@ -87,6 +85,7 @@ get-moved names taken a (b ∷ given) slots u us apart =
     get-other (moved_out (slots_for names given) slots) (slot_of a names) (slot_of b names) None (slots_apart a b names u.declared us.0.declared other.0)
     ∙ get-moved names taken a given slots u us.1 other.1
 
+-- nor does it matter when a slot is set
 set-moved : {A : Type 0} (names : List Name) (taken : Taken) (a : Name) (given : List Name) (v : Option A) (slots : Slots A) → IsUsable names taken a → AllUsable names taken given → is_among a given ≡ false → slice_set (moved_out (slots_for names given) slots) (slot_of a names) v ≡ moved_out (slots_for names given) (slice_set slots (slot_of a names) v)
 set-moved names taken a [] v slots u us apart = refl
 set-moved names taken a (b ∷ given) v slots u us apart =
@@ -94,6 +93,7 @@ set-moved names taken a (b ∷ given) v slots u us apart =
     sym (set_comm (moved_out (slots_for names given) slots) (slot_of a names) (slot_of b names) v None (slots_apart a b names u.declared us.0.declared other.0))
     ∙ ap (λ l. slice_set l (slot_of b names) None) (set-moved names taken a given v slots u us.1 other.1)
 
+-- slots that are empty are slots
 pub length-moved : {A : Type 0} (given : List ℕ) (slots : Slots A) → length (moved_out given slots) ≡ length slots
 length-moved [] slots = refl
 length-moved (a ∷ given) slots = length-set (moved_out given slots) a None ∙ length-moved given slots
@@ -107,36 +107,43 @@ arrays_found names taken entries slots waits (a ∷ given) agrees us apart =
     ap (λ o. and_array o (arrays_in (slots_for names given) slots)) (get-moved names taken a given slots us.0 us.1 other ∙ holding.loads true [] names taken a entries slots waits us.0 agrees)
     ∙ ap (λ o. and_array (Some (Some (find [] a entries))) o) (arrays_found names taken entries slots waits given agrees us.1 (second_true (not (is_among a given)) (differ given) apart))
 
--- the arrays of a call under its parameters' names go back into these slots
-abbrev pub backs : (names given qs : List Name) → Frame → Results (List ℤ)
-backs names [] qs g = []
-backs names (a ∷ given) [] g = []
-backs names (a ∷ given) (q ∷ qs) g = (slot_of a names, array_of g q) ∷ backs names given qs g
+-- these values go back into the slots of these names
+abbrev pub backs : (names given : List Name) → List (List ℤ) → Results (List ℤ)
+backs names [] vs = []
+backs names (a ∷ given) [] = []
+backs names (a ∷ given) (v ∷ vs) = (slot_of a names, v) ∷ backs names given vs
 
-abbrev pub put_backs : (given qs : List Name) → Frame → Entries (List ℤ) → Entries (List ℤ)
-put_backs [] qs g entries = entries
-put_backs (a ∷ given) [] g entries = entries
-put_backs (a ∷ given) (q ∷ qs) g entries = put_backs given qs g (put a (array_of g q) entries)
+-- the same of a frame
+abbrev pub put_backs : (given : List Name) → List (List ℤ) → Entries (List ℤ) → Entries (List ℤ)
+put_backs [] vs entries = entries
+put_backs (a ∷ given) [] entries = entries
+put_backs (a ∷ given) (v ∷ vs) entries = put_backs given vs (put a v entries)
 
+-- the arrays of a call under its parameters' names
+abbrev pub left_in : Frame → List Name → List (List ℤ)
+left_in g qs = map (λ q. array_of g q) qs
+
+-- a frame with other arrays
 abbrev pub with_arrays : Frame → Entries (List ℤ) → Frame
 with_arrays frame entries = record { ints = frame.ints; arrays = entries; sliced = frame.sliced }
 
-pub returned_are : (locals : Locals) (taken : Taken) (ps : List Param) (es : List Expr) (g frame : Frame) → ArgsFine locals taken ps es → returned_arrays ps es g frame ≡ with_arrays frame (put_backs (arrays_given ps es) (locals_of ps).arrays g frame.arrays)
+-- the arrays of a call go back under their names
+pub returned_are : (locals : Locals) (taken : Taken) (ps : List Param) (es : List Expr) (g frame : Frame) → ArgsFine locals taken ps es → returned_arrays ps es g frame ≡ with_arrays frame (put_backs (arrays_given ps es) (left_in g (locals_of ps).arrays) frame.arrays)
 returned_are locals taken [] [] g frame fine = refl
 returned_are locals taken [] (e ∷ es) g frame fine = absurd fine
 returned_are locals taken (p ∷ ps) [] g frame fine = absurd fine
 returned_are locals taken (p ∷ ps) (e ∷ es) g frame fine = returned_are locals taken ps es g (returned_array p e g frame) fine.1 ∙ one p.is_array refl e fine.0
   where
-    one : (b : Bool) → p.is_array ≡ b → (e : Expr) → ArgFine b locals taken e → with_arrays (returned_array p e g frame) (put_backs (arrays_given ps es) (locals_of ps).arrays g (returned_array p e g frame).arrays)
-        ≡ with_arrays frame (put_backs ((if b then names_in e else []) ++ arrays_given ps es) (map (λ (q : Param). q.name) (cond b (p ∷ filter (λ q. q.is_array) ps) (filter (λ q. q.is_array) ps))) g frame.arrays)
-    one true is (Variable a) h = ap (λ c. let f = if c then set_array a (array_of g p.name) frame else frame in with_arrays f (put_backs (arrays_given ps es) (locals_of ps).arrays g f.arrays)) is
+    one : (b : Bool) → p.is_array ≡ b → (e : Expr) → ArgFine b locals taken e → with_arrays (returned_array p e g frame) (put_backs (arrays_given ps es) (left_in g (locals_of ps).arrays) (returned_array p e g frame).arrays)
+        ≡ with_arrays frame (put_backs ((if b then names_in e else []) ++ arrays_given ps es) (left_in g (map (λ (q : Param). q.name) (cond b (p ∷ filter (λ q. q.is_array) ps) (filter (λ q. q.is_array) ps)))) frame.arrays)
+    one true is (Variable a) h = ap (λ c. let f = if c then set_array a (array_of g p.name) frame else frame in with_arrays f (put_backs (arrays_given ps es) (left_in g (locals_of ps).arrays) f.arrays)) is
     one true is _ h = absurd h
-    one false is (Variable a) h = ap (λ c. let f = if c then set_array a (array_of g p.name) frame else frame in with_arrays f (put_backs (arrays_given ps es) (locals_of ps).arrays g f.arrays)) is
+    one false is (Variable a) h = ap (λ c. let f = if c then set_array a (array_of g p.name) frame else frame in with_arrays f (put_backs (arrays_given ps es) (left_in g (locals_of ps).arrays) f.arrays)) is
     one false is _ h = refl
 
 -- what the slots of a call that ends hold, by its parameters' names
 pub firsts : (names : List Name) (given qs more : List Name) (g : Frame) (entries : Entries (List ℤ)) (rest : List (List ℤ)) → length given ≡ length qs → holding.names_in entries ≡ qs ++ more → differ qs ≡ true → ((q : Name) → is_among q qs ≡ true → array_of g q ≡ find [] q entries) →
-    given_back (map (λ a. Whole a) (slots_for names given)) (full (values_in entries ++ rest)) ≡ Some (backs names given qs g)
+    given_back (map (λ a. Whole a) (slots_for names given)) (full (values_in entries ++ rest)) ≡ Some (backs names given (left_in g qs))
 firsts names [] qs more g entries rest n named apart same = refl
 firsts names (a ∷ given) [] more g entries rest n named apart same = absurd (omega (arith, n))
 firsts names (a ∷ given) (q ∷ qs) more g [] rest n named apart same = cc
@@ -148,7 +155,7 @@ firsts names (a ∷ given) (q ∷ qs) more g (e ∷ entries) rest n named apart 
     ap (λ o. and_result (Whole (slot_of a names)) (Some e.1) o)
     (firsts names given qs more g entries rest (omega (arith, n)) tail (second_true (not (is_among q qs)) (differ qs) apart)
     (λ z h. same z (further z q qs h) ∙ ap (λ b. if b then e.1 else find [] z entries) (ap (same_name z) head ∙ apart_from z q qs other h)))
-    ∙ ap (λ v. Some ((slot_of a names, v) ∷ backs names given qs g)) (sym here)
+    ∙ ap (λ v. Some ((slot_of a names, v) ∷ backs names given (left_in g qs))) (sym here)
   where
     further : (x y : Name) (ns : List Name) → is_among x ns ≡ true → is_among x (y ∷ ns) ≡ true
     further x y ns h = test (same_name x y)
@@ -165,39 +172,38 @@ firsts names (a ∷ given) (q ∷ qs) more g (e ∷ entries) rest n named apart 
         cases false e = refl
 
 -- what goes back fills the slots that were moved out
-pub settled_moved : (names : List Name) (taken : Taken) (given qs : List Name) (g : Frame) (slots : Slots (List ℤ)) → AllUsable names taken given → differ given ≡ true → length given ≡ length qs → settled (backs names given qs g) (moved_out (slots_for names given) slots) ≡ settled (backs names given qs g) slots
-settled_moved names taken [] qs g slots us apart n = refl
-settled_moved names taken (a ∷ given) [] g slots us apart n = absurd (omega (arith, n))
-settled_moved names taken (a ∷ given) (q ∷ qs) g slots us apart n =
-    let v = array_of g q in
+pub settled_moved : (names : List Name) (taken : Taken) (given : List Name) (vs : List (List ℤ)) (slots : Slots (List ℤ)) → AllUsable names taken given → differ given ≡ true → length given ≡ length vs → settled (backs names given vs) (moved_out (slots_for names given) slots) ≡ settled (backs names given vs) slots
+settled_moved names taken [] vs slots us apart n = refl
+settled_moved names taken (a ∷ given) [] slots us apart n = absurd (omega (arith, n))
+settled_moved names taken (a ∷ given) (v ∷ vs) slots us apart n =
     let i = slot_of a names in
     let other = negated (is_among a given) (first_true (not (is_among a given)) (differ given) apart) in
-    ap (settled (backs names given qs g)) (set-set (moved_out (slots_for names given) slots) i None (Some v) ∙ set-moved names taken a given (Some v) slots us.0 us.1 other)
-    ∙ settled_moved names taken given qs g (slice_set slots i (Some v)) us.1 (second_true (not (is_among a given)) (differ given) apart) (omega (arith, n))
+    ap (settled (backs names given vs)) (set-set (moved_out (slots_for names given) slots) i None (Some v) ∙ set-moved names taken a given (Some v) slots us.0 us.1 other)
+    ∙ settled_moved names taken given vs (slice_set slots i (Some v)) us.1 (second_true (not (is_among a given)) (differ given) apart) (omega (arith, n))
 
 -- the arrays of a call in place stand in their slots again
-pub agree_back : (names : List Name) (taken : Taken) (given qs : List Name) (g : Frame) (entries : Entries (List ℤ)) (slots : Slots (List ℤ)) (waits : List (Results (List ℤ))) → AllUsable names taken given → AgreesOf true names taken entries slots waits →
-    AgreesOf true names taken (put_backs given qs g entries) (settled (backs names given qs g) slots) waits
-agree_back names taken [] qs g entries slots waits us a = a
-agree_back names taken (x ∷ given) [] g entries slots waits us a = a
-agree_back names taken (x ∷ given) (q ∷ qs) g entries slots waits us a = agree_back names taken given qs g (put x (array_of g q) entries) (slice_set slots (slot_of x names) (Some (array_of g q))) waits us.1 (holding.assigns true names taken x (array_of g q) entries slots waits us.0 a)
+pub agree_back : (names : List Name) (taken : Taken) (given : List Name) (vs : List (List ℤ)) (entries : Entries (List ℤ)) (slots : Slots (List ℤ)) (waits : List (Results (List ℤ))) → AllUsable names taken given → AgreesOf true names taken entries slots waits →
+    AgreesOf true names taken (put_backs given vs entries) (settled (backs names given vs) slots) waits
+agree_back names taken [] vs entries slots waits us a = a
+agree_back names taken (x ∷ given) [] entries slots waits us a = a
+agree_back names taken (x ∷ given) (v ∷ vs) entries slots waits us a = agree_back names taken given vs (put x v entries) (slice_set slots (slot_of x names) (Some v)) waits us.1 (holding.assigns true names taken x v entries slots waits us.0 a)
 
 -- those of a spawned call wait
-pub agree_await : (names : List Name) (taken taken' : Taken) (given qs : List Name) (g : Frame) (entries : Entries (List ℤ)) (slots : Slots (List ℤ)) (arrived : Results (List ℤ)) (outer : List (Results (List ℤ))) → AllUsable names taken given → differ given ≡ true → length given ≡ length qs →
+pub agree_await : (names : List Name) (taken taken' : Taken) (given : List Name) (vs : List (List ℤ)) (entries : Entries (List ℤ)) (slots : Slots (List ℤ)) (arrived : Results (List ℤ)) (outer : List (Results (List ℤ))) → AllUsable names taken given → differ given ≡ true → length given ≡ length vs →
     ((d : ℕ) (y : Name) → holds true d y taken ≡ true → holds true d y taken' ≡ true) → ((y : Name) → is_among y given ≡ true → holds true (suc (length outer)) y taken' ≡ true) → AgreesOf true names taken entries slots (arrived ∷ outer) →
-    AgreesOf true names taken' (put_backs given qs g entries) (moved_out (slots_for names given) slots) ((backs names given qs g ++ arrived) ∷ outer)
-agree_await names taken taken' given qs g entries slots arrived outer us apart n more is a =
-    let b = agree_back names taken given qs g entries slots (arrived ∷ outer) us a in
+    AgreesOf true names taken' (put_backs given vs entries) (moved_out (slots_for names given) slots) ((backs names given vs ++ arrived) ∷ outer)
+agree_await names taken taken' given vs entries slots arrived outer us apart n more is a =
+    let b = agree_back names taken given vs entries slots (arrived ∷ outer) us a in
     let kept = holding.levels_kept true names names taken taken' (arrived ∷ outer) (λ d le. holding.more_taken true names taken taken' more d) a.levels in
     record {
       named = b.named;
       rest = b.rest;
       held =
-          ap (λ l. settled l (moved_out (slots_for names given) slots)) (append_assoc (backs names given qs g) arrived (all_of outer))
-          ∙ settled_append (backs names given qs g) (arrived ++ all_of outer) (moved_out (slots_for names given) slots)
-          ∙ ap (settled (arrived ++ all_of outer)) (settled_moved names taken given qs g slots us apart n)
+          ap (λ l. settled l (moved_out (slots_for names given) slots)) (append_assoc (backs names given vs) arrived (all_of outer))
+          ∙ settled_append (backs names given vs) (arrived ++ all_of outer) (moved_out (slots_for names given) slots)
+          ∙ ap (settled (arrived ++ all_of outer)) (settled_moved names taken given vs slots us apart n)
           ∙ b.held;
-      levels = (each given qs us is kept.0, kept.1);
+      levels = (each given vs us is kept.0, kept.1);
     }
   where
     among_here : (y : Name) (ns : List Name) → is_among y (y ∷ ns) ≡ true
@@ -210,10 +216,10 @@ agree_await names taken taken' given qs g entries slots arrived outer us apart n
         test true = refl
         test false = h
 
-    each : (given qs : List Name) → AllUsable names taken given → ((y : Name) → is_among y given ≡ true → holds true (suc (length outer)) y taken' ≡ true) → AllHeld true names taken' (suc (length outer)) arrived → AllHeld true names taken' (suc (length outer)) (backs names given qs g ++ arrived)
-    each [] qs us is h = h
+    each : (given : List Name) (vs : List (List ℤ)) → AllUsable names taken given → ((y : Name) → is_among y given ≡ true → holds true (suc (length outer)) y taken' ≡ true) → AllHeld true names taken' (suc (length outer)) arrived → AllHeld true names taken' (suc (length outer)) (backs names given vs ++ arrived)
+    each [] vs us is h = h
     each (x ∷ given) [] us is h = h
-    each (x ∷ given) (q ∷ qs) us is h = (record { name = x; declared = us.0.declared; slot = refl; held = is x (among_here x given) }, each given qs us.1 (λ y k. is y (further y x given k)) h)
+    each (x ∷ given) (v ∷ vs) us is h = (record { name = x; declared = us.0.declared; slot = refl; held = is x (among_here x given) }, each given vs us.1 (λ y k. is y (further y x given k)) h)
 
 none_of_some : (p : Param → Bool) (x : Name) (ps : List Param) → is_among x (map (λ (z : Param). z.name) ps) ≡ false → is_among x (map (λ (z : Param). z.name) (filter p ps)) ≡ false
 none_of_some p x [] h = refl
@@ -244,6 +250,7 @@ abbrev pub arrived_after : CallKind → Results (List ℤ) → Results (List ℤ
 arrived_after Plain back arrived = arrived
 arrived_after Spawned back arrived = back ++ arrived
 
+-- there are as many slots as before
 pub arrays_count : (kind : CallKind) (back : Results (List ℤ)) (passed : List ℕ) (arrays : Slots (List ℤ)) → length (arrays_after kind back (moved_out passed arrays)) ≡ length arrays
 arrays_count Plain back passed arrays = length-settled back (moved_out passed arrays) ∙ length-moved passed arrays
 arrays_count Spawned back passed arrays = length-moved passed arrays

@@ -1,90 +1,222 @@
--- The code of a program does what the program does.
-use Rattle.std.proofs.Common.{◌≡◌, ℕ, suc, ◌+◌, ◌≤◌, List, [], ◌∷◌, ◌++◌, length, Bool, true, false, ◌&&◌, if◌then◌else◌, Some, refl, sym, ap, ◌∙◌, subst, arith, append_assoc, length-append, ℤ}
+-- The code of a program does what its lowered program does.
+use Rattle.std.proofs.Common.{◌≡◌, ℕ, suc, ◌+◌, ◌≤◌, List, [], ◌∷◌, ◌++◌, length, Bool, true, false, not, cond, filter, ◌&&◌, if◌then◌else◌, Some, refl, sym, ap, ◌∙◌, subst, arith, append_assoc, length-append, true≢false, ℤ}
 use Rattle.std.specs.Prelude.{slice_get, nat_eq, nat_le, option_map, map}
-use Rattle.cw_model.specs.Syntax.{Name, Expr, Block, While, Function, Reducer, Program}
-use Rattle.cw_model.specs.Names.{same_name}
+use Rattle.std.proofs.lemmas.List.{map-append}
+use Rattle.cw_model.specs.Syntax.{Name, Stmt, If, IfElse, While, For, Scope, Cut, Region, Block, End, Then, Param, Function, Reducer, Program}
+use Rattle.cw_model.specs.Names.{same_name, is_among}
 use Rattle.cw_model.specs.Frames.{no_frame}
 use Rattle.cw_model.specs.Outcome.{Outcome, Done, Trapped, Over, quiet}
 use Rattle.cw_model.specs.Meaning.{Returned, Deeper, function_of, call}
 use Rattle.cw_model.specs.Answers.{Ended, sum_to, int_given, answer_of, main_frame, main_name, serial_answer}
 use Rattle.cw_model.specs.Trees.{Marked, Invocation, tree_of, normal}
-use Rattle.cw_model.specs.Ownership.{Taken, IsLeastClosed, taken_after}
-use Rattle.cw_model.specs.WhileLaw.{one_turn}
-use Rattle.cw_types.specs.Resolved.{Lists, slot_of, function_names, reducer_names, lists_of, resolved_function, resolved}
+use Rattle.cw_types.specs.Resolved.{Lists, slot_of, locals_of, function_names, reducer_names}
+use Rattle.cw_loops.specs.Lowered.{lower_function, lower_functions, made_by, made_in, made_of, loop_count, loop_count_in, lowered}
+use Rattle.cw_loops.specs.Slotted.{slotted_block, slotted_function, lowered_lists}
 use Rattle.cw_code.specs.declared.code.Func.{Func}
 use Rattle.cw_code.specs.declared.code.Instr.{Instr}
 use Rattle.cw_code.specs.Code.{Code}
 use Rattle.cw_code.specs.Run.{Ran, On, Stuck, first_state, reducers_of, go_on, steps, first_went, code_serial}
 use Rattle.cw_code.specs.Fits.{params_of, main_params}
-use Rattle.cw_gen.specs.Emit.{most_jump, emitted_func, emitted_instrs, emitted_funcs, emitted}
+use Rattle.cw_gen.specs.Emit.{most_jump, first_list, count_ints, count_arrays, ints_in_block, arrays_in_block, emitted_instrs, emitted_funcs}
 use Rattle.cw_gen.specs.Generates.{main_count}
-use Rattle.cw_gen.proofs.Fine.{is_function, FunctionsFine, ProgramFine}
+use Rattle.cw_gen.proofs.Fine.{is_function, FunctionFine, FunctionsFine, ProgramFine}
 use Rattle.cw_gen.proofs.Traces.{resume}
 use Rattle.cw_gen.proofs.Places.{HasAt, has_all}
 use Rattle.cw_gen.proofs.Decided.{taken, both_true, at_most, equal}
+use Rattle.cw_gen.proofs.Names.{split_among, slot_stays}
 use Rattle.cw_gen.proofs.Codes.{bound_main, main_locals}
-use Rattle.cw_gen.proofs.Laws.{function_code, Compiled, Table, calls_run}
+use Rattle.cw_gen.proofs.Texts.{function_code, tables_in, Compiled, Table, code_of, TurnsClose}
+use Rattle.cw_gen.proofs.Laws.{calls_run}
 
--- the code of a program
-abbrev pub code_of : Program → Code
-code_of program = emitted (resolved program)
+-- as many integers and arrays are counted as there are names of them
+counted_ints : (ps : List Param) → length (locals_of ps).ints ≡ count_ints (map (λ p. p.is_array) ps)
+counted_ints [] = refl
+counted_ints (p ∷ ps) = test p.is_array (counted_ints ps)
+  where
+    test : (b : Bool) → length (locals_of ps).ints ≡ count_ints (map (λ p. p.is_array) ps) →
+        length (map (λ (q : Param). q.name) (cond (not b) (p ∷ filter (λ q. not q.is_array) ps) (filter (λ q. not q.is_array) ps))) ≡ length (cond (not b) (b ∷ filter (λ is_array. not is_array) (map (λ p. p.is_array) ps)) (filter (λ is_array. not is_array) (map (λ p. p.is_array) ps)))
+    test true more = more
+    test false more = ap suc more
 
--- the law of loops, as the ownership rules need it
-abbrev pub TurnsClose : List Function → Type 0
-TurnsClose fs = (level : ℕ) (e : Expr) (b : Block) (before : Taken) → IsLeastClosed (one_turn fs level b) before (taken_after fs level (While e b) before)
+-- the same of arrays
+counted_arrays : (ps : List Param) → length (locals_of ps).arrays ≡ count_arrays (map (λ p. p.is_array) ps)
+counted_arrays [] = refl
+counted_arrays (p ∷ ps) = test p.is_array (counted_arrays ps)
+  where
+    test : (b : Bool) → length (locals_of ps).arrays ≡ count_arrays (map (λ p. p.is_array) ps) →
+        length (map (λ (q : Param). q.name) (cond b (p ∷ filter (λ q. q.is_array) ps) (filter (λ q. q.is_array) ps))) ≡ length (cond b (b ∷ filter (λ is_array. is_array) (map (λ p. p.is_array) ps)) (filter (λ is_array. is_array) (map (λ p. p.is_array) ps)))
+    test true more = ap suc more
+    test false more = more
 
-module _ (code : Code) (all : List Function) (lists : Lists) (small : length code.instrs ≤ most_jump) where
+module _ (code : Code) (all : List Function) (lists : Lists) where
+  abbrev first : ℕ
+  first = first_list code.sites
+
+  -- the code of functions
   abbrev codes : List Function → List Instr
-  codes fs = emitted_instrs (map (resolved_function lists) fs)
+  codes fs = emitted_instrs first (map (slotted_function lists) fs)
 
+  -- their entries
   abbrev funcs_from : (start : ℕ) → List Function → List Func
-  funcs_from start fs = emitted_funcs start (map (resolved_function lists) fs)
+  funcs_from start fs = emitted_funcs first start (map (slotted_function lists) fs)
 
-  abbrev pub Entry : (start : ℕ) → List Function → Name → Type 0
-  Entry start fs name = (fn : Func) × (slice_get (funcs_from start fs) (slot_of name (function_names fs)) ≡ Some fn) × Compiled code all lists small (function_of name fs) fn
+  -- the entry of a function with so many parameters
+  abbrev entry_of : (start : ℕ) → Function → (ints arrays : ℕ) → Func
+  entry_of start f ints arrays =
+      let body = slotted_block lists (locals_of f.params) f.body in
+      record {
+        start = start;
+        end = start + length (function_code first lists f);
+        gives_int = f.gives_int;
+        params = ints;
+        slots = ints_in_block ints body;
+        array_params = arrays;
+        arrays = arrays_in_block arrays body;
+      }
 
-  entries : (pre : List Instr) (fs : List Function) → code.instrs ≡ pre ++ codes fs → FunctionsFine all lists code.passed fs → (name : Name) → is_function name fs ≡ true → Entry (length pre) fs name
+  -- a function has its code where its entry says
+  compiled_so : (start : ℕ) (f : Function) → HasAt code.instrs start (function_code first lists f) → FunctionFine all lists (tables_in code) f →
+      Compiled code all lists f (entry_of start f (count_ints (map (λ p. p.is_array) f.params)) (count_arrays (map (λ p. p.is_array) f.params)))
+  compiled_so start f there fine =
+      subst (λ n. Compiled code all lists f (entry_of start f n (count_arrays (map (λ p. p.is_array) f.params)))) (counted_ints f.params)
+      (subst (λ n. Compiled code all lists f (entry_of start f (length (locals_of f.params).ints) n)) (counted_arrays f.params)
+      (record {
+        params = refl;
+        array_params = refl;
+        room = fine.room;
+        array_room = fine.array_room;
+        apart = fine.apart;
+        gives = refl;
+        stands = there;
+        fine = fine.body;
+        returns = fine.returns;
+      }))
+
+  -- a function of this name has its entry and its code
+  abbrev Entry : (start : ℕ) → List Function → Name → Type 0
+  Entry start fs name = (fn : Func) × (slice_get (funcs_from start fs) (slot_of name (function_names fs)) ≡ Some fn) × Compiled code all lists (function_of name fs) fn
+
+  -- each function has
+  pub entries : (pre : List Instr) (fs : List Function) → code.instrs ≡ pre ++ codes fs → FunctionsFine all lists (tables_in code) fs → (name : Name) → is_function name fs ≡ true → Entry (length pre) fs name
   entries pre [] e fine name h = cc
   entries pre (f ∷ fs) e fine name h =
-      test (λ h'. subst (λ n. Entry n fs name) (length-append pre (function_code lists f)) (entries (pre ++ function_code lists f) fs (e ∙ sym (append_assoc pre (function_code lists f) (codes fs))) fine.1 name h')) (same_name name f.name) h
+      let here = function_code first lists f in
+      test (λ h'. subst (λ n. Entry n fs name) (length-append pre here) (entries (pre ++ here) fs (e ∙ sym (append_assoc pre here (codes fs))) fine.1 name h')) (same_name name f.name) h
     where
-      test : (is_function name fs ≡ true → Entry (length pre + length (function_code lists f)) fs name) → (b : Bool) → (if b then true else is_function name fs) ≡ true →
-          (fn : Func) × (slice_get (funcs_from (length pre) (f ∷ fs)) (if b then 0 else suc (slot_of name (function_names fs))) ≡ Some fn) × Compiled code all lists small (if b then f else function_of name fs) fn
+      test : (is_function name fs ≡ true → Entry (length pre + length (function_code first lists f)) fs name) → (b : Bool) → (if b then true else is_function name fs) ≡ true →
+          (fn : Func) × (slice_get (funcs_from (length pre) (f ∷ fs)) (if b then 0 else suc (slot_of name (function_names fs))) ≡ Some fn) × Compiled code all lists (if b then f else function_of name fs) fn
       test more true h' = (
-        emitted_func (length pre) (resolved_function lists f),
+        entry_of (length pre) f (count_ints (map (λ p. p.is_array) f.params)) (count_arrays (map (λ p. p.is_array) f.params)),
         refl,
-        record {
-          params = refl;
-          array_params = refl;
-          room = fine.0.room;
-          array_room = fine.0.array_room;
-          apart = fine.0.apart;
-          gives = refl;
-          stands = subst (λ l. HasAt l (length pre) (function_code lists f)) (sym e) (has_all pre (function_code lists f) (codes fs));
-          fine = fine.0.body;
-          returns = fine.0.returns;
-        },
+        compiled_so (length pre) f (subst (λ l. HasAt l (length pre) (function_code first lists f)) (sym e) (has_all pre (function_code first lists f) (codes fs))) fine.0,
       )
       test more false h' = more h'
 
-pub table_of : (program : Program) (small : length (code_of program).instrs ≤ most_jump) → ProgramFine program (code_of program).passed → Table (code_of program) program.functions (lists_of program) small
-table_of program small fine = record { entry = entries (code_of program) program.functions (lists_of program) small [] program.functions refl fine.functions }
+-- each function of a lowered program has its code
+pub table_of : (program : Program) → ProgramFine (lowered program) (lowered_lists program) (tables_in (code_of program)) → Table (code_of program) (lowered program).functions (lowered_lists program)
+table_of program fine = record { entry = entries (code_of program) (lowered program).functions (lowered_lists program) [] (lowered program).functions refl fine.functions }
 
+-- a function is there where its name is
+by_its_name : (name : Name) (fs : List Function) → is_function name fs ≡ true → is_among name (function_names fs) ≡ true
+by_its_name name [] h = cc
+by_its_name name (f ∷ fs) h = test (by_its_name name fs) (same_name name f.name) h
+  where
+    test : (is_function name fs ≡ true → is_among name (function_names fs) ≡ true) → (b : Bool) → (if b then true else is_function name fs) ≡ true → (if b then true else is_among name (function_names fs)) ≡ true
+    test more true h' = refl
+    test more false h' = more h'
+
+-- lowering leaves the names of functions
+lowered_names : (k : ℕ) (fs : List Function) → function_names (lower_functions k fs) ≡ function_names fs
+lowered_names k [] = refl
+lowered_names k (f ∷ fs) = ap (λ l. f.name ∷ l) (lowered_names (k + loop_count_in f.body) fs)
+
+-- a name that is not among either is not among both
+neither : (name : Name) (fs gs : List Function) → is_among name (function_names fs) ≡ false → is_among name (function_names gs) ≡ false → is_among name (function_names (fs ++ gs)) ≡ false
+neither name [] gs h k = k
+neither name (f ∷ fs) gs h k = test (λ h'. neither name fs gs h' k) (same_name name f.name) h
+  where
+    test : (is_among name (function_names fs) ≡ false → is_among name (function_names (fs ++ gs)) ≡ false) → (b : Bool) → (if b then true else is_among name (function_names fs)) ≡ false → (if b then true else is_among name (function_names (fs ++ gs))) ≡ false
+    test more true h' = cc
+    test more false h' = more h'
+
+-- no loop's function is named as main is
+mutual
+  not_made_by : (line k : ℕ) (s : Stmt) → is_among main_name (function_names (made_by line k s)) ≡ false
+  not_made_by line k (If e b) = not_made_in k b
+  not_made_by line k (IfElse e b c) = neither main_name (made_in k b) (made_in (k + loop_count_in b) c) (not_made_in k b) (not_made_in (k + loop_count_in b) c)
+  not_made_by line k (While e b) = not_made_in k b
+  not_made_by line k (For x y z from to grain over b) = neither main_name (made_in k b) _ (not_made_in k b) refl
+  not_made_by line k (Scope b) = not_made_in k b
+  not_made_by line k (Cut a e l r b) = not_made_in k b
+  not_made_by line k (Region tag b) = not_made_in k b
+  not_made_by line k _ = refl
+
+  not_made_in : (k : ℕ) (b : Block) → is_among main_name (function_names (made_in k b)) ≡ false
+  not_made_in k End = refl
+  not_made_in k (Then line s b) = neither main_name (made_by line k s) (made_in (k + loop_count s) b) (not_made_by line k s) (not_made_in (k + loop_count s) b)
+
+-- nor that of any function of the source
+not_made_of : (k : ℕ) (fs : List Function) → is_among main_name (function_names (made_of k fs)) ≡ false
+not_made_of k [] = refl
+not_made_of k (f ∷ fs) = neither main_name (made_in k f.body) (made_of (k + loop_count_in f.body) fs) (not_made_in k f.body) (not_made_of (k + loop_count_in f.body) fs)
+
+-- the names of a lowered program: those of the source, and then those of its loops
+names_are : (program : Program) → (lowered_lists program).functions ≡ function_names program.functions ++ function_names (made_of 0 program.functions)
+names_are program =
+    map-append (λ (f : Function). f.name) (lower_functions 0 program.functions) (made_of 0 program.functions)
+    ∙ ap (λ l. l ++ function_names (made_of 0 program.functions)) (lowered_names 0 program.functions)
+
+-- main is one of the source
+pub main_there : (program : Program) → is_function main_name (lowered program).functions ≡ true → is_among main_name (function_names program.functions) ≡ true
+main_there program h = cases (is_among main_name (function_names program.functions)) refl
+  where
+    cases : (b : Bool) → is_among main_name (function_names program.functions) ≡ b → b ≡ true
+    cases true e = refl
+    cases false e =
+        let among = sym (ap (is_among main_name) (names_are program)) ∙ by_its_name main_name (lowered program).functions h in
+        absurd (true≢false (sym (split_among main_name (function_names program.functions) (function_names (made_of 0 program.functions)) among e) ∙ not_made_of 0 program.functions))
+
+-- main has the same place among the functions of the source
+pub main_place : (program : Program) → is_function main_name (lowered program).functions ≡ true → slot_of main_name (function_names program.functions) ≡ slot_of main_name (lowered_lists program).functions
+main_place program h =
+    sym (slot_stays main_name (function_names program.functions) (function_names (made_of 0 program.functions)) (main_there program h)) ∙ sym (ap (slot_of main_name) (names_are program))
+
+-- the function of a name that is there has the parameters of that in the source
+same_head : (name : Name) (k : ℕ) (fs made : List Function) → is_among name (function_names fs) ≡ true → (function_of name (lower_functions k fs ++ made)).params ≡ (function_of name fs).params
+same_head name k [] made h = cc
+same_head name k (f ∷ fs) made h = test (same_head name (k + loop_count_in f.body) fs made) (same_name name f.name) h
+  where
+    test : (is_among name (function_names fs) ≡ true → (function_of name (lower_functions (k + loop_count_in f.body) fs ++ made)).params ≡ (function_of name fs).params) → (b : Bool) → (if b then true else is_among name (function_names fs)) ≡ true →
+        (if b then lower_function k f else function_of name (lower_functions (k + loop_count_in f.body) fs ++ made)).params ≡ (if b then f else function_of name fs).params
+    test more true h' = refl
+    test more false h' = more h'
+
+-- main takes as many arguments as in the source
+pub main_count_kept : (program : Program) → is_function main_name (lowered program).functions ≡ true → main_count (lowered program) ≡ main_count program
+main_count_kept program h = ap length (same_head main_name 0 program.functions (made_of 0 program.functions) (main_there program h))
+
+-- reducers are known by their names alone
 same_sums : (rs : List Reducer) (additions : List (Name × ℤ)) → map (λ (r : Reducer). sum_to r.name additions) (map (λ name. record { name = name; line = 0 }) (reducer_names rs)) ≡ map (λ (r : Reducer). sum_to r.name additions) rs
 same_sums [] additions = refl
 same_sums (r ∷ rs) additions = ap (λ l. sum_to r.name additions ∷ l) (same_sums rs additions)
 
+-- the answer of the code is that of the program
 same_answer : (program : Program) (o : Outcome Returned) → option_map (λ o'. answer_of (reducers_of (code_of program)) o') (resume quiet o (λ r l u. Some (Done (r.0, no_frame) l u))) ≡ Some (answer_of program.reducers o)
 same_answer program (Done r l u) = ap (λ sums. Some (Ended (int_given r.0) u.lines sums (normal (Marked (Invocation 0) (tree_of u.events))))) (same_sums program.reducers u.additions)
 same_answer program (Trapped trap line lines) = refl
 same_answer program Over = refl
 
-pub same_run : (program : Program) → length (code_of program).instrs ≤ most_jump → TurnsClose program.functions → ProgramFine program (code_of program).passed → (args : List ℤ) → length args ≡ main_count program → (n : ℕ) → code_serial (code_of program) args n ≡ Some (serial_answer program args n)
+-- code runs as its program does, lowered
+pub same_run : (program : Program) → length (code_of program).instrs ≤ most_jump → TurnsClose (lowered program).functions → ProgramFine (lowered program) (lowered_lists program) (tables_in (code_of program)) →
+    (args : List ℤ) → length args ≡ main_count (lowered program) → (n : ℕ) → code_serial (code_of program) args n ≡ Some (serial_answer (lowered program) args n)
 unfolding code_serial serial_answer
 same_run program small least fine args m n =
     let code = code_of program in
-    let main = function_of main_name program.functions in
-    let entry = (table_of program small fine).entry main_name fine.main in
+    let fs = (lowered program).functions in
+    let lists = lowered_lists program in
+    let main = function_of main_name fs in
+    let table = table_of program fine in
+    let entry = table.entry main_name fine.main in
     let fn = entry.0 in
     let counts = main_locals main.params fine.ints in
     let begin = On (first_state fn args []) in
@@ -95,13 +227,15 @@ same_run program small least fine args m n =
     (both_true (nat_le fn.params fn.slots) (nat_eq fn.array_params 0) (at_most fn.params fn.slots entry.2.room) (equal fn.array_params 0 (sym none))) in
     let answer = λ (o : Ran). option_map (λ o'. answer_of (reducers_of code) o') o in
     let given = main_frame main.params args no_frame in
-    ap (λ o. answer (go_on (first_went o args) n (λ s. steps code n s))) entry.1
+    ap (λ i. answer (go_on (first_went (slice_get code.funcs i) args) n (λ s. steps code n s))) (main_place program fine.main)
+    ∙ ap (λ o. answer (go_on (first_went o args) n (λ s. steps code n s))) entry.1
     ∙ ap (λ w. answer (go_on w n (λ s. steps code n s))) (taken (nat_eq (length args) fn.params && (nat_le fn.params fn.slots && nat_eq fn.array_params 0)) begin Stuck fits)
-    ∙ ap answer ((calls_run code program.functions (lists_of program) small refl refl least (table_of program small fine) (suc n) 0).enters refl main fn entry.2 args [] given many none (bound_main main.params args no_frame fine.ints m) [] main.line n quiet (λ r l u. Some (Done (r.0, no_frame) l u)) (omega arith) (λ v g arrays l u gives_int gives le. refl))
-    ∙ same_answer program (call (suc n) 0 program.functions Deeper main (main_frame main.params args no_frame) main.line n)
+    ∙ ap answer ((calls_run code fs lists small least table refl refl (suc n) 0).enters Deeper refl main fn entry.2 args [] given many none (bound_main main.params args no_frame fine.ints m) [] main.line n quiet (λ r l u. Some (Done (r.0, no_frame) l u)) (omega arith) (λ v g arrays l u gives_int gives le. refl))
+    ∙ same_answer program (call (suc n) 0 fs Deeper main (main_frame main.params args no_frame) main.line n)
 
 -- main takes as many arguments as the program's
-pub same_params : (program : Program) → length (code_of program).instrs ≤ most_jump → ProgramFine program (code_of program).passed → main_params (code_of program) ≡ main_count program
+pub same_params : (program : Program) → length (code_of program).instrs ≤ most_jump → ProgramFine (lowered program) (lowered_lists program) (tables_in (code_of program)) → main_params (code_of program) ≡ main_count (lowered program)
 same_params program small fine =
-    let entry = (table_of program small fine).entry main_name fine.main in
-    ap params_of entry.1 ∙ entry.2.params ∙ (main_locals (function_of main_name program.functions).params fine.ints).0
+    let entry = (table_of program fine).entry main_name fine.main in
+    ap (λ i. params_of (slice_get (code_of program).funcs i)) (main_place program fine.main)
+    ∙ ap params_of entry.1 ∙ entry.2.params ∙ (main_locals (function_of main_name (lowered program).functions).params fine.ints).0

@@ -1,21 +1,36 @@
 -- Which slots may be empty where certain names are taken.
-use Rattle.std.proofs.Common.{◌≡◌, ◌≢◌, ℕ, zero, suc, ◌+◌, ◌<◌, ◌≤◌, Option, Some, None, not, length-append, List, [], ◌∷◌, ◌++◌, length, Bool, true, false, ◌&&◌, if◌then◌else◌, refl, sym, ap, ◌∙◌, subst, arith, true≢false}
+use Rattle.std.proofs.Common.{◌≡◌, ◌≢◌, ℕ, zero, suc, ◌+◌, ◌<◌, ◌≤◌, Option, Some, None, not, length-append, List, [], ◌∷◌, ◌++◌, length, Bool, true, false, ◌&&◌, if◌then◌else◌, refl, sym, ap, ◌∙◌, subst, arith, true≢false, ◌⊎◌, inl, inr}
 use Rattle.std.specs.Prelude.{slice_get, slice_set, nat_eq}
 use Rattle.std.proofs.lemmas.Bool.Decides.{nat_tests}
 use Rattle.std.proofs.lemmas.List.{append-nil}
 use Rattle.std.proofs.lemmas.Slice.Eq.{bytes_eq-Decides}
 use Rattle.cw_model.specs.Syntax.{Name}
 use Rattle.cw_model.specs.Names.{same_name, is_among}
-use Rattle.cw_model.specs.Ownership.{CutOf, Taken, is_taken}
+use Rattle.cw_model.specs.Ownership.{Holder, CutOf, Taken, is_taken}
 use Rattle.cw_types.specs.Resolved.{Locals, slot_of, with_int, with_array}
 use Rattle.cw_code.specs.declared.code.Halves.{Halves}
 use Rattle.cw_code.specs.Fits.{Row, Outer, Shape, empty_rows, gone_rows, is_full_in, full_in_all, has_slot, has_array, is_no_part, none_empty, Covers, CoversEach}
+use Rattle.cw_gen.specs.Emit.{halves_of}
 use Rattle.cw_gen.proofs.Takens.{holds, not_held}
 use Rattle.cw_gen.proofs.Decided.{both_true}
 use Rattle.cw_gen.proofs.Fine.{IsUsable, Room}
 use Rattle.cw_gen.proofs.Names.{get-other, slots_apart, slot_within, slot_stays, among_before}
 use Rattle.cw_gen.proofs.Scopes.{extended, same_locals}
-use Rattle.cw_gen.proofs.Staying.{In, in_taken}
+
+-- it is one of what is taken
+abbrev pub In : (Name × Holder) → Taken → Type 0
+In t [] = ⊥
+In t (u ∷ us) = (u ≡ t) ⊎ In t us
+
+-- then its name is taken
+pub in_taken : (x : Name) (k : Holder) (us : Taken) → In (x, k) us → is_taken us x ≡ true
+in_taken x k [] h = absurd h
+in_taken x k (u ∷ us) (inl e) = ap (λ b. if b then true else is_taken us x) (ap (λ (t : Name × Holder). same_name x t.0) e ∙ (bytes_eq-Decides x x).1 refl)
+in_taken x k (u ∷ us) (inr h) = test (same_name x u.0) (in_taken x k us h)
+  where
+    test : (b : Bool) → is_taken us x ≡ true → (if b then true else is_taken us x) ≡ true
+    test true e = refl
+    test false e = e
 
 -- for each of so many slots whether a spawn of the sync block at this depth holds the name that lies there
 abbrev pub row : ℕ → (depth : ℕ) → List Name → Taken → Row
@@ -251,6 +266,10 @@ over_int size opened locals x taken n m = (covers_declared size.ints (depth_in o
 
 pub over_array : (size : Room) (opened : Opened) (locals : Locals) (x : Name) (taken : Taken) (n m : ℕ) → Over (shape_at size opened (with_array x locals) taken n) (shape_at size opened locals taken m)
 over_array size opened locals x taken n m = (covers_itself (row size.ints (depth_in opened) locals.ints taken), covers_declared size.arrays (depth_in opened) locals.arrays x taken, outers_array size opened locals x taken)
+
+-- the slots of a cut of an array, where these names are known
+abbrev pub halves_at : Locals → (array : Name) → Halves
+halves_at locals a = halves_of (slot_of a locals.arrays) (length locals.arrays) (suc (length locals.arrays))
 
 -- a cut that is open: its array is a name that is taken, and its parts are names that are known
 pub record CutAt (h : Halves) (locals : Locals) (taken : Taken) : Type 0 where

@@ -5,7 +5,9 @@ use Rattle.cw_model.specs.Syntax.{Name, Stmt, Declare, DeclareArray, IfElse, Blo
 use Rattle.cw_model.specs.Names.{same_name, is_among}
 use Rattle.cw_model.specs.Typing.{surely_returns, block_returns}
 use Rattle.cw_model.specs.Ownership.{own_names}
-use Rattle.cw_types.specs.Resolved.{Lists, Locals, with_int, with_array, locals_after, resolved_stmt, resolved_block, plain_stmt, plain_block}
+use Rattle.cw_types.specs.Resolved.{Lists, Locals, with_int, with_array, locals_after}
+use Rattle.cw_loops.specs.Slotted.{slotted_stmt, slotted_block}
+use Rattle.cw_gen.specs.Emit.{stmt_returns, returns}
 
 -- the locals that are known after the statements of a block
 abbrev pub locals_after_all : Locals → Block → Locals
@@ -70,12 +72,12 @@ names_extend (Then line s b) locals =
 
 -- looking names up changes no return
 mutual
-  stmt_same : (lists : Lists) (locals : Locals) (s : Stmt) → surely_returns (plain_stmt (resolved_stmt lists locals s)) ≡ surely_returns s
+  stmt_same : (lists : Lists) (locals : Locals) (s : Stmt) → stmt_returns (slotted_stmt lists locals s) ≡ surely_returns s
   stmt_same lists locals (IfElse e b c) =
-      ap (λ r. r && block_returns (plain_block (resolved_block lists locals c))) (returns_same lists locals b) ∙ ap (λ r. block_returns b && r) (returns_same lists locals c)
+      ap (λ r. r && returns (slotted_block lists locals c)) (returns_same lists locals b) ∙ ap (λ r. block_returns b && r) (returns_same lists locals c)
   stmt_same lists locals _ = refl
 
-  pub returns_same : (lists : Lists) (locals : Locals) (b : Block) → block_returns (plain_block (resolved_block lists locals b)) ≡ block_returns b
+  pub returns_same : (lists : Lists) (locals : Locals) (b : Block) → returns (slotted_block lists locals b) ≡ block_returns b
   returns_same lists locals End = refl
   returns_same lists locals (Then line s End) = stmt_same lists locals s
   returns_same lists locals (Then line s (Then line' s' b)) = returns_same lists (locals_after locals s) (Then line' s' b)

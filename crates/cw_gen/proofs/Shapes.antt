@@ -1,18 +1,22 @@
 -- What the places of generated code find.
 use Rattle.std.proofs.Common.{◌≡◌, ℕ, suc, ◌+◌, List, [], ◌∷◌, ◌++◌, length, Bool, true, false, if◌then◌else◌, Option, Some, None, refl, sym, ap, ◌∙◌, subst, arith, length-append}
-use Rattle.cw_model.specs.Syntax.{Expr, Number, Variable, Element, Length, Negative, Not, Binary, Stmt, Declare, DeclareArray, Assign, AssignElement, AddTo, Call, Sync, If, IfElse, While, Scope, Cut, Region, Print, Return, Block, End, Then, Param, Function}
+use Rattle.std.specs.Prelude.{map}
+use Rattle.cw_model.specs.Syntax.{Name, Expr, Number, Variable, Element, Length, Negative, Not, Binary, Stmt, Declare, DeclareArray, Assign, AssignElement, AddTo, Call, Start, Begin, Sync, If, IfElse, While, Scope, Cut, Region, Print, Return, Block, End, Then, Param, Function}
 use Rattle.cw_model.specs.Meaning.{function_of}
-use Rattle.cw_model.specs.Typing.{Returns, Nowhere, WithInt, Alone, block_returns}
-use Rattle.cw_model.specs.Typing as typing
-use Rattle.cw_model.specs.Ownership.{CutOf, Taken, taken_after, taken_after_all}
-use Rattle.cw_types.specs.Resolved.{Lists, Locals, with_array, locals_after, resolved_argument, resolved_block, plain_block}
+use Rattle.cw_model.specs.Typing.{Returns, Nowhere, block_returns}
+use Rattle.cw_model.specs.Ownership.{CutOf, Taken}
+use Rattle.cw_types.specs.Resolved.{Lists, Locals, slot_of, with_array, locals_after}
+use Rattle.cw_loops.specs.Slotted.{slotted_argument, slotted_block}
 use Rattle.cw_code.specs.declared.code.Instr.TheVariants as instr
 use Rattle.cw_code.specs.Fits.{Shape}
-use Rattle.cw_gen.specs.Emit.{past, emitted_over, emitted_arg}
+use Rattle.cw_gen.specs.Emit as emit
+use Rattle.cw_gen.specs.Emit.{Tables, first_list, past, emitted_over, emitted_arg, emitted_loads}
+use Rattle.cw_gen.proofs.Held.{held_after, held_after_all}
 use Rattle.cw_gen.proofs.Fine.{Room, ArgFine, ArgsFine, StmtFine, BlockFine}
 use Rattle.cw_gen.proofs.Scopes.{locals_after_all}
-use Rattle.cw_gen.proofs.Laws.{expr_code, args_code, stmt_code, block_code, arg_code, array_code}
-use Rattle.cw_gen.proofs.Cutting.{cut_halves}
+use Rattle.cw_gen.proofs.Texts.{expr_code, args_code, stmt_code, block_code}
+use Rattle.cw_gen.proofs.Codes.{arg_code, array_code}
+use Rattle.cw_gen.proofs.Rows.{halves_at}
 pub use Rattle.cw_gen.proofs.Rows.{Opened, depth_in, shape_at}
 
 abbrev pub Shapes : Type 0
@@ -53,10 +57,24 @@ reached returns s = if returns then None else Some s
 
 -- as a block ends
 abbrev pub end_shape : List Function → (size : Room) (opened : Opened) → Locals → Taken → Block → Shape
-end_shape fs size opened locals taken b = shape_at size opened (locals_after_all locals b) (taken_after_all fs (depth_in opened) b taken) 0
+end_shape fs size opened locals taken b = shape_at size opened (locals_after_all locals b) (held_after_all fs (depth_in opened) b taken) 0
 
 abbrev pub valued_shapes : (ℕ → Shape) → Expr → Shapes
 valued_shapes made e = expr_shapes made 0 e ++ Some (made 1) ∷ []
+
+-- the integers that a first call takes along
+abbrev pub loads_shapes : (ℕ → Shape) → ℕ → List Name → Shapes
+loads_shapes made n [] = []
+loads_shapes made n (x ∷ xs) = Some (made n) ∷ loads_shapes made (n + 1) xs
+
+-- how many operands they leave
+abbrev pub loads_after : ℕ → List Name → ℕ
+loads_after n [] = n
+loads_after n (x ∷ xs) = loads_after (n + 1) xs
+
+-- the first call of a loop's function
+abbrev pub range_shapes : (ℕ → Shape) → (from to : Expr) → List Name → Shapes
+range_shapes made from to captured = expr_shapes made 0 from ++ (expr_shapes made 1 to ++ (loads_shapes made 2 captured ++ Some (made (loads_after 2 captured)) ∷ []))
 
 abbrev mutual
   pub stmt_shapes : List Function → (size : Room) (opened : Opened) → Locals → Taken → Stmt → Shapes
@@ -68,20 +86,22 @@ abbrev mutual
   stmt_shapes fs size opened locals taken (AddTo s e) = valued_shapes (shape_at size opened locals taken) e
   stmt_shapes fs size opened locals taken (Print e) = valued_shapes (shape_at size opened locals taken) e
   stmt_shapes fs size opened locals taken (Call kind site target f es) = args_shapes (shape_at size opened locals taken) 0 (function_of f fs).params es ++ Some (shape_at size opened locals taken (args_after 0 (function_of f fs).params es)) ∷ []
+  stmt_shapes fs size opened locals taken (Start kind f es) = args_shapes (shape_at size opened locals taken) 0 (function_of f fs).params es ++ Some (shape_at size opened locals taken (args_after 0 (function_of f fs).params es)) ∷ []
+  stmt_shapes fs size opened locals taken (Begin f from to captured over) = range_shapes (shape_at size opened locals taken) from to captured
   stmt_shapes fs size opened locals taken Sync = Some (shape_at size opened locals taken 0) ∷ []
   stmt_shapes fs size opened locals taken (If e b) = expr_shapes (shape_at size opened locals taken) 0 e ++ Some (shape_at size opened locals taken 1) ∷ block_shapes fs size opened locals taken b
   stmt_shapes fs size opened locals taken (IfElse e b c) =
       expr_shapes (shape_at size opened locals taken) 0 e
       ++ (Some (shape_at size opened locals taken 1) ∷ (block_shapes fs size opened locals taken b ++ reached (block_returns b) (end_shape fs size opened locals taken b) ∷ []) ++ block_shapes fs size opened locals taken c)
   stmt_shapes fs size opened locals taken (While e b) =
-      let all = taken_after fs (depth_in opened) (While e b) taken in
+      let all = held_after fs (depth_in opened) (While e b) taken in
       expr_shapes (shape_at size opened locals all) 0 e
       ++ Some (shape_at size opened locals all 1) ∷ (block_shapes fs size opened locals all b ++ reached (block_returns b) (end_shape fs size opened locals all b) ∷ [])
   stmt_shapes fs size opened locals taken (Scope b) =
       Some (shape_at size opened locals taken 0) ∷ (block_shapes fs size (None ∷ opened) locals taken b ++ reached (block_returns b) (end_shape fs size (None ∷ opened) locals taken b) ∷ [])
   stmt_shapes fs size opened locals taken (Cut a e l r b) =
       let inner = with_array r (with_array l locals) in
-      let inside = Some (cut_halves locals a l) ∷ opened in
+      let inside = Some (halves_at locals a) ∷ opened in
       expr_shapes (shape_at size opened locals taken) 0 e
       ++ Some (shape_at size opened locals taken 1) ∷ (block_shapes fs size inside inner ((a, CutOf) ∷ taken) b ++ reached (block_returns b) (end_shape fs size inside inner ((a, CutOf) ∷ taken) b) ∷ [])
   stmt_shapes fs size opened locals taken (Region tag b) =
@@ -92,7 +112,7 @@ abbrev mutual
 
   pub block_shapes : List Function → (size : Room) (opened : Opened) → Locals → Taken → Block → Shapes
   block_shapes fs size opened locals taken End = []
-  block_shapes fs size opened locals taken (Then line s b) = stmt_shapes fs size opened locals taken s ++ block_shapes fs size opened (locals_after locals s) (taken_after fs (depth_in opened) s taken) b
+  block_shapes fs size opened locals taken (Then line s b) = stmt_shapes fs size opened locals taken s ++ block_shapes fs size opened (locals_after locals s) (held_after fs (depth_in opened) s taken) b
 
 last_one : {X Y : Type 0} (a : List X) (x : X) (b : List Y) (y : Y) → length a ≡ length b → length (a ++ x ∷ []) ≡ length (b ++ y ∷ [])
 last_one a x b y e = length-append a (x ∷ []) ∙ ap (λ k. k + 1) e ∙ sym (length-append b (y ∷ []))
@@ -118,7 +138,7 @@ expr_as_many made n locals line (Binary operator d e) =
 both_as_many : {X Y : Type 0} (a b : List X) (c d : List Y) → length a ≡ length c → length b ≡ length d → length (a ++ b) ≡ length (c ++ d)
 both_as_many a b c d e e' = length-append a b ∙ ap (λ k. k + length b) e ∙ ap (λ k. length c + k) e' ∙ sym (length-append c d)
 
-pub arg_as_many : (made : ℕ → Shape) (n : ℕ) (locals : Locals) (taken : Taken) (line : ℕ) (b : Bool) (e : Expr) → ArgFine b locals taken e → length (arg_shapes b made n e) ≡ length (emitted_arg line (resolved_argument locals e))
+pub arg_as_many : (made : ℕ → Shape) (n : ℕ) (locals : Locals) (taken : Taken) (line : ℕ) (b : Bool) (e : Expr) → ArgFine b locals taken e → length (arg_shapes b made n e) ≡ length (emitted_arg line (slotted_argument locals e))
 arg_as_many made n locals taken line true e fine = sym (ap length (array_code locals taken line e fine))
 arg_as_many made n locals taken line false e fine = expr_as_many made n locals line e ∙ sym (ap length (arg_code locals line e fine.1))
 
@@ -127,12 +147,20 @@ args_as_many made n locals taken line [] [] fine = refl
 args_as_many made n locals taken line [] (e ∷ es) fine = absurd fine
 args_as_many made n locals taken line (p ∷ ps) [] fine = absurd fine
 args_as_many made n locals taken line (p ∷ ps) (e ∷ es) fine =
-    both_as_many (arg_shapes p.is_array made n e) (args_shapes made (after_arg p.is_array n) ps es) (emitted_arg line (resolved_argument locals e)) (args_code locals line es)
+    both_as_many (arg_shapes p.is_array made n e) (args_shapes made (after_arg p.is_array n) ps es) (emitted_arg line (slotted_argument locals e)) (args_code locals line es)
     (arg_as_many made n locals taken line p.is_array e fine.0) (args_as_many made (after_arg p.is_array n) locals taken line ps es fine.1)
 
-module _ (fs : List Function) (lists : Lists) (passed : List (List ℕ)) (size : Room) where
+-- as many integers are taken along as are loaded
+pub loads_as_many : (made : ℕ → Shape) (n : ℕ) (locals : Locals) (xs : List Name) → length (loads_shapes made n xs) ≡ length (emitted_loads (map (λ x. slot_of x locals.ints) xs))
+loads_as_many made n locals [] = refl
+loads_as_many made n locals (x ∷ xs) = ap suc (loads_as_many made (n + 1) locals xs)
+
+module _ (fs : List Function) (lists : Lists) (tables : Tables) (size : Room) where
+  abbrev first : ℕ
+  first = first_list tables.sites
+
   mutual
-    pub stmt_as_many : (returns : Returns) (level : ℕ) (opened : Opened) (locals : Locals) (taken : Taken) (line : ℕ) (s : Stmt) → level ≡ depth_in opened → StmtFine fs lists passed size returns level locals taken s → length (stmt_shapes fs size opened locals taken s) ≡ length (stmt_code lists locals line s)
+    pub stmt_as_many : (returns : Returns) (level : ℕ) (opened : Opened) (locals : Locals) (taken : Taken) (line : ℕ) (s : Stmt) → level ≡ depth_in opened → StmtFine fs lists tables size returns level locals taken s → length (stmt_shapes fs size opened locals taken s) ≡ length (stmt_code first lists locals line s)
     stmt_as_many returns level opened locals taken line (Declare x e) at fine = last_one (expr_shapes _ 0 e) _ (expr_code locals line e) _ (expr_as_many _ 0 locals line e)
     stmt_as_many returns level opened locals taken line (DeclareArray x e) at fine = last_one (expr_shapes _ 0 e) _ (expr_code locals line e) _ (expr_as_many _ 0 locals line e)
     stmt_as_many returns level opened locals taken line (AssignElement x i e) at fine =
@@ -141,35 +169,41 @@ module _ (fs : List Function) (lists : Lists) (passed : List (List ℕ)) (size :
     stmt_as_many returns level opened locals taken line (AddTo s e) at fine = last_one (expr_shapes _ 0 e) _ (expr_code locals line e) _ (expr_as_many _ 0 locals line e)
     stmt_as_many returns level opened locals taken line (Print e) at fine = last_one (expr_shapes _ 0 e) _ (expr_code locals line e) _ (expr_as_many _ 0 locals line e)
     stmt_as_many returns level opened locals taken line (Call kind site target f es) at fine = last_one (args_shapes _ 0 (function_of f fs).params es) _ (args_code locals line es) _ (args_as_many _ 0 locals taken line (function_of f fs).params es fine.2)
+    stmt_as_many returns level opened locals taken line (Start kind f es) at fine = last_one (args_shapes _ 0 (function_of f fs).params es) _ (args_code locals line es) _ (args_as_many _ 0 locals taken line (function_of f fs).params es fine.2)
+    stmt_as_many returns level opened locals taken line (Begin f from to captured over) at fine =
+        let slots = map (λ x. slot_of x locals.ints) captured in
+        both_as_many (expr_shapes _ 0 from) _ (expr_code locals line from) _ (expr_as_many _ 0 locals line from)
+        (both_as_many (expr_shapes _ 1 to) _ (expr_code locals line to) _ (expr_as_many _ 1 locals line to)
+        (last_one (loads_shapes _ 2 captured) _ (emitted_loads slots) _ (loads_as_many _ 2 locals captured)))
     stmt_as_many returns level opened locals taken line Sync at fine = refl
     stmt_as_many returns level opened locals taken line (If e b) at fine =
         both_as_many (expr_shapes _ 0 e) _ (expr_code locals line e) _ (expr_as_many _ 0 locals line e) (ap suc (block_as_many returns level opened locals taken b at fine.1))
     stmt_as_many returns level opened locals taken line (IfElse e b c) at fine =
-        let r = typing.block_returns (plain_block (resolved_block lists locals b)) in
-        let other = block_code lists locals c in
+        let r = emit.returns (slotted_block lists locals b) in
+        let other = block_code first lists locals c in
         both_as_many (expr_shapes _ 0 e) _ (expr_code locals line e) _ (expr_as_many _ 0 locals line e)
-        (both_as_many (Some (shape_at size opened locals taken 1) ∷ (block_shapes fs size opened locals taken b ++ reached (block_returns b) (end_shape fs size opened locals taken b) ∷ [])) (block_shapes fs size opened locals taken c) (emitted_over (block_code lists locals b ++ instr.Skip (past r (length other)) ∷ [])) other
-        (ap suc (last_one (block_shapes fs size opened locals taken b) _ (block_code lists locals b) _ (block_as_many returns level opened locals taken b at fine.1.0))) (block_as_many returns level opened locals taken c at fine.2.0))
+        (both_as_many (Some (shape_at size opened locals taken 1) ∷ (block_shapes fs size opened locals taken b ++ reached (block_returns b) (end_shape fs size opened locals taken b) ∷ [])) (block_shapes fs size opened locals taken c) (emitted_over (block_code first lists locals b ++ instr.Skip (past r (length other)) ∷ [])) other
+        (ap suc (last_one (block_shapes fs size opened locals taken b) _ (block_code first lists locals b) _ (block_as_many returns level opened locals taken b at fine.1.0))) (block_as_many returns level opened locals taken c at fine.2.0))
     stmt_as_many returns level opened locals taken line (While e b) at fine =
-        let all = taken_after fs (depth_in opened) (While e b) taken in
-        let fine' : BlockFine fs lists passed size returns level locals all b = subst (λ n. BlockFine fs lists passed size returns level locals (taken_after fs n (While e b) taken) b) at fine.1 in
+        let all = held_after fs (depth_in opened) (While e b) taken in
+        let fine' : BlockFine fs lists tables size returns level locals all b = subst (λ n. BlockFine fs lists tables size returns level locals (held_after fs n (While e b) taken) b) at fine.1 in
         both_as_many (expr_shapes _ 0 e) _ (expr_code locals line e) _ (expr_as_many _ 0 locals line e)
-        (ap suc (last_one (block_shapes fs size opened locals all b) _ (block_code lists locals b) _ (block_as_many returns level opened locals all b at fine')))
+        (ap suc (last_one (block_shapes fs size opened locals all b) _ (block_code first lists locals b) _ (block_as_many returns level opened locals all b at fine')))
     stmt_as_many returns level opened locals taken line (Scope b) at fine =
-        ap suc (last_one (block_shapes fs size (None ∷ opened) locals taken b) _ (block_code lists locals b) _ (block_as_many Nowhere (level + 1) (None ∷ opened) locals taken b (omega (arith, at)) fine.0))
+        ap suc (last_one (block_shapes fs size (None ∷ opened) locals taken b) _ (block_code first lists locals b) _ (block_as_many Nowhere (level + 1) (None ∷ opened) locals taken b (omega (arith, at)) fine.0))
     stmt_as_many returns level opened locals taken line (Cut a e l r b) at fine =
         let inner = with_array r (with_array l locals) in
-        let inside = Some (cut_halves locals a l) ∷ opened in
+        let inside = Some (halves_at locals a) ∷ opened in
         both_as_many (expr_shapes _ 0 e) _ (expr_code locals line e) _ (expr_as_many _ 0 locals line e)
-        (ap suc (last_one (block_shapes fs size inside inner ((a, CutOf) ∷ taken) b) _ (block_code lists inner b) _ (block_as_many Nowhere (level + 1) inside inner ((a, CutOf) ∷ taken) b (omega (arith, at)) fine.3)))
+        (ap suc (last_one (block_shapes fs size inside inner ((a, CutOf) ∷ taken) b) _ (block_code first lists inner b) _ (block_as_many Nowhere (level + 1) inside inner ((a, CutOf) ∷ taken) b (omega (arith, at)) fine.3)))
     stmt_as_many returns level opened locals taken line (Region tag b) at fine =
-        ap suc (last_one (block_shapes fs size (None ∷ opened) locals taken b) _ (block_code lists locals b) _ (block_as_many Nowhere (level + 1) (None ∷ opened) locals taken b (omega (arith, at)) fine.1))
+        ap suc (last_one (block_shapes fs size (None ∷ opened) locals taken b) _ (block_code first lists locals b) _ (block_as_many Nowhere (level + 1) (None ∷ opened) locals taken b (omega (arith, at)) fine.1))
     stmt_as_many returns level opened locals taken line (Return None) at fine = refl
     stmt_as_many returns level opened locals taken line (Return (Some e)) at fine = last_one (expr_shapes _ 0 e) _ (expr_code locals line e) _ (expr_as_many _ 0 locals line e)
     stmt_as_many returns level opened locals taken line _ at fine = absurd fine
 
-    pub block_as_many : (returns : Returns) (level : ℕ) (opened : Opened) (locals : Locals) (taken : Taken) (b : Block) → level ≡ depth_in opened → BlockFine fs lists passed size returns level locals taken b → length (block_shapes fs size opened locals taken b) ≡ length (block_code lists locals b)
+    pub block_as_many : (returns : Returns) (level : ℕ) (opened : Opened) (locals : Locals) (taken : Taken) (b : Block) → level ≡ depth_in opened → BlockFine fs lists tables size returns level locals taken b → length (block_shapes fs size opened locals taken b) ≡ length (block_code first lists locals b)
     block_as_many returns level opened locals taken End at fine = refl
     block_as_many returns level opened locals taken (Then line s b) at fine =
-        both_as_many (stmt_shapes fs size opened locals taken s) _ (stmt_code lists locals line s) _ (stmt_as_many returns level opened locals taken line s at fine.0)
-        (block_as_many returns level opened (locals_after locals s) (taken_after fs (depth_in opened) s taken) b at (subst (λ n. BlockFine fs lists passed size returns level (locals_after locals s) (taken_after fs n s taken) b) at fine.1))
+        both_as_many (stmt_shapes fs size opened locals taken s) _ (stmt_code first lists locals line s) _ (stmt_as_many returns level opened locals taken line s at fine.0)
+        (block_as_many returns level opened (locals_after locals s) (held_after fs (depth_in opened) s taken) b at (subst (λ n. BlockFine fs lists tables size returns level (locals_after locals s) (held_after fs n s taken) b) at fine.1))

@@ -1,101 +1,138 @@
--- What the generator answers, from the code that was emitted.
-use Rattle.std.proofs.Common.{◌≡◌, ℕ, ◌≤◌, Bool, ◌&&◌, true, false, length, [], ◌∷◌, ◌++◌, List, refl, sym, ap, ◌∙◌, subst, arith}
-use Rattle.std.specs.Prelude.{nat_le}
+-- What the generator answers, from the code that was emitted and what is proved of it.
+use Rattle.std.proofs.Common.{◌≡◌, ℕ, ◌≤◌, ◌<◌, Bool, true, false, length, [], ◌∷◌, ◌++◌, List, Some, refl, sym, ap, ◌∙◌, subst, arith}
+use Rattle.std.specs.Prelude.{nat_le, map, ℤ}
 use Rattle.std.proofs.lemmas.Bool.Decides.{nat_tests}
 use Rattle.std.proofs.lemmas.List.{length-map}
 use Rattle.cw_model.specs.Limits.{most_instructions, most_call_statements}
 use Rattle.cw_model.specs.Lines.{unless, IsLeastLine}
-use Rattle.cw_model.specs.Sites.{call_sites}
-use Rattle.cw_model.specs.Sizes.{static_size, call_count, program_faults}
-use Rattle.cw_model.specs.Syntax.{Program, Function, Expr, Block, While}
+use Rattle.cw_model.specs.Sites.{call_sites, are_numbered}
+use Rattle.cw_model.specs.Sizes.{static_size, call_count, limit_faults, loop_faults, program_faults}
+use Rattle.cw_model.specs.Syntax.{Program}
 use Rattle.cw_model.specs.Typing.{type_faults}
-use Rattle.cw_model.specs.Ownership.{Taken, IsLeastClosed, taken_after, ownership_faults}
-use Rattle.cw_model.specs.WhileLaw.{one_turn}
+use Rattle.cw_model.specs.Ownership.{ownership_faults}
+use Rattle.cw_model.specs.Answers.{main_name, serial_answer}
+use Rattle.cw_model.specs.WhileLaw.{WhilesAreLeast}
 use Rattle.cw_model.proofs.Lowest.{least_line}
-use Rattle.cw_types.specs.declared.tree.Tree.{Tree}
-use Rattle.cw_model.specs.Answers.{main_name}
+use Rattle.cw_types.specs.declared.tree.Tree as source
 use Rattle.cw_types.specs.Resolved.{lists_of, resolved}
 use Rattle.cw_types.specs.Slots.{is_resolved}
-use Rattle.cw_types.specs.Bounds.{is_fitting}
 use Rattle.cw_types.specs.View.{resolved_of, program_of}
 use Rattle.cw_code.specs.declared.code.Code as declared
-use Rattle.cw_code.specs.Code.{Code, code_view, site_view, told_sites}
-use Rattle.cw_gen.specs.Emit.{most_jump, emitted}
-use Rattle.cw_gen.specs.Later.{later_lines}
-use Rattle.cw_model.specs.Sites.{are_numbered}
-use Rattle.cw_gen.specs.Generates.{Generates}
-use Rattle.cw_gen.proofs.Accepted.{accepted}
+use Rattle.cw_code.specs.declared.code.Site.{Site}
+use Rattle.cw_code.specs.Code.{Code, code_view, site_view}
+use Rattle.cw_code.specs.Fits.{are_apart, main_params, Fits}
+use Rattle.cw_code.specs.Run.{code_serial}
+use Rattle.cw_loops.specs.declared.tree.Tree.{Tree}
+use Rattle.cw_loops.specs.Lowered.{lowered}
+use Rattle.cw_loops.specs.LoweringLaws.{IsOwnedSource, OwnedIsLowerable, LoweringKeepsAnswers, LoweringKeepsSize}
+use Rattle.cw_loops.specs.Seen.{functions_of, IsLowered}
+use Rattle.cw_loops.specs.Slotted.{lowered_lists, slotted_functions}
+use Rattle.cw_loops.specs.SourceLike.{is_source_like}
+use Rattle.cw_gen.specs.Emit.{most_jump, emitted_sites_of, emitted}
+use Rattle.cw_gen.specs.Generates.{main_count, Generates}
+use Rattle.cw_gen.proofs.FewFunctions.{few_functions}
 use Rattle.cw_gen.proofs.Counts.{code_count}
 use Rattle.cw_gen.proofs.Fine.{ProgramFine}
-use Rattle.cw_gen.proofs.Program.{code_of, same_run, same_params}
-use Rattle.cw_gen.proofs.FitsWhole.{same_sites, generated_fits}
+use Rattle.cw_gen.proofs.FitsWhole.{generated_fits}
+use Rattle.cw_gen.proofs.FreeTurns.{turns_close}
+use Rattle.cw_gen.proofs.FreeWhole.{functions_free}
+use Rattle.cw_gen.proofs.KnownLowered.{functions_known}
+use Rattle.cw_gen.proofs.ListsStand.{all_pass}
+use Rattle.cw_gen.proofs.Program.{table_of, same_run, same_params}
+use Rattle.cw_gen.proofs.MainKept.{source_main, lowered_main, program_fine}
 use Rattle.cw_gen.proofs.Slotted.{slotted}
-use Rattle.cw_gen.proofs.Tags.{tags_are_told, head_is}
-use Rattle.cw_gen.proofs.Decided.{first_true}
+use Rattle.cw_gen.proofs.SourceSites.{same_sites, as_many_sites}
+use Rattle.cw_gen.proofs.Tags.{tags_are_told, tags_are_apart, head_is}
+use Rattle.cw_gen.proofs.Texts.{code_of, tables_in}
+
+-- what the code of a lowered program relies on
+abbrev pub Relied : Program → Type 0
+Relied program = ProgramFine (lowered program) (lowered_lists program) (tables_in (code_of program))
+
+-- the code of a program is no longer than its jumps can tell
+abbrev pub IsShort : Program → Type 0
+IsShort program = length (code_of program).instrs ≤ most_jump
 
 -- two limits, each of which counts at line 1
-none_passed : (a b : Bool) → (a && b) ≡ true → unless a 1 ++ unless b 1 ≡ []
-none_passed true true h = refl
-none_passed true false h = cc
-none_passed false b h = cc
+none_passed : (a b : Bool) → a ≡ true → b ≡ true → unless a 1 ++ unless b 1 ≡ []
+none_passed true true h k = refl
+none_passed true false h k = cc
+none_passed false b h k = cc
 
-one_passed : (a b : Bool) → (a && b) ≡ false → IsLeastLine (unless a 1 ++ unless b 1) 1
-one_passed true true h = cc
-one_passed true false h = least_line (1 ∷ []) 1 refl
-one_passed false true h = least_line (1 ∷ []) 1 refl
-one_passed false false h = least_line (1 ∷ 1 ∷ []) 1 refl
+first_passed : (a b : Bool) → a ≡ false → IsLeastLine (unless a 1 ++ unless b 1) 1
+first_passed true b h = cc
+first_passed false true h = least_line (1 ∷ []) 1 refl
+first_passed false false h = least_line (1 ∷ 1 ∷ []) 1 refl
 
--- the static size and the count of call statements are within their limits
-abbrev is_small : Program → Bool
-is_small program = nat_le (static_size program) most_instructions && nat_le (call_count program) most_call_statements
+second_passed : (a b : Bool) → b ≡ false → IsLeastLine (unless a 1 ++ unless b 1) 1
+second_passed a true h = cc
+second_passed true false h = least_line (1 ∷ []) 1 refl
+second_passed false false h = least_line (1 ∷ 1 ∷ []) 1 refl
 
-no_more : (a b c : ℕ) → nat_le a b ≡ true → b ≤ c → a ≤ c
-no_more a b c h le = grind (arith, nat_tests)
+within : (a b : ℕ) → a ≤ b → nat_le a b ≡ true
+within a b h = grind (arith, nat_tests)
 
--- the law of loops
-abbrev pub LeastClosed : Type 0
-LeastClosed = (fs : List Function) (depth : ℕ) (e : Expr) (b : Block) (before : Taken) → IsLeastClosed (one_turn fs depth b) before (taken_after fs depth (While e b) before)
+beyond : (a b : ℕ) → b < a → nat_le a b ≡ false
+beyond a b h = grind (arith, nat_tests)
 
-module _ (least : LeastClosed) (tree : Tree) (made : declared.Code) (is : code_view made ≡ emitted (resolved_of tree)) (slots : is_resolved (resolved_of tree) ≡ true) (fitting : is_fitting (resolved_of tree) ≡ true) (typed : type_faults (program_of tree) ≡ []) (owned : ownership_faults (program_of tree) ≡ []) (now : later_lines (program_of tree) ≡ []) (numbered : are_numbered 0 (call_sites (program_of tree)) ≡ true) where
+-- a source that is lowered, its code, and the laws
+module _ (least : WhilesAreLeast) (lowerable : OwnedIsLowerable) (answers : LoweringKeepsAnswers) (sizes : LoweringKeepsSize) (tree : source.Tree) (bodies : Tree) (slots : is_resolved (resolved_of tree) ≡ true) (typed : type_faults (program_of tree) ≡ []) (owned : ownership_faults (program_of tree) ≡ []) (limits : limit_faults (program_of tree) ≡ []) (few : loop_faults (program_of tree) ≡ []) (lowers : IsLowered tree bodies) (source_like : is_source_like (program_of tree) ≡ true) (numbered : are_numbered 0 (call_sites (program_of tree)) ≡ true) where
   abbrev program : Program
   program = program_of tree
 
+  -- each name of the tree is looked up right
   same_tree : resolved_of tree ≡ resolved program
   same_tree = slotted (resolved_of tree) slots
 
-  fine : ProgramFine program (code_of program).passed
-  fine = accepted program now typed owned (sym (ap is_fitting same_tree) ∙ fitting) numbered
+  owned_source : IsOwnedSource program
+  owned_source = record { typed = typed; owned = owned; source_like = source_like }
 
-  code_is : code_view made ≡ code_of program
-  code_is = is ∙ ap emitted same_tree
+  -- there are as many sites as call statements
+  site_count : (sites : List Site) → map site_view sites ≡ emitted_sites_of (resolved_of tree).functions → length sites ≡ call_count program
+  site_count sites is = sym (length-map sites site_view) ∙ ap length is ∙ ap (λ t. length (emitted_sites_of t.functions)) same_tree ∙ as_many_sites program
 
-  site_count : length made.sites.items ≡ call_count program
-  site_count =
-      sym (length-map made.sites.items (λ s. site_view s))
-      ∙ sym (length-map (code_view made).sites (λ s. s.told))
-      ∙ ap (λ (c : Code). length (told_sites c)) code_is
-      ∙ ap length (same_sites program fine)
+  -- the program has more call statements than the limit
+  pub too_many_sites : (sites : List Site) → map site_view sites ≡ emitted_sites_of (resolved_of tree).functions → most_call_statements < length sites → IsLeastLine (program_faults program) 1
+  too_many_sites sites is h =
+      let count = site_count sites is in
+      second_passed (nat_le (static_size program) most_instructions) (nat_le (call_count program) most_call_statements) (beyond (call_count program) most_call_statements (omega (arith, count, h)))
 
-  counts : (nat_le (length made.instrs.items) most_instructions && nat_le (length made.sites.items) most_call_statements) ≡ is_small program
-  counts =
-      ap (λ k. nat_le k most_instructions && nat_le (length made.sites.items) most_call_statements) (ap (λ (c : Code). length c.instrs) code_is ∙ code_count program fine)
-      ∙ ap (λ k. nat_le (static_size program) most_instructions && nat_le k most_call_statements) site_count
+  module _ (sites : List Site) (sites_are : map site_view sites ≡ emitted_sites_of (resolved_of tree).functions) (few_sites : length sites ≤ most_call_statements) (made : declared.Code) (is : code_view made ≡ emitted (resolved_of tree) (functions_of tree bodies)) where
+    few_calls : length (call_sites program) ≤ most_call_statements
+    few_calls = omega (arith, site_count sites sites_are, few_sites)
 
-  pub too_large : (nat_le (length made.instrs.items) most_instructions && nat_le (length made.sites.items) most_call_statements) ≡ false → IsLeastLine (program_faults program) 1
-  too_large h = one_passed (nat_le (static_size program) most_instructions) (nat_le (call_count program) most_call_statements) (sym counts ∙ h)
+    -- what the code relies on
+    fine : Relied program
+    fine =
+        program_fine program owned_source numbered (functions_known program owned_source (lowerable program owned_source)) (functions_free program least owned_source)
+        (all_pass program owned_source numbered few_calls (few_functions program (record { limits = limits; loops = few })) (as_many_sites program))
 
-  pub generated : (nat_le (length made.instrs.items) most_instructions && nat_le (length made.sites.items) most_call_statements) ≡ true → Generates program (code_view made)
-  generated h =
-      let within = nat_le (static_size program) most_instructions in
-      let small : length (code_of program).instrs ≤ most_jump = no_more (length (code_of program).instrs) most_instructions most_jump (ap (λ k. nat_le k most_instructions) (code_count program fine) ∙ first_true within (nat_le (call_count program) most_call_statements) (sym counts ∙ h)) (omega arith) in
-      let closes = λ (level : ℕ) (e : Expr) (b : Block) (before : Taken). least program.functions level e b before in
-      subst (λ c. Generates program c) (sym code_is) (record {
-        serial = same_run program small closes fine;
-        fits = generated_fits program small closes numbered fine;
-        params = same_params program small fine;
-        sites = same_sites program fine;
-        reducers = refl;
-        main_line = head_is (lists_of program) program.functions main_name fine.main;
-        tags = tags_are_told program;
-        small = none_passed within (nat_le (call_count program) most_call_statements) (sym counts ∙ h);
-      })
+    -- the code is that of the program, each name looked up
+    code_is : code_view made ≡ code_of program
+    code_is = is ∙ ap (emitted (resolved_of tree)) (lowers source_like) ∙ ap (λ t. emitted t (slotted_functions program)) same_tree
+
+    -- it is as long as the static size of the source
+    size : length made.instrs.items ≡ static_size program
+    size = ap (λ (c : Code). length c.instrs) code_is ∙ code_count program fine ∙ sizes program owned_source
+
+    -- it has more instructions than the limit
+    pub too_long : most_instructions < length made.instrs.items → IsLeastLine (program_faults program) 1
+    too_long h = first_passed (nat_le (static_size program) most_instructions) (nat_le (call_count program) most_call_statements) (beyond (static_size program) most_instructions (omega (arith, size, h)))
+
+    -- the code is what the generator promises
+    pub generated : length made.instrs.items ≤ most_instructions → Generates program (code_view made)
+    generated h =
+        let closes = turns_close program least in
+        let short : IsShort program = omega (arith, code_count program fine, sizes program owned_source, size, h) in
+        let main = lowered_main program typed in
+        let params = ap length main.params in
+        subst (λ c. Generates program c) (sym code_is) (record {
+          serial = λ args fit enough n. same_run program short closes fine args (enough ∙ sym params) n ∙ ap (λ a. Some a) (answers program owned_source args n fit enough);
+          fits = generated_fits program (source_main program typed) short closes (table_of program fine) fine (tags_are_apart program);
+          params = same_params program short fine ∙ params;
+          sites = same_sites program;
+          main_line = head_is (lists_of program) program.functions main_name (source_main program typed);
+          reducers = refl;
+          tags = tags_are_told program;
+          small = none_passed (nat_le (static_size program) most_instructions) (nat_le (call_count program) most_call_statements) (within (static_size program) most_instructions (omega (arith, size, h))) (within (call_count program) most_call_statements few_calls);
+        })

@@ -8,7 +8,6 @@ use Rattle.cw_model.specs.Syntax.{Name, Stmt, Declare, DeclareArray, Block, End,
 use Rattle.cw_model.specs.Names.{same_name, is_among}
 use Rattle.cw_model.specs.Lines.{unless}
 use Rattle.cw_model.specs.Ownership.{Holder, SpawnIn, CutOf, Taken, is_taken, is_spawn_in, is_cut_of, cut_ended, freed, without, taken_by, own_names, taken_after, taken_after_all, IsLeastClosed, Around, Declared, left_taken, declared_by, known_after, Closing, at_end, owner_faults, owner_faults_in}
-use Rattle.cw_model.specs.WhileLaw.{one_turn}
 use Rattle.cw_gen.proofs.Decided.{first_true, second_true}
 
 -- whether a holder is a spawn of the sync block at a depth, or, where cuts count, a cut
@@ -131,9 +130,9 @@ module _ (cuts : Bool) where
           ∙ ap (λ b. if b then true else holds depth x taken) is
 
   -- what a turn leaves held was held before it
-  pub held_by_turns : (fs : List Function) (depth : ℕ) (b : Block) (before after : Taken) → IsLeastClosed (one_turn fs depth b) before after → (d : ℕ) (x : Name) → holds d x (one_turn fs depth b after) ≡ true → holds d x after ≡ true
-  held_by_turns fs depth b before after least d x h =
-      let c = contains_held d x (one_turn fs depth b after) h in
+  pub held_by_turns : (turn : Taken → Taken) (before after : Taken) → IsLeastClosed turn before after → (d : ℕ) (x : Name) → holds d x (turn after) ≡ true → holds d x after ≡ true
+  held_by_turns turn before after least d x h =
+      let c = contains_held d x (turn after) h in
       held_contained d x c.0 c.1 after (least.closed (x, c.0) c.2)
 
   -- the end of a cut leaves what is held of another name

@@ -1,15 +1,14 @@
 -- What statements of the tree are in the definitions.
-use Rattle.std.proofs.Common.{◌≡◌, ℕ, map, Vec, Global}
-use Rattle.std.specs.Prelude.{option_map}
-use Rattle.cw_types.specs.declared.tree.Call.{Call}
-use Rattle.cw_types.specs.declared.tree.Expr.{Expr}
-use Rattle.cw_types.specs.declared.tree.Line.{Line}
-use Rattle.cw_types.specs.declared.tree.Stmt as tree_stmt
-use Rattle.cw_types.specs.declared.tree.Stmt.TheOpen.{Stmt-F}
-use Rattle.cw_types.specs.declared.tree.Stmt.TheFolds.{fold-roll-Stmt}
-use Rattle.cw_types.specs.declared.tree.Stmt.TheVariants as variant
-use Rattle.cw_types.specs.Resolved as spec
-use Rattle.cw_types.specs.View.{use_of, listed_of, argument_of, expr_of, stmt_of, block_of, stmt_step, line_step}
+use Rattle.std.proofs.Common.{◌≡◌, ℕ, Vec, Global}
+use Rattle.cw_loops.specs.declared.tree.Expr.{Expr}
+use Rattle.cw_loops.specs.declared.tree.Cut.{Cut}
+use Rattle.cw_loops.specs.declared.tree.Line.{Line}
+use Rattle.cw_loops.specs.declared.tree.Stmt as tree_stmt
+use Rattle.cw_loops.specs.declared.tree.Stmt.TheOpen.{Stmt-F}
+use Rattle.cw_loops.specs.declared.tree.Stmt.TheFolds.{fold-roll-Stmt}
+use Rattle.cw_loops.specs.declared.tree.Stmt.TheVariants as variant
+use Rattle.cw_loops.specs.Slotted as spec
+use Rattle.cw_loops.specs.View.{expr_of, stmt_of, block_of, stmt_step, line_step}
 
 pub if_else_is : (e : Expr) (b d : Vec Line Global) → stmt_of (variant.IfElse e b d) ≡ spec.IfElse (expr_of e) (block_of b.items) (block_of d.items)
 unfolding tree_stmt.roll-Stmt denote.Hole.Carrier.roll
@@ -19,6 +18,6 @@ pub while_is : (e : Expr) (b : Vec Line Global) → stmt_of (variant.While e b) 
 unfolding tree_stmt.roll-Stmt denote.Hole.Carrier.roll
 while_is e b = fold-roll-Stmt spec.Stmt (ℕ × spec.Stmt) stmt_step line_step (Stmt-F.While e b)
 
-pub call_is : (c : Call) → stmt_of (variant.Call c) ≡ spec.Call c.kind c.site (option_map use_of c.target) (listed_of c.callee) (map argument_of c.arguments.items)
+pub cut_is : (k : Cut) (b : Vec Line Global) → stmt_of (variant.Cut k b) ≡ spec.Cut k.array (expr_of k.at) k.left k.right (block_of b.items)
 unfolding tree_stmt.roll-Stmt denote.Hole.Carrier.roll
-call_is c = fold-roll-Stmt spec.Stmt (ℕ × spec.Stmt) stmt_step line_step (Stmt-F.Call c)
+cut_is k b = fold-roll-Stmt spec.Stmt (ℕ × spec.Stmt) stmt_step line_step (Stmt-F.Cut k b)

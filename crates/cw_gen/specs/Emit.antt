@@ -1,13 +1,16 @@
--- The code of a program whose names are looked up.
-use Rattle.std.specs.Prelude.{ℕ, ◌+◌, ◌-◌, ◌^◌, Bool, if◌then◌else◌, List, [], ◌∷◌, ◌++◌, length, min, Option, Some, None, slice_get}
+-- The code of a program whose loops are lowered and whose names are looked up.
+use Rattle.std.specs.Prelude.{ℕ, suc, ◌+◌, ◌-◌, ◌*◌, ◌^◌, Bool, true, false, not, ◌&&◌, if◌then◌else◌, List, [], ◌∷◌, ◌++◌, length, map, filter, min, max, replicate, Option, Some, None, slice_get, slice_set}
 use Rattle.cw_model.specs.declared.syntax.CallKind.{CallKind}
+use Rattle.cw_model.specs.declared.syntax.CallKind.TheVariants.{Plain, Spawned}
 use Rattle.cw_model.specs.Sites.{Of}
-use Rattle.cw_model.specs.Typing as typing
-use Rattle.cw_types.specs.Resolved.{Use, Listed, Expr, Number, Variable, Element, Length, Negative, Not, Binary, Argument, Int, Array, Parts, Stmt, Declare, DeclareArray, Assign, AssignElement, AddTo, Call, Sync, If, IfElse, While, Scope, Cut, Region, Print, Return, Block, End, Then, Function, Resolved, locals_of, reducer_names, plain_block}
+use Rattle.cw_types.specs.Resolved.{Listed, Resolved, reducer_names}
+use Rattle.cw_types.specs.Resolved as source
+use Rattle.cw_loops.specs.Slotted.{Expr, Number, Variable, Element, Length, Negative, Not, Binary, Argument, Int, Array, Stmt, Declare, DeclareArray, Assign, AssignElement, AddTo, Call, Start, Begin, Sync, If, IfElse, While, Scope, Cut, Region, Print, Return, Block, End, Then, Function}
 use Rattle.cw_code.specs.declared.code.UnaryOperator.TheVariants as unary
 use Rattle.cw_code.specs.declared.code.BlockKind.{BlockKind}
 use Rattle.cw_code.specs.declared.code.BlockKind.TheVariants as block
 use Rattle.cw_code.specs.declared.code.Callee.{Callee}
+use Rattle.cw_code.specs.declared.code.Inner.{Inner}
 use Rattle.cw_code.specs.declared.code.Func.{Func}
 use Rattle.cw_code.specs.declared.code.Halves.{Halves}
 use Rattle.cw_code.specs.declared.code.Instr.{Instr}
@@ -18,16 +21,26 @@ use Rattle.cw_code.specs.Code.{CodeSite, Code}
 abbrev pub most_jump : ℕ
 most_jump = 2 ^ 32 - 1
 
--- a distance as an instruction tells it; no program within the limits has a greater one
+-- a number as an instruction tells it; no program within the limits has a greater one
 abbrev pub distance : ℕ → ℕ
 distance n = min n most_jump
+
+-- the lists of array slots: the first one, which is no call's, is empty; then each call site has one, at its number; and
+-- from the number `first` on each function has three: that of its first call where it is a loop's, and those of its calls
+-- on the left and on the right half
+abbrev pub whole_list : (first callee : ℕ) → ℕ
+whole_list first callee = distance (first + 3 * callee)
+
+abbrev pub half_list : (first : ℕ) → CallKind → (callee : ℕ) → ℕ
+half_list first Spawned callee = distance (first + 3 * callee + 1)
+half_list first Plain callee = distance (first + 3 * callee + 2)
 
 -- the instructions of an expression in a line, operands from left to right
 abbrev pub emitted_expr : (line : ℕ) → Expr → List Instr
 emitted_expr line (Number n) = instr.Push n ∷ []
-emitted_expr line (Variable u) = instr.Load u.slot ∷ []
-emitted_expr line (Element u e) = emitted_expr line e ++ instr.Element u.slot line ∷ []
-emitted_expr line (Length u) = instr.Length u.slot ∷ []
+emitted_expr line (Variable u) = instr.Load u ∷ []
+emitted_expr line (Element u e) = emitted_expr line e ++ instr.Element u line ∷ []
+emitted_expr line (Length u) = instr.Length u ∷ []
 emitted_expr line (Negative e) = emitted_expr line e ++ instr.Unary unary.Negative line ∷ []
 emitted_expr line (Not e) = emitted_expr line e ++ instr.Unary unary.Not line ∷ []
 emitted_expr line (Binary operator d e) = emitted_expr line d ++ (emitted_expr line e ++ instr.Binary operator line ∷ [])
@@ -42,24 +55,30 @@ abbrev pub emitted_args : (line : ℕ) → List Argument → List Instr
 emitted_args line [] = []
 emitted_args line (e ∷ es) = emitted_arg line e ++ emitted_args line es
 
--- the slot that takes a result, if one does
-abbrev pub slot_in : Option Use → Option ℕ
-slot_in None = None
-slot_in (Some u) = Some u.slot
+-- the integers in these slots
+abbrev pub emitted_loads : List ℕ → List Instr
+emitted_loads slots = map (λ u. instr.Load u) slots
 
 -- the slots of the arrays among arguments, in order
 abbrev pub passed_in : List Argument → List ℕ
 passed_in [] = []
 passed_in (Int e ∷ es) = passed_in es
-passed_in (Array u ∷ es) = u.slot ∷ passed_in es
+passed_in (Array u ∷ es) = u ∷ passed_in es
 
 -- what the instruction of a call carries; its list of array slots is the one at the number of its site
-abbrev pub callee_of : (line site : ℕ) → Option Use → Listed → Callee
-callee_of line site target f = record { function = f.index; site = site; line = line; target = slot_in target; passed = site }
+abbrev pub callee_of : (line site : ℕ) → Option ℕ → (callee : ℕ) → Callee
+callee_of line site target callee = record { function = callee; site = site; line = line; target = target; passed = site }
+
+-- what the first call of a loop's function carries, and what a call on one half
+abbrev pub whole_of : (first callee : ℕ) → Inner
+whole_of first callee = record { function = callee; passed = whole_list first callee }
+
+abbrev pub half_of : (first : ℕ) → CallKind → (callee : ℕ) → Inner
+half_of first kind callee = record { function = callee; passed = half_list first kind callee }
 
 -- the slots of a cut
-abbrev pub halves_of : Parts → Halves
-halves_of c = record { array = c.array.slot; left = c.left.slot; right = c.right.slot }
+abbrev pub halves_of : (array left right : ℕ) → Halves
+halves_of array left right = record { array = array; left = left; right = right }
 
 -- code that is passed over where the last operand is 0
 abbrev pub emitted_over : List Instr → List Instr
@@ -85,17 +104,24 @@ emitted_inside kind body = instr.Open kind ∷ (body ++ instr.Close ∷ [])
 abbrev pub emitted_cut : (line : ℕ) → Halves → List Instr → List Instr
 emitted_cut line h body = instr.Cut h line ∷ (body ++ instr.EndCut ∷ [])
 
+-- the first call of a loop's function: the ends of its range, the integers that it takes along, and its instruction
+abbrev pub emitted_begin : (first line callee : ℕ) → (from to : Expr) → (captured : List ℕ) → List Instr
+emitted_begin first line callee from to captured =
+    emitted_expr line from ++ (emitted_expr line to ++ (emitted_loads captured ++ instr.Start (whole_of first callee) line ∷ []))
+
 -- the instructions of a statement of a line with no block in it and no return; an index comes before its value
-abbrev pub emitted_alone : (line : ℕ) → Stmt → List Instr
-emitted_alone line (Declare u e) = emitted_expr line e ++ instr.Store u.slot ∷ []
-emitted_alone line (DeclareArray u e) = emitted_expr line e ++ instr.NewArray u.slot line ∷ []
-emitted_alone line (AssignElement u i e) = emitted_expr line i ++ (emitted_expr line e ++ instr.SetElement u.slot line ∷ [])
-emitted_alone line (Assign u e) = emitted_expr line e ++ instr.Store u.slot ∷ []
-emitted_alone line (AddTo s e) = emitted_expr line e ++ instr.AddTo s.index ∷ []
-emitted_alone line (Print e) = emitted_expr line e ++ instr.Print ∷ []
-emitted_alone line (Call kind site target f es) = emitted_args line es ++ instr.Call kind (callee_of line site target f) ∷ []
-emitted_alone line Sync = instr.Sync ∷ []
-emitted_alone line _ = []
+abbrev pub emitted_alone : (first line : ℕ) → Stmt → List Instr
+emitted_alone first line (Declare u e) = emitted_expr line e ++ instr.Store u ∷ []
+emitted_alone first line (DeclareArray u e) = emitted_expr line e ++ instr.NewArray u line ∷ []
+emitted_alone first line (AssignElement u i e) = emitted_expr line i ++ (emitted_expr line e ++ instr.SetElement u line ∷ [])
+emitted_alone first line (Assign u e) = emitted_expr line e ++ instr.Store u ∷ []
+emitted_alone first line (AddTo s e) = emitted_expr line e ++ instr.AddTo s ∷ []
+emitted_alone first line (Print e) = emitted_expr line e ++ instr.Print ∷ []
+emitted_alone first line (Call kind site target f es) = emitted_args line es ++ instr.Call kind (callee_of line site target f) ∷ []
+emitted_alone first line (Start kind f es) = emitted_args line es ++ instr.Recur kind (half_of first kind f) ∷ []
+emitted_alone first line (Begin f from to captured over) = emitted_begin first line f from to captured
+emitted_alone first line Sync = instr.Sync ∷ []
+emitted_alone first line _ = []
 
 -- a return
 abbrev pub emitted_return : (line : ℕ) → Option Expr → List Instr
@@ -103,116 +129,191 @@ emitted_return line None = instr.Return ∷ []
 emitted_return line (Some e) = emitted_expr line e ++ instr.ReturnValue ∷ []
 
 abbrev mutual
+  -- whether a statement surely returns
+  pub stmt_returns : Stmt → Bool
+  stmt_returns (Return e) = true
+  stmt_returns (IfElse e b c) = returns b && returns c
+  stmt_returns _ = false
+
+  -- whether the last statement of a block does
+  pub returns : Block → Bool
+  returns End = false
+  returns (Then line s End) = stmt_returns s
+  returns (Then line s b) = returns b
+
+abbrev mutual
   -- the instructions of a statement of a line
-  pub emitted_stmt : (line : ℕ) → Stmt → List Instr
-  emitted_stmt line (If e b) = emitted_expr line e ++ emitted_over (emitted_block b)
-  emitted_stmt line (IfElse e b c) =
-      emitted_expr line e ++ emitted_branches (typing.block_returns (plain_block b)) (emitted_block b) (emitted_block c)
-  emitted_stmt line (While e b) = emitted_expr line e ++ emitted_turn (length (emitted_expr line e)) (emitted_block b)
-  emitted_stmt line (Scope b) = emitted_inside block.Scope (emitted_block b)
-  emitted_stmt line (Cut parts b) = emitted_expr line parts.at ++ emitted_cut line (halves_of parts) (emitted_block b)
-  emitted_stmt line (Region tag b) = emitted_inside (block.Region tag.index) (emitted_block b)
-  emitted_stmt line (Return e) = emitted_return line e
-  emitted_stmt line s = emitted_alone line s
+  pub emitted_stmt : (first line : ℕ) → Stmt → List Instr
+  emitted_stmt first line (If e b) = emitted_expr line e ++ emitted_over (emitted_block first b)
+  emitted_stmt first line (IfElse e b c) = emitted_expr line e ++ emitted_branches (returns b) (emitted_block first b) (emitted_block first c)
+  emitted_stmt first line (While e b) = emitted_expr line e ++ emitted_turn (length (emitted_expr line e)) (emitted_block first b)
+  emitted_stmt first line (Scope b) = emitted_inside block.Scope (emitted_block first b)
+  emitted_stmt first line (Cut a e l r b) = emitted_expr line e ++ emitted_cut line (halves_of a l r) (emitted_block first b)
+  emitted_stmt first line (Region tag b) = emitted_inside (block.Region tag) (emitted_block first b)
+  emitted_stmt first line (Return e) = emitted_return line e
+  emitted_stmt first line s = emitted_alone first line s
 
   -- the instructions of a block, statement by statement
-  pub emitted_block : Block → List Instr
-  emitted_block End = []
-  emitted_block (Then line s b) = emitted_stmt line s ++ emitted_block b
+  pub emitted_block : (first : ℕ) → Block → List Instr
+  emitted_block first End = []
+  emitted_block first (Then line s b) = emitted_stmt first line s ++ emitted_block first b
 
 -- a function that gives no integer ends with a return
 abbrev pub emitted_end : (gives_int : Bool) → List Instr
 emitted_end gives_int = if gives_int then [] else instr.Return ∷ []
 
 -- the instructions of a function
-abbrev pub emitted_function : Function → List Instr
-emitted_function f = emitted_block f.body ++ emitted_end f.gives_int
+abbrev pub emitted_function : (first : ℕ) → Function → List Instr
+emitted_function first f = emitted_block first f.body ++ emitted_end f.gives_int
 
 -- the instructions of all functions in a row
-abbrev pub emitted_instrs : List Function → List Instr
-emitted_instrs [] = []
-emitted_instrs (f ∷ fs) = emitted_function f ++ emitted_instrs fs
+abbrev pub emitted_instrs : (first : ℕ) → List Function → List Instr
+emitted_instrs first [] = []
+emitted_instrs first (f ∷ fs) = emitted_function first f ++ emitted_instrs first fs
+
+abbrev mutual
+  -- how many slots of integers there are, with those that a statement declares
+  pub ints_in : ℕ → Stmt → ℕ
+  ints_in n (Declare u e) = max n (suc u)
+  ints_in n (If e b) = ints_in_block n b
+  ints_in n (IfElse e b c) = ints_in_block (ints_in_block n b) c
+  ints_in n (While e b) = ints_in_block n b
+  ints_in n (Scope b) = ints_in_block n b
+  ints_in n (Cut a e l r b) = ints_in_block n b
+  ints_in n (Region tag b) = ints_in_block n b
+  ints_in n _ = n
+
+  pub ints_in_block : ℕ → Block → ℕ
+  ints_in_block n End = n
+  ints_in_block n (Then line s b) = ints_in_block (ints_in n s) b
+
+abbrev mutual
+  -- the same of arrays, and of the parts of cuts
+  pub arrays_in : ℕ → Stmt → ℕ
+  arrays_in n (DeclareArray u e) = max n (suc u)
+  arrays_in n (If e b) = arrays_in_block n b
+  arrays_in n (IfElse e b c) = arrays_in_block (arrays_in_block n b) c
+  arrays_in n (While e b) = arrays_in_block n b
+  arrays_in n (Scope b) = arrays_in_block n b
+  arrays_in n (Cut a e l r b) = arrays_in_block (max n (suc r)) b
+  arrays_in n (Region tag b) = arrays_in_block n b
+  arrays_in n _ = n
+
+  pub arrays_in_block : ℕ → Block → ℕ
+  arrays_in_block n End = n
+  arrays_in_block n (Then line s b) = arrays_in_block (arrays_in n s) b
+
+-- how many parameters are integers, and how many are arrays
+abbrev pub count_ints : List Bool → ℕ
+count_ints params = length (filter (λ is_array. not is_array) params)
+
+abbrev pub count_arrays : List Bool → ℕ
+count_arrays params = length (filter (λ is_array. is_array) params)
 
 -- what the code keeps of a function that begins at a place
-abbrev pub emitted_func : (start : ℕ) → Function → Func
-emitted_func start f =
+abbrev pub emitted_func : (first start : ℕ) → Function → Func
+emitted_func first start f =
     record {
       start = start;
-      end = start + length (emitted_function f);
+      end = start + length (emitted_function first f);
       gives_int = f.gives_int;
-      params = length (locals_of f.params).ints;
-      slots = f.ints;
-      array_params = length (locals_of f.params).arrays;
-      arrays = f.arrays;
+      params = count_ints f.params;
+      slots = ints_in_block (count_ints f.params) f.body;
+      array_params = count_arrays f.params;
+      arrays = arrays_in_block (count_arrays f.params) f.body;
     }
 
 -- functions one after another, from a place on
-abbrev pub emitted_funcs : (start : ℕ) → List Function → List Func
-emitted_funcs start [] = []
-emitted_funcs start (f ∷ fs) = emitted_func start f ∷ emitted_funcs (start + length (emitted_function f)) fs
+abbrev pub emitted_funcs : (first start : ℕ) → List Function → List Func
+emitted_funcs first start [] = []
+emitted_funcs first start (f ∷ fs) = emitted_func first start f ∷ emitted_funcs first (start + length (emitted_function first f)) fs
 
 -- the call site of a call of a line
 abbrev pub site_of : (line : ℕ) → CallKind → (site : ℕ) → Listed → CodeSite
 site_of line kind site f = record { told = record { number = site; kind = Of kind; line = line; callee = f.name }; function = f.index }
 
 abbrev mutual
-  -- the call sites in a statement of a line, by place
-  pub emitted_sites : (line : ℕ) → Stmt → List CodeSite
-  emitted_sites line (Call kind site target f es) = site_of line kind site f ∷ []
-  emitted_sites line (If e b) = emitted_sites_in b
-  emitted_sites line (IfElse e b c) = emitted_sites_in b ++ emitted_sites_in c
-  emitted_sites line (While e b) = emitted_sites_in b
-  emitted_sites line (Scope b) = emitted_sites_in b
-  emitted_sites line (Cut parts b) = emitted_sites_in b
-  emitted_sites line (Region tag b) = emitted_sites_in b
+  -- the call sites in a statement of a line of the source, by place
+  pub emitted_sites : (line : ℕ) → source.Stmt → List CodeSite
+  emitted_sites line (source.Call kind site target f es) = site_of line kind site f ∷ []
+  emitted_sites line (source.If e b) = emitted_sites_in b
+  emitted_sites line (source.IfElse e b c) = emitted_sites_in b ++ emitted_sites_in c
+  emitted_sites line (source.While e b) = emitted_sites_in b
+  emitted_sites line (source.For head b) = emitted_sites_in b
+  emitted_sites line (source.Scope b) = emitted_sites_in b
+  emitted_sites line (source.Cut parts b) = emitted_sites_in b
+  emitted_sites line (source.Region tag b) = emitted_sites_in b
   emitted_sites line _ = []
 
   -- the same of a block
-  pub emitted_sites_in : Block → List CodeSite
-  emitted_sites_in End = []
-  emitted_sites_in (Then line s b) = emitted_sites line s ++ emitted_sites_in b
+  pub emitted_sites_in : source.Block → List CodeSite
+  emitted_sites_in source.End = []
+  emitted_sites_in (source.Then line s b) = emitted_sites line s ++ emitted_sites_in b
 
 -- the call sites of functions
-abbrev pub emitted_sites_of : List Function → List CodeSite
+abbrev pub emitted_sites_of : List source.Function → List CodeSite
 emitted_sites_of [] = []
 emitted_sites_of (f ∷ fs) = emitted_sites_in f.body ++ emitted_sites_of fs
 
+-- what the instructions of calls rely on: the lists of array slots, and the call sites
+pub record Tables : Type 0 where
+  pub passed : List (List ℕ)
+  pub sites : List CodeSite
+
+-- the number of the first list of a function, behind the lists of the call sites
+abbrev pub first_list : List CodeSite → ℕ
+first_list sites = suc (length sites)
+
 abbrev mutual
-  -- for each call site in a statement, by place, the slots of the arrays that it passes
-  pub emitted_passed : Stmt → List (List ℕ)
-  emitted_passed (Call kind site target f es) = passed_in es ∷ []
-  emitted_passed (If e b) = emitted_passed_in b
-  emitted_passed (IfElse e b c) = emitted_passed_in b ++ emitted_passed_in c
-  emitted_passed (While e b) = emitted_passed_in b
-  emitted_passed (Scope b) = emitted_passed_in b
-  emitted_passed (Cut parts b) = emitted_passed_in b
-  emitted_passed (Region tag b) = emitted_passed_in b
-  emitted_passed _ = []
+  -- the list of each call in a statement is put at its number
+  pub put_lists : (first : ℕ) → Stmt → List (List ℕ) → List (List ℕ)
+  put_lists first (Call kind site target f es) lists = slice_set lists site (passed_in es)
+  put_lists first (Start kind f es) lists = slice_set lists (half_list first kind f) (passed_in es)
+  put_lists first (Begin f from to captured over) lists = slice_set lists (whole_list first f) over
+  put_lists first (If e b) lists = put_lists_in first b lists
+  put_lists first (IfElse e b c) lists = put_lists_in first c (put_lists_in first b lists)
+  put_lists first (While e b) lists = put_lists_in first b lists
+  put_lists first (Scope b) lists = put_lists_in first b lists
+  put_lists first (Cut a e l r b) lists = put_lists_in first b lists
+  put_lists first (Region tag b) lists = put_lists_in first b lists
+  put_lists first _ lists = lists
 
-  -- the same of a block
-  pub emitted_passed_in : Block → List (List ℕ)
-  emitted_passed_in End = []
-  emitted_passed_in (Then line s b) = emitted_passed s ++ emitted_passed_in b
+  -- of each statement of a block
+  pub put_lists_in : (first : ℕ) → Block → List (List ℕ) → List (List ℕ)
+  put_lists_in first End lists = lists
+  put_lists_in first (Then line s b) lists = put_lists_in first b (put_lists first s lists)
 
--- the same of functions
-abbrev pub emitted_passed_of : List Function → List (List ℕ)
-emitted_passed_of [] = []
-emitted_passed_of (f ∷ fs) = emitted_passed_in f.body ++ emitted_passed_of fs
+-- of each function
+abbrev pub put_lists_of : (first : ℕ) → List Function → List (List ℕ) → List (List ℕ)
+put_lists_of first [] lists = lists
+put_lists_of first (f ∷ fs) lists = put_lists_of first fs (put_lists_in first f.body lists)
+
+-- one list for no call, one for each site, and three for each function, all of them empty
+abbrev pub no_lists : (first functions : ℕ) → List (List ℕ)
+no_lists first functions = replicate (first + 3 * functions) []
+
+-- the lists of functions
+abbrev pub emitted_lists : (first : ℕ) → List Function → List (List ℕ)
+emitted_lists first functions = put_lists_of first functions (no_lists first (length functions))
 
 -- the line of a function's head, where the function is there
-abbrev pub head_line : Option Function → ℕ
+abbrev pub head_line : Option source.Function → ℕ
 head_line None = 0
 head_line (Some f) = f.line
 
--- the whole code of a program; the first list of array slots, which is no site's, is empty
-abbrev pub emitted : Resolved → Code
-emitted tree = record {
-  instrs = emitted_instrs tree.functions;
-  funcs = emitted_funcs 0 tree.functions;
-  main = tree.main;
-  main_line = head_line (slice_get tree.functions tree.main);
-  sites = emitted_sites_of tree.functions;
-  reducers = reducer_names tree.reducers;
-  tags = tree.tags;
-  passed = [] ∷ emitted_passed_of tree.functions;
-}
+-- the whole code of a program: sites, reducers and tags are those of its source, and all else is that of its functions,
+-- in which no loop is left
+abbrev pub emitted : Resolved → List Function → Code
+emitted tree functions =
+    let sites = emitted_sites_of tree.functions in
+    let first = first_list sites in
+    record {
+      instrs = emitted_instrs first functions;
+      funcs = emitted_funcs first 0 functions;
+      main = tree.main;
+      main_line = head_line (slice_get tree.functions tree.main);
+      sites = sites;
+      reducers = reducer_names tree.reducers;
+      tags = tree.tags;
+      passed = emitted_lists first functions;
+    }

@@ -1,5 +1,7 @@
 -- What the generator answers.
-use Rattle.std.specs.Prelude.{◌≡◌, ℕ, ℤ, List, [], length, Some}
+use Rattle.std.specs.Prelude.{◌≡◌, ℕ, ℤ, true, List, [], length, Some, Result, MatchResult}
+use Rattle.std.specs.List.{list_all}
+use Rattle.cw_model.specs.Ints as ints
 use Rattle.cw_model.specs.Syntax.{Program}
 use Rattle.cw_model.specs.Lines.{IsLeastLine}
 use Rattle.cw_model.specs.Meaning.{function_of}
@@ -10,7 +12,10 @@ use Rattle.cw_model.specs.Sizes.{program_faults}
 use Rattle.cw_text.specs.declared.fault.Fault.{Fault}
 use Rattle.cw_text.specs.declared.fault.Fault.TheVariants as fault
 use Rattle.cw_types.specs.Resolved.{reducer_names}
-use Rattle.cw_code.specs.Code.{Code, told_sites}
+use Rattle.cw_types.specs.View.{program_of}
+use Rattle.cw_loops.specs.declared.program.Core.{Core}
+use Rattle.cw_code.specs.declared.code.Code as made_code
+use Rattle.cw_code.specs.Code.{Code, code_view, told_sites}
 use Rattle.cw_code.specs.Run.{code_serial}
 use Rattle.cw_code.specs.Fits.{main_params, Fits}
 
@@ -18,11 +23,11 @@ use Rattle.cw_code.specs.Fits.{main_params, Fits}
 abbrev pub main_count : Program → ℕ
 main_count program = length (function_of main_name program.functions).params
 
--- on all arguments and within all limits the code gives the serial answer of the program, tree included; it fits, it
+-- on all arguments of 64 bits and within all limits the code gives the serial answer of the program, tree included; it fits, it
 -- takes the arguments of the program's main, it carries the program's call statements, the line of main's head, reducers and tags, and the
 -- program is small enough
 pub record Generates (program : Program) (code : Code) : Type 0 where
-  pub serial : (args : List ℤ) → length args ≡ main_count program → (n : ℕ) → code_serial code args n ≡ Some (serial_answer program args n)
+  pub serial : (args : List ℤ) → list_all ints.fits args ≡ true → length args ≡ main_count program → (n : ℕ) → code_serial code args n ≡ Some (serial_answer program args n)
   pub fits : Fits code
   pub params : main_params code ≡ main_count program
   pub sites : told_sites code ≡ call_sites program
@@ -36,3 +41,11 @@ abbrev pub Why : Program → Fault → Type 0
 Why program (fault.Size place) = IsLeastLine (program_faults program) place.line
 Why program fault.Memory = Unit {0}
 Why program _ = ⊥
+
+-- the program that a lowered program was made from
+abbrev pub source_of : Core → Program
+source_of core = program_of core.source.typed.tree
+
+-- the answer is the code of the program, or why there is none
+abbrev pub Answers : Program → Result made_code.Code Fault → Type 0
+Answers program r = MatchResult r (λ code. Generates program (code_view code)) (Why program)

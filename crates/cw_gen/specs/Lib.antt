@@ -1,3 +1,3 @@
 pub mod Emit
-pub mod Later
 pub mod Generates
+pub mod Written

@@ -1,11 +1,16 @@
 //! The code of a program.
 #![tactic(auto)]
 
-mod emit;
+mod expressions;
+mod functions;
 mod generating;
 mod jumps;
-mod passed;
+mod leaves;
+mod lists;
+mod loops;
 mod sites;
+mod slots;
+mod statements;
 #[cfg(test)]
 mod tests;
 mod whole;

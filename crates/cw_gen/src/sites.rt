@@ -1,33 +1,32 @@
 //! The call sites of functions, in source order.
 
-ghost use Rattle.std.specs.Prelude.{◌≡◌, [], ◌++◌, ◌∷◌, map, IfOk, OnOk};
+ghost use Rattle.std.specs.Prelude.{◌≡◌, IfOk};
 ghost use Rattle.cw_code.specs.Code as code;
 ghost use Rattle.cw_gen.specs.Emit as spec;
-ghost use Rattle.cw_types.specs.View as view;
+ghost use Rattle.cw_gen.specs.Written as written;
+ghost use Rattle.cw_gen.specs.Written.{AddsSites, call_site, seen_sites};
+ghost use Rattle.cw_types.specs.View.{block_of, stmt_of};
 
 use cw_code::code::Site;
+use cw_model::syntax::Name;
 use cw_types::tree::{Call, Function, Line, Stmt};
 use std::alloc::{AllocError, Global};
 
 /// The call sites of functions, in source order.
-pub(crate) fn sites_of(
-    alloc: Global,
-    sites: &mut Vec<Site>,
-    functions: &[Function],
-) -> Result<(), AllocError>
-    requires { sites.old.items ≡ [] }
-    ensures { OnOk result (map code.site_view sites.new.items ≡ spec.emitted_sites_of (map view.function_of functions.now)) }
+pub(crate) fn sites_of(alloc: Global, functions: &[Function]) -> Result<Vec<Site>, AllocError>
+    ensures { IfOk result (λ sites. seen_sites sites.items ≡ written.sites_of functions.now) }
 {
+    let mut sites = Vec::new(alloc);
     for f in functions {
-        sites_in(alloc, sites, &f.body)?;
+        sites_in(alloc, &mut sites, &f.body)?;
     }
-    Ok(())
+    Ok(sites)
 }
 
 // The call sites of a block, in source order.
 #[cycle(sites)]
 fn sites_in(alloc: Global, sites: &mut Vec<Site>, lines: &[Line]) -> Result<(), AllocError>
-    ensures { OnOk result (map code.site_view sites.new.items ≡ map code.site_view sites.old.items ++ spec.emitted_sites_in (view.block_of lines.now)) }
+    ensures { AddsSites sites.old sites.new (spec.emitted_sites_in (block_of lines.now)) result }
 {
     for line in lines {
         sites_at(alloc, sites, line.line, &line.stmt)?;
@@ -38,7 +37,7 @@ fn sites_in(alloc: Global, sites: &mut Vec<Site>, lines: &[Line]) -> Result<(), 
 // The call sites of a statement of this line, in source order.
 #[cycle(sites)]
 fn sites_at(alloc: Global, sites: &mut Vec<Site>, line: u32, stmt: &Stmt) -> Result<(), AllocError>
-    ensures { OnOk result (map code.site_view sites.new.items ≡ map code.site_view sites.old.items ++ spec.emitted_sites line (view.stmt_of stmt.now)) }
+    ensures { AddsSites sites.old sites.new (spec.emitted_sites line (stmt_of stmt.now)) result }
 {
     match stmt {
         Stmt::Call(c) => {
@@ -46,6 +45,7 @@ fn sites_at(alloc: Global, sites: &mut Vec<Site>, line: u32, stmt: &Stmt) -> Res
             Ok(())
         }
         Stmt::If(_, b) | Stmt::While(_, b) => sites_in(alloc, sites, b),
+        Stmt::For(_, b) => sites_in(alloc, sites, b),
         Stmt::IfElse(_, b, c) => {
             sites_in(alloc, sites, b)?;
             sites_in(alloc, sites, c)
@@ -59,7 +59,6 @@ fn sites_at(alloc: Global, sites: &mut Vec<Site>, line: u32, stmt: &Stmt) -> Res
         | Stmt::AssignElement(_, _, _)
         | Stmt::AddTo(_, _)
         | Stmt::Sync
-        | Stmt::For(_, _)
         | Stmt::Print(_)
         | Stmt::Return(_) => Ok(()),
     }
@@ -67,9 +66,9 @@ fn sites_at(alloc: Global, sites: &mut Vec<Site>, line: u32, stmt: &Stmt) -> Res
 
 // The call site of a call of this line, with a copy of the name that it calls.
 fn site_of(alloc: Global, line: u32, c: &Call) -> Result<Site, AllocError>
-    ensures { IfOk result (λ made. code.site_view made ≡ spec.site_of line c.now.kind c.now.site (view.listed_of c.now.callee)) }
+    ensures { IfOk result (λ made. code.site_view made ≡ call_site line c.now) }
 {
-    let callee = Vec::from_slice(alloc, c.callee.name.as_bytes())?;
+    let callee = Name::new(alloc, c.callee.name.as_bytes())?;
     Ok(Site {
         number: c.site,
         kind: c.kind,

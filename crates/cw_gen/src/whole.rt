@@ -1,36 +1,42 @@
 //! The code of a whole tree.
 
-ghost use Rattle.std.specs.Prelude.{◌≡◌, [], map, slice_get, IfOk, OnOk};
+ghost use Rattle.std.specs.Prelude.{◌≡◌, ◌+◌, ◌≤◌, [], length, map, slice_get, IfOk, OnOk};
 ghost use Rattle.cw_code.specs.Code as code;
 ghost use Rattle.cw_gen.specs.Emit as spec;
-ghost use Rattle.cw_types.specs.Resolved.{reducer_names};
+ghost use Rattle.cw_gen.specs.Written.{all_code, all_funcs, all_lists, code_of_core, lists_of};
+ghost use Rattle.cw_gen.specs.Written.{names_of_reducers, seen_sites, sites_of};
+ghost use Rattle.cw_loops.specs.Small.{IsSmallTree};
+ghost use Rattle.cw_model.specs.Limits.{most_call_statements};
 ghost use Rattle.cw_types.specs.View as view;
 
-use crate::emit::functions;
-use crate::passed::passed_of;
-use crate::sites::sites_of;
-use cw_code::code::Code;
-use cw_parse::tree::Name;
+use crate::functions::{functions_with, loop_functions};
+use crate::lists::{lists_of_bodies, lists_of_loops, no_lists};
+use cw_code::code::{Code, Func, Instr, Site};
+use cw_loops::{Core, tree};
+use cw_model::syntax::Name;
 use cw_types::tree::{Function, Reducer, Tree};
 use std::alloc::{AllocError, Global};
 
-/// The code of a tree: each use of a name by its slot, and each call by its function's index.
-pub(crate) fn emit(alloc: Global, tree: &Tree) -> Result<Code, AllocError>
-    ensures { IfOk result (λ made. code.code_view made ≡ spec.emitted (view.resolved_of tree.now)) }
+/// The code of a tree whose loops are lowered, with the call sites of its source.
+pub(crate) fn emit(alloc: Global, core: &Core, sites: Vec<Site>) -> Result<Code, AllocError>
+    requires small { IsSmallTree core.now.source.typed.tree core.now.tree }
+    requires sites { seen_sites sites.items ≡ sites_of core.now.source.typed.tree.functions.items }
+    requires few { length sites.items ≤ most_call_statements }
+    ensures { IfOk result (λ made. code.code_view made ≡ code_of_core core.now) }
 {
+    let source = &core.source.typed.tree;
+    let first = sites.len() + 1;
     let mut instrs = Vec::new(alloc);
     let mut funcs = Vec::new(alloc);
-    let mut sites = Vec::new(alloc);
-    functions(&mut instrs, &mut funcs, &tree.functions)?;
-    sites_of(alloc, &mut sites, &tree.functions)?;
-    let reducers = reducers_of(alloc, &tree.reducers)?;
-    let tags = tags_of(alloc, &tree.tags)?;
-    let passed = passed_of(alloc, &tree.functions)?;
+    functions(&mut instrs, &mut funcs, first, source, &core.tree)?;
+    let passed = lists(alloc, first, source, &core.tree)?;
+    let reducers = reducers_of(alloc, &source.reducers)?;
+    let tags = tags_of(alloc, &source.tags)?;
     Ok(Code {
         instrs,
         funcs,
-        main: tree.main,
-        main_line: head_line(&tree.functions, tree.main),
+        main: source.main,
+        main_line: head_line(&source.functions, source.main),
         sites,
         reducers,
         tags,
@@ -38,6 +44,44 @@ pub(crate) fn emit(alloc: Global, tree: &Tree) -> Result<Code, AllocError>
     })
 }
 
+// The code of all functions of a tree.
+fn functions(
+    instrs: &mut Vec<Instr>,
+    funcs: &mut Vec<Func>,
+    first: usize,
+    source: &Tree,
+    lowered: &tree::Tree,
+) -> Result<(), AllocError>
+    requires small { IsSmallTree source.now lowered.now }
+    requires instrs { instrs.old.items ≡ [] }
+    requires funcs { funcs.old.items ≡ [] }
+    ensures instrs { OnOk result (instrs.new.items ≡ all_code first source.now lowered.now) }
+    ensures funcs { OnOk result (funcs.new.items ≡ all_funcs first source.now lowered.now) }
+{
+    let index = source.functions.len() as u32;
+    functions_with(instrs, funcs, first, &source.functions, &lowered.bodies)?;
+    loop_functions(instrs, funcs, first, index, &lowered.loops)?;
+    Ok(())
+}
+
+// The lists of array slots of all functions of a tree.
+fn lists(
+    alloc: Global,
+    first: usize,
+    source: &Tree,
+    lowered: &tree::Tree,
+) -> Result<Vec<Vec<u32>>, AllocError>
+    requires small { IsSmallTree source.now lowered.now }
+    requires first { first ≤ most_call_statements + 1 }
+    ensures { IfOk result (λ lists. lists_of lists.items ≡ all_lists first source.now lowered.now) }
+{
+    let index = source.functions.len() as u32;
+    let functions = source.functions.len() + lowered.loops.len();
+    let mut lists = no_lists(alloc, first + 3 * functions)?;
+    lists_of_bodies(alloc, first, &lowered.bodies, &mut lists)?;
+    lists_of_loops(alloc, first, index, &lowered.loops, &mut lists)?;
+    Ok(lists)
+}
 // The line of the head of a function; 0 where there is none.
 fn head_line(functions: &[Function], function: u32) -> u32
     ensures { result ≡ spec.head_line (slice_get (map view.function_of functions.now) function) }
@@ -51,24 +95,24 @@ fn head_line(functions: &[Function], function: u32) -> u32
 }
 
 // The names of reducers.
-fn reducers_of(alloc: Global, reducers: &[Reducer]) -> Result<Vec<Vec<u8>>, AllocError>
-    ensures { IfOk result (λ names. map (λ name. name.items) names.items ≡ reducer_names (map view.reducer_of reducers.now)) }
+fn reducers_of(alloc: Global, reducers: &[Reducer]) -> Result<Vec<Name>, AllocError>
+    ensures { IfOk result (λ names. names.items ≡ names_of_reducers reducers.now) }
 {
     let mut names = Vec::new(alloc);
     for r in reducers {
-        let name = Vec::from_slice(alloc, r.name.as_bytes())?;
+        let name = Name::new(alloc, r.name.as_bytes())?;
         names.push(name)?;
     }
     Ok(names)
 }
 
 // The names of tags.
-fn tags_of(alloc: Global, tags: &[Name]) -> Result<Vec<Vec<u8>>, AllocError>
-    ensures { IfOk result (λ names. map (λ name. name.items) names.items ≡ tags.now) }
+fn tags_of(alloc: Global, tags: &[Name]) -> Result<Vec<Name>, AllocError>
+    ensures { IfOk result (λ names. names.items ≡ tags.now) }
 {
     let mut names = Vec::new(alloc);
     for tag in tags {
-        let name = Vec::from_slice(alloc, tag.as_bytes())?;
+        let name = Name::new(alloc, tag.as_bytes())?;
         names.push(name)?;
     }
     Ok(names)

@@ -1,15 +1,38 @@
-use Rattle.std.proofs.Common.{sym, ◌∙◌}
-use Rattle.cw_gen.proofs.Small.{too_large, generated}
+use Rattle.std.proofs.Common.{◌≡◌, ◌≤◌, ◌<◌, List, length, ap, ◌∙◌, arith}
+use Rattle.std.specs.Prelude.{map}
+use Rattle.cw_model.specs.Limits.{most_call_statements, most_instructions}
+use Rattle.cw_types.specs.declared.tree.Function.{Function}
+use Rattle.cw_types.specs.View.{function_of}
+use Rattle.cw_gen.specs.Emit.{emitted_sites_of}
+use Rattle.cw_gen.proofs.Small.{too_many_sites, too_long, generated}
 use Rattle.cw_gen.proofs.generating.generate.Goals as goal
 
-pub returns-then-not-is_small : goal.returns-then-not-is_small
-returns-then-not-is_small c =
-    let owned = c.args.owned.now in
-    let typed = owned.typed in
-    too_large c.while_is_least.ensures typed.tree c.in_ok-code.code c.in_ok-code.ensures typed.resolved typed.fitting typed.typed owned.owned c.requires.taken c.requires.numbered (sym c.is_small.ensures ∙ c.if-not-is_small.true)
+-- the sites of the same functions
+told : {fs gs : List Function} → fs ≡ gs → emitted_sites_of (map function_of fs) ≡ emitted_sites_of (map function_of gs)
+told e = ap (λ l. emitted_sites_of (map function_of l)) e
+
+pub returns-then-len-gt-MOST_CALL_STATEMENTS : goal.returns-then-len-gt-MOST_CALL_STATEMENTS
+returns-then-len-gt-MOST_CALL_STATEMENTS c =
+    let core = c.args.core.now in
+    let typed = core.source.typed in
+    let many : most_call_statements < length c.in_ok-sites.sites.items = omega (arith, c.len.ensures, c.if-len-gt-MOST_CALL_STATEMENTS.true) in
+    too_many_sites c.while_is_least.ensures c.owned_is_lowerable.ensures c.lowering_keeps_answers.ensures.answers c.lowering_keeps_answers.ensures.size typed.tree core.tree typed.resolved typed.typed core.source.owned typed.within core.few
+    c.core_is_lowered.ensures c.requires.source_like c.requires.numbered c.in_ok-sites.sites.items (c.in_ok-sites.ensures ∙ told c.deref.ensures.value) many
+
+pub returns-then-len-gt-MOST_INSTRUCTIONS : goal.returns-then-len-gt-MOST_INSTRUCTIONS
+returns-then-len-gt-MOST_INSTRUCTIONS c =
+    let core = c.args.core.now in
+    let typed = core.source.typed in
+    let few : length c.in_ok-sites.sites.items ≤ most_call_statements = omega (arith, c.len.ensures, c.if-len-gt-MOST_CALL_STATEMENTS.false) in
+    let long : most_instructions < length c.in_ok-code.code.instrs.items = omega (arith, c.len-2.ensures, c.if-len-gt-MOST_INSTRUCTIONS.true) in
+    too_long c.while_is_least.ensures c.owned_is_lowerable.ensures c.lowering_keeps_answers.ensures.answers c.lowering_keeps_answers.ensures.size typed.tree core.tree typed.resolved typed.typed core.source.owned typed.within core.few
+    c.core_is_lowered.ensures c.requires.source_like c.requires.numbered c.in_ok-sites.sites.items (c.in_ok-sites.ensures ∙ told c.deref.ensures.value) few c.in_ok-code.code c.in_ok-code.ensures long
 
 pub returns : goal.returns
 returns c =
-    let owned = c.args.owned.now in
-    let typed = owned.typed in
-    generated c.while_is_least.ensures typed.tree c.in_ok-code.code c.in_ok-code.ensures typed.resolved typed.fitting typed.typed owned.owned c.requires.taken c.requires.numbered (sym c.is_small.ensures ∙ c.if-not-is_small.false)
+    let core = c.args.core.now in
+    let typed = core.source.typed in
+    let few : length c.in_ok-sites.sites.items ≤ most_call_statements = omega (arith, c.len.ensures, c.if-len-gt-MOST_CALL_STATEMENTS.false) in
+    let short : length c.in_ok-code.code.instrs.items ≤ most_instructions = omega (arith, c.len-2.ensures, c.if-len-gt-MOST_INSTRUCTIONS.false) in
+    generated c.while_is_least.ensures c.owned_is_lowerable.ensures c.lowering_keeps_answers.ensures.answers c.lowering_keeps_answers.ensures.size typed.tree core.tree typed.resolved typed.typed core.source.owned typed.within core.few
+    c.core_is_lowered.ensures c.requires.source_like c.requires.numbered c.in_ok-sites.sites.items (c.in_ok-sites.ensures ∙ told c.deref.ensures.value) few c.in_ok-code.code c.in_ok-code.ensures short

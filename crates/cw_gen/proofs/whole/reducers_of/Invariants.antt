@@ -5,4 +5,4 @@ use Rattle.cw_types.specs.View as view
 use Rattle.cw_gen.proofs.whole.reducers_of.Given as goal
 
 abbrev pub invariant-loop-r : goal.invariant-loop-r
-invariant-loop-r l = map (λ name. name.items) l.names.items ++ reducer_names (map view.reducer_of (drop l.r-index l.reducers)) ≡ reducer_names (map view.reducer_of l.reducers)
+invariant-loop-r l = l.names.items ++ reducer_names (map view.reducer_of (drop l.r-index l.reducers)) ≡ reducer_names (map view.reducer_of l.reducers)

@@ -1,0 +1,245 @@
+-- What a call does: it hands values and arrays to a function, and takes its result and its arrays back.
+use Rattle.std.proofs.Common.{◌≡◌, ℕ, suc, ◌+◌, ◌<◌, ◌≤◌, List, [], ◌∷◌, ◌++◌, length, Bool, true, false, ◌&&◌, if◌then◌else◌, nat_lt, Option, Some, None, refl, sym, ap, ◌∙◌, subst, arith, ℤ, true≢false}
+use Rattle.std.specs.Prelude.{slice_get, slice_set, take, drop, map, nat_le, nat_eq, option_map}
+use Rattle.std.proofs.lemmas.Slice.Eq.{bytes_eq-Decides}
+use Rattle.cw_model.specs.Names.{same_name, is_among, differ}
+use Rattle.std.proofs.lemmas.List.{length-set, length-map}
+use Rattle.cw_model.specs.declared.trap.Trap.TheVariants as trap
+use Rattle.cw_model.specs.Limits.{most_depth}
+use Rattle.cw_model.specs.declared.syntax.CallKind.{CallKind}
+use Rattle.cw_model.specs.declared.syntax.CallKind.TheVariants.{Plain, Spawned}
+use Rattle.cw_model.specs.Syntax.{Name, Function}
+use Rattle.cw_model.specs.Frames.{Frame, no_frame, set_result}
+use Rattle.cw_model.specs.Outcome.{Trapped, Trace}
+use Rattle.cw_model.specs.Meaning.{Returned, Completion, Normal, Calls, Deeper, going, Entry, depth_of}
+use Rattle.cw_model.specs.Ownership.{SpawnIn, Taken, target_names, taken_by}
+use Rattle.cw_types.specs.Resolved.{Lists, Locals, slot_of, locals_of}
+use Rattle.cw_code.specs.declared.code.Func.{Func}
+use Rattle.cw_code.specs.Code.{Code}
+use Rattle.cw_code.specs.Run as run
+use Rattle.cw_code.specs.Run.{Slots, Results, Waiting, Around, Caller, State, Went, On, Stops, Stuck, Ran, ticked, synced, inside, is_full, on_slot, onto, operated, set_array, settled, put_in, full, arrays_in, moved_out, Whole, slot_taken, may_take, may_keep, may_begin, kept_by, taken_from, has_room, Entering, begins, begun, call_of, on_arrays, enter, slots_named, passed_by, given_back, returns_to, event_of, rejoined, result_of, back, block_event, opened, opened_at, opened_region, cut_arrays, may_cut, cuts, uncut_arrays, adds, printed, added, act, go_on, steps}
+use Rattle.cw_gen.proofs.Decided.{taken, both_true, at_most, equal}
+use Rattle.cw_gen.proofs.Fine.{AllUsable, TargetFine, Room}
+use Rattle.cw_gen.proofs.Traces.{resume, joined_quiet}
+use Rattle.cw_gen.proofs.Takens.{holds, holds_behind, held_by_spawn}
+use Rattle.cw_gen.proofs.Names.{Entries, AgreesOf, can_write}
+use Rattle.cw_gen.proofs.Names as holding
+use Rattle.cw_gen.proofs.Stores.{Store, Outside, int_waits, array_waits, Agrees, Fills, writes}
+use Rattle.cw_gen.proofs.Passing.{slots_for, backs, put_backs, with_arrays, settled_moved, agree_back, agree_await, arrays_after, arrived_after, arrays_count, frame_came}
+use Rattle.cw_gen.proofs.Codes.{drop_all, Bound, first_store, here, GivesBack, GivenBy}
+use Rattle.cw_gen.proofs.Texts.{Compiled}
+use Rattle.cw_gen.proofs.Simple.{Onwards}
+
+-- what is taken when a call has been made: a spawned one takes the name of its result and its arrays
+abbrev pub taken_on : CallKind → (level : ℕ) → Option Name → List Name → Taken → Taken
+taken_on Plain level target xs taken' = taken'
+taken_on Spawned level target xs taken' = taken_by level (target_names target ++ xs) taken'
+
+-- what a call hands to a function of this entry: arrays by their names, out of their slots, and a frame of values; and
+-- what the arrays are again when the function has left its frame
+pub record Hands (locals : Locals) (taken' : Taken) (frame : Frame) (f : Function) (fn : Func) : Type 0 where
+  pub names : List Name
+  pub outs : List run.Taken
+  pub ints : List ℤ
+  pub arrays : List (List ℤ)
+  pub given : Frame
+  pub left : Frame → List (List ℤ)
+  pub returned : Frame → Frame
+  pub as_ints : length ints ≡ fn.params
+  pub as_arrays : length arrays ≡ fn.array_params
+  pub bound : Bound f.params ints arrays no_frame given
+  pub usable : AllUsable locals.arrays taken' names
+  pub apart : differ names ≡ true
+  pub many : (g : Frame) → length names ≡ length (left g)
+  pub moved : map slot_taken outs ≡ slots_for locals.arrays names
+  pub found : (g : Frame) (slots : Slots (List ℤ)) → GivesBack (locals_of f.params).arrays g slots → given_back outs slots ≡ Some (backs locals.arrays names (left g))
+  pub back : (g : Frame) → returned g ≡ with_arrays frame (put_backs names (left g) frame.arrays)
+
+module _ (code : Code) (fs : List Function) (lists : Lists) where
+  -- what calls from a depth do, with less than a bound left
+  pub record CallsRun (bound depth : ℕ) (calls : Calls) : Type 0 where
+    pub enters : (entry : Entry) → nat_lt most_depth (depth_of entry depth) ≡ false → (f : Function) (fn : Func) → Compiled code fs lists f fn →
+        (vs : List ℤ) (xss : List (List ℤ)) (given : Frame) → length vs ≡ fn.params → length xss ≡ fn.array_params → Bound f.params vs xss no_frame given →
+        (around : List Around) (line left : ℕ) (t : Trace) (next : Returned → ℕ → Trace → Ran) → left < bound →
+        ((v : Option ℤ) (g : Frame) (arrays : Slots (List ℤ)) (l : ℕ) (u : Trace) → GivenBy f v → GivesBack (locals_of f.params).arrays g arrays → l ≤ left → go_on (back around v arrays u) l (λ s. steps code l s) ≡ next (v, g) l u) →
+        steps code left (here (depth_of entry depth) around fn.start [] (first_store fn vs xss) t) ≡ resume t (calls entry f given line left) next
+    pub traps : nat_lt most_depth (depth + 1) ≡ true → (f : Function) (given : Frame) (line left : ℕ) → left < bound → calls Deeper f given line left ≡ Trapped trap.TooDeep line []
+
+  -- there is room for the call of a function that has its code
+  has_its_room : (f : Function) (fn : Func) → Compiled code fs lists f fn → (ops : List ℤ) (xss : List (List ℤ)) → length ops ≡ fn.params → length xss ≡ fn.array_params → has_room fn ops xss ≡ true
+  has_its_room f fn compiled ops xss n m =
+      let arrays = nat_eq (length xss) fn.array_params && nat_le fn.array_params fn.arrays in
+      both_true (nat_le fn.params (length ops)) (nat_le fn.params fn.slots && arrays)
+      (at_most fn.params (length ops) (omega (arith, n)))
+      (both_true (nat_le fn.params fn.slots) arrays (at_most fn.params fn.slots compiled.room)
+      (both_true (nat_eq (length xss) fn.array_params) (nat_le fn.array_params fn.arrays) (equal (length xss) fn.array_params m) (at_most fn.array_params fn.arrays compiled.array_room)))
+
+  module _ (depth : ℕ) where
+    abbrev at : List Around → ℕ → List ℤ → Store → Trace → State
+    at around pc ops store t = here depth around pc ops store t
+
+    -- the integers of a caller when the result of a call has come
+    record ComesInt (around : List Around) (names : List Name) (after_it : Taken) (kind : CallKind) (target : Option Name) (v : Option ℤ) (pc : ℕ) (store : Store) (outer : Outside) (frame : Frame) (back : Results (List ℤ)) (size : ℕ) (t : Trace) : Type 0 where
+      pub slots' : Slots ℤ
+      pub results' : Results ℤ
+      pub went : result_of kind (option_map (λ x. slot_of x names) target) v back (at around pc [] (record { slots = taken_from kind (option_map (λ x. slot_of x names) target) store.slots; arrays = store.arrays; results = store.results; arrived = store.arrived }) t)
+          ≡ On (at around pc [] (record { slots = slots'; arrays = arrays_after kind back store.arrays; results = results'; arrived = arrived_after kind back store.arrived }) t)
+      pub agrees : AgreesOf false names after_it (set_result target v frame).ints slots' (results' ∷ int_waits outer)
+      pub count : length slots' ≡ size
+
+    -- the result of a call comes: at once, or for the next join
+    comes : (around : List Around) (locals : Locals) (taken' : Taken) (level : ℕ) (f : Function) (kind : CallKind) (target : Option Name) (xs : List Name) (v : Option ℤ) (pc : ℕ) (store : Store) (outer : Outside) (frame : Frame) (back : Results (List ℤ)) (size : ℕ) (t : Trace) →
+        level ≡ suc (length outer) → GivenBy f v → TargetFine locals taken' f target → AgreesOf false locals.ints taken' frame.ints store.slots (store.results ∷ int_waits outer) → length store.slots ≡ size →
+        ComesInt around locals.ints (taken_on kind level target xs taken') kind target v pc store outer frame back size t
+    comes around locals taken' level f Plain None xs v pc store outer frame back size t at_level given fine a n =
+        record { slots' = store.slots; results' = store.results; went = refl; agrees = a; count = n }
+    comes around locals taken' level f Plain (Some x) xs None pc store outer frame back size t at_level given fine a n = absurd (true≢false (sym fine.1 ∙ given))
+    comes around locals taken' level f Plain (Some x) xs (Some v) pc store outer frame back size t at_level given fine a n =
+        let at_x = slot_of x locals.ints in
+        record {
+          slots' = slice_set store.slots at_x (Some v);
+          results' = store.results;
+          went = taken (is_full (slice_get store.slots at_x)) (On (at around pc [] (record { slots = slice_set store.slots at_x (Some v); arrays = settled back store.arrays; results = store.results; arrived = store.arrived }) t)) Stuck (can_write false locals.ints taken' x frame.ints store.slots (store.results ∷ int_waits outer) fine.0 a);
+          agrees = holding.assigns false locals.ints taken' x v frame.ints store.slots (store.results ∷ int_waits outer) fine.0 a;
+          count = length-set store.slots at_x (Some v) ∙ n;
+        }
+    comes around locals taken' level f Spawned None xs v pc store outer frame back size t at_level given fine a n = record {
+      slots' = store.slots;
+      results' = store.results;
+      went = refl;
+      agrees = holding.takes false locals.ints taken' (taken_by level xs taken') frame.ints store.slots (store.results ∷ int_waits outer) (λ d x h. holds_behind false d x (map (λ z. (z, SpawnIn level)) xs) taken' h) a;
+      count = n;
+    }
+    comes around locals taken' level f Spawned (Some x) xs None pc store outer frame back size t at_level given fine a n = absurd (true≢false (sym fine.1 ∙ given))
+    comes around locals taken' level f Spawned (Some x) xs (Some v) pc store outer frame back size t at_level given fine a n =
+        let all = x ∷ xs in
+        let depth : suc (length (int_waits outer)) ≡ level = ap suc (length-map outer (λ w. w.ints)) ∙ sym at_level in
+        record {
+          slots' = slice_set store.slots (slot_of x locals.ints) None;
+          results' = (slot_of x locals.ints, v) ∷ store.results;
+          went = refl;
+          agrees = holding.awaits false locals.ints taken' (taken_by level all taken') x v frame.ints store.slots store.results (int_waits outer) fine.0
+              (λ d y h. holds_behind false d y (map (λ z. (z, SpawnIn level)) all) taken' h)
+              (ap (λ m. holds false m x (taken_by level all taken')) depth ∙ held_by_spawn false level x all taken' (ap (λ b. if b then true else is_among x xs) ((bytes_eq-Decides x x).1 refl))) a;
+          count = length-set store.slots (slot_of x locals.ints) None ∙ n;
+        }
+
+    -- the arrays of a caller when those of a call have come back
+    record ComesArray (names : List Name) (after_it : Taken) (kind : CallKind) (store : Store) (outer : Outside) (moved : Slots (List ℤ)) (back : Results (List ℤ)) (entries : Entries (List ℤ)) : Type 0 where
+      pub agrees : AgreesOf true names after_it entries (arrays_after kind back moved) (arrived_after kind back store.arrived ∷ array_waits outer)
+
+    -- the arrays of a call come back: at once, or for the next join
+    arrays_come : (locals : Locals) (taken' : Taken) (level : ℕ) (kind : CallKind) (target : Option Name) (xs : List Name) (vs : List (List ℤ)) (store : Store) (outer : Outside) (entries : Entries (List ℤ)) →
+        level ≡ suc (length outer) → (us : AllUsable locals.arrays taken' xs) → differ xs ≡ true → length xs ≡ length vs →
+        AgreesOf true locals.arrays taken' entries store.arrays (store.arrived ∷ array_waits outer) →
+        ComesArray locals.arrays (taken_on kind level target xs taken') kind store outer (moved_out (slots_for locals.arrays xs) store.arrays) (backs locals.arrays xs vs) (put_backs xs vs entries)
+    arrays_come locals taken' level Plain target xs vs store outer entries at_level us apart n a = record {
+      agrees = subst (λ l. AgreesOf true locals.arrays taken' (put_backs xs vs entries) l (store.arrived ∷ array_waits outer)) (sym (settled_moved locals.arrays taken' xs vs store.arrays us apart n))
+          (agree_back locals.arrays taken' xs vs entries store.arrays (store.arrived ∷ array_waits outer) us a);
+    }
+    arrays_come locals taken' level Spawned target xs vs store outer entries at_level us apart n a =
+        let all = target_names target ++ xs in
+        let depth : suc (length (array_waits outer)) ≡ level = ap suc (length-map outer (λ w. w.arrays)) ∙ sym at_level in
+        record {
+          agrees = agree_await locals.arrays taken' (taken_by level all taken') xs vs entries store.arrays store.arrived (array_waits outer) us apart n
+              (λ d y h. holds_behind true d y (map (λ z. (z, SpawnIn level)) all) taken' h)
+              (λ y h. ap (λ m. holds true m y (taken_by level all taken')) depth ∙ held_by_spawn true level y all taken' (among_behind y (target_names target) xs h)) a;
+        }
+      where
+        among_behind : (y : Name) (before xs : List Name) → is_among y xs ≡ true → is_among y (before ++ xs) ≡ true
+        among_behind y [] xs h = h
+        among_behind y (z ∷ before) xs h = test (among_behind y before xs h) (same_name y z)
+          where
+            test : is_among y (before ++ xs) ≡ true → (b : Bool) → (if b then true else is_among y (before ++ xs)) ≡ true
+            test more true = refl
+            test more false = more
+
+    -- a spawned call finds the name of its result
+    pub can_take : (locals : Locals) (taken' : Taken) (f : Function) (kind : CallKind) (target : Option Name) (store : Store) (outer : Outside) (frame : Frame) →
+        TargetFine locals taken' f target → Agrees locals taken' frame store outer → may_take kind (option_map (λ x. slot_of x locals.ints) target) store.slots ≡ true
+    can_take locals taken' f Plain target store outer frame fine a = refl
+    can_take locals taken' f Spawned None store outer frame fine a = refl
+    can_take locals taken' f Spawned (Some x) store outer frame fine a = writes locals taken' x frame store outer fine.0 a
+
+    -- the caller as it waits
+    abbrev waits : (pc : ℕ) → Store → CallKind → (mark slot : Option ℕ) → (moved : List ℕ) → List run.Taken → Trace → Waiting
+    waits pc store kind mark slot moved outs u = record {
+      place = pc + 1;
+      operands = [];
+      slots = taken_from kind slot store.slots;
+      arrays = moved_out moved store.arrays;
+      results = store.results;
+      arrived = store.arrived;
+      depth = depth;
+      kind = kind;
+      site = mark;
+      target = slot;
+      taken = outs;
+      events = (ticked u).events;
+    }
+
+    -- a call as it begins
+    abbrev pub entering : CallKind → (mark slot : Option ℕ) → (inner : ℕ) → Func → List ℤ → List (List ℤ) → List run.Taken → Entering
+    entering kind mark slot inner fn vs xss outs = record { kind = kind; site = mark; target = slot; depth = inner; func = fn; arguments = vs; given = xss; taken = outs }
+
+    -- the function as it begins
+    abbrev pub entered : (around : List Around) (pc : ℕ) → Store → CallKind → (mark slot : Option ℕ) → (inner : ℕ) → (moved : List ℕ) → List run.Taken → Func → (vs : List ℤ) → List (List ℤ) → Trace → State
+    entered around pc store kind mark slot inner moved outs fn vs xss u =
+        here inner (Caller (waits pc store kind mark slot moved outs u) ∷ around) fn.start [] (first_store fn vs xss) (inside (ticked u))
+
+    -- where there is no operand none is kept
+    none_kept : (kind : CallKind) → kept_by kind [] ≡ []
+    none_kept Plain = refl
+    none_kept Spawned = refl
+
+    -- and none may be kept
+    may_keep_none : (kind : CallKind) → may_keep kind [] ≡ true
+    may_keep_none Plain = refl
+    may_keep_none Spawned = refl
+
+    -- where a call can begin, it does
+    pub begins_so : (around : List Around) (pc : ℕ) (ops : List ℤ) (store : Store) (kind : CallKind) (mark slot : Option ℕ) (inner : ℕ) (f : Function) (fn : Func) (vs : List ℤ) (xss : List (List ℤ)) (outs : List run.Taken) (moved : List ℕ) (u : Trace) →
+        Compiled code fs lists f fn → length ops ≡ fn.params → length xss ≡ fn.array_params → map slot_taken outs ≡ moved → may_take kind slot store.slots ≡ true →
+        begins (at around pc ops store u) (entering kind mark slot inner fn vs xss outs) ≡ On (entered around pc store kind mark slot inner moved outs fn vs xss u)
+    begins_so around pc ops store kind mark slot inner f fn vs xss outs moved u compiled n m out take =
+        let s = at around pc ops store u in
+        let e = entering kind mark slot inner fn vs xss outs in
+        let left_over : drop fn.params ops ≡ [] = drop_all ops fn.params (sym n) in
+        let keeps : may_keep kind (drop fn.params ops) ≡ true = ap (may_keep kind) left_over ∙ may_keep_none kind in
+        let nothing : kept_by kind (drop fn.params ops) ≡ [] = ap (kept_by kind) left_over ∙ none_kept kind in
+        let may : may_begin s e ≡ true =
+        both_true (has_room fn ops xss) (may_take kind slot store.slots && may_keep kind (drop fn.params ops)) (has_its_room f fn compiled ops xss n m) (both_true (may_take kind slot store.slots) (may_keep kind (drop fn.params ops)) take keeps) in
+        taken (may_begin s e) (On (begun s e)) Stuck may
+        ∙ ap (λ rest. On (here inner (Caller (record (waits pc store kind mark slot (map slot_taken outs) outs u) { operands = rest }) ∷ around) fn.start [] (first_store fn vs xss) (inside (ticked u)))) nothing
+        ∙ ap (λ gone. On (entered around pc store kind mark slot inner gone outs fn vs xss u)) out
+
+    -- a call, from its function's beginning on
+    module _ (bound : ℕ) (calls : Calls) (run_calls : CallsRun bound depth calls) where
+      pub inside_runs : (around : List Around) (locals : Locals) (taken' : Taken) (level : ℕ) (kind : CallKind) (entry : Entry) (mark : Option ℕ) (target : Option Name) (line pc : ℕ) (size : Room) (f : Function) (fn : Func) (frame : Frame) (h : Hands locals taken' frame f fn) (store : Store) (outer : Outside) (u : Trace) (l : ℕ) (next : Completion → ℕ → Trace → Ran) →
+          nat_lt most_depth (depth_of entry depth) ≡ false → level ≡ suc (length outer) → Compiled code fs lists f fn → TargetFine locals taken' f target → Agrees locals taken' frame store outer → Fills store size → l < bound →
+          Onwards code depth around locals (taken_on kind level target h.names taken') (pc + 1) outer size l next →
+          steps code l (entered around pc store kind mark (option_map (λ x. slot_of x locals.ints) target) (depth_of entry depth) (slots_for locals.arrays h.names) h.outs fn h.ints h.arrays u)
+          ≡ resume (inside (ticked u)) (calls entry f h.given line l) (λ r l' u'. resume (rejoined (event_of kind mark) (ticked u).events u') (going (set_result target r.0 (h.returned r.1)) l') next)
+      inside_runs around locals taken' level kind entry mark target line pc size f fn frame h store outer u l next shallow at_level compiled target_fine agrees m below on =
+          let xs = h.names in
+          let slot = option_map (λ x. slot_of x locals.ints) target in
+          let gone = slots_for locals.arrays xs in
+          let after_all = taken_on kind level target xs taken' in
+          run_calls.enters entry shallow f fn compiled h.ints h.arrays h.given h.as_ints h.as_arrays h.bound
+          (Caller (waits pc store kind mark slot gone h.outs u) ∷ around)
+          line l (inside (ticked u)) (λ r l' u'. resume (rejoined (event_of kind mark) (ticked u).events u') (going (set_result target r.0 (h.returned r.1)) l') next) below
+          (λ v g arrays l' u' given gives le.
+          let vs = h.left g in
+          let back' = backs locals.arrays xs vs in
+          let t' = rejoined (event_of kind mark) (ticked u).events u' in
+          let moved : Store = record { slots = store.slots; arrays = moved_out gone store.arrays; results = store.results; arrived = store.arrived } in
+          let come = comes around locals taken' level f kind target xs v (pc + 1) moved outer frame back' size.ints t' at_level given target_fine agrees.ints m.ints in
+          let arrays_there = arrays_come locals taken' level kind target xs vs store outer frame.arrays at_level h.usable h.apart (h.many g) agrees.arrays in
+          let after_it : Store = record { slots = come.slots'; arrays = arrays_after kind back' (moved_out gone store.arrays); results = come.results'; arrived = arrived_after kind back' store.arrived } in
+          let came : Frame = set_result target v (with_arrays frame (put_backs xs vs frame.arrays)) in
+          let agrees' : Agrees locals after_all came after_it outer = frame_came target v frame (put_backs xs vs frame.arrays) after_all locals after_it outer come.agrees arrays_there.agrees agrees.whole in
+          ap (λ o. go_on (returns_to (waits pc store kind mark slot gone h.outs u) around v o u') l' (λ s. steps code l' s)) (h.found g arrays gives)
+          ∙ ap (λ w. go_on w l' (λ s. steps code l' s)) come.went
+          ∙ on came after_it l' t' agrees' (record { ints = come.count; arrays = arrays_count kind back' gone store.arrays ∙ m.arrays }) le
+          ∙ ap (λ q. next (Normal (set_result target v q)) l' t') (sym (h.back g))
+          ∙ ap (next (Normal (set_result target v (h.returned g))) l') (sym (joined_quiet t')))

@@ -1,0 +1,153 @@
+-- Expressions and arguments fit.
+use Rattle.std.proofs.Common.{◌≡◌, ℕ, ◌+◌, ◌-◌, List, [], ◌∷◌, ◌++◌, length, Bool, true, false, nat_lt, Some, refl, sym, ap, subst, arith, append_assoc, length-append}
+use Rattle.std.specs.Prelude.{nat_le}
+use Rattle.cw_model.specs.Syntax.{Name, Expr, Number, Variable, Element, Length, Negative, Not, Binary, Param}
+use Rattle.std.proofs.lemmas.List.{append-nil}
+use Rattle.cw_model.specs.Ownership.{Taken}
+use Rattle.cw_types.specs.Resolved.{Locals, slot_of}
+use Rattle.cw_loops.specs.Slotted.{slotted_argument}
+use Rattle.cw_code.specs.declared.code.UnaryOperator.TheVariants as unary
+use Rattle.cw_code.specs.declared.code.Instr.{Instr}
+use Rattle.cw_code.specs.declared.code.Instr.TheVariants as instr
+use Rattle.cw_code.specs.Fits.{Shape, has_array, Leads}
+use Rattle.cw_gen.specs.Emit.{emitted_arg}
+use Rattle.cw_gen.proofs.Decided.{both_true, at_most, below}
+use Rattle.cw_gen.proofs.Fine.{IsUsable, ExprFine, ArgFine, ArgsFine}
+use Rattle.cw_gen.proofs.Names.{slot_within}
+use Rattle.cw_gen.proofs.Texts.{expr_code, args_code}
+use Rattle.cw_gen.proofs.Codes.{arg_code, array_code}
+use Rattle.cw_gen.proofs.Rows.{CutsOpen, slot_is_full, array_is_full}
+use Rattle.cw_gen.proofs.Shapes.{Opened, Shapes, arg_shapes, after_arg, args_after, expr_shapes, args_shapes, expr_as_many, args_as_many}
+use Rattle.cw_gen.proofs.Settings.{Setting, StandsAt, stands_front, stands_back, exact, table, size, HasRoom, FitsAt, AllFit, both_fit, made}
+
+module _ (setting : Setting) where
+  module _ (opened : Opened) (locals : Locals) (taken : Taken) (room : HasRoom setting locals) (cuts : CutsOpen opened locals taken) where
+    abbrev here : ℕ → Shape
+    here n = made setting opened locals taken n
+
+    -- a name that may be used has a slot
+    pub slot_is_there : (x : Name) → IsUsable locals.ints taken x → nat_lt (slot_of x locals.ints) (size setting).ints ≡ true
+    slot_is_there x u = below (slot_of x locals.ints) (size setting).ints (omega (arith, slot_within x locals.ints u.declared, room.0))
+
+    -- so has an array
+    pub array_is_there : (x : Name) → IsUsable locals.arrays taken x → nat_lt (slot_of x locals.arrays) (size setting).arrays ≡ true
+    array_is_there x u = below (slot_of x locals.arrays) (size setting).arrays (omega (arith, slot_within x locals.arrays u.declared, room.1))
+
+    -- the first place of an expression takes what comes to it
+    pub expr_enters : (e : Expr) (place n : ℕ) (more : Shapes) → ExprFine locals taken e → StandsAt setting.tab place (expr_shapes here n e ++ more) → Leads (table setting) place (here n)
+    expr_enters (Number v) place n more fine h = exact setting.tab place (here n) h.0
+    expr_enters (Variable x) place n more fine h = exact setting.tab place (here n) h.0
+    expr_enters (Length x) place n more fine h = exact setting.tab place (here n) h.0
+    expr_enters (Element x e) place n more fine h = expr_enters e place n (Some (here (n + 1)) ∷ more) fine.1 (subst (λ ss. StandsAt setting.tab place ss) (append_assoc (expr_shapes here n e) (Some (here (n + 1)) ∷ []) more) h)
+    expr_enters (Negative e) place n more fine h = expr_enters e place n (Some (here (n + 1)) ∷ more) fine (subst (λ ss. StandsAt setting.tab place ss) (append_assoc (expr_shapes here n e) (Some (here (n + 1)) ∷ []) more) h)
+    expr_enters (Not e) place n more fine h = expr_enters e place n (Some (here (n + 1)) ∷ more) fine (subst (λ ss. StandsAt setting.tab place ss) (append_assoc (expr_shapes here n e) (Some (here (n + 1)) ∷ []) more) h)
+    expr_enters (Binary operator d e) place n more fine h =
+        expr_enters d place n ((expr_shapes here (n + 1) e ++ Some (here (n + 1 + 1)) ∷ []) ++ more) fine.0 (subst (λ ss. StandsAt setting.tab place ss) (append_assoc (expr_shapes here n d) (expr_shapes here (n + 1) e ++ Some (here (n + 1 + 1)) ∷ []) more) h)
+
+    -- an expression leaves one operand more
+    pub expr_fits : (e : Expr) (line place n : ℕ) → ExprFine locals taken e → StandsAt setting.tab place (expr_shapes here n e) → Leads (table setting) (place + length (expr_code locals line e)) (here (n + 1)) → AllFit setting place (expr_shapes here n e) (expr_code locals line e)
+    expr_fits (Number v) line place n fine stands leads = ((refl, refl, (leads, tt)), tt)
+    expr_fits (Variable x) line place n fine stands leads = ((slot_is_there x fine, slot_is_full (size setting) opened locals taken x n room.0 fine, (leads, tt)), tt)
+    expr_fits (Element x e) line place n fine stands leads =
+        let ce = expr_code locals line e in
+        let i = instr.Element (slot_of x locals.arrays) line in
+        let ss = expr_shapes here n e in
+        let top = stands_back setting.tab place (length ce) ss (Some (here (n + 1)) ∷ []) (expr_as_many here n locals line e) stands in
+        let at : place + length (ce ++ i ∷ []) ≡ place + length ce + 1 = omega (arith, length-append ce (i ∷ [])) in
+        both_fit setting place ss (Some (here (n + 1)) ∷ []) ce (i ∷ []) (expr_fits e line place n fine.1 (stands_front setting.tab place ss (Some (here (n + 1)) ∷ []) stands) (exact setting.tab (place + length ce) (here (n + 1)) top.0))
+        ((array_is_there x fine.0, both_true (has_array (here (n + 1)) (slot_of x locals.arrays)) (nat_le 1 (n + 1)) (array_is_full (size setting) opened locals taken x (n + 1) room.1 fine.0 cuts) (at_most 1 (n + 1) (omega arith)), (subst (λ p. Leads (table setting) p (here (n + 1))) at leads, tt)), tt)
+    expr_fits (Length x) line place n fine stands leads = ((array_is_there x fine, array_is_full (size setting) opened locals taken x n room.1 fine cuts, (leads, tt)), tt)
+    expr_fits (Negative e) line place n fine stands leads =
+        let ce = expr_code locals line e in
+        let i = instr.Unary unary.Negative line in
+        let ss = expr_shapes here n e in
+        let top = stands_back setting.tab place (length ce) ss (Some (here (n + 1)) ∷ []) (expr_as_many here n locals line e) stands in
+        let at : place + length (ce ++ i ∷ []) ≡ place + length ce + 1 = omega (arith, length-append ce (i ∷ [])) in
+        both_fit setting place ss (Some (here (n + 1)) ∷ []) ce (i ∷ []) (expr_fits e line place n fine (stands_front setting.tab place ss (Some (here (n + 1)) ∷ []) stands) (exact setting.tab (place + length ce) (here (n + 1)) top.0))
+        ((refl, at_most 1 (n + 1) (omega arith), (subst (λ p. Leads (table setting) p (here (n + 1))) at leads, tt)), tt)
+    expr_fits (Not e) line place n fine stands leads =
+        let ce = expr_code locals line e in
+        let i = instr.Unary unary.Not line in
+        let ss = expr_shapes here n e in
+        let top = stands_back setting.tab place (length ce) ss (Some (here (n + 1)) ∷ []) (expr_as_many here n locals line e) stands in
+        let at : place + length (ce ++ i ∷ []) ≡ place + length ce + 1 = omega (arith, length-append ce (i ∷ [])) in
+        both_fit setting place ss (Some (here (n + 1)) ∷ []) ce (i ∷ []) (expr_fits e line place n fine (stands_front setting.tab place ss (Some (here (n + 1)) ∷ []) stands) (exact setting.tab (place + length ce) (here (n + 1)) top.0))
+        ((refl, at_most 1 (n + 1) (omega arith), (subst (λ p. Leads (table setting) p (here (n + 1))) at leads, tt)), tt)
+    expr_fits (Binary operator d e) line place n fine stands leads =
+        let cd = expr_code locals line d in
+        let ce = expr_code locals line e in
+        let i = instr.Binary operator line in
+        let sd = expr_shapes here n d in
+        let se = expr_shapes here (n + 1) e in
+        let last = Some (here (n + 1 + 1)) ∷ [] in
+        let second = stands_back setting.tab place (length cd) sd (se ++ last) (expr_as_many here n locals line d) stands in
+        let top = stands_back setting.tab (place + length cd) (length ce) se last (expr_as_many here (n + 1) locals line e) second in
+        let at : place + length (cd ++ (ce ++ i ∷ [])) ≡ place + length cd + length ce + 1 = omega (arith, length-append cd (ce ++ i ∷ []), length-append ce (i ∷ [])) in
+        let less : n + 1 ≡ n + 1 + 1 - 1 = omega arith in
+        both_fit setting place sd (se ++ last) cd (ce ++ i ∷ []) (expr_fits d line place n fine.0 (stands_front setting.tab place sd (se ++ last) stands) (expr_enters e (place + length cd) (n + 1) last fine.1 second))
+        (both_fit setting (place + length cd) se last ce (i ∷ []) (expr_fits e line (place + length cd) (n + 1) fine.1 (stands_front setting.tab (place + length cd) se last second) (exact setting.tab (place + length cd + length ce) (here (n + 1 + 1)) top.0))
+        ((refl, at_most 2 (n + 1 + 1) (omega arith), (subst (λ m. Leads (table setting) (place + length cd + length ce + 1) (here m)) less (subst (λ p. Leads (table setting) p (here (n + 1))) at leads), tt)), tt))
+
+    -- an expression and an instruction on its value
+    pub valued_fits : (e : Expr) (line place : ℕ) (i : Instr) → ExprFine locals taken e → StandsAt setting.tab place (expr_shapes here 0 e ++ Some (here 1) ∷ []) → FitsAt setting (place + length (expr_code locals line e)) (Some (here 1)) i → AllFit setting place (expr_shapes here 0 e ++ Some (here 1) ∷ []) (expr_code locals line e ++ i ∷ [])
+    valued_fits e line place i fine stands last =
+        let ce = expr_code locals line e in
+        let ss = expr_shapes here 0 e in
+        let top = stands_back setting.tab place (length ce) ss (Some (here 1) ∷ []) (expr_as_many here 0 locals line e) stands in
+        both_fit setting place ss (Some (here 1) ∷ []) ce (i ∷ []) (expr_fits e line place 0 fine (stands_front setting.tab place ss (Some (here 1) ∷ []) stands) (exact setting.tab (place + length ce) (here 1) top.0)) (last, tt)
+
+    -- the first place of an expression before an instruction on its value
+    pub valued_enters : (e : Expr) (place : ℕ) (more : Shapes) → ExprFine locals taken e → StandsAt setting.tab place ((expr_shapes here 0 e ++ Some (here 1) ∷ []) ++ more) → Leads (table setting) place (here 0)
+    valued_enters e place more fine h = expr_enters e place 0 (Some (here 1) ∷ [] ++ more) fine (subst (λ ss. StandsAt setting.tab place ss) (append_assoc (expr_shapes here 0 e) (Some (here 1) ∷ []) more) h)
+
+    -- the first place of arguments, or the place behind where they are none, takes what comes to it
+    pub args_enters : (ps : List Param) (es : List Expr) (line place n : ℕ) (more : Shapes) → ArgsFine locals taken ps es → StandsAt setting.tab place (args_shapes here n ps es ++ more) → Leads (table setting) (place + length (args_code locals line es)) (here (args_after n ps es)) → Leads (table setting) place (here n)
+    args_enters [] [] line place n more fine stands leads = let e : place + 0 ≡ place = omega arith in subst (λ p. Leads (table setting) p (here n)) e leads
+    args_enters [] (e ∷ es) line place n more fine stands leads = absurd fine
+    args_enters (p ∷ ps) [] line place n more fine stands leads = absurd fine
+    args_enters (p ∷ ps) (e ∷ es) line place n more fine stands leads = one (λ h k. args_enters ps es line place n more fine.1 h k) p.is_array fine.0 stands leads
+      where
+        one : (StandsAt setting.tab place (args_shapes here n ps es ++ more) → Leads (table setting) (place + length (args_code locals line es)) (here (args_after n ps es)) → Leads (table setting) place (here n)) → (b : Bool) → ArgFine b locals taken e →
+            StandsAt setting.tab place ((arg_shapes b here n e ++ args_shapes here (after_arg b n) ps es) ++ more) → Leads (table setting) (place + length (args_code locals line (e ∷ es))) (here (args_after (after_arg b n) ps es)) → Leads (table setting) place (here n)
+        one rest true fine' h k = rest h (subst (λ q. Leads (table setting) (place + q) (here (args_after n ps es))) (ap (λ is. length (is ++ args_code locals line es)) (array_code locals taken line e fine')) k)
+        one rest false fine' h k = expr_enters e place n (args_shapes here (n + 1) ps es ++ more) fine'.0 (subst (λ ss. StandsAt setting.tab place ss) (append_assoc (expr_shapes here n e) (args_shapes here (n + 1) ps es) more) h)
+
+    -- arguments leave an operand for each integer
+    pub args_fit : (ps : List Param) (es : List Expr) (line place n : ℕ) → ArgsFine locals taken ps es → StandsAt setting.tab place (args_shapes here n ps es) → Leads (table setting) (place + length (args_code locals line es)) (here (args_after n ps es)) → AllFit setting place (args_shapes here n ps es) (args_code locals line es)
+    args_fit [] [] line place n fine stands leads = tt
+    args_fit [] (e ∷ es) line place n fine stands leads = absurd fine
+    args_fit (p ∷ ps) [] line place n fine stands leads = absurd fine
+    args_fit (p ∷ ps) (e ∷ es) line place n fine stands leads = one (λ q m h k. args_fit ps es line q m fine.1 h k) p.is_array fine.0 stands leads
+      where
+        ces : List Instr
+        ces = args_code locals line es
+
+        one : ((q m : ℕ) → StandsAt setting.tab q (args_shapes here m ps es) → Leads (table setting) (q + length ces) (here (args_after m ps es)) → AllFit setting q (args_shapes here m ps es) ces) → (b : Bool) → ArgFine b locals taken e →
+            StandsAt setting.tab place (arg_shapes b here n e ++ args_shapes here (after_arg b n) ps es) → Leads (table setting) (place + length (args_code locals line (e ∷ es))) (here (args_after (after_arg b n) ps es)) → AllFit setting place (arg_shapes b here n e ++ args_shapes here (after_arg b n) ps es) (args_code locals line (e ∷ es))
+        one rest true fine' h k =
+            let none = array_code locals taken line e fine' in
+            subst (λ is. AllFit setting place (args_shapes here n ps es) (is ++ ces)) (sym none) (rest place n h (subst (λ q. Leads (table setting) (place + q) (here (args_after n ps es))) (ap (λ is. length (is ++ ces)) none) k))
+        one rest false fine' h k =
+            let ce = expr_code locals line e in
+            let same : emitted_arg line (slotted_argument locals e) ≡ ce = arg_code locals line e fine'.1 in
+            let ss = expr_shapes here n e in
+            let more = args_shapes here (n + 1) ps es in
+            let second = stands_back setting.tab place (length ce) ss more (expr_as_many here n locals line e) h in
+            let at : place + length (emitted_arg line (slotted_argument locals e) ++ ces) ≡ place + length ce + length ces = omega (arith, length-append (emitted_arg line (slotted_argument locals e)) ces, ap length same) in
+            let leads' : Leads (table setting) (place + length ce + length ces) (here (args_after (n + 1) ps es)) = subst (λ q. Leads (table setting) q (here (args_after (n + 1) ps es))) at k in
+            subst (λ is. AllFit setting place (ss ++ more) (is ++ ces)) (sym same)
+            (both_fit setting place ss more ce ces (expr_fits e line place n fine'.0 (stands_front setting.tab place ss more h) (args_enters ps es line (place + length ce) (n + 1) [] fine.1 (subst (λ ss'. StandsAt setting.tab (place + length ce) ss') (sym (append-nil more)) second) leads'))
+            (rest (place + length ce) (n + 1) second leads'))
+
+    -- arguments and an instruction that takes them
+    pub given_fits : (ps : List Param) (es : List Expr) (line place : ℕ) (i : Instr) (next : Shape) → ArgsFine locals taken ps es → StandsAt setting.tab place (args_shapes here 0 ps es ++ Some (here (args_after 0 ps es)) ∷ []) →
+        (Leads (table setting) (place + length (args_code locals line es) + 1) next → FitsAt setting (place + length (args_code locals line es)) (Some (here (args_after 0 ps es))) i) → Leads (table setting) (place + length (args_code locals line es ++ i ∷ [])) next →
+        AllFit setting place (args_shapes here 0 ps es ++ Some (here (args_after 0 ps es)) ∷ []) (args_code locals line es ++ i ∷ [])
+    given_fits ps es line place i next fine stands last leads =
+        let ces = args_code locals line es in
+        let ss = args_shapes here 0 ps es in
+        let shape = here (args_after 0 ps es) in
+        let top = stands_back setting.tab place (length ces) ss (Some shape ∷ []) (args_as_many here 0 locals taken line ps es fine) stands in
+        let behind : place + length (ces ++ i ∷ []) ≡ place + length ces + 1 = omega (arith, length-append ces (i ∷ [])) in
+        both_fit setting place ss (Some shape ∷ []) ces (i ∷ []) (args_fit ps es line place 0 fine (stands_front setting.tab place ss (Some shape ∷ []) stands) (exact setting.tab (place + length ces) shape top.0))
+        (last (subst (λ p. Leads (table setting) p next) behind leads), tt)

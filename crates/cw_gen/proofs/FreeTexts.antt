@@ -1,0 +1,131 @@
+-- What lowering leaves as it is in a text: whether a block returns, the names that it declares, and the arrays given to calls.
+use Rattle.std.proofs.Common.{◌≡◌, ℕ, ◌+◌, Bool, true, false, List, [], ◌∷◌, ◌++◌, refl, ap, ◌∙◌}
+use Rattle.std.specs.Prelude.{◌&&◌, ◌||◌, not, if◌then◌else◌}
+use Rattle.std.specs.List.{list_any}
+use Rattle.cw_model.specs.Syntax.{Name, Expr, Number, Variable, Element, Length, Negative, Not, Binary, Stmt, Declare, DeclareArray, IfElse, Block, End, Then, Param}
+use Rattle.cw_model.specs.Names.{is_among}
+use Rattle.cw_model.specs.Captured.{read_by, declared_in, declared_in_block}
+use Rattle.cw_model.specs.Typing.{Known, is_argument, are_arguments, surely_returns, block_returns}
+use Rattle.cw_model.specs.Ownership.{Taken, is_taken, own_names, names_in, arrays_given, are_free}
+use Rattle.cw_loops.specs.Lowered.{low, lower_index, lower_expr, lower_exprs, lower_stmt, lower_block, loop_count, loop_count_in}
+use Rattle.cw_loops.proofs.Worlds.{both_true, not_true}
+use Rattle.cw_loops.proofs.Naming.{Placed, at_front, after_it, placed, Side, in_first, in_second, side, none_any, among_left, among_right, front_among, later_among}
+
+mutual
+  -- a lowered statement surely returns where its source does
+  pub surely_same : (over : List Name) (s : Stmt) (k : ℕ) → surely_returns (lower_stmt over k s) ≡ surely_returns s
+  surely_same over (IfElse e b c) k = ap (λ t. t && block_returns (lower_block over (k + loop_count_in b) c)) (returns_same over b k) ∙ ap (λ t. block_returns b && t) (returns_same over c (k + loop_count_in b))
+  surely_same over _ k = refl
+
+  -- a lowered block surely returns where its source does
+  pub returns_same : (over : List Name) (b : Block) (k : ℕ) → block_returns (lower_block over k b) ≡ block_returns b
+  returns_same over End k = refl
+  returns_same over (Then line s End) k = surely_same over s k
+  returns_same over (Then line s (Then line' s' b)) k = returns_same over (Then line' s' b) (k + loop_count s)
+
+-- it declares the same names
+pub own_same : (over : List Name) (b : Block) (k : ℕ) → own_names (lower_block over k b) ≡ own_names b
+own_same over End k = refl
+own_same over (Then line s b) k = by s (own_same over b (k + loop_count s))
+  where
+    by : (s : Stmt) → own_names (lower_block over (k + loop_count s) b) ≡ own_names b → own_names (lower_block over k (Then line s b)) ≡ own_names (Then line s b)
+    by (Declare x e) h = ap (λ l. x ∷ l) h
+    by (DeclareArray x e) h = ap (λ l. x ∷ l) h
+    by _ h = h
+
+-- the names that a block declares itself are among all that it declares
+pub own_declared : (b : Block) (x : Name) → is_among x (own_names b) ≡ true → is_among x (declared_in_block b) ≡ true
+own_declared End x h = h
+own_declared (Then line s b) x h = by s h (own_declared b x)
+  where
+    one : (y : Name) → Placed x y (own_names b) → (is_among x (own_names b) ≡ true → is_among x (declared_in_block b) ≡ true) → is_among x (y ∷ declared_in_block b) ≡ true
+    one y (at_front same) more = ap (λ z. is_among z (y ∷ declared_in_block b)) same ∙ front_among y (declared_in_block b)
+    one y (after_it other o) more = later_among x y (declared_in_block b) (more o)
+
+    by : (s : Stmt) → is_among x (own_names (Then line s b)) ≡ true → (is_among x (own_names b) ≡ true → is_among x (declared_in_block b) ≡ true) → is_among x (declared_in_block (Then line s b)) ≡ true
+    by (Declare y e) o more = one y (placed x y (own_names b) o) more
+    by (DeclareArray y e) o more = one y (placed x y (own_names b) o) more
+    by s' o more = among_right x (declared_in s') (declared_in_block b) (more o)
+
+-- the same arrays are given
+pub given_same : (over : List Name) (known : Known) (ps : List Param) (es : List Expr) → are_arguments known ps es ≡ true → arrays_given ps (lower_exprs over es) ≡ arrays_given ps es
+given_same over known [] es h = refl
+given_same over known (p ∷ ps) [] h = refl
+given_same over known (p ∷ ps) (e ∷ es) h =
+    let f = both_true (is_argument known p.is_array e) (are_arguments known ps es) h in
+    ap (λ l. l ++ arrays_given ps (lower_exprs over es)) (one p.is_array e f.0) ∙ ap (λ l. (if p.is_array then names_in e else []) ++ l) (given_same over known ps es f.1)
+  where
+    one : (array : Bool) (e : Expr) → is_argument known array e ≡ true → (if array then names_in (lower_expr over e) else []) ≡ (if array then names_in e else [])
+    one false e g = refl
+    one true (Variable x) g = refl
+    one true _ g = absurd cc
+
+-- a name that stands alone in an expression is in it
+pub read_is_in : (e : Expr) (x : Name) → is_among x (read_by e) ≡ true → is_among x (names_in e) ≡ true
+read_is_in (Number n) x h = h
+read_is_in (Variable y) x h = h
+read_is_in (Element a e) x h = later_among x a (names_in e) (read_is_in e x h)
+read_is_in (Length a) x h = absurd cc
+read_is_in (Negative e) x h = read_is_in e x h
+read_is_in (Not e) x h = read_is_in e x h
+read_is_in (Binary operator d e) x h = go (side x (read_by d) (read_by e) h) (read_is_in d x) (read_is_in e x)
+  where
+    go : Side x (read_by d) (read_by e) → (is_among x (read_by d) ≡ true → is_among x (names_in d) ≡ true) → (is_among x (read_by e) ≡ true → is_among x (names_in e) ≡ true) → is_among x (names_in d ++ names_in e) ≡ true
+    go (in_first o) one other = among_left x (names_in d) (names_in e) (one o)
+    go (in_second o) one other = among_right x (names_in d) (names_in e) (other o)
+
+-- none of several names is taken, one by one
+
+-- each of free names
+pub free_each : (taken : Taken) (xs : List Name) → are_free taken xs ≡ true → (x : Name) → is_among x xs ≡ true → is_taken taken x ≡ false
+free_each taken xs h = none_any (λ x. is_taken taken x) xs (not_true _ h)
+
+-- names that are free one by one
+pub free_all : (taken : Taken) (xs : List Name) → ((x : Name) → is_among x xs ≡ true → is_taken taken x ≡ false) → are_free taken xs ≡ true
+free_all taken [] h = refl
+free_all taken (x ∷ xs) h = ap (λ b. not (b || list_any (λ z. is_taken taken z) xs)) (h x (front_among x xs)) ∙ free_all taken xs (λ y o. h y (later_among y x xs o))
+
+-- one name
+pub free_one : (taken : Taken) (x : Name) → is_taken taken x ≡ false → are_free taken (x ∷ []) ≡ true
+free_one taken x h = ap (λ b. not (b || false)) h
+
+-- the names of a lowered index are those of the source's, and the lower end of the range
+pub index_free : (taken : Taken) (b : Bool) (e : Expr) → is_taken taken low ≡ false → are_free taken (names_in e) ≡ true → are_free taken (names_in (lower_index b e)) ≡ true
+index_free taken true e l h = free_all taken (names_in e ++ low ∷ []) (λ x o. go x (side x (names_in e) (low ∷ []) o))
+  where
+    last : (x : Name) → Placed x low [] → is_taken taken x ≡ false
+    last x (at_front same) = ap (is_taken taken) same ∙ l
+    last x (after_it other o) = absurd cc
+
+    go : (x : Name) → Side x (names_in e) (low ∷ []) → is_taken taken x ≡ false
+    go x (in_first o) = free_each taken (names_in e) h x o
+    go x (in_second o) = last x (placed x low [] o)
+index_free taken false e l h = h
+
+free_both : (taken : Taken) (xs ys : List Name) → are_free taken xs ≡ true → are_free taken ys ≡ true → are_free taken (xs ++ ys) ≡ true
+free_both taken xs ys h g = free_all taken (xs ++ ys) (λ x o. go x (side x xs ys o))
+  where
+    go : (x : Name) → Side x xs ys → is_taken taken x ≡ false
+    go x (in_first o) = free_each taken xs h x o
+    go x (in_second o) = free_each taken ys g x o
+
+-- the first of two lists of free names
+pub free_first : (taken : Taken) (xs ys : List Name) → are_free taken (xs ++ ys) ≡ true → are_free taken xs ≡ true
+free_first taken xs ys h = free_all taken xs (λ x o. free_each taken (xs ++ ys) h x (among_left x xs ys o))
+
+-- the second
+pub free_second : (taken : Taken) (xs ys : List Name) → are_free taken (xs ++ ys) ≡ true → are_free taken ys ≡ true
+free_second taken xs ys h = free_all taken ys (λ x o. free_each taken (xs ++ ys) h x (among_right x xs ys o))
+
+-- so are those of a lowered expression
+pub expr_free : (taken : Taken) (over : List Name) (e : Expr) → is_taken taken low ≡ false → are_free taken (names_in e) ≡ true → are_free taken (names_in (lower_expr over e)) ≡ true
+expr_free taken over (Number n) l h = refl
+expr_free taken over (Variable x) l h = h
+expr_free taken over (Element a e) l h =
+    free_both taken (a ∷ []) (names_in (lower_index (is_among a over) (lower_expr over e))) (free_first taken (a ∷ []) (names_in e) h)
+    (index_free taken (is_among a over) (lower_expr over e) l (expr_free taken over e l (free_second taken (a ∷ []) (names_in e) h)))
+expr_free taken over (Length a) l h = h
+expr_free taken over (Negative e) l h = expr_free taken over e l h
+expr_free taken over (Not e) l h = expr_free taken over e l h
+expr_free taken over (Binary operator d e) l h =
+    free_both taken (names_in (lower_expr over d)) (names_in (lower_expr over e)) (expr_free taken over d l (free_first taken (names_in d) (names_in e) h)) (expr_free taken over e l (free_second taken (names_in d) (names_in e) h))

@@ -1,0 +1,76 @@
+-- The names that lowered programs use are known.
+use Rattle.std.proofs.Common.{◌≡◌, ℕ, ◌+◌, true, List, [], ◌∷◌, ◌++◌, Some, sym, ◌∙◌, ap, append-nil}
+use Rattle.std.specs.Prelude.{if◌then◌else◌, not, ◌&&◌, ◌||◌, map, flat_map}
+use Rattle.std.specs.List.{list_all, list_any}
+use Rattle.cw_model.specs.Lines.{unless}
+use Rattle.cw_model.specs.Syntax.{Name, Function, Program}
+use Rattle.cw_model.specs.Names.{same_name, is_among, differ}
+use Rattle.cw_model.specs.Answers.{main_name}
+use Rattle.cw_model.specs.Typing.{WithInt, Alone, globals, block_returns, faults_in_block, known_of, is_head, called, faults_of, repeated_names, IsWellTyped}
+use Rattle.cw_types.specs.Resolved.{locals_of}
+use Rattle.cw_loops.specs.Lowered.{is_plain, loop_count_in, lower_function, lower_functions, made_in, made_of, lowered}
+use Rattle.cw_loops.specs.Lowerable.{nothing_around, integers_of, arrays_of, can_lower_function, is_lowerable}
+use Rattle.cw_loops.specs.LoweringLaws.{IsOwnedSource}
+use Rattle.cw_gen.proofs.Kept.{FunctionKnown, AllFunctionsKnown}
+use Rattle.cw_gen.proofs.KnownNames.{both_of, kept, front, rear}
+use Rattle.cw_gen.proofs.KnownParams.{names_of}
+use Rattle.cw_gen.proofs.KnownFunctions.{AllFound, found_first, found_second, loops_found, CallFound, call_found}
+use Rattle.cw_gen.proofs.KnownPlaces.{agree_head}
+use Rattle.cw_gen.proofs.KnownStatements.{returns_same, block_known}
+use Rattle.cw_gen.proofs.KnownLoops.{both_known, made_in_known}
+
+-- what types keep at the head of a function
+record HeadOf (f : Function) : Type 0 where
+  apart : differ (names_of f.params) ≡ true
+  returns : (not f.gives_int || block_returns f.body) ≡ true
+
+head_of : (program : Program) (f : Function) → is_head program f ≡ true → HeadOf f
+head_of program f h =
+    let three = (both_of _ (not (same_name f.name main_name) || (f.gives_int && not (list_any (λ p. p.is_array) f.params))) h).0 in
+    let two = both_of _ (not f.gives_int || block_returns f.body) three in
+    record { apart = (both_of (differ (names_of f.params)) (not (list_any (λ p. is_among p.name (globals program)) f.params)) two.0).0; returns = two.1 }
+
+module _ (program : Program) (all : List Function) (calls : (f : Name) (g : Function) → called f program.functions ≡ Some g → CallFound all f g) where
+  -- a function of the source, and those of its loops
+  source_known : (k : ℕ) (f : Function) → faults_of program f ≡ [] → can_lower_function program.functions f ≡ true → AllFound all (made_in k f.body) → FunctionKnown all (lower_function k f) × AllFunctionsKnown all (made_in k f.body)
+  source_known k f typed can found =
+      let returns = if f.gives_int then WithInt else Alone in
+      let test = unless (is_head program f) f.line in
+      let inner = faults_in_block program returns (known_of f.params) f.body in
+      let head = head_of program f (kept (is_head program f) f.line (front test inner typed)) in
+      let typed_body = rear test inner typed in
+      let can_body = (both_of (differ (arrays_of f.params)) _ (both_of (is_plain f.name) _ can).1).1 in
+      let agree = agree_head program.functions f.params head.apart in
+      let around = nothing_around program.functions in
+      let locals = locals_of f.params in (
+        record {
+          apart = head.apart;
+          body = block_known program all calls locals.arrays returns around (integers_of f.params) (arrays_of f.params) (known_of f.params) locals agree (record { more = []; is = sym (append-nil locals.arrays) }) k f.body typed_body can_body found;
+          returns = λ e. returns_same [] k f.body ∙ sym (ap (λ b. not b || block_returns f.body) e) ∙ head.returns;
+        },
+        made_in_known program all calls returns around (integers_of f.params) (arrays_of f.params) (known_of f.params) locals agree k f.body typed_body can_body found,
+      )
+
+  -- the functions of a source, and those of their loops
+  sources_known : (k : ℕ) (fs : List Function) → flat_map (faults_of program) fs ≡ [] → list_all (can_lower_function program.functions) fs ≡ true → AllFound all (made_of k fs) →
+      AllFunctionsKnown all (lower_functions k fs) × AllFunctionsKnown all (made_of k fs)
+  sources_known k [] typed can found = (tt, tt)
+  sources_known k (f ∷ fs) typed can found =
+      let two = both_of (can_lower_function program.functions f) (list_all (can_lower_function program.functions) fs) can in
+      let made = made_in k f.body in
+      let made' = made_of (k + loop_count_in f.body) fs in
+      let here = source_known k f (front (faults_of program f) (flat_map (faults_of program) fs) typed) two.0 (found_first all made made' found) in
+      let there = sources_known (k + loop_count_in f.body) fs (rear (faults_of program f) (flat_map (faults_of program) fs) typed) two.1 (found_second all made made' found) in
+      ((here.0, there.0), both_known all made made' here.1 there.1)
+
+-- in a well typed program that can be lowered
+pub lowerable_known : (program : Program) → IsWellTyped program → is_lowerable program ≡ true → AllFunctionsKnown (lowered program).functions (lowered program).functions
+lowerable_known program typed can =
+    let fs = program.functions in
+    let typed' = rear (repeated_names program) (flat_map (faults_of program) fs) (rear (unless (is_among main_name (map (λ f. f.name) fs)) 1) (repeated_names program ++ flat_map (faults_of program) fs) typed) in
+    let two = sources_known program (lowered program).functions (call_found 0 fs (made_of 0 fs)) 0 fs typed' can (loops_found fs fs can) in
+    both_known (lowered program).functions (lower_functions 0 fs) (made_of 0 fs) two.0 two.1
+
+-- in a program that types and ownership accept, which can be lowered, as the law `owned_is_lowerable` tells
+pub functions_known : (program : Program) → IsOwnedSource program → is_lowerable program ≡ true → AllFunctionsKnown (lowered program).functions (lowered program).functions
+functions_known program owned can = lowerable_known program owned.typed can

@@ -1,0 +1,315 @@
+-- Each call of a lowered program has its list of array slots at its number.
+use Rattle.std.proofs.Common.{◌≡◌, ℕ, zero, suc, ◌+◌, ◌*◌, ◌≤◌, ◌<◌, Bool, true, false, List, [], ◌∷◌, ◌++◌, length, map, refl, sym, ◌∙◌, ap, subst, arith, length-append}
+use Rattle.std.specs.Prelude.{if◌then◌else◌, nat_eq}
+use Rattle.std.specs.List.{list_all}
+use Rattle.std.proofs.Math.Nat.{min-eq_left}
+use Rattle.std.proofs.lemmas.Bool.Decides.{nat_tests}
+use Rattle.std.proofs.lemmas.List.{length-map, length-replicate}
+use Rattle.cw_model.specs.declared.syntax.CallKind.{CallKind}
+use Rattle.cw_model.specs.declared.syntax.CallKind.TheVariants.{Plain, Spawned}
+use Rattle.cw_model.specs.Limits.{most_call_statements}
+use Rattle.cw_model.specs.Syntax.{Name, Stmt, Declare, DeclareArray, Assign, AssignElement, AddTo, Call, Start, Begin, Sync, If, IfElse, While, For, Scope, Cut, Region, Print, Return, Block, End, Then, Function, Program}
+use Rattle.cw_model.specs.Names.{same_name}
+use Rattle.cw_model.specs.Sites.{CallSite, call_sites, are_numbered}
+use Rattle.cw_types.specs.Resolved.{Lists, Locals, slot_of, with_array, locals_after, locals_of, function_names, resolved}
+use Rattle.cw_loops.specs.Lowered.{is_plain, loop_name, loop_count_in, lower_functions, made_of, lowered}
+use Rattle.cw_loops.specs.LoweringLaws.{IsOwnedSource}
+use Rattle.cw_loops.specs.SourceLike.{is_source_block, is_source_function}
+use Rattle.cw_loops.specs.Slotted.{slotted_stmt, slotted_block, slotted_function, slotted_functions, lowered_lists}
+use Rattle.cw_loops.proofs.Tables.{same_itself, apart_plain}
+use Rattle.cw_loops.proofs.Whole.{Numbered, Made, count_of, made_functions, loops_apart}
+use Rattle.cw_gen.specs.Emit.{Tables, first_list, most_jump, whole_list, half_list, emitted_sites_of, no_lists}
+use Rattle.cw_gen.proofs.Decided.{first_true, second_true}
+use Rattle.cw_gen.proofs.Texts.{tables_in, code_of}
+use Rattle.cw_gen.proofs.Told.{PassesStmt, PassesBlock, AllPass}
+use Rattle.cw_gen.proofs.ListsPut.{Entry, entries, entries_in, entries_of, puts_of, is_at, one_where, times, AllFound, found_front, found_back, all_found}
+use Rattle.cw_gen.proofs.ListsWeighed.{Weights, weight, weight_in, weight_of, sites_weigh, loop_weighs, loops_weigh, lowered_weigh}
+
+-- calls pass where all that the text puts is found
+
+module _ (lists : Lists) (tables : Tables) where
+  abbrev first : ℕ
+  first = first_list tables.sites
+
+  mutual
+    passes : (locals : Locals) (s : Stmt) → AllFound tables.passed (entries first (slotted_stmt lists locals s)) → PassesStmt lists tables locals s
+    passes locals (Call kind site target f es) h = h.0
+    passes locals (Start kind f es) h = h.0
+    passes locals (Begin f from to captured over) h = h.0
+    passes locals (If e b) h = passes_in locals b h
+    passes locals (IfElse e b c) h =
+        let here = entries_in first (slotted_block lists locals b) in
+        let there = entries_in first (slotted_block lists locals c) in
+        (passes_in locals b (found_front tables.passed here there h), passes_in locals c (found_back tables.passed here there h))
+    passes locals (While e b) h = passes_in locals b h
+    passes locals (Scope b) h = passes_in locals b h
+    passes locals (Cut a e l r b) h = passes_in (with_array r (with_array l locals)) b h
+    passes locals (Region tag b) h = passes_in locals b h
+    passes locals _ h = tt
+
+    passes_in : (locals : Locals) (b : Block) → AllFound tables.passed (entries_in first (slotted_block lists locals b)) → PassesBlock lists tables locals b
+    passes_in locals End h = tt
+    passes_in locals (Then line s b) h =
+        let here = entries first (slotted_stmt lists locals s) in
+        let there = entries_in first (slotted_block lists (locals_after locals s) b) in
+        (passes locals s (found_front tables.passed here there h), passes_in (locals_after locals s) b (found_back tables.passed here there h))
+
+  passes_of : (fs : List Function) → AllFound tables.passed (entries_of first (map (slotted_function lists) fs)) → AllPass lists tables fs
+  passes_of [] h = tt
+  passes_of (f ∷ fs) h =
+      let here = entries_in first (slotted_block lists (locals_of f.params) f.body) in
+      let there = entries_of first (map (slotted_function lists) fs) in
+      (passes_in (locals_of f.params) f.body (found_front tables.passed here there h), passes_of fs (found_back tables.passed here there h))
+
+-- a call weighs one where its list is put at this number
+abbrev weights_at : (first : ℕ) → (names : List Name) → (key : ℕ) → Weights
+weights_at first names key = record {
+  site = λ n. is_at key n;
+  whole = λ f. is_at key (whole_list first (slot_of f names));
+  half = λ kind f. is_at key (half_list first kind (slot_of f names));
+}
+
+both_times : (key : ℕ) (xs ys : List Entry) → times key (xs ++ ys) ≡ times key xs + times key ys
+both_times key [] ys = omega arith
+both_times key (x ∷ xs) ys = omega (arith, both_times key xs ys)
+
+module _ (first : ℕ) (lists : Lists) (key : ℕ) where
+  abbrev weights : Weights
+  weights = weights_at first lists.functions key
+
+  mutual
+    used : (locals : Locals) (s : Stmt) → times key (entries first (slotted_stmt lists locals s)) ≡ weight weights s
+    used locals (Call kind site target f es) = omega arith
+    used locals (Start kind f es) = omega arith
+    used locals (Begin f from to captured over) = omega arith
+    used locals (If e b) = used_in locals b
+    used locals (IfElse e b c) =
+        let here = entries_in first (slotted_block lists locals b) in
+        let there = entries_in first (slotted_block lists locals c) in
+        omega (arith, used_in locals b, used_in locals c, both_times key here there)
+    used locals (While e b) = used_in locals b
+    used locals (Scope b) = used_in locals b
+    used locals (Cut a e l r b) = used_in (with_array r (with_array l locals)) b
+    used locals (Region tag b) = used_in locals b
+    used locals (For x y z from to grain over b) = refl
+    used locals (Declare x e) = refl
+    used locals (DeclareArray x e) = refl
+    used locals (Assign x e) = refl
+    used locals (AssignElement x i e) = refl
+    used locals (AddTo x e) = refl
+    used locals Sync = refl
+    used locals (Print e) = refl
+    used locals (Return e) = refl
+
+    used_in : (locals : Locals) (b : Block) → times key (entries_in first (slotted_block lists locals b)) ≡ weight_in weights b
+    used_in locals End = refl
+    used_in locals (Then line s b) =
+        let here = entries first (slotted_stmt lists locals s) in
+        let there = entries_in first (slotted_block lists (locals_after locals s) b) in
+        omega (arith, used locals s, used_in (locals_after locals s) b, both_times key here there)
+
+  used_of : (fs : List Function) → times key (entries_of first (map (slotted_function lists) fs)) ≡ weight_of weights fs
+  used_of [] = refl
+  used_of (f ∷ fs) =
+      let here = entries_in first (slotted_block lists (locals_of f.params) f.body) in
+      let there = entries_of first (map (slotted_function lists) fs) in
+      omega (arith, used_in (locals_of f.params) f.body, used_of fs, both_times key here there)
+
+-- a number is used at most once, and only where it is in this range
+record Within (count key low high : ℕ) : Type 0 where
+  once : count ≤ 1
+  from : 0 < count → low ≤ key
+  below : 0 < count → key < high
+
+both_within : (c d key low middle high : ℕ) → low ≤ middle → middle ≤ high → Within c key low middle → Within d key middle high → Within (c + d) key low high
+both_within zero d key low middle high up more h g = record {
+  once = omega (arith, g.once);
+  from = λ u. let q = g.from (omega (arith, u)) in omega (arith, q, up);
+  below = λ u. g.below (omega (arith, u));
+}
+both_within (suc c) zero key low middle high up more h g = record {
+  once = omega (arith, h.once);
+  from = λ u. h.from (omega arith);
+  below = λ u. let q = h.below (omega arith) in omega (arith, q, more);
+}
+both_within (suc c) (suc d) key low middle high up more h g =
+    let p : key < middle = h.below (omega arith) in let q : middle ≤ key = g.from (omega arith) in absurd (omega (arith, p, q))
+
+one_within : (key n : ℕ) → Within (is_at key n) key n (n + 1)
+one_within key n = go (nat_eq key n) refl
+  where
+    go : (b : Bool) → nat_eq key n ≡ b → Within (one_where b) key n (n + 1)
+    go false e = record { once = omega arith; from = λ u. absurd (omega (arith, u)); below = λ u. absurd (omega (arith, u)) }
+    go true e = let same : key ≡ n = grind (arith, nat_tests) in record { once = omega arith; from = λ u. omega (arith, same); below = λ u. omega (arith, same) }
+
+-- the sites of the source
+sites_within : (first : ℕ) (names : List Name) (key n : ℕ) (sites : List CallSite) → are_numbered n sites ≡ true → Within (sites_weigh (weights_at first names key) sites) key (suc n) (suc n + length sites)
+sites_within first names key n [] h = record { once = omega arith; from = λ u. absurd (omega (arith, u)); below = λ u. absurd (omega (arith, u)) }
+sites_within first names key n (s ∷ sites) h =
+    let is : s.number ≡ suc n = number (first_true (nat_eq s.number (suc n)) (are_numbered (suc n) sites) h) in
+    let here : Within (is_at key s.number) key (suc n) (suc (suc n)) = subst (λ i. Within (is_at key i) key (suc n) (suc (suc n))) (sym is) (subst (Within (is_at key (suc n)) key (suc n)) next (one_within key (suc n))) in
+    subst (Within (is_at key s.number + sites_weigh (weights_at first names key) sites) key (suc n)) (later (length sites))
+    (both_within (is_at key s.number) (sites_weigh (weights_at first names key) sites) key (suc n) (suc (suc n)) (suc (suc n) + length sites) (omega arith) (omega arith) here
+    (sites_within first names key (suc n) sites (second_true (nat_eq s.number (suc n)) (are_numbered (suc n) sites) h)))
+  where
+    number : nat_eq s.number (suc n) ≡ true → s.number ≡ suc n
+    number e = grind (arith, nat_tests)
+
+    next : suc n + 1 ≡ suc (suc n)
+    next = omega arith
+
+    later : (i : ℕ) → suc (suc n) + i ≡ suc n + suc i
+    later i = omega arith
+
+-- the slots of generated functions are behind those of the source
+
+loop_slot : (made : List Function) (j i : ℕ) → Numbered j made → i < length made → slot_of (loop_name (j + i)) (function_names made) ≡ i
+loop_slot [] j i h less = absurd (omega (arith, less))
+loop_slot (f ∷ made) j zero h less =
+    ap (λ w. if same_name (loop_name (j + 0)) w then 0 else suc (slot_of (loop_name (j + 0)) (function_names made))) h.0
+    ∙ ap (λ w. if same_name (loop_name w) (loop_name j) then 0 else suc (slot_of (loop_name (j + 0)) (function_names made))) (none j)
+    ∙ ap (λ b. if b then 0 else suc (slot_of (loop_name (j + 0)) (function_names made))) (same_itself (loop_name j))
+  where
+    none : (n : ℕ) → n + 0 ≡ n
+    none n = omega arith
+loop_slot (f ∷ made) j (suc i) h less =
+    ap (λ w. if same_name (loop_name (j + suc i)) w then 0 else suc (slot_of (loop_name (j + suc i)) (function_names made))) h.0
+    ∙ ap (λ b. if b then 0 else suc (slot_of (loop_name (j + suc i)) (function_names made))) (loops_apart (j + suc i) j (omega arith))
+    ∙ ap (λ w. suc (slot_of (loop_name w) (function_names made))) (next j i) ∙ ap suc (loop_slot made (j + 1) i h.1 (omega (arith, less)))
+  where
+    next : (m n : ℕ) → m + suc n ≡ m + 1 + n
+    next m n = omega arith
+
+past_source : (fs made : List Function) (k j : ℕ) → list_all is_source_function fs ≡ true → slot_of (loop_name j) (function_names (lower_functions k fs ++ made)) ≡ length fs + slot_of (loop_name j) (function_names made)
+past_source [] made k j h = omega arith
+past_source (f ∷ fs) made k j h =
+    let here = first_true (is_source_function f) (list_all is_source_function fs) h in
+    let more = past_source fs made (k + loop_count_in f.body) j (second_true (is_source_function f) (list_all is_source_function fs) h) in
+    ap (λ b. if b then 0 else suc (slot_of (loop_name j) (function_names (lower_functions (k + loop_count_in f.body) fs ++ made)))) (apart_plain f.name (j ∷ []) (first_true (is_plain f.name) (is_source_block f.body) here))
+    ∙ omega (arith, more)
+
+as_many_lowered : (k : ℕ) (fs : List Function) → length (lower_functions k fs) ≡ length fs
+as_many_lowered k [] = refl
+as_many_lowered k (f ∷ fs) = ap suc (as_many_lowered (k + loop_count_in f.body) fs)
+
+-- the lists of the calls of a loop's function have three numbers of their own
+module _ (first : ℕ) (names : List Name) (key sources : ℕ) where
+  -- the first of these numbers
+  abbrev start : (j : ℕ) → ℕ
+  start j = first + 3 * (sources + j)
+
+  abbrev whole : (j : ℕ) → ℕ
+  whole j = whole_list first (slot_of (loop_name j) names)
+
+  abbrev half : CallKind → (j : ℕ) → ℕ
+  half kind j = half_list first kind (slot_of (loop_name j) names)
+
+  whole_is : (j : ℕ) → slot_of (loop_name j) names ≡ sources + j → start (suc j) ≤ most_jump → whole j ≡ start j
+  whole_is j at small = ap (whole_list first) at ∙ min-eq_left (omega (arith, small))
+
+  left_is : (j : ℕ) → slot_of (loop_name j) names ≡ sources + j → start (suc j) ≤ most_jump → half Spawned j ≡ start j + 1
+  left_is j at small = ap (half_list first Spawned) at ∙ min-eq_left (omega (arith, small))
+
+  right_is : (j : ℕ) → slot_of (loop_name j) names ≡ sources + j → start (suc j) ≤ most_jump → half Plain j ≡ start j + 1 + 1
+  right_is j at small = ap (half_list first Plain) at ∙ min-eq_left (omega (arith, small)) ∙ omega arith
+
+  here_within : (n m : ℕ) → n ≡ m → Within (is_at key n) key m (m + 1)
+  here_within n m e = subst (λ i. Within (is_at key i) key m (m + 1)) (sym e) (one_within key m)
+
+  loop_within : (j : ℕ) → slot_of (loop_name j) names ≡ sources + j → start (suc j) ≤ most_jump → Within (loop_weighs (weights_at first names key) j) key (start j) (start (suc j))
+  loop_within j at small =
+      subst (Within (loop_weighs (weights_at first names key) j) key (start j)) behind
+      (both_within (is_at key (whole j)) (is_at key (half Spawned j) + is_at key (half Plain j)) key (start j) (start j + 1) (start j + 1 + 1 + 1) (omega arith) (omega arith) (here_within (whole j) (start j) (whole_is j at small))
+      (both_within (is_at key (half Spawned j)) (is_at key (half Plain j)) key (start j + 1) (start j + 1 + 1) (start j + 1 + 1 + 1) (omega arith) (omega arith)
+      (here_within (half Spawned j) (start j + 1) (left_is j at small)) (here_within (half Plain j) (start j + 1 + 1) (right_is j at small))))
+    where
+      behind : start j + 1 + 1 + 1 ≡ start (suc j)
+      behind = omega arith
+
+  loops_within : (count : ℕ) → ((j : ℕ) → j < count → slot_of (loop_name j) names ≡ sources + j) → start count ≤ most_jump → Within (loops_weigh (weights_at first names key) 0 count) key (start 0) (start count)
+  loops_within zero at small = record { once = omega arith; from = λ u. absurd (omega (arith, u)); below = λ u. absurd (omega (arith, u)) }
+  loops_within (suc count) at small =
+      let here : Within (loop_weighs (weights_at first names key) (0 + count)) key (start count) (start (suc count)) =
+      subst (λ i. Within (loop_weighs (weights_at first names key) i) key (start count) (start (suc count))) same (loop_within count (at count (omega arith)) small) in
+      both_within (loops_weigh (weights_at first names key) 0 count) (loop_weighs (weights_at first names key) (0 + count)) key (start 0) (start count) (start (suc count)) (omega arith) (omega arith)
+      (loops_within count (λ j less. at j (omega (arith, less))) (omega (arith, small))) here
+    where
+      same : count ≡ 0 + count
+      same = omega arith
+
+-- all calls of a lowered program
+module _ (program : Program) (source_like : list_all is_source_function program.functions ≡ true) where
+  abbrev loops : ℕ
+  loops = count_of program.functions
+
+  abbrev made : List Function
+  made = made_of 0 program.functions
+
+  numbered_loops : Made 0 loops made
+  numbered_loops = made_functions program.functions 0
+
+  loop_at : (j : ℕ) → j < loops → slot_of (loop_name j) (lowered_lists program).functions ≡ length program.functions + j
+  loop_at j less =
+      past_source program.functions made 0 j source_like ∙ ap (λ i. length program.functions + slot_of (loop_name i) (function_names made)) none
+      ∙ ap (λ i. length program.functions + i) (loop_slot made 0 j numbered_loops.numbered (let many = numbered_loops.many in omega (arith, many, less)))
+    where
+      none : j ≡ 0 + j
+      none = omega arith
+
+  as_many : length (slotted_functions program) ≡ length program.functions + loops
+  as_many =
+      length-map (lowered program).functions (slotted_function (lowered_lists program)) ∙ length-append (lower_functions 0 program.functions) made
+      ∙ (let many = numbered_loops.many in let kept = as_many_lowered 0 program.functions in omega (arith, many, kept))
+
+  -- each number is used once at most, and is in range
+  all_within : (first key : ℕ) → are_numbered 0 (call_sites program) ≡ true → suc (length (call_sites program)) ≡ first → first + 3 * (length program.functions + loops) ≤ most_jump →
+      Within (times key (entries_of first (slotted_functions program))) key 1 (first + 3 * (length program.functions + loops))
+  all_within first key numbered is small =
+      subst (λ n. Within n key 1 (first + 3 * (length program.functions + loops))) (sym total)
+      (both_within sites_part loops_part key 1 (first + 3 * (length program.functions + 0)) (first + 3 * (length program.functions + loops)) (omega (arith, is)) (omega arith)
+      (record { once = sites.once; from = λ u. sites.from u; below = λ u. let q = sites.below u in omega (arith, q, is) })
+      (loops_within first (lowered_lists program).functions key (length program.functions) loops loop_at small))
+    where
+      here : Weights
+      here = weights_at first (lowered_lists program).functions key
+
+      sites_part : ℕ
+      sites_part = sites_weigh here (call_sites program)
+
+      loops_part : ℕ
+      loops_part = loops_weigh here 0 loops
+
+      sites : Within sites_part key 1 (1 + length (call_sites program))
+      sites = sites_within first (lowered_lists program).functions key 0 (call_sites program) numbered
+
+      total : times key (entries_of first (slotted_functions program)) ≡ sites_part + loops_part
+      total = used_of first (lowered_lists program) key (lowered program).functions ∙ lowered_weigh here program.functions source_like
+
+-- each call of a lowered program has its list at its number
+pub all_pass : (program : Program) → IsOwnedSource program → are_numbered 0 (call_sites program) ≡ true → length (call_sites program) ≤ most_call_statements → length (lowered program).functions ≤ 8192 →
+    length (emitted_sites_of (resolved program).functions) ≡ length (call_sites program) → AllPass (lowered_lists program) (tables_in (code_of program)) (lowered program).functions
+all_pass program owned numbered few_sites few_functions as_many_sites =
+    passes_of (lowered_lists program) (tables_in (code_of program)) (lowered program).functions
+    (subst (λ passed. AllFound passed all) (sym (puts_of first (slotted_functions program) empty))
+    (all_found all empty (λ key. (within key).once) (λ key u. let q = (within key).below u in omega (arith, q, many, room))))
+  where
+    first : ℕ
+    first = first_list (emitted_sites_of (resolved program).functions)
+
+    empty : List (List ℕ)
+    empty = no_lists first (length (slotted_functions program))
+
+    all : List Entry
+    all = entries_of first (slotted_functions program)
+
+    many : length (slotted_functions program) ≡ length program.functions + count_of program.functions
+    many = as_many program owned.source_like
+
+    room : length empty ≡ first + 3 * length (slotted_functions program)
+    room = length-replicate (first + 3 * length (slotted_functions program)) []
+
+    few : length (slotted_functions program) ≤ 8192
+    few = let same = length-map (lowered program).functions (slotted_function (lowered_lists program)) in omega (arith, same, few_functions)
+
+    within : (key : ℕ) → Within (times key all) key 1 (first + 3 * (length program.functions + count_of program.functions))
+    within key = all_within program owned.source_like first key numbered (ap suc (sym as_many_sites)) (omega (arith, many, few, few_sites, as_many_sites))

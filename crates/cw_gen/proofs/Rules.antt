@@ -1,0 +1,77 @@
+-- What a rule that no line breaks says, and lists whose items all have a property.
+use Rattle.std.proofs.Common.{◌≡◌, ℕ, suc, List, [], ◌∷◌, ◌++◌, Bool, true, false, not, ◌||◌, if◌then◌else◌, Some, refl, sym, ap}
+use Rattle.std.specs.Prelude.{map, slice_get}
+use Rattle.std.proofs.lemmas.Slice.Eq.{bytes_eq-Decides}
+use Rattle.cw_model.specs.Syntax.{Name, Function}
+use Rattle.cw_model.specs.Names.{same_name, is_among}
+use Rattle.cw_model.specs.Lines.{unless}
+use Rattle.cw_types.specs.Resolved.{slot_of}
+use Rattle.cw_gen.proofs.Fine.{IsListed, is_function}
+
+-- a rule that gives no line is kept
+pub rule_kept : (b : Bool) (line : ℕ) → unless b line ≡ [] → b ≡ true
+rule_kept true line h = refl
+rule_kept false line h = cc
+
+-- both parts of an empty list are empty
+pub first_empty : {A : Type 0} (xs ys : List A) → xs ++ ys ≡ [] → xs ≡ []
+first_empty [] ys h = refl
+first_empty (x ∷ xs) ys h = cc
+
+pub rest_empty : {A : Type 0} (xs ys : List A) → xs ++ ys ≡ [] → ys ≡ []
+rest_empty [] ys h = h
+rest_empty (x ∷ xs) ys h = cc
+
+-- tests that fail
+pub not_true : (b : Bool) → not b ≡ true → b ≡ false
+not_true true h = cc
+not_true false h = refl
+
+pub neither_first : (a b : Bool) → (a || b) ≡ false → a ≡ false
+neither_first true b h = cc
+neither_first false b h = refl
+
+pub neither_second : (a b : Bool) → (a || b) ≡ false → b ≡ false
+neither_second true b h = cc
+neither_second false b h = h
+
+-- each item has a property
+abbrev pub Each : {A : Type 0} → (A → Type 0) → List A → Type 0
+Each P [] = Unit {0}
+Each P (x ∷ xs) = P x × Each P xs
+
+-- so have those of each part of a list
+pub each_front : {A : Type 0} (P : A → Type 0) (xs ys : List A) → Each P (xs ++ ys) → Each P xs
+each_front P [] ys h = tt
+each_front P (x ∷ xs) ys h = (h.0, each_front P xs ys h.1)
+
+pub each_rear : {A : Type 0} (P : A → Type 0) (xs ys : List A) → Each P (xs ++ ys) → Each P ys
+each_rear P [] ys h = h
+each_rear P (x ∷ xs) ys h = each_rear P xs ys h.1
+
+-- a name of a list is found at its place
+pub listed_there : (x : Name) (names : List Name) → is_among x names ≡ true → IsListed names x
+listed_there x [] h = cc
+listed_there x (y ∷ names) h = test (listed_there x names) (same_name x y) refl h
+  where
+    test : (is_among x names ≡ true → IsListed names x) → (b : Bool) → same_name x y ≡ b → (if b then true else is_among x names) ≡ true → slice_get (y ∷ names) (if b then 0 else suc (slot_of x names)) ≡ Some x
+    test more true e h' = ap (λ n. Some n) (sym ((bytes_eq-Decides x y).0 e))
+    test more false e h' = more h'
+
+-- a name among the first names of a list has the same place there
+pub same_slot : (x : Name) (names more : List Name) → is_among x names ≡ true → slot_of x (names ++ more) ≡ slot_of x names
+same_slot x [] more h = cc
+same_slot x (y ∷ names) more h = test (same_slot x names more) (same_name x y) h
+  where
+    test : (is_among x names ≡ true → slot_of x (names ++ more) ≡ slot_of x names) → (b : Bool) → (if b then true else is_among x names) ≡ true → (if b then 0 else suc (slot_of x (names ++ more))) ≡ (if b then 0 else suc (slot_of x names))
+    test rest true h' = refl
+    test rest false h' = ap (λ n. suc n) (rest h')
+
+-- a function of this name is there
+pub function_there : (name : Name) (fs : List Function) → is_among name (map (λ f. f.name) fs) ≡ true → is_function name fs ≡ true
+function_there name [] h = cc
+function_there name (f ∷ fs) h = test (function_there name fs) (same_name name f.name) h
+  where
+    test : (is_among name (map (λ g. g.name) fs) ≡ true → is_function name fs ≡ true) → (b : Bool) → (if b then true else is_among name (map (λ g. g.name) fs)) ≡ true → (if b then true else is_function name fs) ≡ true
+    test more true h' = refl
+    test more false h' = more h'

@@ -1,0 +1,72 @@
+-- The code of each part of a lowered program, its names looked up; and that functions have their code where their entries say.
+use Rattle.std.specs.Prelude.{◌≡◌, ℕ, ◌≤◌, Bool, true, if◌then◌else◌, List, [], ◌++◌, length, map, Some, slice_get}
+use Rattle.cw_model.specs.Syntax.{Name, Expr, While, Stmt, Block, Function, Program}
+use Rattle.cw_model.specs.Names.{differ}
+use Rattle.cw_model.specs.Meaning.{function_of}
+use Rattle.cw_model.specs.Typing.{Returns, WithInt, Alone, block_returns}
+use Rattle.cw_model.specs.Ownership.{Taken, IsLeastClosed}
+use Rattle.cw_types.specs.Resolved.{Lists, Locals, slot_of, locals_of, resolved}
+use Rattle.cw_loops.specs.Slotted.{slotted_expr, slotted_argument, slotted_stmt, slotted_block, slotted_functions}
+use Rattle.cw_code.specs.declared.code.Func.{Func}
+use Rattle.cw_code.specs.declared.code.Instr.{Instr}
+use Rattle.cw_code.specs.Code.{Code}
+use Rattle.cw_gen.specs.Emit.{Tables, first_list, emitted_expr, emitted_args, emitted_stmt, emitted_block, emitted_end, emitted}
+use Rattle.cw_gen.proofs.Held.{held_after, held_turn, has_no_half_in}
+use Rattle.cw_gen.proofs.Fine.{Room, BlockFine, is_function}
+use Rattle.cw_gen.proofs.Places.{HasAt}
+
+-- the code of an expression where these locals are known
+abbrev pub expr_code : Locals → (line : ℕ) → Expr → List Instr
+expr_code locals line e = emitted_expr line (slotted_expr locals e)
+
+abbrev pub args_code : Locals → (line : ℕ) → List Expr → List Instr
+args_code locals line es = emitted_args line (map (slotted_argument locals) es)
+
+abbrev pub stmt_code : (first : ℕ) → Lists → Locals → (line : ℕ) → Stmt → List Instr
+stmt_code first lists locals line s = emitted_stmt first line (slotted_stmt lists locals s)
+
+abbrev pub block_code : (first : ℕ) → Lists → Locals → Block → List Instr
+block_code first lists locals b = emitted_block first (slotted_block lists locals b)
+
+abbrev pub function_code : (first : ℕ) → Lists → Function → List Instr
+function_code first lists f = block_code first lists (locals_of f.params) f.body ++ emitted_end f.gives_int
+
+-- what the returns of a function give
+abbrev pub returns_of : Function → Returns
+returns_of f = if f.gives_int then WithInt else Alone
+
+-- what the calls of code rely on
+abbrev pub tables_in : Code → Tables
+tables_in code = record { passed = code.passed; sites = code.sites }
+
+-- the room of calls of an entry
+abbrev pub room_of_func : Function → Func → Room
+room_of_func f fn = record { ints = fn.slots; arrays = fn.arrays; given = (locals_of f.params).arrays }
+
+module _ (code : Code) (fs : List Function) (lists : Lists) where
+  -- a function whose code stands where its entry says
+  pub record Compiled (f : Function) (fn : Func) : Type 0 where
+    pub params : fn.params ≡ length (locals_of f.params).ints
+    pub array_params : fn.array_params ≡ length (locals_of f.params).arrays
+    pub room : fn.params ≤ fn.slots
+    pub array_room : fn.array_params ≤ fn.arrays
+    pub apart : differ (map (λ p. p.name) f.params) ≡ true
+    pub gives : fn.gives_int ≡ f.gives_int
+    pub stands : HasAt code.instrs fn.start (function_code (first_list code.sites) lists f)
+    pub fine : BlockFine fs lists (tables_in code) (room_of_func f fn) (returns_of f) 1 (locals_of f.params) [] f.body
+    pub returns : f.gives_int ≡ true → block_returns f.body ≡ true
+
+  -- each function that is called has its code
+  pub record Table : Type 0 where
+    pub entry : (name : Name) → is_function name fs ≡ true →
+        (fn : Func) × (slice_get code.funcs (slot_of name lists.functions) ≡ Some fn) × Compiled (function_of name fs) fn
+
+-- the code of a program: that of its lowered functions, each name looked up
+abbrev pub code_of : Program → Code
+code_of program = emitted (resolved program) (slotted_functions program)
+
+-- after a `while` the least set is held that holds what was held before it and what a turn leaves of it
+abbrev pub TurnsClose : List Function → Type 0
+TurnsClose fs =
+    (level : ℕ) (e : Expr) (b : Block) (before : Taken) → has_no_half_in b ≡ true →
+    IsLeastClosed (held_turn fs level b) before (held_after fs level (While e b) before)

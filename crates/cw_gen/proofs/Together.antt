@@ -1,0 +1,149 @@
+-- Functions whose names are known and free, and whose slots, lists and sites are told, are what their code relies on.
+use Rattle.std.proofs.Common.{◌≡◌, ℕ, ◌+◌, List, [], ◌∷◌, ◌++◌, Bool, true, false, not, ◌||◌, if◌then◌else◌, Option, Some, None, refl}
+use Rattle.std.specs.List.{list_any}
+use Rattle.cw_model.specs.Syntax.{Name, Expr, Number, Variable, Element, Length, Negative, Not, Binary, Stmt, Declare, DeclareArray, Assign, AssignElement, AddTo, Call, Start, Begin, Sync, If, IfElse, While, For, Scope, Cut, Region, Print, Return, Block, End, Then, Param, Function}
+use Rattle.cw_model.specs.Meaning.{function_of}
+use Rattle.cw_model.specs.Typing.{Returns, Nowhere, WithInt, Alone}
+use Rattle.cw_model.specs.Ownership.{Taken, CutOf, is_taken, names_in, target_names, are_free}
+use Rattle.cw_types.specs.Resolved.{Lists, Locals, with_array, locals_after, locals_of}
+use Rattle.cw_gen.specs.Emit.{Tables}
+use Rattle.cw_gen.proofs.Held.{held_after}
+use Rattle.cw_gen.proofs.Fine.{ExprFine, ArgFine, ArgsFine, TargetFine, ReturnFine, AllUsable, Room, room_of, StmtFine, BlockFine, FunctionFine, FunctionsFine}
+use Rattle.cw_gen.proofs.Kept.{ExprKnown, ArgKnown, ArgsKnown, TargetKnown, ReturnKnown, AllKnown, StmtKnown, BlockKnown, FunctionKnown, AllFunctionsKnown, ExprsFree, ReturnFree, StmtFree, BlockFree, AllFree}
+use Rattle.cw_gen.proofs.Told.{PassesStmt, PassesBlock, AllPass, RoomStmt, RoomBlock, HasRooms, AllHaveRooms, ListedStmt, ListedBlock, AllListed}
+
+-- of names that are free together each is free
+free_before : (taken : Taken) (xs ys : List Name) → are_free taken (xs ++ ys) ≡ true → are_free taken xs ≡ true
+free_before taken [] ys h = refl
+free_before taken (x ∷ xs) ys h = test (free_before taken xs ys) (is_taken taken x) h
+  where
+    test : (are_free taken (xs ++ ys) ≡ true → are_free taken xs ≡ true) → (b : Bool) → not (b || list_any (λ z. is_taken taken z) (xs ++ ys)) ≡ true → not (b || list_any (λ z. is_taken taken z) xs) ≡ true
+    test more true h' = cc
+    test more false h' = more h'
+
+free_behind : (taken : Taken) (xs ys : List Name) → are_free taken (xs ++ ys) ≡ true → are_free taken ys ≡ true
+free_behind taken [] ys h = h
+free_behind taken (x ∷ xs) ys h = test (free_behind taken xs ys) (is_taken taken x) h
+  where
+    test : (are_free taken (xs ++ ys) ≡ true → are_free taken ys ≡ true) → (b : Bool) → not (b || list_any (λ z. is_taken taken z) (xs ++ ys)) ≡ true → are_free taken ys ≡ true
+    test more true h' = cc
+    test more false h' = more h'
+
+free_one : (taken : Taken) (x : Name) (xs : List Name) → are_free taken (x ∷ xs) ≡ true → is_taken taken x ≡ false
+free_one taken x xs h = test (is_taken taken x) h
+  where
+    test : (b : Bool) → not (b || list_any (λ z. is_taken taken z) xs) ≡ true → b ≡ false
+    test true h' = cc
+    test false h' = refl
+
+module _ (locals : Locals) (taken : Taken) where
+  expr_fine : (e : Expr) → ExprKnown locals e → are_free taken (names_in e) ≡ true → ExprFine locals taken e
+  expr_fine (Number n) known free = tt
+  expr_fine (Variable x) known free = record { declared = known; free = free_one taken x [] free }
+  expr_fine (Element a e) known free =
+      (record { declared = known.0; free = free_one taken a (names_in e) free }, expr_fine e known.1 (free_behind taken (a ∷ []) (names_in e) free))
+  expr_fine (Length a) known free = record { declared = known; free = free_one taken a [] free }
+  expr_fine (Negative e) known free = expr_fine e known free
+  expr_fine (Not e) known free = expr_fine e known free
+  expr_fine (Binary operator d e) known free =
+      (expr_fine d known.0 (free_before taken (names_in d) (names_in e) free), expr_fine e known.1 (free_behind taken (names_in d) (names_in e) free))
+
+  arg_fine : (b : Bool) (e : Expr) → ArgKnown b locals e → are_free taken (names_in e) ≡ true → ArgFine b locals taken e
+  arg_fine false e known free = (expr_fine e known.0 free, known.1)
+  arg_fine true (Variable a) known free = record { declared = known; free = free_one taken a [] free }
+  arg_fine true _ known free = absurd known
+
+  args_fine : (ps : List Param) (es : List Expr) → ArgsKnown locals ps es → ExprsFree taken es → ArgsFine locals taken ps es
+  args_fine [] [] known free = tt
+  args_fine [] (e ∷ es) known free = absurd known
+  args_fine (p ∷ ps) [] known free = absurd known
+  args_fine (p ∷ ps) (e ∷ es) known free = (arg_fine p.is_array e known.0 free.0, args_fine ps es known.1 free.1)
+
+  target_fine : (f : Function) (target : Option Name) → TargetKnown locals f target → are_free taken (target_names target) ≡ true → TargetFine locals taken f target
+  target_fine f None known free = tt
+  target_fine f (Some x) known free = (record { declared = known.0; free = free_one taken x [] free }, known.1)
+
+  return_fine : (returns : Returns) (e : Option Expr) → ReturnKnown returns locals e → ReturnFree taken e → ReturnFine returns locals taken e
+  return_fine WithInt (Some e) known free = expr_fine e known free
+  return_fine WithInt None known free = absurd known
+  return_fine Alone None known free = tt
+  return_fine Alone (Some e) known free = absurd known
+  return_fine Nowhere None known free = absurd known
+  return_fine Nowhere (Some e) known free = absurd known
+
+  all_usable : (names xs : List Name) → AllKnown names xs → are_free taken xs ≡ true → AllUsable names taken xs
+  all_usable names [] known free = tt
+  all_usable names (x ∷ xs) known free =
+      (record { declared = known.0; free = free_one taken x xs free }, all_usable names xs known.1 (free_behind taken (x ∷ []) xs free))
+
+module _ (fs : List Function) (lists : Lists) (tables : Tables) (room : Room) where
+  mutual
+    stmt_fine : (returns : Returns) (depth : ℕ) (locals : Locals) (taken : Taken) (s : Stmt) → StmtKnown fs room.given returns locals s → StmtFree fs depth taken s → PassesStmt lists tables locals s → RoomStmt room locals s → ListedStmt lists tables s → StmtFine fs lists tables room returns depth locals taken s
+    stmt_fine returns depth locals taken (Declare x e) known free passes there listed = (there, expr_fine locals taken e known free)
+    stmt_fine returns depth locals taken (DeclareArray a e) known free passes there listed = (there, expr_fine locals taken e known.0 free, known.1)
+    stmt_fine returns depth locals taken (AssignElement a i e) known free passes there listed =
+        (record { declared = known.0; free = free.0 }, expr_fine locals taken i known.1 free.1, expr_fine locals taken e known.2 free.2)
+    stmt_fine returns depth locals taken (Assign x e) known free passes there listed = (record { declared = known.0; free = free.0 }, expr_fine locals taken e known.1 free.1)
+    stmt_fine returns depth locals taken (AddTo s e) known free passes there listed = (listed, expr_fine locals taken e known free)
+    stmt_fine returns depth locals taken (Call kind site target f es) known free passes there listed =
+        (known.0, target_fine locals taken (function_of f fs) target known.1 free.0, args_fine locals taken (function_of f fs).params es known.2 free.1, free.2, passes, listed)
+    stmt_fine returns depth locals taken (Start kind f es) known free passes there listed =
+        (known.0, known.1, args_fine locals taken (function_of f fs).params es known.2 free.0, free.1, passes)
+    stmt_fine returns depth locals taken (Begin f from to captured over) known free passes there listed = (
+      known.0,
+      known.1,
+      expr_fine locals taken from known.2 free.0,
+      expr_fine locals taken to known.3 free.1,
+      all_usable locals taken locals.ints captured known.4 free.2,
+      all_usable locals taken locals.arrays over known.5 free.3,
+      known.6,
+      passes,
+    )
+    stmt_fine returns depth locals taken Sync known free passes there listed = tt
+    stmt_fine returns depth locals taken (If e b) known free passes there listed =
+        (expr_fine locals taken e known.0 free.0, block_fine returns depth locals taken b known.1 free.1 passes there listed, free.2)
+    stmt_fine returns depth locals taken (IfElse e b c) known free passes there listed = (
+      expr_fine locals taken e known.0 free.0,
+      (block_fine returns depth locals taken b known.1 free.1.0 passes.0 there.0 listed.0, free.1.1),
+      (block_fine returns depth locals taken c known.2 free.2.0 passes.1 there.1 listed.1, free.2.1),
+    )
+    stmt_fine returns depth locals taken (While e b) known free passes there listed =
+        let all = held_after fs depth (While e b) taken in
+        (expr_fine locals all e known.0 free.0, block_fine returns depth locals all b known.1 free.1 passes there listed, free.2, known.2)
+    stmt_fine returns depth locals taken (Scope b) known free passes there listed =
+        (block_fine Nowhere (depth + 1) locals taken b known free.0 passes there listed, free.1)
+    stmt_fine returns depth locals taken (Cut a e l r b) known free passes there listed = (
+      record { declared = known.0; free = free.0 },
+      expr_fine locals taken e known.1 free.1,
+      record { left = known.2; right = known.3; there = there.0; begins = known.4 },
+      block_fine Nowhere (depth + 1) (with_array r (with_array l locals)) ((a, CutOf) ∷ taken) b known.5 free.2 passes there.1 listed,
+      free.3,
+    )
+    stmt_fine returns depth locals taken (Region tag b) known free passes there listed =
+        (listed.0, block_fine Nowhere (depth + 1) locals taken b known free.0 passes there listed.1, free.1)
+    stmt_fine returns depth locals taken (Print e) known free passes there listed = expr_fine locals taken e known free
+    stmt_fine returns depth locals taken (Return e) known free passes there listed = (return_fine locals taken returns e known.0 free, known.1)
+    stmt_fine returns depth locals taken (For x y z from to grain over b) known free passes there listed = absurd known
+
+    block_fine : (returns : Returns) (depth : ℕ) (locals : Locals) (taken : Taken) (b : Block) → BlockKnown fs room.given returns locals b → BlockFree fs depth taken b → PassesBlock lists tables locals b → RoomBlock room locals b → ListedBlock lists tables b → BlockFine fs lists tables room returns depth locals taken b
+    block_fine returns depth locals taken End known free passes there listed = tt
+    block_fine returns depth locals taken (Then line s b) known free passes there listed = (
+      stmt_fine returns depth locals taken s known.0 free.0 passes.0 there.0 listed.0,
+      block_fine returns depth (locals_after locals s) (held_after fs depth s taken) b known.1 free.1 passes.1 there.1 listed.1,
+    )
+
+-- a function
+function_fine : (fs : List Function) (lists : Lists) (tables : Tables) (f : Function) → FunctionKnown fs f → BlockFree fs 1 [] f.body → PassesBlock lists tables (locals_of f.params) f.body → HasRooms lists f → ListedBlock lists tables f.body → FunctionFine fs lists tables f
+function_fine fs lists tables f known free passes there listed = record {
+  apart = known.apart;
+  room = there.ints;
+  array_room = there.arrays;
+  body = block_fine fs lists tables (room_of lists f) (if f.gives_int then WithInt else Alone) 1 (locals_of f.params) [] f.body known.body free passes there.body listed;
+  returns = known.returns;
+}
+
+-- functions in a row
+pub functions_fine : (fs : List Function) (lists : Lists) (tables : Tables) (gs : List Function) → AllFunctionsKnown fs gs → AllFree fs gs → AllPass lists tables gs → AllHaveRooms lists gs → AllListed lists tables gs → FunctionsFine fs lists tables gs
+functions_fine fs lists tables [] known free passes there listed = tt
+functions_fine fs lists tables (f ∷ gs) known free passes there listed =
+    (function_fine fs lists tables f known.0 free.0 passes.0 there.0 listed.0, functions_fine fs lists tables gs known.1 free.1 passes.1 there.1 listed.1)

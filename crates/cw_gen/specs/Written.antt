@@ -1,0 +1,248 @@
+-- Parts of the code of functions, as they are written one after another.
+use Rattle.std.specs.Prelude.{◌≡◌, ℕ, ◌+◌, ◌-◌, ◌*◌, pos, max, Bool, false, List, [], ◌∷◌, ◌++◌, length, map, Option, option_map, slice_set, Result, OnOk}
+use Rattle.std.specs.Global.{Vec}
+use Rattle.cw_model.specs.declared.syntax.CallKind.{CallKind}
+use Rattle.cw_model.specs.declared.syntax.Operator.TheVariants.{AtMost, Plus, Minus, Divide}
+use Rattle.cw_types.specs.declared.tree.Call as code_call
+use Rattle.cw_types.specs.declared.tree.Function as code
+use Rattle.cw_types.specs.declared.tree.Param.{Param}
+use Rattle.cw_types.specs.declared.tree.Reducer.{Reducer}
+use Rattle.cw_types.specs.declared.tree.Tree as source
+use Rattle.cw_types.specs.Resolved.{reducer_names}
+use Rattle.cw_types.specs.View.{function_of, listed_of, param_of, reducer_of, resolved_of}
+use Rattle.cw_loops.specs.declared.program.Core.{Core}
+use Rattle.cw_loops.specs.declared.tree.Argument.{Argument}
+use Rattle.cw_loops.specs.declared.tree.Begin.{Begin}
+use Rattle.cw_loops.specs.declared.tree.Call.{Call}
+use Rattle.cw_loops.specs.declared.tree.Cut.{Cut}
+use Rattle.cw_loops.specs.declared.tree.Expr.{Expr}
+use Rattle.cw_loops.specs.declared.tree.Line.{Line}
+use Rattle.cw_loops.specs.declared.tree.Loop as lowered
+use Rattle.cw_loops.specs.declared.tree.Stmt.{Stmt}
+use Rattle.cw_loops.specs.declared.tree.Tree.{Tree}
+use Rattle.cw_loops.specs.Seen.{functions_of}
+use Rattle.cw_loops.specs.View.{argument_of, block_of, expr_of, loop_of, stmt_of}
+use Rattle.cw_loops.specs.Slotted.{Number, Binary, Assign, Scope, Block, Then, Function, Variable}
+use Rattle.cw_loops.specs.Expanded.{leaf, loop_text, loop_texts, low, high, node, turn_slot, left_slot, right_slot, numbers, range, on_line, with_bodies}
+use Rattle.cw_loops.specs.Moved.{Loop}
+use Rattle.cw_code.specs.declared.code.Func.{Func}
+use Rattle.cw_code.specs.declared.code.Inner.{Inner}
+use Rattle.cw_code.specs.declared.code.Instr.{Instr}
+use Rattle.cw_code.specs.declared.code.Instr.TheVariants as instr
+use Rattle.cw_code.specs.declared.code.BlockKind.{BlockKind}
+use Rattle.cw_code.specs.declared.code.Site.{Site}
+use Rattle.cw_code.specs.Code.{Code, CodeSite, site_view}
+use Rattle.cw_gen.specs.Emit.{callee_of, distance, past, halves_of, passed_in, put_lists_in, ints_in_block, arrays_in_block, site_of}
+use Rattle.cw_gen.specs.Emit.{emitted, emitted_args, emitted_begin, emitted_block, emitted_cut, emitted_expr, emitted_func, emitted_funcs, emitted_function}
+use Rattle.cw_gen.specs.Emit.{emitted_inside, emitted_instrs, emitted_lists, emitted_loads, emitted_return, emitted_sites_of, emitted_stmt, emitted_turn}
+
+-- these stand behind what stood there before, where memory did not run out
+abbrev pub Adds : {A R E : Type 0} → (old new : Vec A) → List A → Result R E → Type 0
+Adds old new more r = OnOk r (new.items ≡ old.items ++ more)
+
+-- lists of the code as those of the definitions, and bodies as blocks
+abbrev pub lists_of : List (Vec ℕ) → List (List ℕ)
+lists_of lists = map (λ slots. slots.items) lists
+
+abbrev pub blocks_of : List (Vec Line) → List Block
+blocks_of bodies = map (λ b. block_of b.items) bodies
+
+-- the lists of array slots are those before with this change, where memory did not run out
+abbrev pub Puts : {R E : Type 0} → (old new : Vec (Vec ℕ)) → (List (List ℕ) → List (List ℕ)) → Result R E → Type 0
+Puts old new change r = OnOk r (lists_of new.items ≡ change (lists_of old.items))
+
+-- call sites as those of the definitions
+abbrev pub seen_sites : List Site → List CodeSite
+seen_sites sites = map site_view sites
+
+-- these call sites stand behind those before, where memory did not run out
+abbrev pub AddsSites : {R E : Type 0} → (old new : Vec Site) → List CodeSite → Result R E → Type 0
+AddsSites old new more r = OnOk r (seen_sites new.items ≡ seen_sites old.items ++ more)
+
+-- the call sites of functions of the source, and the site of one call of a line
+abbrev pub sites_of : List code.Function → List CodeSite
+sites_of functions = emitted_sites_of (map function_of functions)
+
+abbrev pub call_site : (line : ℕ) → code_call.Call → CodeSite
+call_site line c = site_of line c.kind c.site (listed_of c.callee)
+
+-- the names of reducers
+abbrev pub names_of_reducers : List Reducer → List (List ℕ)
+names_of_reducers reducers = reducer_names (map reducer_of reducers)
+
+-- which parameters are arrays
+abbrev pub are_arrays : List Param → List Bool
+are_arrays params = map (λ p. p.is_array) (map param_of params)
+
+-- the slots of the arrays among arguments, in order
+abbrev pub slots_passed : List Argument → List ℕ
+slots_passed arguments = passed_in (map argument_of arguments)
+
+-- a place filled with a test that leads behind all that stands, and with a jump there
+abbrev pub landed : (place : ℕ) → List Instr → List Instr
+landed place instrs = slice_set instrs place (instr.SkipIfZero (distance (length instrs - place - 1)))
+
+abbrev pub landed_past : (returns : Bool) → (place : ℕ) → List Instr → List Instr
+landed_past returns place instrs = slice_set instrs place (instr.Skip (past returns (length instrs - place - 1)))
+
+-- functions of the source with their bodies
+abbrev pub functions_with : List code.Function → List (Vec Line) → List Function
+functions_with functions bodies = with_bodies (map function_of functions) (blocks_of bodies)
+
+-- a function of the source with its body
+abbrev pub function_with : code.Function → List Line → Function
+function_with f body = record { gives_int = (function_of f).gives_int; params = map (λ p. p.is_array) (function_of f).params; body = block_of body }
+
+-- the instructions of functions of the source with their bodies, and of one
+abbrev pub code_with : (first : ℕ) → List code.Function → List (Vec Line) → List Instr
+code_with first functions bodies = emitted_instrs first (functions_with functions bodies)
+
+abbrev pub code_of : (first : ℕ) → code.Function → List Line → List Instr
+code_of first f body = emitted_function first (function_with f body)
+
+-- what the code keeps of functions whose instructions come behind these stands behind what stood there before, where memory
+-- did not run out
+abbrev pub AddsFuncs : {R E : Type 0} → (first : ℕ) → Vec Instr → (old new : Vec Func) → List code.Function → List (Vec Line) → Result R E → Type 0
+AddsFuncs first instrs old new functions bodies r =
+    Adds old new (emitted_funcs first (length instrs.items) (functions_with functions bodies)) r
+
+-- what the code keeps of one function whose instructions come behind these
+abbrev pub func_of : (first : ℕ) → Vec Instr → code.Function → List Line → Func
+func_of first instrs f body = emitted_func first (length instrs.items) (function_with f body)
+
+-- the functions of loops written out, the first of them with this index, and that of one
+abbrev pub texts_of : (index : ℕ) → List lowered.Loop → List Function
+texts_of index loops = loop_texts index (map loop_of loops)
+
+abbrev pub text_of : (index : ℕ) → lowered.Loop → Function
+text_of index l = loop_text index (loop_of l)
+
+-- the instructions of the functions of loops, and what the code keeps of them where these come before
+abbrev pub loop_code : (first index : ℕ) → List lowered.Loop → List Instr
+loop_code first index loops = emitted_instrs first (texts_of index loops)
+
+abbrev pub loop_funcs : (first : ℕ) → Vec Instr → (index : ℕ) → List lowered.Loop → List Func
+loop_funcs first instrs index loops = emitted_funcs first (length instrs.items) (texts_of index loops)
+
+-- the instructions of all functions of a lowered tree, what the code keeps of them, and their lists of array slots
+abbrev pub all_code : (first : ℕ) → source.Tree → Tree → List Instr
+all_code first tree made = emitted_instrs first (functions_of tree made)
+
+abbrev pub all_funcs : (first : ℕ) → source.Tree → Tree → List Func
+all_funcs first tree made = emitted_funcs first 0 (functions_of tree made)
+
+abbrev pub all_lists : (first : ℕ) → source.Tree → Tree → List (List ℕ)
+all_lists first tree made = emitted_lists first (functions_of tree made)
+
+-- the whole code of a program whose loops are lowered
+abbrev pub code_of_core : Core → Code
+code_of_core core = emitted (resolved_of core.source.typed.tree) (functions_of core.source.typed.tree core.tree)
+
+-- the instructions of arguments, and of an expression with an instruction on its value
+abbrev pub written_args : (line : ℕ) → List Argument → List Instr
+written_args line es = emitted_args line (map argument_of es)
+
+abbrev pub written_valued : (line : ℕ) → Expr → Instr → List Instr
+written_valued line e i = emitted_expr line (expr_of e) ++ i ∷ []
+
+-- the instructions of a block, of a statement of a line, and of a return
+abbrev pub written_block : (first : ℕ) → List Line → List Instr
+written_block first lines = emitted_block first (block_of lines)
+
+abbrev pub written_stmt : (first line : ℕ) → Stmt → List Instr
+written_stmt first line s = emitted_stmt first line (stmt_of s)
+
+abbrev pub written_return : (line : ℕ) → Option Expr → List Instr
+written_return line e = emitted_return line (option_map expr_of e)
+
+-- a sync block, and a block that goes back to its test, which starts at a place of these instructions
+abbrev pub written_inside : BlockKind → (first : ℕ) → List Line → List Instr
+written_inside kind first lines = emitted_inside kind (written_block first lines)
+
+abbrev pub written_turn : (start : ℕ) → Vec Instr → (first : ℕ) → List Line → List Instr
+written_turn start instrs first lines = emitted_turn (length instrs.items - start) (written_block first lines)
+
+-- a call of a line, the beginning of a loop, and a cut with its block
+abbrev pub written_call : (line : ℕ) → Call → List Instr
+written_call line c = emitted_args line (map argument_of c.arguments.items) ++ instr.Call c.kind (callee_of line c.site c.target c.callee) ∷ []
+
+abbrev pub written_begin : (first line : ℕ) → Begin → List Instr
+written_begin first line b = emitted_begin first line b.callee (expr_of b.from) (expr_of b.to) b.captured.items
+
+abbrev pub written_cut : (first line : ℕ) → Cut → List Line → List Instr
+written_cut first line c body = emitted_cut line (halves_of c.array c.left c.right) (emitted_block first (block_of body))
+
+-- the test of a loop's function: whether its range is a leaf
+abbrev pub written_test : Loop → List Instr
+written_test l = emitted_expr l.line (Binary AtMost range (Number (pos l.grain)))
+
+-- one turn of a leaf, and the variable's next value
+abbrev pub turn_text : Loop → Block
+turn_text l =
+    let x = turn_slot l.captured in
+    Then l.line (Scope l.body) (on_line l.line (Assign x (Binary Plus (Variable x) (Number (pos 1)))))
+
+-- the turns of a leaf, whose test starts at a place of these instructions
+abbrev pub leaf_turn : (start : ℕ) → Vec Instr → (first : ℕ) → lowered.Loop → List Instr
+leaf_turn start instrs first l = emitted_turn (length instrs.items - start) (emitted_block first (turn_text (loop_of l)))
+
+-- a leaf, and a node
+abbrev pub written_leaf : (first : ℕ) → Loop → List Instr
+written_leaf first l = emitted_block first (leaf l)
+
+abbrev pub written_node : (first index : ℕ) → Loop → List Instr
+written_node first index l = emitted_block first (node index l)
+
+-- the variable's next value, into its slot
+abbrev pub written_step : Loop → List Instr
+written_step l =
+    instr.Load (turn_slot l.captured) ∷ instr.Push (pos 1) ∷ instr.Binary Plus l.line ∷ instr.Store (turn_slot l.captured) ∷ []
+
+-- the middle of the range, into its slot
+abbrev pub written_middle : Loop → List Instr
+written_middle l =
+    instr.Load low ∷ instr.Load high ∷ instr.Load low ∷ instr.Binary Minus l.line ∷ instr.Push (pos 2) ∷ instr.Binary Divide l.line ∷ instr.Binary Plus l.line ∷ instr.Store (turn_slot l.captured) ∷ []
+
+-- the cuts of arrays in the middle, each inside the one before it
+abbrev pub written_cuts : Loop → (arrays : List ℕ) → List Instr
+written_cuts l [] = []
+written_cuts l (n ∷ arrays) =
+    instr.Load (turn_slot l.captured) ∷ instr.Load low ∷ instr.Binary Minus l.line ∷ instr.Cut (halves_of n (left_slot l.over n) (right_slot l.over n)) l.line ∷ written_cuts l arrays
+
+-- the cuts of all arrays of a loop
+abbrev pub cuts_of : lowered.Loop → List Instr
+cuts_of l = written_cuts (loop_of l) (numbers 0 l.over)
+
+-- the ends of the cuts
+abbrev pub written_ends : (arrays : List ℕ) → List Instr
+written_ends [] = []
+written_ends (n ∷ arrays) = instr.EndCut ∷ written_ends arrays
+
+-- a call on one half, which takes so many integers along
+abbrev pub written_half : CallKind → Inner → (from to captured : ℕ) → List Instr
+written_half kind callee from to captured =
+    instr.Load from ∷ instr.Load to ∷ (emitted_loads (numbers 2 captured) ++ instr.Recur kind callee ∷ [])
+
+-- what the code keeps of a loop's function that has its instructions between two places
+abbrev pub written_func : (start end : ℕ) → Loop → Func
+written_func start end l = record {
+  start = start;
+  end = end;
+  gives_int = false;
+  params = 2 + l.captured;
+  slots = max (ints_in_block (3 + l.captured) l.body) (3 + l.captured);
+  array_params = l.over;
+  arrays = max (arrays_in_block l.over l.body) (3 * l.over);
+}
+
+-- the lists of bodies, each put at its number
+abbrev pub put_lists_of_bodies : (first : ℕ) → List Block → List (List ℕ) → List (List ℕ)
+put_lists_of_bodies first [] lists = lists
+put_lists_of_bodies first (b ∷ bodies) lists = put_lists_of_bodies first bodies (put_lists_in first b lists)
+
+-- the slots of the left part of each array of a loop over so many, and of the right part
+abbrev pub left_slots : (over : ℕ) → List ℕ
+left_slots over = map (left_slot over) (numbers 0 over)
+
+abbrev pub right_slots : (over : ℕ) → List ℕ
+right_slots over = map (right_slot over) (numbers 0 over)

@@ -1,0 +1,86 @@
+//! The code of the functions of a tree: those of the source first, and then those of the loops.
+
+ghost use Rattle.std.specs.Prelude.{◌+◌, ◌<◌, ◌^◌, [], ◌∷◌, length, map};
+ghost use Rattle.cw_gen.specs.Written.{Adds, AddsFuncs, code_of, code_with, func_of};
+ghost use Rattle.cw_gen.specs.Written.{loop_code, loop_funcs};
+ghost use Rattle.cw_loops.specs.Small.{AreSmallLoops};
+ghost use Rattle.cw_loops.specs.View as view;
+
+use crate::jumps::put;
+use crate::loops::{loop_func, loop_function};
+use crate::slots::{arrays_in_block, count_arrays, count_ints, ints_in_block};
+use crate::statements::block;
+use cw_code::code::{Func, Instr};
+use cw_loops::tree::{Line, Loop};
+use cw_types::tree::Function;
+use std::alloc::AllocError;
+
+/// The code of the functions of the source, each with its body.
+pub(crate) fn functions_with(
+    instrs: &mut Vec<Instr>,
+    funcs: &mut Vec<Func>,
+    first: usize,
+    functions: &[Function],
+    bodies: &[Vec<Line>],
+) -> Result<(), AllocError>
+    ensures instrs { Adds instrs.old instrs.new (code_with first functions.now bodies.now) result }
+    ensures funcs { AddsFuncs first instrs.old funcs.old funcs.new functions.now bodies.now result }
+{
+    for (f, body) in functions.iter().zip(bodies) {
+        function_with(instrs, funcs, first, f, body)?;
+    }
+    Ok(())
+}
+
+/// The code of the functions of loops. The first of them has this index.
+pub(crate) fn loop_functions(
+    instrs: &mut Vec<Instr>,
+    funcs: &mut Vec<Func>,
+    first: usize,
+    index: u32,
+    loops: &[Loop],
+) -> Result<(), AllocError>
+    requires small { AreSmallLoops (map view.loop_of loops.now) }
+    requires room { index + length loops.now < 2 ^ 32 }
+    ensures instrs { Adds instrs.old instrs.new (loop_code first index loops.now) result }
+    ensures funcs { Adds funcs.old funcs.new (loop_funcs first instrs.old index loops.now) result }
+{
+    let mut at = index;
+    for l in loops {
+        let start = instrs.len();
+        loop_function(instrs, first, at, l)?;
+        funcs.push(loop_func(start, instrs.len(), l))?;
+        at += 1;
+    }
+    Ok(())
+}
+
+// The code of a function of the source with its body. One that gives no integer ends with a return.
+fn function_with(
+    instrs: &mut Vec<Instr>,
+    funcs: &mut Vec<Func>,
+    first: usize,
+    f: &Function,
+    body: &[Line],
+) -> Result<(), AllocError>
+    ensures instrs { Adds instrs.old instrs.new (code_of first f.now body.now) result }
+    ensures funcs { Adds funcs.old funcs.new (func_of first instrs.old f.now body.now ∷ []) result }
+{
+    let start = instrs.len();
+    block(instrs, first, body)?;
+    if !f.gives_int {
+        put(instrs, Instr::Return)?;
+    }
+    let params = count_ints(&f.params);
+    let array_params = count_arrays(&f.params);
+    funcs.push(Func {
+        start,
+        end: instrs.len(),
+        gives_int: f.gives_int,
+        params,
+        slots: ints_in_block(params, body),
+        array_params,
+        arrays: arrays_in_block(array_params, body),
+    })?;
+    Ok(())
+}

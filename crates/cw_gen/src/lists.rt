@@ -1,0 +1,203 @@
+//! The lists of array slots whose arrays a call takes.
+//!
+//! The list of number 0 is no call's and empty. A call site has the one at its number. From the number `first` on each
+//! function has three: those of its first call, of its calls on left halves, and of its calls on right halves, where it
+//! is a loop's.
+
+ghost use Rattle.std.specs.Prelude.{◌≡◌, ◌+◌, ◌<◌, ◌^◌, [], length, map, replicate, slice_set, IfOk};
+ghost use Rattle.cw_gen.specs.Emit as spec;
+ghost use Rattle.cw_gen.specs.Written.{Puts, blocks_of, left_slots, lists_of, put_lists_of_bodies};
+ghost use Rattle.cw_gen.specs.Written.{right_slots, slots_passed, text_of, texts_of};
+ghost use Rattle.cw_loops.specs.Small.{AreSmallLoops, IsSmallLoop};
+ghost use Rattle.cw_loops.specs.View as view;
+
+use crate::jumps::distance;
+use cw_loops::tree::{Argument, Line, Loop, Stmt};
+use cw_model::syntax::CallKind;
+use std::alloc::{AllocError, Global};
+
+/// The number of the list of the first call of a loop's function.
+pub(crate) fn whole_list(first: usize, callee: u32) -> u32
+    ensures { result ≡ spec.whole_list first callee }
+{
+    distance(first.saturating_add(callee as usize * 3))
+}
+
+/// The number of the list of its calls on one half.
+pub(crate) fn half_list(first: usize, kind: CallKind, callee: u32) -> u32
+    ensures { result ≡ spec.half_list first kind callee }
+{
+    let at = first.saturating_add(callee as usize * 3);
+    match kind {
+        CallKind::Spawned => distance(at.saturating_add(1)),
+        CallKind::Plain => distance(at.saturating_add(2)),
+    }
+}
+
+/// So many empty lists.
+pub(crate) fn no_lists(alloc: Global, count: usize) -> Result<Vec<Vec<u32>>, AllocError>
+    ensures { IfOk result (λ lists. lists_of lists.items ≡ replicate count []) }
+{
+    let mut lists = Vec::new(alloc);
+    for _number in 0..count {
+        lists.push(Vec::new(alloc))?;
+    }
+    Ok(lists)
+}
+
+// Puts a list at its number. One past the end is left out.
+fn put_list(lists: &mut Vec<Vec<u32>>, number: u32, slots: Vec<u32>)
+    ensures { lists_of lists.new.items ≡ slice_set (lists_of lists.old.items) number slots.items }
+{
+    let at = number as usize;
+    if at < lists.len() {
+        lists[at] = slots;
+    }
+}
+
+/// Puts the lists of bodies at their numbers.
+pub(crate) fn lists_of_bodies(
+    alloc: Global,
+    first: usize,
+    bodies: &[Vec<Line>],
+    lists: &mut Vec<Vec<u32>>,
+) -> Result<(), AllocError>
+    ensures { Puts lists.old lists.new (put_lists_of_bodies first (blocks_of bodies.now)) result }
+{
+    for body in bodies {
+        lists_in(alloc, first, body, lists)?;
+    }
+    Ok(())
+}
+
+/// Puts the lists of the functions of loops at their numbers. The first of them has this index.
+pub(crate) fn lists_of_loops(
+    alloc: Global,
+    first: usize,
+    index: u32,
+    loops: &[Loop],
+    lists: &mut Vec<Vec<u32>>,
+) -> Result<(), AllocError>
+    requires small { AreSmallLoops (map view.loop_of loops.now) }
+    requires room { index + length loops.now < 2 ^ 32 }
+    ensures { Puts lists.old lists.new (spec.put_lists_of first (texts_of index loops.now)) result }
+{
+    let mut at = index;
+    for l in loops {
+        lists_of_loop(alloc, first, at, l, lists)?;
+        at += 1;
+    }
+    Ok(())
+}
+
+// Puts the lists of a loop's body and of its calls on both halves at their numbers.
+fn lists_of_loop(
+    alloc: Global,
+    first: usize,
+    index: u32,
+    l: &Loop,
+    lists: &mut Vec<Vec<u32>>,
+) -> Result<(), AllocError>
+    requires { IsSmallLoop (view.loop_of l.now) }
+    ensures { Puts lists.old lists.new (spec.put_lists_in first (text_of index l.now).body) result }
+{
+    lists_in(alloc, first, &l.body, lists)?;
+    let left = lefts(alloc, l)?;
+    put_list(lists, half_list(first, CallKind::Spawned, index), left);
+    let right = rights(alloc, l)?;
+    put_list(lists, half_list(first, CallKind::Plain, index), right);
+    Ok(())
+}
+
+// The slots of the left part of each array of a loop.
+fn lefts(alloc: Global, l: &Loop) -> Result<Vec<u32>, AllocError>
+    requires { IsSmallLoop (view.loop_of l.now) }
+    ensures { IfOk result (λ slots. slots.items ≡ left_slots l.now.over) }
+{
+    let mut slots = Vec::new(alloc);
+    for array in 0..l.over {
+        slots.push(l.over + 2 * array)?;
+    }
+    Ok(slots)
+}
+
+// The slots of the right part of each array of a loop.
+fn rights(alloc: Global, l: &Loop) -> Result<Vec<u32>, AllocError>
+    requires { IsSmallLoop (view.loop_of l.now) }
+    ensures { IfOk result (λ slots. slots.items ≡ right_slots l.now.over) }
+{
+    let mut slots = Vec::new(alloc);
+    for array in 0..l.over {
+        slots.push(l.over + 2 * array + 1)?;
+    }
+    Ok(slots)
+}
+
+// Puts the lists of a block at their numbers.
+#[cycle(lists)]
+fn lists_in(
+    alloc: Global,
+    first: usize,
+    lines: &[Line],
+    lists: &mut Vec<Vec<u32>>,
+) -> Result<(), AllocError>
+    ensures { Puts lists.old lists.new (spec.put_lists_in first (view.block_of lines.now)) result }
+{
+    for line in lines {
+        lists_at(alloc, first, &line.stmt, lists)?;
+    }
+    Ok(())
+}
+
+// Puts the lists of a statement at their numbers.
+#[cycle(lists)]
+fn lists_at(
+    alloc: Global,
+    first: usize,
+    stmt: &Stmt,
+    lists: &mut Vec<Vec<u32>>,
+) -> Result<(), AllocError>
+    ensures { Puts lists.old lists.new (spec.put_lists first (view.stmt_of stmt.now)) result }
+{
+    match stmt {
+        Stmt::Call(c) => {
+            let slots = slots_in(alloc, &c.arguments)?;
+            put_list(lists, c.site, slots);
+            Ok(())
+        }
+        Stmt::Begin(b) => {
+            let slots = Vec::from_slice(alloc, &b.over)?;
+            put_list(lists, whole_list(first, b.callee), slots);
+            Ok(())
+        }
+        Stmt::If(_, b) | Stmt::While(_, b) => lists_in(alloc, first, b, lists),
+        Stmt::IfElse(_, b, c) => {
+            lists_in(alloc, first, b, lists)?;
+            lists_in(alloc, first, c, lists)
+        }
+        Stmt::Scope(b) => lists_in(alloc, first, b, lists),
+        Stmt::Cut(_, b) => lists_in(alloc, first, b, lists),
+        Stmt::Region(_, b) => lists_in(alloc, first, b, lists),
+        Stmt::Declare(_, _)
+        | Stmt::DeclareArray(_, _)
+        | Stmt::Assign(_, _)
+        | Stmt::AssignElement(_, _, _)
+        | Stmt::AddTo(_, _)
+        | Stmt::Sync
+        | Stmt::Print(_)
+        | Stmt::Return(_) => Ok(()),
+    }
+}
+
+// The slots of the arrays among arguments.
+fn slots_in(alloc: Global, arguments: &[Argument]) -> Result<Vec<u32>, AllocError>
+    ensures { IfOk result (λ slots. slots.items ≡ slots_passed arguments.now) }
+{
+    let mut slots = Vec::new(alloc);
+    for argument in arguments {
+        if let Argument::Array(slot) = argument {
+            slots.push(*slot)?;
+        }
+    }
+    Ok(slots)
+}

@@ -1,0 +1,115 @@
+//! How many slots of each kind a function has.
+
+ghost use Rattle.std.specs.Prelude.{◌≡◌, suc, max};
+ghost use Rattle.cw_gen.specs.Emit as spec;
+ghost use Rattle.cw_loops.specs.View as view;
+ghost use Rattle.cw_gen.specs.Written.{are_arrays};
+
+use cw_loops::tree::{Line, Stmt};
+use cw_types::tree::Param;
+
+/// How many parameters are integers.
+pub(crate) fn count_ints(params: &[Param]) -> usize
+    ensures { result ≡ spec.count_ints (are_arrays params.now) }
+{
+    let mut count = 0;
+    for p in params {
+        if !p.is_array {
+            count += 1;
+        }
+    }
+    count
+}
+
+/// How many parameters are arrays.
+pub(crate) fn count_arrays(params: &[Param]) -> usize
+    ensures { result ≡ spec.count_arrays (are_arrays params.now) }
+{
+    let mut count = 0;
+    for p in params {
+        if p.is_array {
+            count += 1;
+        }
+    }
+    count
+}
+
+// So many slots, or those up to this one.
+fn with_slot(count: usize, slot: u32) -> usize
+    ensures { result ≡ max count (suc slot) }
+{
+    let next = slot as usize + 1;
+    if count < next { next } else { count }
+}
+
+/// How many slots of integers there are, where so many are before a block.
+#[cycle(ints)]
+pub(crate) fn ints_in_block(count: usize, lines: &[Line]) -> usize
+    ensures { result ≡ spec.ints_in_block count (view.block_of lines.now) }
+{
+    let mut n = count;
+    for line in lines {
+        n = ints_in(n, &line.stmt);
+    }
+    n
+}
+
+// The same of a statement.
+#[cycle(ints)]
+fn ints_in(n: usize, stmt: &Stmt) -> usize
+    ensures { result ≡ spec.ints_in n (view.stmt_of stmt.now) }
+{
+    match stmt {
+        Stmt::Declare(u, _) => with_slot(n, *u),
+        Stmt::If(_, b) | Stmt::While(_, b) => ints_in_block(n, b),
+        Stmt::IfElse(_, b, c) => ints_in_block(ints_in_block(n, b), c),
+        Stmt::Scope(b) => ints_in_block(n, b),
+        Stmt::Cut(_, b) => ints_in_block(n, b),
+        Stmt::Region(_, b) => ints_in_block(n, b),
+        Stmt::DeclareArray(_, _)
+        | Stmt::Assign(_, _)
+        | Stmt::AssignElement(_, _, _)
+        | Stmt::AddTo(_, _)
+        | Stmt::Call(_)
+        | Stmt::Begin(_)
+        | Stmt::Sync
+        | Stmt::Print(_)
+        | Stmt::Return(_) => n,
+    }
+}
+
+/// How many array slots there are, where so many are before a block.
+#[cycle(arrays)]
+pub(crate) fn arrays_in_block(count: usize, lines: &[Line]) -> usize
+    ensures { result ≡ spec.arrays_in_block count (view.block_of lines.now) }
+{
+    let mut n = count;
+    for line in lines {
+        n = arrays_in(n, &line.stmt);
+    }
+    n
+}
+
+// The same of a statement.
+#[cycle(arrays)]
+fn arrays_in(n: usize, stmt: &Stmt) -> usize
+    ensures { result ≡ spec.arrays_in n (view.stmt_of stmt.now) }
+{
+    match stmt {
+        Stmt::DeclareArray(u, _) => with_slot(n, *u),
+        Stmt::If(_, b) | Stmt::While(_, b) => arrays_in_block(n, b),
+        Stmt::IfElse(_, b, c) => arrays_in_block(arrays_in_block(n, b), c),
+        Stmt::Scope(b) => arrays_in_block(n, b),
+        Stmt::Cut(parts, b) => arrays_in_block(with_slot(n, parts.right), b),
+        Stmt::Region(_, b) => arrays_in_block(n, b),
+        Stmt::Declare(_, _)
+        | Stmt::Assign(_, _)
+        | Stmt::AssignElement(_, _, _)
+        | Stmt::AddTo(_, _)
+        | Stmt::Call(_)
+        | Stmt::Begin(_)
+        | Stmt::Sync
+        | Stmt::Print(_)
+        | Stmt::Return(_) => n,
+    }
+}

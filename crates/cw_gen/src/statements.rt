@@ -1,0 +1,232 @@
+//! From statements to instructions.
+//!
+//! `first` is the number of the first list of array slots that is a function's.
+
+ghost use Rattle.std.specs.Prelude.{◌≡◌, ◌≤◌, length, IfOk};
+ghost use Rattle.cw_gen.specs.Emit as spec;
+ghost use Rattle.cw_gen.specs.Emit.{emitted_over};
+ghost use Rattle.cw_gen.specs.Written as written;
+ghost use Rattle.cw_gen.specs.Written.{Adds, written_block, written_cut, written_turn};
+ghost use Rattle.cw_loops.specs.View.{block_of, stmt_of};
+
+use crate::expressions::{arguments, expression, loads, valued};
+use crate::jumps::{distance, hole, land, land_past, put};
+use crate::lists::whole_list;
+use cw_code::code::{BlockKind, Callee, Halves, Inner, Instr};
+use cw_loops::tree::{Begin, Call, Cut, Expr, Line, Stmt};
+use std::alloc::AllocError;
+
+/// The code of statements in order, and whether the last of them surely returns.
+#[cycle(emit)]
+pub(crate) fn block(
+    instrs: &mut Vec<Instr>,
+    first: usize,
+    lines: &[Line],
+) -> Result<bool, AllocError>
+    ensures instrs { Adds instrs.old instrs.new (written_block first lines.now) result }
+    ensures returns { IfOk result (λ returns. returns ≡ spec.returns (block_of lines.now)) }
+{
+    let mut returns = false;
+    for line in lines {
+        returns = statement(instrs, first, line.line, &line.stmt)?;
+    }
+    Ok(returns)
+}
+
+// The code of a statement of this line, and whether it surely returns.
+#[cycle(emit)]
+fn statement(
+    instrs: &mut Vec<Instr>,
+    first: usize,
+    line: u32,
+    stmt: &Stmt,
+) -> Result<bool, AllocError>
+    ensures instrs { Adds instrs.old instrs.new (written.written_stmt first line stmt.now) result }
+    ensures returns { IfOk result (λ returns. returns ≡ spec.stmt_returns (stmt_of stmt.now)) }
+{
+    match stmt {
+        Stmt::If(e, b) => {
+            expression(instrs, line, e)?;
+            passed_over(instrs, first, b)?;
+            Ok(false)
+        }
+        Stmt::IfElse(e, b, c) => {
+            expression(instrs, line, e)?;
+            let test = hole(instrs)?;
+            let one = block(instrs, first, b)?;
+            let end = hole(instrs)?;
+            land(instrs, test);
+            let other = block(instrs, first, c)?;
+            land_past(instrs, end, one);
+            Ok(one && other)
+        }
+        Stmt::While(e, b) => {
+            let start = instrs.len();
+            expression(instrs, line, e)?;
+            turn(instrs, first, start, b)?;
+            Ok(false)
+        }
+        Stmt::Scope(b) => {
+            inside(instrs, first, BlockKind::Scope, b)?;
+            Ok(false)
+        }
+        Stmt::Cut(parts, b) => {
+            expression(instrs, line, &parts.at)?;
+            cut(instrs, first, line, parts, b)?;
+            Ok(false)
+        }
+        Stmt::Region(tag, b) => {
+            inside(instrs, first, BlockKind::Region(*tag), b)?;
+            Ok(false)
+        }
+        Stmt::Return(e) => {
+            returned(instrs, line, e)?;
+            Ok(true)
+        }
+        Stmt::Declare(_, _)
+        | Stmt::DeclareArray(_, _)
+        | Stmt::Assign(_, _)
+        | Stmt::AssignElement(_, _, _)
+        | Stmt::AddTo(_, _)
+        | Stmt::Call(_)
+        | Stmt::Begin(_)
+        | Stmt::Sync
+        | Stmt::Print(_) => {
+            alone(instrs, first, line, stmt)?;
+            Ok(false)
+        }
+    }
+}
+
+// The code of a statement of this line with no block in it and no return.
+fn alone(instrs: &mut Vec<Instr>, first: usize, line: u32, stmt: &Stmt) -> Result<(), AllocError>
+    ensures { Adds instrs.old instrs.new (spec.emitted_alone first line (stmt_of stmt.now)) result }
+{
+    match stmt {
+        Stmt::Declare(u, e) => valued(instrs, line, e, Instr::Store(*u)),
+        Stmt::DeclareArray(u, e) => valued(instrs, line, e, Instr::NewArray(*u, line)),
+        Stmt::AssignElement(u, i, e) => {
+            expression(instrs, line, i)?;
+            valued(instrs, line, e, Instr::SetElement(*u, line))
+        }
+        Stmt::Assign(u, e) => valued(instrs, line, e, Instr::Store(*u)),
+        Stmt::AddTo(s, e) => valued(instrs, line, e, Instr::AddTo(*s)),
+        Stmt::Print(e) => valued(instrs, line, e, Instr::Print),
+        Stmt::Call(c) => call(instrs, line, c),
+        Stmt::Begin(b) => begin(instrs, first, line, b),
+        Stmt::Sync => put(instrs, Instr::Sync),
+        Stmt::If(_, _)
+        | Stmt::IfElse(_, _, _)
+        | Stmt::While(_, _)
+        | Stmt::Scope(_)
+        | Stmt::Cut(_, _)
+        | Stmt::Region(_, _)
+        | Stmt::Return(_) => Ok(()),
+    }
+}
+
+// The code of a return, with its value if it has one.
+fn returned(instrs: &mut Vec<Instr>, line: u32, e: &Option<Expr>) -> Result<(), AllocError>
+    ensures { Adds instrs.old instrs.new (written.written_return line e.now) result }
+{
+    match e {
+        None => put(instrs, Instr::Return),
+        Some(e) => valued(instrs, line, e, Instr::ReturnValue),
+    }
+}
+
+// A call: its arguments from left to right, and then its instruction.
+fn call(instrs: &mut Vec<Instr>, line: u32, c: &Call) -> Result<(), AllocError>
+    ensures { Adds instrs.old instrs.new (written.written_call line c.now) result }
+{
+    arguments(instrs, line, &c.arguments)?;
+    let callee = Callee {
+        function: c.callee,
+        site: c.site,
+        line,
+        target: c.target,
+        passed: c.site,
+    };
+    put(instrs, Instr::Call(c.kind, callee))
+}
+
+// The first call of a loop's function: the ends of its range, what it takes along, and then its instruction.
+fn begin(instrs: &mut Vec<Instr>, first: usize, line: u32, b: &Begin) -> Result<(), AllocError>
+    ensures { Adds instrs.old instrs.new (written.written_begin first line b.now) result }
+{
+    expression(instrs, line, &b.from)?;
+    expression(instrs, line, &b.to)?;
+    loads(instrs, &b.captured)?;
+    let whole = Inner {
+        function: b.callee,
+        passed: whole_list(first, b.callee),
+    };
+    put(instrs, Instr::Start(whole, line))
+}
+
+// A block that is passed over where the last operand is 0.
+#[cycle(emit)]
+fn passed_over(instrs: &mut Vec<Instr>, first: usize, lines: &[Line]) -> Result<(), AllocError>
+    ensures { Adds instrs.old instrs.new (emitted_over (written_block first lines.now)) result }
+{
+    let test = hole(instrs)?;
+    block(instrs, first, lines)?;
+    land(instrs, test);
+    Ok(())
+}
+
+/// A sync block.
+#[cycle(emit)]
+pub(crate) fn inside(
+    instrs: &mut Vec<Instr>,
+    first: usize,
+    kind: BlockKind,
+    lines: &[Line],
+) -> Result<(), AllocError>
+    ensures { Adds instrs.old instrs.new (written.written_inside kind first lines.now) result }
+{
+    put(instrs, Instr::Open(kind))?;
+    block(instrs, first, lines)?;
+    put(instrs, Instr::Close)
+}
+
+// A cut at the last operand, the block that has its parts, and its end.
+#[cycle(emit)]
+fn cut(
+    instrs: &mut Vec<Instr>,
+    first: usize,
+    line: u32,
+    parts: &Cut,
+    lines: &[Line],
+) -> Result<(), AllocError>
+    ensures { Adds instrs.old instrs.new (written_cut first line parts.now lines.now) result }
+{
+    let halves = Halves {
+        array: parts.array,
+        left: parts.left,
+        right: parts.right,
+    };
+    put(instrs, Instr::Cut(halves, line))?;
+    block(instrs, first, lines)?;
+    put(instrs, Instr::EndCut)?;
+    Ok(())
+}
+
+// A block that goes back to its test, which starts at this place.
+#[cycle(emit)]
+fn turn(
+    instrs: &mut Vec<Instr>,
+    first: usize,
+    start: usize,
+    lines: &[Line],
+) -> Result<(), AllocError>
+    requires { start ≤ length instrs.old.items }
+    ensures { Adds instrs.old instrs.new (written_turn start instrs.old first lines.now) result }
+{
+    let test = hole(instrs)?;
+    block(instrs, first, lines)?;
+    let n = distance(instrs.len() - start);
+    put(instrs, Instr::GoBack(n))?;
+    land(instrs, test);
+    Ok(())
+}
