@@ -2,10 +2,15 @@
 use Rattle.cw_part.specs.declared.read.Read.{Read}
 use Rattle.cw_part.specs.declared.outcome.Outcome.{Outcome}
 use Rattle.cw_part.specs.declared.outcome.Outcome.TheVariants as stored
-use Rattle.cw_part.specs.Parts.{Came, Ran, Trapped, Over, Memory}
+use Rattle.cw_part.specs.Parts.{Came, Ran, Trapped, Over, Memory, followed}
+use Rattle.cw_part.specs.Read.{readings}
 
 abbrev pub came_of : Outcome → Came Read
 came_of (stored.Ran read) = Ran read
 came_of (stored.Trapped trap line read) = Trapped trap line read
 came_of stored.Over = Over
 came_of stored.Memory = Memory
+
+-- how a part came out, and then what came of the next one
+abbrev pub came_with : Came Read → (next : Outcome) → Came Read
+came_with first next = followed readings first (came_of next)

@@ -14,6 +14,10 @@ pub record RunPart : Type 0 where
   pub limited : nat_lt greatest_limit limit ≡ false
   pub tested : is_above readings limit came ≡ false
 
+-- the part with this limit that came out so, as its type keeps it
+abbrev pub run_part : (limit : ℕ) (came : Came Read) → nat_lt greatest_limit limit ≡ false → is_above readings limit came ≡ false → RunPart
+run_part limit came limited tested = record { limit = limit; came = came; limited = limited; tested = tested }
+
 -- a part of nothing
 abbrev pub nothing_part : RunPart
 nothing_part = record { limit = greatest_limit; came = Ran nothing_read; limited = refl; tested = refl }
@@ -35,6 +39,10 @@ as_child burden p = record {
   limited = p.limited;
   tested = child_above burden p.limit p.came ∙ p.tested;
 }
+
+-- a part and then a spawned child of it
+abbrev pub child_joined : (burden : ℕ) → RunPart → (child : RunPart) → RunPart
+child_joined burden p child = run_joined p (as_child burden child)
 
 -- a call's part, as a piece of the block that made it
 abbrev pub as_call : RunPart → RunPart

@@ -1,8 +1,8 @@
 //! How a part of a run came out.
 
 ghost use Rattle.std.specs.Prelude.{◌≡◌, IfOk};
-ghost use Rattle.cw_part.specs.Outcomes.{came_of};
-ghost use Rattle.cw_part.specs.Parts.{Ran, followed, has_run, is_above, is_memory, seen, within};
+ghost use Rattle.cw_part.specs.Outcomes.{came_of, came_with};
+ghost use Rattle.cw_part.specs.Parts.{Ran, has_run, is_above, is_memory, seen, within};
 ghost use Rattle.cw_part.specs.Read.{call_read, child_read, readings};
 
 use crate::read::Read;
@@ -27,7 +27,7 @@ impl Outcome {
     /// This, and then what came of the next part. What follows a trap or an end at the limit is dropped, but where memory
     /// was refused on either side it was refused to both. An error only where memory was refused to the join itself.
     pub fn then(self, next: Outcome) -> Result<Outcome, AllocError>
-        ensures { IfOk result (λ both. came_of both ≡ followed readings (came_of self) (came_of next)) }
+        ensures { IfOk result (λ both. came_of both ≡ came_with (came_of self) next) }
     {
         match self {
             Outcome::Ran(first) => {
@@ -54,7 +54,7 @@ impl Outcome {
 
     // This, after a part that ran to its end.
     fn after(self, first: Read) -> Result<Outcome, AllocError>
-        ensures { IfOk result (λ both. came_of both ≡ followed readings (Ran first) (came_of self)) }
+        ensures { IfOk result (λ both. came_of both ≡ came_with (Ran first) self) }
     {
         match self {
             Outcome::Ran(second) => {

@@ -27,11 +27,11 @@ pub struct Part {
 
 impl Model for Part {
     ghost use Rattle.cw_part.specs.Outcomes.{came_of};
-    ghost use Rattle.cw_part.specs.RunParts.{RunPart};
+    ghost use Rattle.cw_part.specs.RunParts.{RunPart, run_part};
 
     ghost Value = { RunPart };
 
-    ghost view = { λ p. record { limit = p.limit; came = came_of p.outcome; limited = p.limited; tested = p.tested } };
+    ghost view = { λ p. run_part p.limit (came_of p.outcome) p.limited p.tested };
 }
 
 impl Part {

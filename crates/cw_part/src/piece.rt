@@ -2,7 +2,7 @@
 
 ghost use Rattle.std.specs.Prelude.{◌≡◌, IfOk};
 ghost use Rattle.cw_part.specs.Pieces.{DropsTables, JoinsChildTables, JoinsNextTables, JoinsTablesAcross};
-ghost use Rattle.cw_part.specs.RunParts.{as_child, run_joined};
+ghost use Rattle.cw_part.specs.RunParts.{child_joined, run_joined};
 
 use crate::part::Part;
 use crate::tables::Tables;
@@ -59,7 +59,7 @@ impl Piece {
 
     /// Joins a spawned child of the block, as `Part::into_child` and `Tables::join_child` do.
     pub fn join_child(self, child: Piece, burden: u64, first: bool) -> Result<Piece, AllocError>
-        ensures part { IfOk result (λ both. both.part ≡ run_joined self.part (as_child burden child.part)) }
+        ensures part { IfOk result (λ both. both.part ≡ child_joined burden self.part child.part) }
         ensures tables { IfOk result (λ both. JoinsChildTables self child both first) }
         ensures dropped { IfOk result (λ both. DropsTables self both) }
     {

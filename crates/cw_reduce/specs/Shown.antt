@@ -30,3 +30,7 @@ Adds old new reducer n = (q : ℕ) → sum_of new.sums q ≡ (if reducer == q th
 abbrev pub AddsBits : List ℕ → List ℕ → (reducer n : ℕ) → Type 0
 AddsBits old new reducer n =
     (q : ℕ) → slice_index_or new q 0 ≡ (if reducer == q then (slice_index_or old q 0 + n) % 2 ^ 128 else slice_index_or old q 0)
+
+-- the same bits at each place; past the end there is 0
+abbrev pub SameBits : List ℕ → List ℕ → Type 0
+SameBits old new = (q : ℕ) → slice_index_or new q 0 ≡ slice_index_or old q 0

@@ -1,8 +1,8 @@
 //! What a run gives beside its value.
 
-ghost use Rattle.std.specs.Prelude.{◌≡◌, ℕ, ◌≤◌, ◌++◌, ◌∷◌, ◌<◌, [], length, map, slice_index_or, IfOk, OnOk};
+ghost use Rattle.std.specs.Prelude.{◌≡◌, ◌≤◌, ◌++◌, ◌∷◌, ◌<◌, [], length, map, slice_index_or, IfOk, OnOk};
 ghost use Rattle.std.specs.Int.{cast_signed, w128};
-ghost use Rattle.cw_reduce.specs.Shown.{nothing_shown, shown_joined, sum_of, sums_joined, Adds, AddsBits};
+ghost use Rattle.cw_reduce.specs.Shown.{nothing_shown, shown_joined, sum_of, sums_joined, Adds, AddsBits, SameBits};
 ghost use Rattle.cw_reduce.specs.Words.{word};
 
 use crate::lines::Lines;
@@ -94,7 +94,7 @@ fn add_to(sums: &mut Vec<u128>, reducer: u32, bits: u128) -> Result<(), AllocErr
 
 // Room for the sum at a place: sums that were missing are 0.
 fn reach(sums: &mut Vec<u128>, reducer: u32) -> Result<(), AllocError>
-    ensures same { OnOk result ((q : ℕ) → slice_index_or sums.new.items q 0 ≡ slice_index_or sums.old.items q 0) }
+    ensures same { OnOk result (SameBits sums.old.items sums.new.items) }
     ensures within { OnOk result (reducer < length sums.new.items) }
 {
     let needed = reducer as usize + 1;

@@ -1,16 +1,14 @@
 -- Names that are there once.
 use Rattle.std.proofs.Common.{◌≡◌, ℕ, suc, ◌+◌, ◌<◌, true, false, not, ◌||◌, ◌&&◌, Some, List, length, get_or, sym, ap, ◌∙◌, arith}
-use Rattle.std.specs.Prelude.{option_map, drop, slice_get}
-use Rattle.std.specs.Global.{Vec}
-use Rattle.std.proofs.lemmas.Option.{slice_get-map, slice_get-get_or}
+use Rattle.std.specs.Prelude.{drop, slice_get}
+use Rattle.std.proofs.lemmas.Option.{slice_get-get_or}
 use Rattle.cw_model.specs.Syntax.{Name}
 use Rattle.cw_model.specs.Names.{same_name}
 use Rattle.cw_code.specs.Fits.{is_among, are_apart}
-use Rattle.cw_verify.specs.Table.{names_of}
 use Rattle.cw_verify.proofs.Lists.{drop_at}
 
-pub name_at : (names : List (Vec ℕ)) (k : ℕ) (name d : Vec ℕ) → k < length names → name ≡ get_or names k d → slice_get (names_of names) k ≡ Some name.items
-name_at names k name d lt e = slice_get-map (λ (n : Vec ℕ). n.items) names k ∙ ap (option_map (λ (n : Vec ℕ). n.items)) (slice_get-get_or names k d lt ∙ ap Some (sym e))
+pub name_at : (names : List Name) (k : ℕ) (name d : Name) → k < length names → name ≡ get_or names k d → slice_get names k ≡ Some name
+name_at names k name d lt e = slice_get-get_or names k d lt ∙ ap Some (sym e)
 
 module _ (names : List Name) (k : ℕ) (other : Name) (e : slice_get names k ≡ Some other) where
   next : suc k ≡ k + 1

@@ -1,3 +1,5 @@
 pub mod Table
 pub mod Resolved
 pub mod Verifies
+pub mod Views
+pub mod Steps

@@ -1,12 +1,10 @@
 //! What a place finds.
 
-ghost use Rattle.std.specs.Prelude.{◌≡◌, ◌+◌, ◌-◌, ◌≤◌, true, length, slice_get, MatchResult};
-ghost use Rattle.cw_code.specs.Code.{code_view};
+ghost use Rattle.std.specs.Prelude.{◌≡◌};
 ghost use Rattle.cw_code.specs.Fits as fits;
-ghost use Rattle.cw_code.specs.Run.{passed_by};
 ghost use Rattle.cw_code.specs.declared.code.Instr.TheVariants as instr;
-ghost use Rattle.cw_model.specs.declared.syntax.CallKind.TheVariants.{Spawned};
 ghost use Rattle.cw_verify.specs.Table as table;
+ghost use Rattle.cw_verify.specs.Views as views;
 
 use crate::named::{params_of, passed_of};
 use crate::round::{self, Round};
@@ -78,7 +76,7 @@ fn has_arguments(kind: CallKind, params: usize, operands: usize) -> bool
 
 // Whether a call finds what it needs.
 fn has_call(code: &Code, found: &Found, kind: CallKind, c: &Callee) -> bool
-    ensures { result ≡ fits.is_ready (code_view code.now) (table.shape_view found.now) (instr.Call kind c.now) }
+    ensures { result ≡ views.is_ready code.now found.now (instr.Call kind c.now) }
 {
     has_arguments(kind, params_of(code, c.function), found.operands)
         && (has_target(found, c.target) && has_arrays(found, passed_of(code, c.passed)))
@@ -137,7 +135,7 @@ fn can_cut(found: &Found, h: Halves) -> bool
 
 /// Whether an instruction finds what it needs.
 pub fn is_ready(code: &Code, found: &Found, i: &Instr) -> bool
-    ensures { result ≡ fits.is_ready (code_view code.now) (table.shape_view found.now) i.now }
+    ensures { result ≡ views.is_ready code.now found.now i.now }
 {
     match i {
         Instr::Push(_) => true,

@@ -1,11 +1,12 @@
 //! What an instruction leaves.
 
-ghost use Rattle.std.specs.Prelude.{◌≡◌, ◌+◌, ◌-◌, ◌≤◌, true, length, slice_get, MatchResult};
-ghost use Rattle.cw_code.specs.Code.{code_view};
+ghost use Rattle.std.specs.Prelude.{◌≡◌, ◌+◌, ◌-◌, ◌≤◌, true};
 ghost use Rattle.cw_code.specs.Fits as fits;
 ghost use Rattle.cw_code.specs.declared.code.Instr.TheVariants as instr;
 ghost use Rattle.cw_model.specs.declared.syntax.CallKind.TheVariants.{Spawned};
 ghost use Rattle.cw_verify.specs.Table as table;
+ghost use Rattle.cw_verify.specs.Views as views;
+ghost use Rattle.cw_verify.specs.Steps.{OrMemory};
 
 use crate::found::Found;
 use crate::named::{params_of, passed_of};
@@ -19,7 +20,7 @@ use std::rc::Rc;
 
 // One operand more. So many that they can't be counted have no room anywhere.
 fn one_more(found: Found) -> Result<Found, Fault>
-    ensures { table.Finds result (table.holding (found.operands + 1) (table.shape_view found)) }
+    ensures { table.Finds result (views.holding (found.operands + 1) found) }
 {
     match found.operands.checked_add(1) {
         Some(operands) => Ok(Found { operands, ..found }),
@@ -30,7 +31,7 @@ fn one_more(found: Found) -> Result<Found, Fault>
 // Fewer operands.
 fn less(found: Found, count: usize) -> Found
     requires { count ≤ found.operands }
-    ensures { table.shape_view result ≡ table.holding (found.operands - count) (table.shape_view found) }
+    ensures { table.shape_view result ≡ views.holding (found.operands - count) found }
 {
     let operands = found.operands - count;
     Found { operands, ..found }
@@ -38,7 +39,7 @@ fn less(found: Found, count: usize) -> Found
 
 // The row after a spawn took the slot of its result, if there is one.
 fn with_target(alloc: Global, row: &[bool], target: Option<u32>) -> Result<Rc<Vec<bool>>, Fault>
-    ensures { MatchResult result (λ r. r.value.items ≡ fits.with_target Spawned target row.now) (λ e. e ≡ Fault.Memory) }
+    ensures { OrMemory result (λ r. r.value.items ≡ fits.with_target Spawned target row.now) }
 {
     let mut row = Vec::from_slice(alloc, row)?;
     take_target(&mut row, target);
@@ -57,7 +58,7 @@ fn take_target(row: &mut Vec<bool>, target: Option<u32>)
 
 // The row after arrays were taken out of these slots.
 fn with_gone(alloc: Global, row: &[bool], passed: &[u32]) -> Result<Rc<Vec<bool>>, Fault>
-    ensures { MatchResult result (λ r. r.value.items ≡ fits.with_gone passed.now row.now) (λ e. e ≡ Fault.Memory) }
+    ensures { OrMemory result (λ r. r.value.items ≡ fits.with_gone passed.now row.now) }
 {
     let mut row = Vec::from_slice(alloc, row)?;
     row::set_all(&mut row, passed);
@@ -73,8 +74,8 @@ fn called(
     kind: CallKind,
     c: &Callee,
 ) -> Result<Found, Fault>
-    requires { fits.is_ready (code_view code.now) (table.shape_view found) (instr.Call kind c.now) ≡ true }
-    ensures { table.Finds result (fits.leaves (code_view code.now) (table.shape_view found) (instr.Call kind c.now)) }
+    requires { views.is_ready code.now found (instr.Call kind c.now) ≡ true }
+    ensures { table.Finds result (views.leaves code.now found (instr.Call kind c.now)) }
 {
     let left = less(found, params_of(code, c.function));
     match kind {
@@ -99,8 +100,8 @@ fn recurred(
     kind: CallKind,
     c: &Inner,
 ) -> Result<Found, Fault>
-    requires { fits.is_ready (code_view code.now) (table.shape_view found) (instr.Recur kind c.now) ≡ true }
-    ensures { table.Finds result (fits.leaves (code_view code.now) (table.shape_view found) (instr.Recur kind c.now)) }
+    requires { views.is_ready code.now found (instr.Recur kind c.now) ≡ true }
+    ensures { table.Finds result (views.leaves code.now found (instr.Recur kind c.now)) }
 {
     let left = less(found, params_of(code, c.function));
     match kind {
@@ -163,7 +164,7 @@ fn cut(alloc: Global, found: Found, h: Halves) -> Result<Found, Fault>
 // A sync block ends: the one round it goes on.
 fn closed(alloc: Global, found: Found) -> Result<Found, Fault>
     requires { fits.can_close (table.rounds_of found.outer.value.items) ≡ true }
-    ensures { table.Finds result (fits.closed_shape (table.shape_view found) (table.rounds_of found.outer.value.items)) }
+    ensures { table.Finds result (views.closed found) }
 {
     let mut outer = copies(alloc, &found.outer)?;
     let round = outer.remove(0);
@@ -190,7 +191,7 @@ fn put_back(row: &mut Vec<bool>, cut: Option<Halves>)
 // A cut ends: the sync block round it goes on, with the array.
 fn uncut(alloc: Global, found: Found) -> Result<Found, Fault>
     requires { fits.can_uncut (table.rounds_of found.outer.value.items) ≡ true }
-    ensures { table.Finds result (fits.uncut_shape (table.shape_view found) (table.rounds_of found.outer.value.items)) }
+    ensures { table.Finds result (views.uncut found) }
 {
     let mut outer = copies(alloc, &found.outer)?;
     let round = outer.remove(0);
@@ -209,8 +210,8 @@ fn uncut(alloc: Global, found: Found) -> Result<Found, Fault>
 
 /// What an instruction leaves.
 pub fn leave(alloc: Global, code: &Code, found: Found, i: &Instr) -> Result<Found, Fault>
-    requires { fits.is_ready (code_view code.now) (table.shape_view found) i.now ≡ true }
-    ensures { table.Finds result (fits.leaves (code_view code.now) (table.shape_view found) i.now) }
+    requires { views.is_ready code.now found i.now ≡ true }
+    ensures { table.Finds result (views.leaves code.now found i.now) }
 {
     match i {
         Instr::Push(_) => one_more(found),

@@ -1,7 +1,8 @@
 //! What comes to a place that has something already.
 
-ghost use Rattle.std.specs.Prelude.{◌≡◌, Some, None, MatchResult};
+ghost use Rattle.std.specs.Prelude.{◌≡◌};
 ghost use Rattle.cw_verify.specs.Table as table;
+ghost use Rattle.cw_verify.specs.Steps as steps;
 
 use crate::found::Found;
 use crate::round::{are_alike, shared_each};
@@ -20,7 +21,7 @@ fn can_meet(there: &Found, found: &Found) -> bool
 
 /// A shape comes to a place that has one already; whether it brings more. The error is `Code` where the two can't meet.
 pub fn join(alloc: Global, there: Found, found: &Found) -> Result<(Found, bool), Fault>
-    ensures { MatchResult result (λ r. table.Met (table.shape_view there) (table.shape_view found.now) (table.shape_view r.0) r.1) (table.Fails (table.joined (Some (table.shape_view there)) (table.shape_view found.now) ≡ None)) }
+    ensures { steps.Meets there found.now result }
 {
     if !can_meet(&there, found) {
         return Err(Fault::Code);

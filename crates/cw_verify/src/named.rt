@@ -1,15 +1,16 @@
 //! What an instruction names is there.
 
-ghost use Rattle.std.specs.Prelude.{◌≡◌, ◌+◌, ◌-◌, ◌<◌, ◌≤◌, length, drop, Some, slice_get};
+ghost use Rattle.std.specs.Prelude.{◌≡◌, ◌+◌, ◌<◌, ◌≤◌, length, drop, Some, slice_get};
 ghost use Rattle.cw_code.specs.Code.{code_view, site_view};
 ghost use Rattle.cw_code.specs.Fits as fits;
 ghost use Rattle.cw_code.specs.Run.{passed_by};
 ghost use Rattle.cw_model.specs.Sites.{Of};
 ghost use Rattle.cw_verify.specs.Table as table;
+ghost use Rattle.cw_verify.specs.Views as views;
 
 use crate::row::{is_full_in, none_empty, set};
 use cw_code::code::{BlockKind, Callee, Code, Func, Halves, Inner, Instr, Site};
-use cw_model::syntax::CallKind;
+use cw_model::syntax::{CallKind, Name};
 use cw_text::Fault;
 use std::alloc::Global;
 
@@ -76,7 +77,7 @@ fn is_site(kind: CallKind, c: &Callee, site: &Site) -> bool
 // Whether the site of a call is there.
 fn names_site(code: &Code, kind: CallKind, c: &Callee) -> bool
     requires { 0 < c.now.site }
-    ensures { result ≡ fits.is_site kind c.now (slice_get (code_view code.now).sites (c.now.site - 1)) }
+    ensures { result ≡ fits.is_site kind c.now (views.site_of code.now c.now) }
 {
     match code.sites.get(c.site as usize - 1) {
         None => false,
@@ -124,7 +125,7 @@ fn names_passed(
     function: u32,
     list: u32,
 ) -> Result<bool, Fault>
-    ensures { table.Tests result (fits.names_passed (code_view code.now) f.now function (passed_by (code_view code.now) list)) }
+    ensures { table.Tests result (views.names_passed code.now f.now function list) }
 {
     let passed = passed_of(code, list);
     if function as usize >= code.funcs.len() || passed.len() != array_params_of(code, function) {
@@ -238,11 +239,11 @@ pub fn all_named(alloc: Global, code: &Code, f: &Func) -> Result<bool, Fault>
 }
 
 // Whether a name is among those from one of these on.
-fn is_among(name: &[u8], names: &[Vec<u8>], from: usize) -> bool
-    ensures { result ≡ fits.is_among name.now (drop from (table.names_of names.now)) }
+fn is_among(name: &Name, names: &[Name], from: usize) -> bool
+    ensures { result ≡ fits.is_among name.now (drop from names.now) }
 {
     for k in from..names.len() {
-        if name == names[k].as_slice() {
+        if name.as_bytes() == names[k].as_bytes() {
             return true;
         }
     }
@@ -250,8 +251,8 @@ fn is_among(name: &[u8], names: &[Vec<u8>], from: usize) -> bool
 }
 
 /// Whether no name is there twice.
-pub fn are_apart(names: &[Vec<u8>]) -> bool
-    ensures { result ≡ fits.are_apart (table.names_of names.now) }
+pub fn are_apart(names: &[Name]) -> bool
+    ensures { result ≡ fits.are_apart names.now }
 {
     for k in 0..names.len() {
         if is_among(&names[k], names, k + 1) {

@@ -1,8 +1,10 @@
 //! The sync blocks round a place, in the same call.
 
-ghost use Rattle.std.specs.Prelude.{◌≡◌, ◌<◌, true, false, length, MatchResult};
+ghost use Rattle.std.specs.Prelude.{◌≡◌, ◌<◌, true, false, length};
 ghost use Rattle.cw_code.specs.Fits as fits;
 ghost use Rattle.cw_verify.specs.Table as table;
+ghost use Rattle.cw_verify.specs.Views as views;
+ghost use Rattle.cw_verify.specs.Steps.{OrMemory};
 
 use crate::row::{either_empty, is_full_in};
 use cw_code::code::Halves;
@@ -69,7 +71,7 @@ pub fn is_no_part(a: u32, rounds: &[Round]) -> bool
 
 // A block like this one.
 fn copy(alloc: Global, round: &Round) -> Result<Round, Fault>
-    ensures { MatchResult result (λ r. table.round_view r ≡ table.round_view round.now) (λ e. e ≡ Fault.Memory) }
+    ensures { OrMemory result (λ r. table.round_view r ≡ table.round_view round.now) }
 {
     let empty = Vec::from_slice(alloc, &round.empty)?;
     let gone = Vec::from_slice(alloc, &round.gone)?;
@@ -82,7 +84,7 @@ fn copy(alloc: Global, round: &Round) -> Result<Round, Fault>
 
 /// Blocks like these.
 pub fn copies(alloc: Global, rounds: &[Round]) -> Result<Vec<Round>, Fault>
-    ensures { MatchResult result (λ copies. table.rounds_of copies.items ≡ table.rounds_of rounds.now) (λ e. e ≡ Fault.Memory) }
+    ensures { OrMemory result (λ copies. views.rounds_in copies ≡ table.rounds_of rounds.now) }
 {
     let mut copies = Vec::new(alloc);
     for round in rounds {
@@ -93,9 +95,9 @@ pub fn copies(alloc: Global, rounds: &[Round]) -> Result<Vec<Round>, Fault>
 
 // What may be empty in one block or the other; whether that is more than in the first.
 fn either_round(round: &mut Round, more: &Round) -> bool
-    ensures items { table.round_view round.new ≡ table.either_round (table.round_view round.old) (table.round_view more.now) }
+    ensures items { table.round_view round.new ≡ views.either_round round.old more.now }
     ensures same { result ≡ false → table.round_view round.new ≡ table.round_view round.old }
-    ensures fewer { result ≡ true → table.unmarked_round (table.round_view round.new) < table.unmarked_round (table.round_view round.old) }
+    ensures fewer { result ≡ true → views.unmarked round.new < views.unmarked round.old }
 {
     let empty = either_empty(&mut round.empty, &more.empty);
     let gone = either_empty(&mut round.gone, &more.gone);
@@ -105,9 +107,9 @@ fn either_round(round: &mut Round, more: &Round) -> bool
 /// The same, block by block.
 pub fn either_each(rounds: &mut Vec<Round>, more: &[Round]) -> bool
     requires { length rounds.old.items ≡ length more.now }
-    ensures items { table.rounds_of rounds.new.items ≡ table.either_each (table.rounds_of rounds.old.items) (table.rounds_of more.now) }
-    ensures same { result ≡ false → table.rounds_of rounds.new.items ≡ table.rounds_of rounds.old.items }
-    ensures fewer { result ≡ true → table.unmarked_each (table.rounds_of rounds.new.items) < table.unmarked_each (table.rounds_of rounds.old.items) }
+    ensures items { views.rounds_in rounds.new ≡ views.either_each rounds.old more.now }
+    ensures same { result ≡ false → views.rounds_in rounds.new ≡ views.rounds_in rounds.old }
+    ensures fewer { result ≡ true → views.unmarked_in rounds.new < views.unmarked_in rounds.old }
 {
     let mut changed = false;
     for j in 0..more.len() {
@@ -124,7 +126,7 @@ pub fn shared_each(
     more: &[Round],
 ) -> Result<(Rc<Vec<Round>>, bool), Fault>
     requires { length rounds.value.items ≡ length more.now }
-    ensures { MatchResult result (λ r. table.IsEach (table.rounds_of rounds.value.items) (table.rounds_of more.now) (table.rounds_of r.0.value.items) r.1) (λ e. e ≡ Fault.Memory) }
+    ensures { OrMemory result (λ r. views.IsEach rounds.value more.now r.0.value r.1) }
 {
     let mut both = copies(alloc, &rounds)?;
     let changed = either_each(&mut both, more);

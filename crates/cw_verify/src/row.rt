@@ -1,8 +1,10 @@
 //! A row of slots: which of them may be empty.
 
-ghost use Rattle.std.specs.Prelude.{◌≡◌, ◌<◌, true, false, slice_get, slice_set, if◌then◌else◌, MatchResult};
+ghost use Rattle.std.specs.Prelude.{◌≡◌, ◌<◌, true, false, slice_get, slice_set};
 ghost use Rattle.cw_code.specs.Fits as fits;
 ghost use Rattle.cw_verify.specs.Table as table;
+ghost use Rattle.cw_verify.specs.Views as views;
+ghost use Rattle.cw_verify.specs.Steps.{OrMemory};
 
 use cw_text::Fault;
 use std::alloc::Global;
@@ -10,7 +12,7 @@ use std::rc::Rc;
 
 /// So many slots, none of them empty.
 pub fn none_empty(alloc: Global, slots: usize) -> Result<Vec<bool>, Fault>
-    ensures { MatchResult result (λ row. row.items ≡ fits.none_empty slots) (λ e. e ≡ Fault.Memory) }
+    ensures { OrMemory result (λ row. row.items ≡ fits.none_empty slots) }
 {
     let mut row = Vec::new(alloc);
     for _i in 0..slots {
@@ -21,7 +23,7 @@ pub fn none_empty(alloc: Global, slots: usize) -> Result<Vec<bool>, Fault>
 
 /// The same, to be shared.
 pub fn shared_none(alloc: Global, slots: usize) -> Result<Rc<Vec<bool>>, Fault>
-    ensures { MatchResult result (λ row. row.value.items ≡ fits.none_empty slots) (λ e. e ≡ Fault.Memory) }
+    ensures { OrMemory result (λ row. row.value.items ≡ fits.none_empty slots) }
 {
     let row = none_empty(alloc, slots)?;
     let row = Rc::new(alloc, row)?;
@@ -59,7 +61,7 @@ pub fn set_all(row: &mut Vec<bool>, slots: &[u32])
 
 // A slot may be empty too; whether it was not yet.
 fn mark(row: &mut Vec<bool>, a: usize, more: bool) -> bool
-    ensures items { row.new.items ≡ (if more then slice_set row.old.items a true else row.old.items) }
+    ensures items { row.new.items ≡ views.marked more a row.old.items }
     ensures same { result ≡ false → row.new.items ≡ row.old.items }
     ensures fewer { result ≡ true → table.unmarked row.new.items < table.unmarked row.old.items }
 {
@@ -91,7 +93,7 @@ pub fn shared_either(
     row: Rc<Vec<bool>>,
     more: &[bool],
 ) -> Result<(Rc<Vec<bool>>, bool), Fault>
-    ensures { MatchResult result (λ r. table.IsEither row.value.items more.now r.0.value.items r.1) (λ e. e ≡ Fault.Memory) }
+    ensures { OrMemory result (λ r. table.IsEither row.value.items more.now r.0.value.items r.1) }
 {
     let mut both = Vec::from_slice(alloc, &row)?;
     let changed = either_empty(&mut both, more);

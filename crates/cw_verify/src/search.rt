@@ -1,10 +1,12 @@
 //! The search for the table of a function: from its first place on, each instruction is visited, and again each time
 //! that more comes to its place.
 
-ghost use Rattle.std.specs.Prelude.{◌≡◌, ◌+◌, ◌-◌, ◌<◌, ◌≤◌, ◌^◌, true, if◌then◌else◌, length, [], ◌∷◌, ◌++◌, Some, MatchResult, slice_get, map};
+ghost use Rattle.std.specs.Prelude.{◌≡◌, ◌+◌, ◌<◌, ◌≤◌, true, length, [], ◌∷◌};
 ghost use Rattle.cw_code.specs.Code.{code_view};
 ghost use Rattle.cw_code.specs.Fits as fits;
 ghost use Rattle.cw_verify.specs.Table as table;
+ghost use Rattle.cw_verify.specs.Steps as steps;
+ghost use Rattle.cw_verify.specs.Steps.{OrMemory};
 
 use crate::found::{self, Found};
 use crate::leave::leave;
@@ -29,7 +31,7 @@ impl Search {
     // A place is noted, if more came to it.
     fn note(&mut self, k: usize, more: bool) -> Result<(), Fault>
         ensures found { self.new.found.items ≡ self.old.found.items }
-        ensures work { MatchResult result (λ _. table.Notes more k (table.work_of self.old) (table.work_of self.new)) (λ e. e ≡ Fault.Memory) }
+        ensures work { steps.NotesIf more k self.old self.new result }
     {
         if more {
             self.work.push(k)?;
@@ -39,7 +41,7 @@ impl Search {
 
     // A shape comes to a place, if it is there; whether that reaches the place. A place to which more comes is noted.
     fn come(&mut self, alloc: Global, k: usize, shape: Found) -> Result<bool, Fault>
-        ensures { table.Tells result (table.come (table.so_far self.old) k (table.shape_view shape)) self.old self.new }
+        ensures { steps.Comes k shape self.old self.new result }
     {
         if k >= self.found.len() {
             return Err(Fault::Code);
@@ -68,7 +70,7 @@ impl Search {
         other: usize,
         shape: Found,
     ) -> Result<bool, Fault>
-        ensures { table.Tells result (table.come_all (table.so_far self.old) (k ∷ other ∷ []) (table.shape_view shape)) self.old self.new }
+        ensures { steps.ComesToAll (k ∷ other ∷ []) shape self.old self.new result }
     {
         let copy = found::copy(&shape)?;
         match self.come(alloc, k, shape) {
@@ -93,7 +95,7 @@ impl Search {
         requires from { f.now.start ≤ place }
         requires there { place < length code.now.instrs.items }
         requires named { fits.names_well (code_view code.now) f.now place i.now ≡ true }
-        ensures { table.Tells result (table.come_all (table.so_far self.old) (map (λ p. p - f.now.start) (fits.nexts place i.now)) (table.shape_view left)) self.old self.new }
+        ensures { steps.Spreads f.now place i.now left self.old self.new result }
     {
         let _code = code;
         let start = f.start;
@@ -136,7 +138,7 @@ impl Search {
         requires row { k < length self.old.found.items }
         requires there { f.now.start + k < length code.now.instrs.items }
         requires named { table.IsNamed (code_view code.now) f.now (f.now.start + k) }
-        ensures { (i : Instr) → slice_get code.now.instrs.items (f.now.start + k) ≡ Some i → table.Tells result (table.visited (code_view code.now) f.now.start (table.so_far self.old) k i) self.old self.new }
+        ensures { steps.Visits code.now f.now k self.old self.new result }
     {
         let place = f.start + k;
         let i = code.instrs[place];
@@ -158,7 +160,7 @@ impl Search {
         requires there { f.now.end ≤ length code.now.instrs.items }
         requires named { table.AllNamed (code_view code.now) f.now }
         requires search { table.Searches (code_view code.now) f.now self.old }
-        ensures { MatchResult result (table.Settled (code_view code.now) f.now self.old self.new) (table.Fails (table.HasNone (code_view code.now) f.now)) }
+        ensures { steps.Settles code.now f.now self.old self.new result }
     {
         while let Some(k) = self.work.pop() {
             match self.visit(alloc, code, f, k) {
@@ -177,7 +179,7 @@ impl Search {
 // A search at its begin: the first place is reached, and noted.
 fn begin(alloc: Global, f: &Func) -> Result<Search, Fault>
     requires { f.now.start < f.now.end }
-    ensures { MatchResult result (λ s. table.Begins f.now s) (λ e. e ≡ Fault.Memory) }
+    ensures { OrMemory result (λ s. table.Begins f.now s) }
 {
     let first = found::first(alloc, f)?;
     let mut found = Vec::new(alloc);
@@ -197,7 +199,7 @@ pub fn find(alloc: Global, code: &Code, f: &Func) -> Result<Vec<Option<Found>>, 
     requires order { f.now.start < f.now.end }
     requires there { f.now.end ≤ length code.now.instrs.items }
     requires named { table.AllNamed (code_view code.now) f.now }
-    ensures { MatchResult result (λ found. (f.now.start + length found.items ≡ f.now.end) × fits.IsTable (code_view code.now) f.now (table.table_of f.now.start (table.shapes_of found.items))) (table.Fails (table.HasNone (code_view code.now) f.now)) }
+    ensures { steps.FindsTable code.now f.now result }
 {
     let mut search = begin(alloc, f)?;
     loop {

@@ -2,7 +2,7 @@
 
 use crate::verify::verify;
 use cw_code::code::{BlockKind, Callee, Code, Func, Instr, Site, UnaryOperator};
-use cw_model::syntax::{CallKind, Operator};
+use cw_model::syntax::{CallKind, Name, Operator};
 use std::alloc::{AllocError, Global};
 
 const OPEN: Instr = Instr::Open(BlockKind::Scope);
@@ -41,7 +41,7 @@ pub fn add_site(
         number,
         kind,
         line: 1,
-        callee: Vec::new(alloc),
+        callee: Name::new(alloc, b"")?,
         function,
     })?;
     Ok(())
@@ -65,8 +65,8 @@ pub fn no_code(alloc: Global) -> Code {
 // function 2 in place and spawned.
 fn code_of_none(alloc: Global) -> Result<Code, AllocError> {
     let mut code = no_code(alloc);
-    code.reducers.push(Vec::new(alloc))?;
-    code.tags.push(Vec::new(alloc))?;
+    code.reducers.push(Name::new(alloc, b"")?)?;
+    code.tags.push(Name::new(alloc, b"")?)?;
     add_site(alloc, &mut code, 1, CallKind::Plain, 1)?;
     add_site(alloc, &mut code, 2, CallKind::Spawned, 1)?;
     add_site(alloc, &mut code, 3, CallKind::Plain, 2)?;
@@ -173,7 +173,7 @@ fn reducers(rt: HostRuntime) -> Result<(), AllocError> {
     for (names, number) in cases {
         let mut code = no_code(alloc);
         for name in names {
-            code.reducers.push(Vec::from_slice(alloc, *name)?)?;
+            code.reducers.push(Name::new(alloc, *name)?)?;
         }
         let gives = [Instr::Push(1), Instr::ReturnValue];
         place(&mut code, on_integers(true, 1, 1), &gives)?;

@@ -1,7 +1,8 @@
 //! The places that a search has yet to visit.
 
-ghost use Rattle.std.specs.Prelude.{◌≡◌, [], MatchOption, MatchResult};
+ghost use Rattle.std.specs.Prelude.{◌≡◌, []};
 ghost use Rattle.cw_verify.specs.Table as table;
+ghost use Rattle.cw_verify.specs.Steps as steps;
 
 use cw_text::Fault;
 use std::alloc::Global;
@@ -27,7 +28,7 @@ impl WorkList {
 
     /// A place more.
     pub fn push(&mut self, place: usize) -> Result<(), Fault>
-        ensures { MatchResult result (λ _. table.IsNoted place (table.places_of self.old) (table.places_of self.new)) (λ e. e ≡ Fault.Memory) }
+        ensures { steps.Pushes place self.old self.new result }
     {
         self.places.push(Reverse(place))?;
         Ok(())
@@ -35,7 +36,7 @@ impl WorkList {
 
     /// The nearest place, which is taken out.
     pub fn pop(&mut self) -> Option<usize>
-        ensures { MatchOption result ((table.places_of self.old ≡ []) × (table.places_of self.new ≡ [])) (λ k. table.IsNoted k (table.places_of self.new) (table.places_of self.old)) }
+        ensures { steps.Pops self.old self.new result }
     {
         match self.places.pop() {
             None => None,
