@@ -1,9 +1,9 @@
 //! The weight of a heaviest path, with a burden for each spawn, as a strand keeps it: only a spawn pushes a block.
 
-ghost use Rattle.std.specs.Prelude.{◌≡◌, ℕ, ◌-◌, [], OnOk};
+ghost use Rattle.std.specs.Prelude.{◌≡◌, ◌≤◌, ◌-◌, ℕ, [], OnOk};
 ghost use Rattle.cw_measure.specs.PathCalls.{EndsWithin};
-ghost use Rattle.cw_measure.specs.StrandWeights.{begins, begins_again, joins, spawns, strand_weight, HasGoneOn};
-ghost use Rattle.cw_measure.specs.StrandWeights.{EndsChildWeight, JoinsWeight, NotesWeight, ReadsWeight, SpawnsWeight, TellsWeight};
+ghost use Rattle.cw_measure.specs.StrandWeights.{begins, begins_again, joins, spawns, strand_weight};
+ghost use Rattle.cw_measure.specs.StrandWeights.{EndsChildWeight, JoinsWeight, HasGoneOn, NotesWeight, ReadsWeight, SpawnsWeight, TellsWeight};
 
 use std::alloc::{AllocError, Global};
 
@@ -46,15 +46,16 @@ impl BurdenedPath {
     #[inline(always)]
     pub fn note(&mut self, count: u64)
         ensures tells { NotesWeight self.old self.new count }
-        ensures weight { HasGoneOn self.old self.new (count - self.old.noted) }
+        ensures weight { self.old.noted ≤ count → HasGoneOn self.old self.new (count - self.old.noted) }
         ensures noted { self.new.noted ≡ count }
     {
-        let since = count.saturating_sub(self.noted);
-        self.weight = self.weight.saturating_add(since as u128);
+        let since = count.wrapping_sub(self.noted);
+        self.weight = self.weight.wrapping_add(since as u128);
         self.noted = count;
     }
 
     /// A spawned part begins; `first` says that its block has not spawned since its last join.
+    #[inline(always)]
     pub fn spawn(&mut self, count: u64, first: bool) -> Result<(), AllocError>
         ensures { OnOk result (SpawnsWeight self.old self.new count first) }
     {
@@ -65,6 +66,7 @@ impl BurdenedPath {
 
     /// The spawned part that runs ends, its block joined: its path may be the longest, and then the burden is added to
     /// the path of the strand that goes on.
+    #[inline(always)]
     pub fn end_child(&mut self, count: u64, burden: u64)
         ensures { EndsChildWeight self.old self.new count burden }
     {
@@ -73,6 +75,7 @@ impl BurdenedPath {
     }
 
     /// A block joins that has spawned since its last join. Where it has not, there is nothing to call.
+    #[inline(always)]
     pub fn join(&mut self, count: u64)
         ensures { JoinsWeight self.old self.new count }
     {
@@ -146,12 +149,12 @@ impl BurdenedPath {
             return;
         }
         let block = self.blocks[len - 1];
-        let child = block.saved.saturating_add(self.weight);
+        let child = block.saved.wrapping_add(self.weight);
         self.blocks[len - 1] = BurdenedBlock {
             longest: block.longest.max(child),
             saved: block.saved,
         };
-        self.weight = block.saved.saturating_add(burden as u128);
+        self.weight = block.saved.wrapping_add(burden as u128);
     }
 
     // The innermost block that has spawned joins.

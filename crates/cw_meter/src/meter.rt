@@ -64,7 +64,7 @@ impl Meter {
         ensures { OnOk result (Begins self.old self.new count false (Some (Invocation site))) }
     {
         self.stack(PartKind::Call)?;
-        self.tables.call(count.saturating_add(1), site)?;
+        self.tables.call(count.wrapping_add(1), site)?;
         Ok(())
     }
 
@@ -74,7 +74,7 @@ impl Meter {
         ensures { OnOk result (Begins self.old self.new count true (Some (Invocation site))) }
     {
         self.stack(PartKind::SpawnedCall)?;
-        self.tables.spawn(count.saturating_add(1), site)?;
+        self.tables.spawn(count.wrapping_add(1), site)?;
         Ok(())
     }
 
@@ -85,7 +85,7 @@ impl Meter {
         ensures { OnOk result (Begins self.old self.new count false None) }
     {
         self.stack(PartKind::Quiet)?;
-        self.tables.begin(count.saturating_add(1))?;
+        self.tables.begin(count.wrapping_add(1))?;
         Ok(())
     }
 
@@ -95,7 +95,7 @@ impl Meter {
         ensures { OnOk result (Begins self.old self.new count true None) }
     {
         self.stack(PartKind::Half)?;
-        self.tables.spawn_half(count.saturating_add(1))?;
+        self.tables.spawn_half(count.wrapping_add(1))?;
         Ok(())
     }
 
@@ -105,7 +105,7 @@ impl Meter {
         ensures { OnOk result (BeginsRegion self.old self.new count tag) }
     {
         self.stack(PartKind::Region(tag))?;
-        self.tables.begin_region(count.saturating_add(1), tag)?;
+        self.tables.begin_region(count.wrapping_add(1), tag)?;
         Ok(())
     }
 
@@ -125,7 +125,7 @@ impl Meter {
         ensures { OnOk result (Returns self.old self.new count) }
     {
         self.join(count)?;
-        self.close(count.saturating_add(1))?;
+        self.close(count.wrapping_add(1))?;
         Ok(())
     }
 
@@ -169,10 +169,10 @@ impl Meter {
     fn close(&mut self, count: u64) -> Result<(), AllocError>
         ensures { OnOk result (ClosesPart self.old self.new count) }
     {
-        if let Some(part) = self.parts.pop() {
-            self.tables.close(count, part)?;
+        match self.parts.pop() {
+            Some(part) => self.tables.close(count, part),
+            None => Ok(()),
         }
-        Ok(())
     }
 
     /// What was counted over a run that has ended after `count` instructions, of so many call sites, the run's own call

@@ -44,6 +44,7 @@ impl Tables {
     }
 
     /// All that has run up to this count is told.
+    #[inline(always)]
     pub fn settle(&mut self, count: u64) -> Result<(), AllocError>
         ensures { OnOk result (Settles self.old self.new count) }
     {
@@ -53,6 +54,7 @@ impl Tables {
     }
 
     /// A call in place begins by the instruction before `next`.
+    #[inline(always)]
     pub fn call(&mut self, next: u64, site: u32) -> Result<(), AllocError>
         ensures { OnOk result (Opens self.old self.new next false (Some (Invocation site))) }
     {
@@ -63,6 +65,7 @@ impl Tables {
     }
 
     /// A spawned call begins by the instruction before `next`, in this strand.
+    #[inline(always)]
     pub fn spawn(&mut self, next: u64, site: u32) -> Result<(), AllocError>
         ensures { OnOk result (Opens self.old self.new next true (Some (Invocation site))) }
     {
@@ -74,6 +77,7 @@ impl Tables {
     }
 
     /// A part in series that is neither a call nor a region begins by the instruction before `next`.
+    #[inline(always)]
     pub fn begin(&mut self, next: u64) -> Result<(), AllocError>
         ensures { OnOk result (Opens self.old self.new next false None) }
     {
@@ -83,6 +87,7 @@ impl Tables {
     }
 
     /// Half of a loop, that is spawned, begins by the instruction before `next`, in this strand.
+    #[inline(always)]
     pub fn spawn_half(&mut self, next: u64) -> Result<(), AllocError>
         ensures { OnOk result (Opens self.old self.new next true None) }
     {
@@ -94,6 +99,7 @@ impl Tables {
     }
 
     /// A region of the tag of this number begins by the instruction before `next`.
+    #[inline(always)]
     pub fn begin_region(&mut self, next: u64, tag: u32) -> Result<(), AllocError>
         ensures { OnOk result (OpensRegion self.old self.new next tag) }
     {
@@ -118,19 +124,20 @@ impl Tables {
     }
 
     /// The innermost part, whose block has joined, ends at this count.
+    #[inline(always)]
     pub fn close(&mut self, count: u64, part: Part) -> Result<(), AllocError>
         ensures { OnOk result (Closes self.old self.new count part) }
     {
         match part.kind {
-            PartKind::Call => self.end_call(count, part)?,
-            PartKind::SpawnedCall => self.end_spawned_call(count, part)?,
-            PartKind::Quiet => self.end_quiet(count, part)?,
-            PartKind::Half => self.end_half(count, part)?,
-            PartKind::Region(tag) => self.end_region(count, part, tag)?,
+            PartKind::Call => self.end_call(count, part),
+            PartKind::SpawnedCall => self.end_spawned_call(count, part),
+            PartKind::Quiet => self.end_quiet(count, part),
+            PartKind::Half => self.end_half(count, part),
+            PartKind::Region(tag) => self.end_region(count, part, tag),
         }
-        Ok(())
     }
 
+    #[inline(never)]
     fn end_call(&mut self, count: u64, part: Part) -> Result<(), AllocError>
         ensures { OnOk result (part.kind ≡ Call → Closes self.old self.new count part) }
     {
@@ -140,6 +147,7 @@ impl Tables {
         Ok(())
     }
 
+    #[inline(never)]
     fn end_spawned_call(&mut self, count: u64, part: Part) -> Result<(), AllocError>
         ensures { OnOk result (part.kind ≡ SpawnedCall → Closes self.old self.new count part) }
     {
@@ -149,6 +157,7 @@ impl Tables {
         Ok(())
     }
 
+    #[inline(never)]
     fn end_quiet(&mut self, count: u64, part: Part) -> Result<(), AllocError>
         ensures { OnOk result (part.kind ≡ Quiet → Closes self.old self.new count part) }
     {
@@ -157,6 +166,7 @@ impl Tables {
         Ok(())
     }
 
+    #[inline(never)]
     fn end_half(&mut self, count: u64, part: Part) -> Result<(), AllocError>
         ensures { OnOk result (part.kind ≡ Half → Closes self.old self.new count part) }
     {
@@ -166,6 +176,7 @@ impl Tables {
         Ok(())
     }
 
+    #[inline(never)]
     fn end_region(&mut self, count: u64, part: Part, tag: u32) -> Result<(), AllocError>
         ensures { OnOk result (part.kind ≡ Region tag → Closes self.old self.new count part) }
     {

@@ -1,16 +1,15 @@
 -- What is counted of a region tag over a run so far.
-use Rattle.std.specs.Prelude.{◌≡◌, ℕ, ◌+◌, ◌-◌, ◌^◌, ◌<◌, ◌==◌, nat_eq, Bool, true, false, unwrap_or, if◌then◌else◌, Some, slice_get}
+use Rattle.std.specs.Prelude.{◌≡◌, ℕ, ◌+◌, ◌-◌, ◌^◌, ◌<◌, ◌==◌, Bool, true, false, length, if◌then◌else◌, slice_index_or}
 use Rattle.cw_regions.specs.declared.rows.Row.{Row}
 use Rattle.cw_regions.specs.declared.rows.Rows.{Rows}
 use Rattle.cw_measure.specs.Outermost.{Tally}
-use Rattle.indexmap.specs.IndexMap.{get}
 
 abbrev pub zero_row : Row
 zero_row = record { work = 0; span = 0; burdened = 0; active = 0; at_work = 0; at_path = 0; at_burdened = 0 }
 
 -- the row of a tag; zeros where there is none
 abbrev pub row_of : Rows → ℕ → Row
-row_of rows tag = unwrap_or (get nat_eq rows.by_tag tag) zero_row
+row_of rows tag = slice_index_or rows.by_tag.items tag zero_row
 
 -- an execution begins, at this work and on a path of this weight
 abbrev pub entered_at : (first : Bool) → (count span burdened : ℕ) → Row → Row
@@ -73,9 +72,10 @@ OthersStay old new tag = (q : ℕ) → (tag == q) ≡ false → row_of new q ≡
 abbrev pub IsGiven : Rows → Rows → (tag : ℕ) → Row → Type 0
 IsGiven old new tag row = (q : ℕ) → row_of new q ≡ (if tag == q then row else row_of old q)
 
--- the entry at the index of the number, if there is one, is that of the tag
-abbrev pub KeyAtHome : Rows → (tag : ℕ) → Type 0
-KeyAtHome rows tag = (k : ℕ) (row : Row) → slice_get rows.by_tag.entries tag ≡ Some (k, row) → k ≡ tag
+-- each tag has the row that it had
+abbrev pub SayTheSame : Rows → Rows → Type 0
+SayTheSame old new = (q : ℕ) → row_of new q ≡ row_of old q
 
-abbrev pub ValueAtHome : Rows → (tag : ℕ) → Type 0
-ValueAtHome rows tag = (k : ℕ) (row : Row) → slice_get rows.by_tag.entries tag ≡ Some (k, row) → get nat_eq rows.by_tag tag ≡ Some row
+-- there are fewer rows
+abbrev pub HasFewer : Rows → Rows → Type 0
+HasFewer old new = length new.by_tag.items < length old.by_tag.items

@@ -1,12 +1,9 @@
 //! What is counted of each region tag, kept by the tag's number, in the order of the source.
 
-ghost use Rattle.std.specs.Prelude.{◌≡◌, ℕ, ◌==◌, ◌<◌, false, nat_eq, Some, None, IfSome, slice_get, OnOk, if◌then◌else◌};
-ghost use Rattle.std.specs.Bool.{OnTrue};
-ghost use Rattle.indexmap.specs.IndexMap.{index_map_len, get};
+ghost use Rattle.std.specs.Prelude.{◌≡◌, ℕ, ◌==◌, ◌<◌, false, None, length, IfSome, OnOk, if◌then◌else◌};
 ghost use Rattle.cw_regions.specs.RegionRows as rows;
-ghost use Rattle.cw_regions.specs.RegionRows.{row_of, zero_row, IsWhereItFits, JoinsRows, Took, Becomes, IsGiven, KeyAtHome, OthersStay, ValueAtHome};
+ghost use Rattle.cw_regions.specs.RegionRows.{row_of, zero_row, IsWhereItFits, JoinsRows, Took, Becomes, HasFewer, IsGiven, OthersStay, SayTheSame};
 
-use indexmap::IndexMap;
 use std::alloc::{AllocError, Global};
 
 /// What is counted of a tag so far.
@@ -28,10 +25,10 @@ pub struct Row {
     pub at_burdened: u128,
 }
 
-/// The rows by the tag's number. A tag without a row has a row of zeros.
+/// The rows by the tag's number. A tag past the end has a row of zeros.
 #[derive(Debug, Drop)]
 pub struct Rows {
-    pub by_tag: IndexMap<u32, Row>,
+    pub by_tag: Vec<Row>,
 }
 
 const ZERO: Row = Row {
@@ -50,20 +47,7 @@ impl Rows {
         ensures { (q : ℕ) → row_of result q ≡ zero_row }
     {
         Rows {
-            by_tag: IndexMap::new(alloc),
-        }
-    }
-
-    /// Whether the row of this tag stands at the index of its number.
-    #[inline(always)]
-    fn is_at_home(&self, tag: u32) -> bool
-        ensures within { OnTrue result (tag < index_map_len self.now.by_tag) }
-        ensures key { OnTrue result (KeyAtHome self.now tag) }
-        ensures value { OnTrue result (ValueAtHome self.now tag) }
-    {
-        match self.by_tag.get_index(tag as usize) {
-            Some((key, _)) => *key == tag,
-            None => false,
+            by_tag: Vec::new(alloc),
         }
     }
 
@@ -72,13 +56,35 @@ impl Rows {
     pub fn row(&self, tag: u32) -> Row
         ensures { result ≡ row_of self.now tag }
     {
-        match self.by_tag.get_index(tag as usize) {
-            Some((key, row)) if *key == tag => *row,
-            _ => match self.by_tag.get(&tag) {
-                Some(row) => *row,
-                None => ZERO,
-            },
+        self.row_at(tag as usize)
+    }
+
+    #[inline(always)]
+    fn row_at(&self, place: usize) -> Row
+        ensures { result ≡ row_of self.now place }
+    {
+        if place < self.by_tag.len() {
+            self.by_tag[place]
+        } else {
+            ZERO
         }
+    }
+
+    // Room for the row of this tag: rows that were missing are zeros.
+    #[cold]
+    #[inline(never)]
+    fn reach(&mut self, place: usize) -> Result<(), AllocError>
+        ensures same { OnOk result (SayTheSame self.old self.new) }
+        ensures within { OnOk result (place < length self.new.by_tag.items) }
+    {
+        // So many rows as no number can count are more than memory holds.
+        let Some(needed) = place.checked_add(1) else {
+            return Err(AllocError);
+        };
+        if self.by_tag.len() < needed {
+            self.by_tag.resize(needed, ZERO)?;
+        }
+        Ok(())
     }
 
     /// An execution of a tag begins, at this work and on a path of this weight, without burdens and with them.
@@ -93,14 +99,11 @@ impl Rows {
         ensures own { OnOk result (Becomes (rows.entered count span burdened) self.old self.new tag) }
         ensures others { OnOk result (OthersStay self.old self.new tag) }
     {
-        if self.is_at_home(tag) {
-            let (_, slot) = self.by_tag.pair_mut(tag as usize);
-            let row = entered(*slot, count, span, burdened);
-            *slot = row;
-            return Ok(());
+        let place = tag as usize;
+        if place >= self.by_tag.len() {
+            self.reach(place)?;
         }
-        let row = entered(self.row(tag), count, span, burdened);
-        self.set(tag, row)?;
+        self.by_tag[place] = entered(self.by_tag[place], count, span, burdened);
         Ok(())
     }
 
@@ -110,14 +113,11 @@ impl Rows {
         ensures own { OnOk result (Becomes (rows.left count span burdened) self.old self.new tag) }
         ensures others { OnOk result (OthersStay self.old self.new tag) }
     {
-        if self.is_at_home(tag) {
-            let (_, slot) = self.by_tag.pair_mut(tag as usize);
-            let row = left(*slot, count, span, burdened);
-            *slot = row;
-            return Ok(());
+        let place = tag as usize;
+        if place >= self.by_tag.len() {
+            self.reach(place)?;
         }
-        let row = left(self.row(tag), count, span, burdened);
-        self.set(tag, row)?;
+        self.by_tag[place] = left(self.by_tag[place], count, span, burdened);
         Ok(())
     }
 
@@ -128,34 +128,29 @@ impl Rows {
     {
         let mut rest = right;
         while let Some((tag, row)) = rest.take_last() {
-            let current = self.row(tag);
+            let current = self.row_at(tag);
             let sum = summed(current, row);
             self.set(tag, sum)?;
         }
         Ok(())
     }
 
-    // Takes some row out, where there is one.
-    fn take_last(&mut self) -> Option<(u32, Row)>
+    // Takes the last row out, where there is one.
+    fn take_last(&mut self) -> Option<(usize, Row)>
         ensures took { IfSome result (λ p. Took self.old self.new p.0 p.1) }
         ensures none { result ≡ None → (q : ℕ) → row_of self.old q ≡ zero_row }
-        ensures fewer { IfSome result (λ p. index_map_len self.new.by_tag < index_map_len self.old.by_tag) }
+        ensures fewer { IfSome result (λ p. HasFewer self.old self.new) }
     {
-        let (tag, row) = self.by_tag.pop()?;
-        Some((tag, row))
+        let row = self.by_tag.pop()?;
+        Some((self.by_tag.len(), row))
     }
 
-    /// Gives a tag its row.
-    #[inline(always)]
-    pub fn set(&mut self, tag: u32, row: Row) -> Result<(), AllocError>
-        ensures { OnOk result (IsGiven self.old self.new tag row) }
+    // Gives a tag its row.
+    fn set(&mut self, place: usize, row: Row) -> Result<(), AllocError>
+        ensures { OnOk result (IsGiven self.old self.new place row) }
     {
-        if self.is_at_home(tag) {
-            let (_, slot) = self.by_tag.pair_mut(tag as usize);
-            *slot = row;
-            return Ok(());
-        }
-        self.by_tag.insert(tag, row)?;
+        self.reach(place)?;
+        self.by_tag[place] = row;
         Ok(())
     }
 }

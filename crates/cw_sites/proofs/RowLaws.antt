@@ -1,52 +1,14 @@
--- Rows in a map.
-use Rattle.std.proofs.Common.{◌≡◌, ℕ, ◌+◌, ◌==◌, Bool, true, false, cond, nat_eq, if◌then◌else◌, List, [], ◌∷◌, ◌++◌, Option, Some, None, unwrap_or, refl, sym, ap, subst, ◌∙◌, arith}
+-- Rows by site number.
+use Rattle.std.proofs.Common.{◌≡◌, ℕ, ◌+◌, ◌==◌, Bool, true, false, if◌then◌else◌, refl, sym, ap, subst, ◌∙◌, arith}
 use Rattle.std.proofs.lemmas.Bool.Decides.{nat_tests}
 use borrow.Author.Tests.{eqb-true}
-use Rattle.std.specs.Map.{lookup}
-use Rattle.indexmap.specs.IndexMap.{Updates}
 use Rattle.cw_sites.specs.declared.rows.Rows.{Rows}
 use Rattle.cw_sites.specs.declared.rows.Row.{Row}
 use Rattle.cw_sites.specs.SiteRows.{row_of, zero_row, summed, FitsRow, Took, JoinsRows}
 
-by_test : (b : Bool) (row : Row) (o : Option Row) → unwrap_or (cond b (Some row) o) zero_row ≡ (if b then row else unwrap_or o zero_row)
-by_test true row o = refl
-by_test false row o = refl
-
--- a site has its new row, and each other site the row that it had
-pub row_by_update : (site q : ℕ) (row : Row) (before after : Option Row) → after ≡ cond (nat_eq site q) (Some row) before → unwrap_or after zero_row ≡ (if site == q then row else unwrap_or before zero_row)
-row_by_update site q row before after e = ap (λ (o : Option Row). unwrap_or o zero_row) e ∙ by_test (nat_eq site q) row before
-
-pub row_by_update_of : (site q : ℕ) (row : Row) (before mid after : Option Row) → mid ≡ before → after ≡ cond (nat_eq site q) (Some row) mid → unwrap_or after zero_row ≡ (if site == q then row else unwrap_or before zero_row)
-row_by_update_of site q row before mid after m e = row_by_update site q row before after (e ∙ ap (cond (nat_eq site q) (Some row)) m)
-
--- a row that was written in place
-pub row_here : (k site : ℕ) (new : ℕ → Option Row) (w : Row) → k ≡ site → new k ≡ Some w → unwrap_or (new site) zero_row ≡ w
-row_here k site new w e h = ap (λ (x : ℕ). unwrap_or (new x) zero_row) (sym e) ∙ ap (λ (o : Option Row). unwrap_or o zero_row) h
-
-pub row_was : (before : Option Row) (v : Row) → before ≡ Some v → unwrap_or before zero_row ≡ v
-row_was before v h = ap (λ (o : Option Row). unwrap_or o zero_row) h
-
-pub row_elsewhere : (k site q : ℕ) (before after : Option Row) → k ≡ site → (site == q) ≡ false → (nat_eq k q ≡ false → after ≡ before) → unwrap_or after zero_row ≡ unwrap_or before zero_row
-row_elsewhere k site q before after e n h = ap (λ (o : Option Row). unwrap_or o zero_row) (h (ap (λ (x : ℕ). nat_eq x q) e ∙ n))
-
 -- rows that are taken out one after another
 pub self_equal : (n : ℕ) → (n == n) ≡ true
 self_equal n = grind (arith, nat_tests)
-
-found_by : {X : Type 0} (b : Bool) (x v : X) (rest after : Option X) → cond b (Some x) rest ≡ None → (rest ≡ None → after ≡ Some v) → cond b (Some x) after ≡ Some v
-found_by true x v rest after e h = cc
-found_by false x v rest after e h = h e
-
-last_found : {X : Type 0} (k : ℕ) (v : X) (es : List (ℕ × X)) → lookup (nat_eq k) es ≡ None → lookup (nat_eq k) (es ++ (k, v) ∷ []) ≡ Some v
-last_found k v [] e = ap (λ (b : Bool). cond b (Some v) None) (self_equal k)
-last_found k v (x ∷ es) e = found_by (nat_eq k x.0) x.1 v (lookup (nat_eq k) es) (lookup (nat_eq k) (es ++ (k, v) ∷ [])) e (last_found k v es)
-
-pub took_last : (old new : Rows) (site : ℕ) (row : Row) → old.by_site.entries ≡ new.by_site.entries ++ (site, row) ∷ [] → Updates nat_eq old.by_site new.by_site site None → Took old new site row
-took_last old new site row e u = record {
-  row_is = ap (λ (o : Option Row). unwrap_or o zero_row) (ap (lookup (nat_eq site)) e ∙ last_found site row new.by_site.entries u.1);
-  gone = ap (λ (o : Option Row). unwrap_or o zero_row) u.1;
-  others = λ q n. ap (λ (o : Option Row). unwrap_or o zero_row) (u.2 q n);
-}
 
 summed_none : (r : Row) → summed r zero_row ≡ r
 summed_none r = let a : r.work + 0 ≡ r.work = omega arith in let b : r.span + 0 ≡ r.span = omega arith in let c : r.calls + 0 ≡ r.calls = omega arith in let d : r.own + 0 ≡ r.own = omega arith in simp (a, b, c, d)

@@ -90,12 +90,12 @@ upto-last q (x ∷ []) (suc i) d h = absurd (omega arith)
 upto-last q (x ∷ y ∷ xs) zero d h = absurd (omega arith)
 upto-last q (x ∷ y ∷ xs) (suc i) d h = let k = upto-last q (y ∷ xs) i d (omega arith) in omega arith
 
-by_site : (b : Bool) (before all new old count sum : ℕ) → new + steps_if b old ≡ all + steps_if b sum → before + steps_if b old ≤ all → (all - before) + steps_if b count < 2 ^ 64 → sum ≡ min (old + count) (2 ^ 64 - 1) → new ≡ all + steps_if b count
-by_site true before all new old count sum e f g h = omega arith
+by_site : (b : Bool) (before all new old count sum : ℕ) → new + steps_if b old ≡ all + steps_if b sum → before + steps_if b old ≤ all → (all - before) + steps_if b count < 2 ^ 64 → (old + count < 2 ^ 64 → sum ≡ old + count) → new ≡ all + steps_if b count
+by_site true before all new old count sum e f g h = let m = h (omega arith) in omega arith
 by_site false before all new old count sum e f g h = omega arith
 
 -- the last steps are of the same site: they become more
-pub upto-more : (q : ℕ) (xs : List Steps) (i start : ℕ) (s : Steps) (site count sum : ℕ) → suc i ≡ length xs → start ≤ i → s ≡ get_or xs i s → s.site ≡ site → sum ≡ min (s.count + count) (2 ^ 64 - 1) → (whole q xs - upto q xs start) + if_site q site count < 2 ^ 64 → whole q (set xs i (record { site = site; count = sum })) ≡ whole q xs + if_site q site count
+pub upto-more : (q : ℕ) (xs : List Steps) (i start : ℕ) (s : Steps) (site count sum : ℕ) → suc i ≡ length xs → start ≤ i → s ≡ get_or xs i s → s.site ≡ site → (s.count + count < 2 ^ 64 → sum ≡ s.count + count) → (whole q xs - upto q xs start) + if_site q site count < 2 ^ 64 → whole q (set xs i (record { site = site; count = sum })) ≡ whole q xs + if_site q site count
 upto-more q xs i start s site count sum h below g e m fits =
     let a = upto_all-set q xs i (record { site = site; count = sum }) s (omega arith) in
     let b = upto-last q xs i s h in

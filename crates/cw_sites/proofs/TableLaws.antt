@@ -143,7 +143,7 @@ table_flushed base busy os es fs old new count since small h f =
           let C : Path → Type 0 = λ s. CountsSite q base (busy q) os (es ++ fs) (worked s.own (row_of old.rows q)) in
           let c = subst C (same q) (both q).counts in
           let D : Row → Type 0 = λ r. CountsSite q base (busy q) os (es ++ fs) r in
-          subst D (sym (f.rows q (fits_row q base busy os (es ++ fs) (worked (steps_of q old.here k).own (row_of old.rows q)) small c))) c;
+          subst D (sym (f.rows since.goes_on q (fits_row q base busy os (es ++ fs) (worked (steps_of q old.here k).own (row_of old.rows q)) small c))) c;
       paths = λ q.
           let S : Path → Type 0 = λ s. Shows q base os (es ++ fs) (record { now = plus (strand_path q old.paths).now s; blocks = (strand_path q old.paths).blocks }) in
           let s = subst S (same q) (both q).shows in
@@ -151,7 +151,7 @@ table_flushed base busy os es fs old new count since small h f =
           let w = whole_within q base os (es ++ fs) (record { now = plus (strand_path q old.paths).now (steps_of q old.here k); blocks = (strand_path q old.paths).blocks }) s in
           let l = small.work in
           let fits : Fits (plus (strand_path q old.paths).now (steps_of q old.here k)) = (omega arith, omega arith) in
-          subst D (sym (f.paths h.laid q fits)) s;
+          subst D (sym (f.paths since.goes_on h.laid q fits)) s;
       laid = f.laid h.laid;
       noted_is = let a = work_since os es fs k since.instructions in let b = h.noted_is in let c = f.noted_is in let d = since.goes_on in omega arith;
       here_is = f.here_is ∙ h.here_is;

@@ -1,5 +1,5 @@
 -- What is counted of a site over a run so far.
-use Rattle.std.specs.Prelude.{◌≡◌, ℕ, ◌+◌, ◌-◌, ◌^◌, ◌<◌, ◌==◌, nat_eq, Bool, true, false, List, [], ◌∷◌, unwrap_or, if◌then◌else◌, Some, slice_get}
+use Rattle.std.specs.Prelude.{◌≡◌, ℕ, ◌+◌, ◌-◌, ◌^◌, ◌<◌, ◌==◌, Bool, true, false, List, [], ◌∷◌, length, if◌then◌else◌, slice_index_or}
 use Rattle.cw_model.specs.Trees.{Tree, Event, tree_of, work, span}
 use Rattle.cw_model.specs.Rows.{is_site, leaves, weight_of_site, calls_of}
 use Rattle.cw_measure.specs.OpenParts.{Open, work_in}
@@ -7,14 +7,13 @@ use Rattle.cw_measure.specs.Outermost.{is_counted, one_if, Tally, Counts}
 use Rattle.cw_sites.specs.declared.rows.Row.{Row}
 use Rattle.cw_sites.specs.declared.rows.Rows.{Rows}
 use Rattle.cw_sites.specs.OpenPaths.{here_in, path_in}
-use Rattle.indexmap.specs.IndexMap.{get, index_map_len}
 
 abbrev pub zero_row : Row
 zero_row = record { calls = 0; own = 0; work = 0; span = 0; active = 0; at_work = 0; at_path = 0 }
 
 -- the row of a site; zeros where there is none
 abbrev pub row_of : Rows → ℕ → Row
-row_of rows site = unwrap_or (get nat_eq rows.by_site site) zero_row
+row_of rows site = slice_index_or rows.by_site.items site zero_row
 
 -- so many of its own instructions more
 abbrev pub worked : ℕ → Row → Row
@@ -80,12 +79,9 @@ OthersStay old new site = (q : ℕ) → (site == q) ≡ false → row_of new q �
 abbrev pub IsGiven : Rows → Rows → (site : ℕ) → Row → Type 0
 IsGiven old new site row = (q : ℕ) → row_of new q ≡ (if site == q then row else row_of old q)
 
--- the entry at the index of the number, if there is one, is that of the site
-abbrev pub KeyAtHome : Rows → (site : ℕ) → Type 0
-KeyAtHome rows site = (k : ℕ) (row : Row) → slice_get rows.by_site.entries site ≡ Some (k, row) → k ≡ site
-
-abbrev pub ValueAtHome : Rows → (site : ℕ) → Type 0
-ValueAtHome rows site = (k : ℕ) (row : Row) → slice_get rows.by_site.entries site ≡ Some (k, row) → get nat_eq rows.by_site site ≡ Some row
+-- each site has the row that it had
+abbrev pub SayTheSame : Rows → Rows → Type 0
+SayTheSame old new = (q : ℕ) → row_of new q ≡ row_of old q
 
 -- one more invocation is open round a piece that begins
 abbrev pub stood_in : Row → Row
@@ -103,7 +99,7 @@ pub record Took (old new : Rows) (site : ℕ) (row : Row) : Type 0 where
 
 -- there are fewer rows
 abbrev pub HasFewer : Rows → Rows → Type 0
-HasFewer old new = index_map_len new.by_site < index_map_len old.by_site
+HasFewer old new = length new.by_site.items < length old.by_site.items
 
 -- each row whose sums fit has those of the piece
 abbrev pub JoinsRows : Rows → Rows → Rows → Type 0

@@ -1,5 +1,5 @@
 -- What a site table tells of a run so far.
-use Rattle.std.specs.Prelude.{◌≡◌, ℕ, ◌+◌, ◌-◌, ◌^◌, ◌<◌, ◌==◌, Bool, true, false, ◌||◌, not, if◌then◌else◌, List, [], ◌∷◌, ◌++◌, Option, Some, None}
+use Rattle.std.specs.Prelude.{◌≡◌, ℕ, ◌+◌, ◌-◌, ◌^◌, ◌<◌, ◌≤◌, ◌==◌, Bool, true, false, ◌||◌, not, if◌then◌else◌, List, [], ◌∷◌, ◌++◌, Option, Some, None}
 use Rattle.cw_model.specs.Trees.{Mark, Invocation, Execution, Tree, Event, Series, Fork, Join, tree_of}
 use Rattle.cw_model.specs.Rows.{SiteRow, is_site, site_row}
 use Rattle.cw_measure.specs.OpenParts.{Open, in_series, in_fork, closed, has_spawned, Since, work_in}
@@ -34,11 +34,11 @@ called site es os = in_series (Some (Invocation site)) es os
 abbrev pub spawned : (site : ℕ) → List Event → List Open → List Open
 spawned site es os = in_fork (Some (Invocation site)) es os
 
--- the steps of a table's calls
+-- the steps of a table's calls, where counts only grow
 pub record Flushed (old new : SiteTable) (count : ℕ) : Type 0 where
-  pub rows : (q : ℕ) → FitsRow (worked (steps_of q old.here (count - old.noted)).own (row_of old.rows q)) → row_of new.rows q ≡ worked (steps_of q old.here (count - old.noted)).own (row_of old.rows q)
+  pub rows : old.noted ≤ count → (q : ℕ) → FitsRow (worked (steps_of q old.here (count - old.noted)).own (row_of old.rows q)) → row_of new.rows q ≡ worked (steps_of q old.here (count - old.noted)).own (row_of old.rows q)
   pub laid : Laid old.paths → Laid new.paths
-  pub paths : Laid old.paths → (q : ℕ) → Fits (plus (strand_path q old.paths).now (steps_of q old.here (count - old.noted))) → strand_path q new.paths ≡ record { now = plus (strand_path q old.paths).now (steps_of q old.here (count - old.noted)); blocks = (strand_path q old.paths).blocks }
+  pub paths : old.noted ≤ count → Laid old.paths → (q : ℕ) → Fits (plus (strand_path q old.paths).now (steps_of q old.here (count - old.noted))) → strand_path q new.paths ≡ record { now = plus (strand_path q old.paths).now (steps_of q old.here (count - old.noted)); blocks = (strand_path q old.paths).blocks }
   pub noted_is : new.noted ≡ count
   pub here_is : new.here ≡ old.here
 

@@ -71,7 +71,8 @@ impl Paths {
         ensures short { OnOk result (IsShort self.new) }
         ensures bounded { OnOk result (StaysBoundedAt site self.old self.new) }
     {
-        if self.steps.len().saturating_sub(self.start) > self.limit {
+        // A sum that is too great is less than it was, so that no path is longer for it.
+        if self.steps.len() > self.start.wrapping_add(self.limit) {
             self.compact()?;
         }
         self.add(site, count)?;
@@ -89,7 +90,7 @@ impl Paths {
         ensures bounded { OnOk result (StaysBoundedAt site self.old self.new) }
     {
         add_steps(&mut self.steps, self.start, site, count)?;
-        self.weight = self.weight.saturating_add(count);
+        self.weight = self.weight.wrapping_add(count);
         Ok(())
     }
 

@@ -1,12 +1,9 @@
 //! What is counted of each site, kept by site number.
 
-ghost use Rattle.std.specs.Prelude.{◌≡◌, ℕ, ◌==◌, ◌<◌, false, Some, None, IfSome, OnOk, if◌then◌else◌};
-ghost use Rattle.std.specs.Bool.{OnTrue};
-ghost use Rattle.indexmap.specs.IndexMap.{index_map_len};
+ghost use Rattle.std.specs.Prelude.{◌≡◌, ℕ, ◌==◌, ◌<◌, true, false, Some, None, length, IfSome, OnOk, if◌then◌else◌};
 ghost use Rattle.cw_sites.specs.SiteRows as tallies;
-ghost use Rattle.cw_sites.specs.SiteRows.{row_of, zero_row, FitsRow, Becomes, HasFewer, IsGiven, JoinsRows, KeyAtHome, OthersStay, Took, ValueAtHome};
+ghost use Rattle.cw_sites.specs.SiteRows.{row_of, zero_row, FitsRow, Becomes, HasFewer, IsGiven, JoinsRows, OthersStay, SayTheSame, Took};
 
-use indexmap::IndexMap;
 use std::alloc::{AllocError, Global};
 
 /// What is counted of a site so far.
@@ -28,10 +25,10 @@ pub struct Row {
     pub at_path: u64,
 }
 
-/// The rows by site number. A site without a row has a row of zeros.
+/// The rows by site number. A site past the end has a row of zeros.
 #[derive(Debug, Drop)]
 pub struct Rows {
-    pub by_site: IndexMap<u32, Row>,
+    pub by_site: Vec<Row>,
 }
 
 const ZERO: Row = Row {
@@ -50,20 +47,7 @@ impl Rows {
         ensures { (q : ℕ) → row_of result q ≡ zero_row }
     {
         Rows {
-            by_site: IndexMap::new(alloc),
-        }
-    }
-
-    /// Whether the row of this site stands at the index of its number.
-    #[inline(always)]
-    fn is_at_home(&self, site: u32) -> bool
-        ensures within { OnTrue result (site < index_map_len self.now.by_site) }
-        ensures key { OnTrue result (KeyAtHome self.now site) }
-        ensures value { OnTrue result (ValueAtHome self.now site) }
-    {
-        match self.by_site.get_index(site as usize) {
-            Some((key, _)) => *key == site,
-            None => false,
+            by_site: Vec::new(alloc),
         }
     }
 
@@ -72,13 +56,35 @@ impl Rows {
     pub fn row(&self, site: u32) -> Row
         ensures { result ≡ row_of self.now site }
     {
-        match self.by_site.get_index(site as usize) {
-            Some((key, row)) if *key == site => *row,
-            _ => match self.by_site.get(&site) {
-                Some(row) => *row,
-                None => ZERO,
-            },
+        self.row_at(site as usize)
+    }
+
+    #[inline(always)]
+    fn row_at(&self, place: usize) -> Row
+        ensures { result ≡ row_of self.now place }
+    {
+        if place < self.by_site.len() {
+            self.by_site[place]
+        } else {
+            ZERO
         }
+    }
+
+    // Room for the row of this site: rows that were missing are zeros.
+    #[cold]
+    #[inline(never)]
+    fn reach(&mut self, place: usize) -> Result<(), AllocError>
+        ensures same { OnOk result (SayTheSame self.old self.new) }
+        ensures within { OnOk result (place < length self.new.by_site.items) }
+    {
+        // So many rows as no number can count are more than memory holds.
+        let Some(needed) = place.checked_add(1) else {
+            return Err(AllocError);
+        };
+        if self.by_site.len() < needed {
+            self.by_site.resize(needed, ZERO)?;
+        }
+        Ok(())
     }
 
     /// So many instructions of a site more.
@@ -87,24 +93,11 @@ impl Rows {
         ensures own { OnOk result (Becomes (tallies.worked count) self.old self.new site) }
         ensures others { OnOk result (OthersStay self.old self.new site) }
     {
-        if self.is_at_home(site) {
-            let (_, slot) = self.by_site.pair_mut(site as usize);
-            let row = worked(*slot, count);
-            *slot = row;
-            return Ok(());
+        let place = site as usize;
+        if place >= self.by_site.len() {
+            self.reach(place)?;
         }
-        self.work_by_key(site, count)
-    }
-
-    // The same where the row does not stand at the index of its number.
-    #[cold]
-    #[inline(never)]
-    fn work_by_key(&mut self, site: u32, count: u64) -> Result<(), AllocError>
-        ensures own { OnOk result (Becomes (tallies.worked count) self.old self.new site) }
-        ensures others { OnOk result (OthersStay self.old self.new site) }
-    {
-        let row = worked(self.row(site), count);
-        self.set(site, row)?;
+        self.by_site[place] = worked(self.by_site[place], count);
         Ok(())
     }
 
@@ -114,24 +107,16 @@ impl Rows {
         ensures own { OnOk result (Becomes (tallies.entered count path) self.old self.new site) }
         ensures others { OnOk result (OthersStay self.old self.new site) }
     {
-        if self.is_at_home(site) {
-            let (_, slot) = self.by_site.pair_mut(site as usize);
-            let row = entered(*slot, count, path);
-            *slot = row;
+        let place = site as usize;
+        if place >= self.by_site.len() {
+            self.reach(place)?;
+        }
+        let row = self.by_site[place];
+        if row.active == 0 {
+            self.by_site[place] = entered_first(row, count, path);
             return Ok(());
         }
-        self.begin_by_key(site, count, path)
-    }
-
-    // The same where the row does not stand at the index of its number.
-    #[cold]
-    #[inline(never)]
-    fn begin_by_key(&mut self, site: u32, count: u64, path: u64) -> Result<(), AllocError>
-        ensures own { OnOk result (Becomes (tallies.entered count path) self.old self.new site) }
-        ensures others { OnOk result (OthersStay self.old self.new site) }
-    {
-        let row = entered(self.row(site), count, path);
-        self.set(site, row)?;
+        self.by_site[place] = entered_again(row);
         Ok(())
     }
 
@@ -141,24 +126,16 @@ impl Rows {
         ensures own { OnOk result (Becomes (tallies.left count path) self.old self.new site) }
         ensures others { OnOk result (OthersStay self.old self.new site) }
     {
-        if self.is_at_home(site) {
-            let (_, slot) = self.by_site.pair_mut(site as usize);
-            let row = left(*slot, count, path);
-            *slot = row;
+        let place = site as usize;
+        if place >= self.by_site.len() {
+            self.reach(place)?;
+        }
+        let row = self.by_site[place];
+        if row.active == 1 {
+            self.by_site[place] = left_last(row, count, path);
             return Ok(());
         }
-        self.end_by_key(site, count, path)
-    }
-
-    // The same where the row does not stand at the index of its number.
-    #[cold]
-    #[inline(never)]
-    fn end_by_key(&mut self, site: u32, count: u64, path: u64) -> Result<(), AllocError>
-        ensures own { OnOk result (Becomes (tallies.left count path) self.old self.new site) }
-        ensures others { OnOk result (OthersStay self.old self.new site) }
-    {
-        let row = left(self.row(site), count, path);
-        self.set(site, row)?;
+        self.by_site[place] = left_inner(row);
         Ok(())
     }
 
@@ -168,7 +145,7 @@ impl Rows {
         ensures others { OnOk result (OthersStay self.old self.new site) }
     {
         let row = stood_in(self.row(site));
-        self.set(site, row)?;
+        self.set(site as usize, row)?;
         Ok(())
     }
 
@@ -179,34 +156,29 @@ impl Rows {
     {
         let mut rest = right;
         while let Some((site, row)) = rest.take_last() {
-            let current = self.row(site);
+            let current = self.row_at(site);
             let sum = summed(current, row);
             self.set(site, sum)?;
         }
         Ok(())
     }
 
-    // Takes some row out, where there is one.
-    fn take_last(&mut self) -> Option<(u32, Row)>
+    // Takes the last row out, where there is one.
+    fn take_last(&mut self) -> Option<(usize, Row)>
         ensures took { IfSome result (λ p. Took self.old self.new p.0 p.1) }
         ensures none { result ≡ None → (q : ℕ) → row_of self.old q ≡ zero_row }
         ensures fewer { IfSome result (λ p. HasFewer self.old self.new) }
     {
-        let (site, row) = self.by_site.pop()?;
-        Some((site, row))
+        let row = self.by_site.pop()?;
+        Some((self.by_site.len(), row))
     }
 
-    /// Gives a site its row.
-    #[inline(always)]
-    pub fn set(&mut self, site: u32, row: Row) -> Result<(), AllocError>
-        ensures { OnOk result (IsGiven self.old self.new site row) }
+    // Gives a site its row.
+    fn set(&mut self, place: usize, row: Row) -> Result<(), AllocError>
+        ensures { OnOk result (IsGiven self.old self.new place row) }
     {
-        if self.is_at_home(site) {
-            let (_, slot) = self.by_site.pair_mut(site as usize);
-            *slot = row;
-            return Ok(());
-        }
-        self.by_site.insert(site, row)?;
+        self.reach(place)?;
+        self.by_site[place] = row;
         Ok(())
     }
 }
@@ -217,35 +189,52 @@ pub fn worked(row: Row, count: u64) -> Row
     ensures { FitsRow (tallies.worked count row) → result ≡ tallies.worked count row }
 {
     let mut row = row;
-    row.own = row.own.saturating_add(count);
+    row.own = row.own.wrapping_add(count);
     row
 }
 
-/// The row after an invocation of its site began, at this work and on a path of this weight.
+/// The row after an invocation of its site began that lies in no other one, at this work and on a path of this weight.
 #[inline(always)]
-pub fn entered(row: Row, count: u64, path: u64) -> Row
-    ensures { FitsRow (tallies.entered count path row) → result ≡ tallies.entered count path row }
+pub fn entered_first(row: Row, count: u64, path: u64) -> Row
+    ensures { FitsRow (tallies.entered_at true count path row) → result ≡ tallies.entered_at true count path row }
 {
     let mut row = row;
-    if row.active == 0 {
-        row.at_work = count;
-        row.at_path = path;
-    }
-    row.calls = row.calls.saturating_add(1);
-    row.active = row.active.saturating_add(1);
+    row.calls = row.calls.wrapping_add(1);
+    row.active = row.active.wrapping_add(1);
+    row.at_work = count;
+    row.at_path = path;
     row
 }
 
-/// The row after an invocation of its site ended: the outermost one is summed.
+/// The row after an invocation of its site began that lies in another one.
 #[inline(always)]
-pub fn left(row: Row, count: u64, path: u64) -> Row
-    ensures { FitsRow (tallies.left count path row) → result ≡ tallies.left count path row }
+pub fn entered_again(row: Row) -> Row
+    ensures { FitsRow (tallies.entered_at false 0 0 row) → result ≡ tallies.entered_at false 0 0 row }
 {
     let mut row = row;
-    if row.active == 1 {
-        row.work = row.work.saturating_add(count.saturating_sub(row.at_work));
-        row.span = row.span.saturating_add(path.saturating_sub(row.at_path));
-    }
+    row.calls = row.calls.wrapping_add(1);
+    row.active = row.active.wrapping_add(1);
+    row
+}
+
+/// The row after an invocation of its site ended that lies in no other one, and is summed.
+#[inline(always)]
+pub fn left_last(row: Row, count: u64, path: u64) -> Row
+    ensures { FitsRow (tallies.left_at true count path row) → result ≡ tallies.left_at true count path row }
+{
+    let mut row = row;
+    row.work = row.work.wrapping_add(count.saturating_sub(row.at_work));
+    row.span = row.span.wrapping_add(path.saturating_sub(row.at_path));
+    row.active = row.active.saturating_sub(1);
+    row
+}
+
+/// The row after an invocation of its site ended that lies in another one.
+#[inline(always)]
+pub fn left_inner(row: Row) -> Row
+    ensures { result ≡ tallies.left_at false 0 0 row }
+{
+    let mut row = row;
     row.active = row.active.saturating_sub(1);
     row
 }

@@ -32,7 +32,7 @@ pub fn add_steps(
         if last.site == site {
             steps[len - 1] = Steps {
                 site,
-                count: last.count.saturating_add(count),
+                count: last.count.wrapping_add(count),
             };
             return Ok(());
         }

@@ -47,9 +47,10 @@ impl SiteTable {
         ensures bounded { OnOk result (StaysBoundedIn self.old.here self.old self.new) }
         ensures short { OnOk result (IsShort self.new.paths) }
     {
-        let since = count.saturating_sub(self.noted);
-        self.rows.work(self.here, since)?;
-        self.paths.extend(self.here, since)?;
+        let here = self.here;
+        let since = count.wrapping_sub(self.noted);
+        self.rows.work(here, since)?;
+        self.paths.extend(here, since)?;
         self.noted = count;
         Ok(())
     }
@@ -75,6 +76,7 @@ impl SiteTable {
     }
 
     /// The instructions so far are given to their sites: to be called before a scope or a region begins or ends.
+    #[inline(always)]
     pub fn note(&mut self, count: u64) -> Result<(), AllocError>
         ensures told { OnOk result (Notes self.old self.new count) }
         ensures bounded { OnOk result (StaysBoundedIn self.old.here self.old self.new) }
@@ -85,7 +87,7 @@ impl SiteTable {
     }
 
     /// A call in place of this site begins.
-    #[inline(never)]
+    #[inline(always)]
     pub fn enter(&mut self, count: u64, site: u32) -> Result<(), AllocError>
         ensures told { OnOk result (Enters self.old self.new count site) }
         ensures bounded { OnOk result (StaysBoundedIn site self.old self.new) }
@@ -97,7 +99,7 @@ impl SiteTable {
     }
 
     /// A spawned call of this site begins, in this strand; `first` tells that its block has not spawned since its last join.
-    #[inline(never)]
+    #[inline(always)]
     pub fn spawn(&mut self, count: u64, site: u32, first: bool) -> Result<(), AllocError>
         ensures told { OnOk result (Spawns self.old self.new count site first) }
         ensures bounded { OnOk result (StaysBoundedIn site self.old self.new) }
@@ -109,7 +111,7 @@ impl SiteTable {
     }
 
     /// The innermost invocation, a call in place whose block has joined, ends inside one of the site `outer`.
-    #[inline(never)]
+    #[inline(always)]
     pub fn leave(&mut self, count: u64, outer: u32) -> Result<(), AllocError>
         ensures told { OnOk result (Leaves self.old self.new count outer) }
         ensures bounded { OnOk result (StaysBoundedIn outer self.old self.new) }
@@ -120,7 +122,7 @@ impl SiteTable {
     }
 
     /// The innermost invocation, a spawned call whose block has joined, ends inside one of the site `outer`.
-    #[inline(never)]
+    #[inline(always)]
     pub fn end_child(&mut self, count: u64, outer: u32) -> Result<(), AllocError>
         ensures told { OnOk result (EndsChild self.old self.new count outer) }
         ensures bounded { OnOk result (StaysBoundedIn outer self.old self.new) }
@@ -132,7 +134,7 @@ impl SiteTable {
     }
 
     /// A block joins that has spawned since its last join. Where it has not, there is nothing to call.
-    #[inline(never)]
+    #[inline(always)]
     pub fn join(&mut self, count: u64) -> Result<(), AllocError>
         ensures told { OnOk result (Joins self.old self.new count) }
         ensures bounded { OnOk result (StaysBoundedIn self.old.here self.old self.new) }
@@ -143,7 +145,7 @@ impl SiteTable {
     }
 
     /// A spawned part that is no call begins, in this strand: half of a loop. `first` as for `spawn`.
-    #[inline(never)]
+    #[inline(always)]
     pub fn spawn_half(&mut self, count: u64, first: bool) -> Result<(), AllocError>
         ensures told { OnOk result (SpawnsHalf self.old self.new count first) }
         ensures bounded { OnOk result (StaysBoundedIn self.old.here self.old self.new) }
@@ -154,7 +156,7 @@ impl SiteTable {
     }
 
     /// The innermost open part, a spawned one that is no call and whose block has joined, ends.
-    #[inline(never)]
+    #[inline(always)]
     pub fn end_half(&mut self, count: u64) -> Result<(), AllocError>
         ensures told { OnOk result (EndsHalf self.old self.new count) }
         ensures bounded { OnOk result (StaysBoundedIn self.old.here self.old self.new) }

@@ -4,13 +4,14 @@ use Rattle.std.proofs.Common.{List, subst}
 use Rattle.cw_sites.specs.declared.steps.Steps.{Steps}
 use Rattle.cw_sites.specs.StepSums.{upto, whole, AllBelow}
 use Rattle.cw_sites.proofs.CompactingLaws.{all_below-set, all_below-append}
+use Rattle.std.proofs.Math.Nat.{mod-eq_of_lt}
 use Rattle.cw_sites.proofs.steps.add_steps.Goals as goal
 
 pub returns-then-last-site-clause-below : goal.returns-then-last-site-clause-below
 returns-then-last-site-clause-below c = λ q n h k. upto-set q c.args.steps.now.items (c.len-len.result - 1) n _ (omega arith)
 
 pub returns-then-last-site-clause-all : goal.returns-then-last-site-clause-all
-returns-then-last-site-clause-all c = λ q h. upto-more q c.args.steps.now.items (c.len-len.result - 1) c.args.start c.index-last.result.now c.args.site c.args.count c.saturating_add.result (omega arith) (omega arith) c.index-last.ensures c.if-last-site.true c.saturating_add.ensures h
+returns-then-last-site-clause-all c = λ q h. upto-more q c.args.steps.now.items (c.len-len.result - 1) c.args.start c.index-last.result.now c.args.site c.args.count _ (omega arith) (omega arith) c.index-last.ensures c.if-last-site.true (λ small. mod-eq_of_lt small) h
 
 pub returns-clause-below : goal.returns-clause-below
 returns-clause-below c = λ q n h k. ap (λ x. upto q x n) c.in_ok-push.ensures.items ∙ upto-append q c.args.steps.now.items _ n k

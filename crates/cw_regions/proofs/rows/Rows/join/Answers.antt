@@ -13,7 +13,7 @@ loop-tag-smaller c = c.in-Some.ensures.fewer
 pub loop-tag-preserved : goal.loop-tag-preserved
 loop-tag-preserved c =
     let now = c.loop-tag.self in
-    let current : c.row-current.result ≡ row_of now c.in-Some.tag = c.row-current.ensures in
+    let current : c.row_at-current.result ≡ row_of now c.in-Some.tag = c.row_at-current.ensures in
     let S : Row → Type 0 = λ r. FitsRow (summed r c.in-Some.row) → c.summed-sum.result ≡ summed r c.in-Some.row in
     remains_less c.args.self.now c.args.right now c.loop-tag.rest c.set.new.self c.take_last.new.self c.in-Some.tag c.in-Some.row c.summed-sum.result c.in-Some.ensures.took (subst S current c.summed-sum.ensures) c.in_ok-set.ensures c.loop-tag.invariant
 

@@ -13,7 +13,7 @@ loop-site-smaller c = c.in-Some.ensures.fewer
 pub loop-site-preserved : goal.loop-site-preserved
 loop-site-preserved c =
     let now = c.loop-site.self in
-    let current : c.row-current.result ≡ row_of now c.in-Some.site = c.row-current.ensures in
+    let current : c.row_at-current.result ≡ row_of now c.in-Some.site = c.row_at-current.ensures in
     let S : Row → Type 0 = λ r. FitsRow (summed r c.in-Some.row) → c.summed-sum.result ≡ summed r c.in-Some.row in
     remains_less c.args.self.now c.args.right now c.loop-site.rest c.set.new.self c.take_last.new.self c.in-Some.site c.in-Some.row c.summed-sum.result c.in-Some.ensures.took (subst S current c.summed-sum.ensures) c.in_ok-set.ensures c.loop-site.invariant
 
