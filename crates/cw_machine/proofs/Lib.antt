@@ -5,6 +5,7 @@ pub mod Cells
 pub mod Holding
 pub mod Order
 pub mod Running
+pub mod Stepping
 pub mod Blocks
 pub mod Rows
 pub mod Moves
@@ -21,3 +22,9 @@ pub mod Additions
 pub mod Told
 pub mod Metering
 pub mod FromMain
+pub mod Inside
+pub mod Pieces
+pub mod Slices
+pub mod Rests
+pub mod Effects
+pub mod Given

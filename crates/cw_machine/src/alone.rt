@@ -110,7 +110,7 @@ fn finished(
 }
 
 // The value that a call gave, and 0 where it gave none.
-fn int_given(value: Option<i64>) -> i64
+pub(crate) fn int_given(value: Option<i64>) -> i64
     ensures { result ≡ answers.int_given value }
 {
     match value {
@@ -120,7 +120,7 @@ fn int_given(value: Option<i64>) -> i64
 }
 
 // Whether there are as many arguments as parameters, and the limit and the burden are in their ranges.
-fn is_asked(params: usize, count: usize, n: u64, burden: u64) -> bool
+pub(crate) fn is_asked(params: usize, count: usize, n: u64, burden: u64) -> bool
     ensures { result ≡ runs.is_asked params count n burden }
 {
     count == params && 1 <= n && n <= MOST_LIMIT && burden <= MOST_BURDEN

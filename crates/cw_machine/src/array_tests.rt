@@ -2,7 +2,7 @@
 
 use crate::alone::{Ended, run_alone};
 use cw_code::code::{BlockKind, Callee, Code, Func, Halves, Inner, Instr, Site};
-use cw_model::syntax::{CallKind, Operator};
+use cw_model::syntax::{CallKind, Name, Operator};
 use cw_text::Fault;
 use cw_verify::verify::verify;
 use std::alloc::{AllocError, Global};
@@ -37,8 +37,8 @@ pub(crate) fn code_of(
         tags: Vec::new(alloc),
         passed: Vec::new(alloc),
     };
-    code.reducers.push(Vec::from_slice(alloc, b"s")?)?;
-    code.reducers.push(Vec::from_slice(alloc, b"t")?)?;
+    code.reducers.push(Name::new(alloc, b"s")?)?;
+    code.reducers.push(Name::new(alloc, b"t")?)?;
     for slots in passed {
         code.passed.push(Vec::from_slice(alloc, slots)?)?;
     }
@@ -61,7 +61,7 @@ pub(crate) fn code_of(
                 number,
                 kind,
                 line: 1,
-                callee: Vec::new(alloc),
+                callee: Name::new(alloc, b"")?,
                 function,
             })?;
             number = number.wrapping_add(1);

@@ -104,7 +104,7 @@ impl Machine {
     }
 
     // An array of zeros, into a slot.
-    #[inline(never)]
+    #[inline(always)]
     pub(crate) fn new_array(&mut self, code: &Verified, d: usize, a: u32, line: u32) -> Moved
         requires { ∥ IsAt code.now self.old (op.NewArray d a line) ∥₁ }
         ensures { Does code.now self.old (op.NewArray d a line) result self.new }

@@ -1,8 +1,9 @@
 //! What small codes give, by hand: each at its cost, and over its limit at one less.
 
 use crate::alone::{Ended, run_alone};
+use crate::values::{Values, values_alone};
 use cw_code::code::{BlockKind, Callee, Code, Func, Instr, Site, UnaryOperator};
-use cw_model::syntax::{CallKind, Operator};
+use cw_model::syntax::{CallKind, Name, Operator};
 use cw_text::Fault;
 use cw_verify::verify::verify;
 use std::alloc::{AllocError, Global};
@@ -44,7 +45,7 @@ fn add_site(
         number,
         kind,
         line: 1,
-        callee: Vec::new(alloc),
+        callee: Name::new(alloc, b"")?,
         function,
     })?;
     Ok(())
@@ -65,8 +66,8 @@ pub(crate) fn code_of(alloc: Global, main: &[Instr]) -> Result<Code, AllocError>
         passed: Vec::new(alloc),
     };
     code.passed.push(Vec::new(alloc))?;
-    code.reducers.push(Vec::new(alloc))?;
-    code.tags.push(Vec::new(alloc))?;
+    code.reducers.push(Name::new(alloc, b"")?)?;
+    code.tags.push(Name::new(alloc, b"")?)?;
     place(&mut code, true, 1, 3, main)?;
     let minus = Instr::Binary(Operator::Minus, 3);
     place(
@@ -127,6 +128,13 @@ fn run(alloc: Global, main: &[Instr], arg: i64, limit: u64) -> Result<Ended, Fau
     Ok(ended)
 }
 
+// The same with nothing counted.
+fn run_plain(alloc: Global, main: &[Instr], arg: i64, limit: u64) -> Result<Values, Fault> {
+    let verified = verify(alloc, code_of(alloc, main)?)?;
+    let values = values_alone(alloc, Arc::new(alloc, verified)?, &[arg], limit, 0)?;
+    Ok(values)
+}
+
 // Whether two lists of values are the same.
 fn are_same(lines: &Vec<i64>, others: &[i64]) -> bool {
     lines.as_slice() == others
@@ -134,10 +142,15 @@ fn are_same(lines: &Vec<i64>, others: &[i64]) -> bool {
 
 // Whether a run is over its limit.
 fn is_over(alloc: Global, main: &[Instr], arg: i64, limit: u64) -> bool {
-    match run(alloc, main, arg, limit) {
+    let measured = match run(alloc, main, arg, limit) {
         Ok(_) => false,
         Err(e) => e.number() == 7,
-    }
+    };
+    let plain = match run_plain(alloc, main, arg, limit) {
+        Ok(_) => false,
+        Err(e) => e.number() == 7,
+    };
+    measured && plain
 }
 
 // Whether a run ends with this value and these lines within this limit, and is over it at one less.
@@ -146,7 +159,11 @@ fn gives(alloc: Global, main: &[Instr], arg: i64, cost: u64, value: i64, lines: 
         Ok(ended) => ended.value == value && are_same(&ended.lines, lines),
         Err(_) => false,
     };
-    exact && is_over(alloc, main, arg, cost.wrapping_sub(1))
+    let plain = match run_plain(alloc, main, arg, cost) {
+        Ok(given) => given.value == value && are_same(&given.lines, lines),
+        Err(_) => false,
+    };
+    exact && plain && is_over(alloc, main, arg, cost.wrapping_sub(1))
 }
 
 // Whether a fault is this trap, with these lines before.
@@ -172,7 +189,11 @@ fn traps(
         Ok(_) => false,
         Err(e) => is_trap(&e, trap.0, trap.1, lines),
     };
-    exact && is_over(alloc, main, arg, cost.wrapping_sub(1))
+    let plain = match run_plain(alloc, main, arg, cost) {
+        Ok(_) => false,
+        Err(e) => is_trap(&e, trap.0, trap.1, lines),
+    };
+    exact && plain && is_over(alloc, main, arg, cost.wrapping_sub(1))
 }
 
 #[test]
@@ -343,31 +364,38 @@ fn trapping(rt: HostRuntime) -> Result<(), AllocError> {
     Ok(())
 }
 
-// The number of the refusal of a run with these arguments, limit and burden, or 0 where it ends with its value.
-fn refusal(alloc: Global, args: &[i64], limit: u64, burden: u64) -> Result<u8, Fault> {
+// The number of the refusal of a run with these arguments, limit and burden, or 0 where it ends with its value; and the
+// same with nothing counted.
+fn refusals(alloc: Global, args: &[i64], limit: u64, burden: u64) -> Result<(u8, u8), Fault> {
     let main = [
         Instr::Load(0),
         Instr::Push(3),
         Instr::AddTo(0),
         Instr::ReturnValue,
     ];
-    let verified = verify(alloc, code_of(alloc, &main)?)?;
-    match run_alone(alloc, Arc::new(alloc, verified)?, args, limit, burden) {
-        Ok(_) => Ok(0),
-        Err(e) => Ok(e.number()),
-    }
+    let code = Arc::new(alloc, verify(alloc, code_of(alloc, &main)?)?)?;
+    let share = Arc::try_clone(&code)?;
+    let measured = match run_alone(alloc, share, args, limit, burden) {
+        Ok(_) => 0,
+        Err(e) => e.number(),
+    };
+    let plain = match values_alone(alloc, code, args, limit, burden) {
+        Ok(_) => 0,
+        Err(e) => e.number(),
+    };
+    Ok((measured, plain))
 }
 
 #[test]
 fn requests(rt: HostRuntime) -> Result<(), Fault> {
     let alloc = rt.alloc();
-    assert!(rt; refusal(alloc, &[5], 4, 0)? == 0);
-    assert!(rt; refusal(alloc, &[5], 3, 0)? == 7);
-    assert!(rt; refusal(alloc, &[5], MOST, 1_000_000_000)? == 0);
-    assert!(rt; refusal(alloc, &[], 4, 0)? == 11);
-    assert!(rt; refusal(alloc, &[5, 6], 4, 0)? == 11);
-    assert!(rt; refusal(alloc, &[5], 0, 0)? == 11);
-    assert!(rt; refusal(alloc, &[5], MOST + 1, 0)? == 11);
-    assert!(rt; refusal(alloc, &[5], 4, 1_000_000_001)? == 11);
+    assert!(rt; refusals(alloc, &[5], 4, 0)? == (0, 0));
+    assert!(rt; refusals(alloc, &[5], 3, 0)? == (7, 7));
+    assert!(rt; refusals(alloc, &[5], MOST, 1_000_000_000)? == (0, 0));
+    assert!(rt; refusals(alloc, &[], 4, 0)? == (11, 11));
+    assert!(rt; refusals(alloc, &[5, 6], 4, 0)? == (11, 11));
+    assert!(rt; refusals(alloc, &[5], 0, 0)? == (11, 11));
+    assert!(rt; refusals(alloc, &[5], MOST + 1, 0)? == (11, 11));
+    assert!(rt; refusals(alloc, &[5], 4, 1_000_000_001)? == (11, 11));
     Ok(())
 }

@@ -1,0 +1,59 @@
+//! A run with one worker of which nothing is counted.
+
+ghost use Rattle.cw_code.specs.Code.{code_view};
+ghost use Rattle.cw_machine.specs.Runs as runs;
+
+use crate::alone::{int_given, is_asked};
+use crate::machine::{Machine, Moved};
+use cw_text::Fault;
+use cw_verify::verified::Verified;
+use std::alloc::Global;
+use std::sync::Arc;
+
+/// What a run gave that neither trapped nor passed its limit.
+#[derive(Debug, Drop)]
+pub struct Values {
+    /// The value of `main`.
+    pub value: i64,
+    /// The values printed, in order.
+    pub lines: Vec<i64>,
+    /// For each reducer the sum of what was added to it, in source order.
+    pub sums: Vec<i128>,
+}
+
+/// Runs code on these arguments within `n` instructions: its value, the values printed and the sum of each reducer,
+/// exactly where the code's meaning gives them. Nothing is counted of its strand tree.
+///
+/// The errors are those of `run_alone`; the burden is only looked at for that.
+pub fn values_alone(
+    alloc: Global,
+    code: Arc<Verified>,
+    args: &[i64],
+    n: u64,
+    burden: u64,
+) -> Result<Values, Fault>
+    ensures { runs.GivesAsCode (code_view code.value.code) args.now n burden result }
+{
+    let verified: &Verified = &code;
+    let main = verified.code.main as usize;
+    let f = verified.func(main);
+    if !is_asked(f.params, args.len(), n, burden) {
+        return Err(Fault::Arguments);
+    }
+    let reducers = verified.code.reducers.len();
+    let mut machine = Machine::new(alloc, f, verified.room(main), args, reducers)?;
+    match machine.run(verified, n) {
+        Moved::Gave(value) => Ok(Values {
+            value: int_given(value),
+            lines: machine.lines,
+            sums: machine.sums,
+        }),
+        Moved::On => Err(Fault::OverLimit),
+        Moved::Trapped(trap, line) => Err(Fault::Trap {
+            code: trap,
+            line,
+            output: machine.lines,
+        }),
+        Moved::NoMemory => Err(Fault::Memory),
+    }
+}
