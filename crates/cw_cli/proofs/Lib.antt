@@ -10,3 +10,4 @@ mod Stages
 mod Rows
 mod Runs
 mod Tools
+pub mod ReadWords

@@ -19,9 +19,10 @@ use Rattle.cw_code.specs.Fits.{Fits}
 use Rattle.cw_verify.specs.Table.{Fails}
 use Rattle.cw_model.specs.Sites.{are_numbered, call_sites}
 use Rattle.cw_model.specs.SiteLaw.{SitesAreNumbered}
-use Rattle.cw_model.specs.Lines.{lowest}
-use Rattle.cw_model.proofs.Lowest.{least_line, no_lines}
-use Rattle.cw_gen.specs.Later.{later_lines}
+use Rattle.cw_model.specs.Sizes.{loop_faults}
+use Rattle.cw_loops.specs.Seen.{WhyNotLowered}
+use Rattle.cw_loops.specs.SourceLike.{is_source_like}
+use Rattle.cw_loops.specs.LoweringLaws.{DerivedIsSourceLike}
 use Rattle.cw_cli.specs.Sources
 use Rattle.cw_cli.specs.Compiled.{IsCompiled}
 
@@ -74,25 +75,30 @@ module _ (bytes : List ℕ) (program : Program) (source : Sources.IsSourceOf byt
     pub numbered : SitesAreNumbered → are_numbered 0 (call_sites (program_of other)) ≡ true
     numbered law = ap (λ p. are_numbered 0 (call_sites p)) is_program ∙ law bytes source.tokens program source.parsed.derived
 
-    -- an accepted program that holds what is not compiled so far
-    pub tree_later : (line : ℕ) → lowest None (later_lines program) ≡ Some line → Sources.PassesLimit bytes line
-    tree_later line h = Sources.later program accepted (least_line (later_lines program) line h)
+    loops_refused : (f : Fault) → WhyNotLowered program f → Sources.IsRefused bytes f
+    loops_refused (fault.Size p) h = Sources.loops program accepted h
+    loops_refused fault.Memory h = tt
+    loops_refused _ h = absurd h
 
-    module _ (none : lowest None (later_lines program) ≡ None) where
-      taken : later_lines program ≡ []
-      taken = no_lines (later_lines program) none
+    -- an accepted program that has too many loops
+    pub tree_has_many_loops : (f : Fault) → WhyNotLowered (program_of other) f → Sources.IsRefused bytes f
+    tree_has_many_loops f h = loops_refused f (subst (λ p. WhyNotLowered p f) is_program h)
+
+    pub source_like : DerivedIsSourceLike → is_source_like (program_of other) ≡ true
+    source_like law = ap is_source_like is_program ∙ law bytes source.tokens program source.has_tokens.cut source.parsed.derived
+
+    module _ (few_here : loop_faults (program_of other) ≡ []) where
+      few : loop_faults program ≡ []
+      few = sym (ap loop_faults is_program) ∙ few_here
 
       code_refused : (f : Fault) → gen.Why program f → Sources.IsRefused bytes f
-      code_refused (fault.Size p) h = Sources.code program accepted taken h
+      code_refused (fault.Size p) h = Sources.code program accepted few h
       code_refused fault.Memory h = tt
       code_refused _ h = absurd h
 
-      -- the code of the owned tree
+      -- the code of the lowered tree
       pub tree_too_large : (f : Fault) → gen.Why (program_of other) f → Sources.IsRefused bytes f
       tree_too_large f h = code_refused f (subst (λ p. gen.Why p f) is_program h)
-
-      pub none_later : later_lines (program_of other) ≡ []
-      none_later = ap later_lines is_program ∙ taken
 
       -- generated code fits, so the verifier refuses it for want of memory alone
       pub not_unfit : (code : declared.Code) → gen.Generates (program_of other) (code_view code) → (f : Fault) → Fails (Fits (code_view code) → ⊥) f → Sources.IsRefused bytes f
@@ -103,4 +109,4 @@ module _ (bytes : List ℕ) (program : Program) (source : Sources.IsSourceOf byt
       pub compiled : (code : Code) → gen.Generates (program_of other) code → IsCompiled bytes code
       compiled code h =
           let g : gen.Generates program code = subst (λ p. gen.Generates p code) is_program h in
-          record { program = program; compiles = record { accepted = accepted; taken = taken; small = g.small }; generates = g }
+          record { program = program; compiles = record { accepted = accepted; loops = few; small = g.small }; generates = g }

@@ -1,25 +1,29 @@
 -- From what a run of code answers to what its program means.
 use Rattle.std.proofs.Common.{◌≡◌, ◌≢◌, ℕ, ℤ, Bool, true, false, ◌&&◌, ◌≤◌, List, [], ◌∷◌, ◌++◌, length, Some, Result, Ok, Err, IsErrAnd, flat_map, refl, sym, ap, ◌∙◌, subst, arith}
-use Rattle.std.specs.Prelude.{nat_eq, nat_le, codes}
+use Rattle.std.specs.Prelude.{nat_eq, nat_le, codes, MatchResult}
 use Rattle.std.specs.Global.{Vec}
+use Rattle.std.specs.List.{list_all}
+use Rattle.cw_model.specs.Ints.{fits}
 use Rattle.std.proofs.lemmas.Bool.Decides.{nat_tests}
 use Rattle.cw_model.specs.Syntax.{Program, Reducer}
 use Rattle.cw_model.specs.Limits.{most_limit, most_burden}
 use Rattle.cw_model.specs.Trees.{Tree}
 use Rattle.cw_model.specs.Answers.{Answer, Ended, TrappedAt, OverLimit}
 use Rattle.cw_model.specs.declared.trap.Trap.{Trap}
+use Rattle.cw_model.specs.Report as report
 use Rattle.cw_model.specs.Report.{check_text, value_line, sum_lines, report_text}
 use Rattle.cw_code.specs.Code.{Code}
 use Rattle.cw_code.specs.Run.{code_serial}
 use Rattle.cw_code.specs.Fits.{main_params}
-use Rattle.cw_machine.specs.Runs.{Runs, RunsAsCode, Why, is_request}
+use Rattle.cw_machine.specs.Runs.{Runs, Gives, Why, is_request}
+use Rattle.cw_machine.specs.declared.values.Values.{Values}
 use Rattle.cw_machine.specs.declared.alone.Ended as run
 use Rattle.cw_text.specs.declared.fault.Fault.{Fault}
 use Rattle.cw_text.specs.declared.fault.Fault.TheVariants as fault
 use Rattle.cw_report.specs.Seen.{Seen}
 use Rattle.cw_report.specs.Sinks.{Writes, WritesAll, WritesPart}
 use Rattle.cw_report.specs.Answers.{AnswersLess}
-use Rattle.cw_report.specs.Texts.{sums_text}
+use Rattle.cw_report.specs.Texts.{sums_text, handed_text}
 use Rattle.cw_gen.specs.Generates.{Generates}
 use Rattle.cw_types.specs.Resolved.{reducer_names}
 use Rattle.cw_cli.specs.Compiled.{IsCompiled}
@@ -61,7 +65,7 @@ named_lines (r ∷ rs) [] = refl
 named_lines (r ∷ rs) (v ∷ vs) = ap (λ lines. codes "sum " ++ (r.name ++ (codes " = " ++ (value_line v ++ lines)))) (named_lines rs vs)
 
 -- whether a run ended, as an analysis answers it
-abbrev result_of : Result run.Ended Fault → Result (Unit {0}) Fault
+abbrev result_of : {V : Type 0} → Result V Fault → Result (Unit {0}) Fault
 result_of (Ok e) = Ok tt
 result_of (Err f) = Err f
 
@@ -71,29 +75,34 @@ some_is a b e = cc
 false_true : false ≡ true → ⊥
 false_true e = cc
 
-not_over : {v : ℤ} {lines sums : List ℤ} {tree : Tree} → Ended v lines sums tree ≡ OverLimit → ⊥
-not_over e = cc
+not_over : (a : Answer) → analyses.HasEnded a → a ≡ OverLimit → ⊥
+not_over a has over = subst analyses.HasEnded over has
 
 trap_not_over : {trap : Trap} {line : ℕ} {lines : List ℤ} → TrappedAt trap line lines ≡ OverLimit → ⊥
 trap_not_over e = cc
 
--- the report that is asked for, of code that carries what reports tell of the program
-report_is : (m : Mode) (program : Program) (code : Code) (args : List ℤ) (n burden : ℕ) (e : run.Ended) (r : Runs code args n burden e) → m ≢ mode.Check
-    → Generates program code → are_numbered 0 (call_sites program) ≡ true
-    → told_of m code (Ok e) ≡ report_text (analyses.mode_of m) program burden (Ended e.value e.lines.items e.sums.items r.tree)
-report_is mode.Check program code args n burden e r runs g numbered = absurd (runs refl)
-report_is mode.Run program code args n burden e r runs g numbered =
+-- the report of values, of code that carries what reports tell of the program
+values_are : (program : Program) (code : Code) (burden : ℕ) (e : Values) (tree : Tree) → Generates program code
+    → handed_text code (Ok e) ≡ report_text report.Run program burden (Ended e.value e.lines.items e.sums.items tree)
+values_are program code burden e tree g =
     ap (λ sum_part. flat_map value_line e.lines.items ++ (sum_part ++ (codes "return " ++ value_line e.value)))
     (ap (λ names. sums_text names e.sums.items) g.reducers ∙ named_lines program.reducers e.sums.items)
-report_is mode.Scale program code args n burden e r runs g numbered = scale_is program code burden e r.tree g.tags r.measure r.regions
-report_is mode.Sites program code args n burden e r runs g numbered = sites_are program code e r.tree g.sites g.main_line numbered r.sites
 
-printed_is : (m : Mode) (program : Program) (code : Code) (burden : ℕ) (trap : Trap) (line : ℕ) (lines : Vec ℤ) → m ≢ mode.Check
+-- the report that is asked for of what is counted
+report_is : (m : Mode) (program : Program) (code : Code) (args : List ℤ) (n burden : ℕ) (e : run.Ended) (r : Runs code args n burden e) → m ≢ mode.Check → m ≢ mode.Run
+    → Generates program code → are_numbered 0 (call_sites program) ≡ true
+    → told_of m code (Ok e) ≡ report_text (analyses.mode_of m) program burden (Ended e.value e.lines.items e.sums.items r.tree)
+report_is mode.Check program code args n burden e r runs counts g numbered = absurd (runs refl)
+report_is mode.Run program code args n burden e r runs counts g numbered = absurd (counts refl)
+report_is mode.Scale program code args n burden e r runs counts g numbered = scale_is program code burden e r.tree g.tags r.measure r.regions
+report_is mode.Sites program code args n burden e r runs counts g numbered = sites_are program code e r.tree g.sites g.main_line numbered r.sites
+
+printed_is : (m : Mode) (program : Program) (code : Code) (burden : ℕ) (trap : Trap) (line : ℕ) (lines : Vec ℤ) → m ≢ mode.Check → m ≢ mode.Run
     → told_of m code (Err (fault.Trap trap line lines)) ≡ report_text (analyses.mode_of m) program burden (TrappedAt trap line lines.items)
-printed_is mode.Check program code burden trap line lines runs = absurd (runs refl)
-printed_is mode.Run program code burden trap line lines runs = refl
-printed_is mode.Scale program code burden trap line lines runs = refl
-printed_is mode.Sites program code burden trap line lines runs = refl
+printed_is mode.Check program code burden trap line lines runs counts = absurd (runs refl)
+printed_is mode.Run program code burden trap line lines runs counts = absurd (counts refl)
+printed_is mode.Scale program code burden trap line lines runs counts = refl
+printed_is mode.Sites program code burden trap line lines runs counts = refl
 
 -- of a run that did not start or passed its limit nothing is told
 over_is : (m : Mode) (code : Code) → told_of m code (Err fault.OverLimit) ≡ []
@@ -118,7 +127,7 @@ arguments_are mode.Sites code = refl
 no_part : {W : Type 0} (seen : W → Seen) (old new : W) (text : List ℕ) → new ≡ old → WritesPart (seen old) (seen new) text → ⊥
 no_part seen old new text same part = let e : (seen new).failures ≡ (seen old).failures = ap (λ w. (seen w).failures) same in omega (arith, e, part.failed)
 
-module _ (bytes : List ℕ) (args : List ℤ) (options : Options) (runs : options.mode ≢ mode.Check) (law : SitesAreNumbered) (code : Code) (compiled : IsCompiled bytes code) where
+module _ (bytes : List ℕ) (args : List ℤ) (words : list_all fits args ≡ true) (options : Options) (code : Code) (compiled : IsCompiled bytes code) where
   may : is_request code args options.limit options.burden ≡ true → analyses.MayRun compiled.program args options
   may h =
       let n = both (nat_eq (length args) (main_params code)) (nat_le 1 options.limit && (nat_le options.limit most_limit && nat_le options.burden most_burden)) h in
@@ -139,93 +148,146 @@ module _ (bytes : List ℕ) (args : List ℤ) (options : Options) (runs : option
   run_of m = record { compiles = compiled.compiles; may = m }
 
   answer_is : analyses.MayRun compiled.program args options → (a : Answer) → code_serial code args options.limit ≡ Some a → analyses.answer_to compiled.program args options ≡ a
-  answer_is m a e = some_is _ _ (sym (compiled.generates.serial args m.count options.limit) ∙ e)
+  answer_is m a e = some_is _ _ (sym (compiled.generates.serial args words m.count options.limit) ∙ e)
 
-  -- what the mode tells of a run of the code
-  abbrev told : Result run.Ended Fault → List ℕ
-  told r = told_of options.mode code r
+  -- the report of an answer, in the mode that is asked for
+  abbrev pub report_of : Answer → List ℕ
+  report_of a = report_text (analyses.mode_of options.mode) compiled.program options.burden a
 
-  numbered : are_numbered 0 (call_sites compiled.program) ≡ true
-  numbered = let source = compiled.compiles.accepted.source in law bytes source.tokens compiled.program source.parsed.derived
+  -- a run that ended: what the code means by it, and what is told of it
+  pub record EndsAs (text : List ℕ) : Type 0 where
+    pub asked : is_request code args options.limit options.burden ≡ true
+    pub answer : Answer
+    pub ended : analyses.HasEnded answer
+    pub serial : code_serial code args options.limit ≡ Some answer
+    pub told : text ≡ report_of answer
 
-  ended_is : (e : run.Ended) (r : Runs code args options.limit options.burden e) → analyses.answer_to compiled.program args options ≡ Ended e.value e.lines.items e.sums.items r.tree
-  ended_is e r = answer_is (may r.asked) (Ended e.value e.lines.items e.sums.items r.tree) r.answer
+  -- what is told of the outcome of a run is its report
+  pub record Tells {V : Type 0} (ran : V → Type 0) (told : Result V Fault → List ℕ) : Type 0 where
+    pub ended : (e : V) → ran e → EndsAs (told (Ok e))
+    pub printed : (trap : Trap) (line : ℕ) (lines : Vec ℤ) → told (Err (fault.Trap trap line lines)) ≡ report_of (TrappedAt trap line lines.items)
+    pub over : told (Err fault.OverLimit) ≡ []
+    pub memory : told (Err fault.Memory) ≡ []
+    pub arguments : told (Err fault.Arguments) ≡ []
 
-  ended_text_is : (e : run.Ended) → Runs code args options.limit options.burden e → told (Ok e) ≡ analyses.text_of compiled.program args options
-  ended_text_is e r =
-      report_is options.mode compiled.program code args options.limit options.burden e r runs compiled.generates numbered
-      ∙ sym (ap (λ a. report_text (analyses.mode_of options.mode) compiled.program options.burden a) (ended_is e r))
+  -- the values of a run
+  pub values_tell : options.mode ≡ mode.Run → Tells (Gives code args options.limit options.burden) (handed_text code)
+  values_tell is = record {
+    ended = λ e r. record {
+      asked = r.asked;
+      answer = Ended e.value e.lines.items e.sums.items r.tree;
+      ended = tt;
+      serial = r.answer;
+      told = values_are compiled.program code options.burden e r.tree compiled.generates
+          ∙ ap (λ m. report_text (analyses.mode_of m) compiled.program options.burden (Ended e.value e.lines.items e.sums.items r.tree)) (sym is);
+    };
+    printed = λ trap line lines. ap (λ m. report_text (analyses.mode_of m) compiled.program options.burden (TrappedAt trap line lines.items)) (sym is);
+    over = refl;
+    memory = refl;
+    arguments = refl;
+  }
 
-  printed_text_is : (trap : Trap) (line : ℕ) (lines : Vec ℤ) → analyses.answer_to compiled.program args options ≡ TrappedAt trap line lines.items
-      → told (Err (fault.Trap trap line lines)) ≡ analyses.text_of compiled.program args options
-  printed_text_is trap line lines e =
-      printed_is options.mode compiled.program code options.burden trap line lines runs
-      ∙ sym (ap (λ a. report_text (analyses.mode_of options.mode) compiled.program options.burden a) e)
+  -- what is counted of a run
+  pub tables_tell : options.mode ≢ mode.Check → options.mode ≢ mode.Run → SitesAreNumbered → Tells (Runs code args options.limit options.burden) (told_of options.mode code)
+  tables_tell runs counts law =
+      let source = compiled.compiles.accepted.source in
+      let numbered : are_numbered 0 (call_sites compiled.program) ≡ true = law bytes source.tokens compiled.program source.parsed.derived in
+      record {
+        ended = λ e r. record {
+          asked = r.asked;
+          answer = Ended e.value e.lines.items e.sums.items r.tree;
+          ended = tt;
+          serial = r.answer;
+          told = report_is options.mode compiled.program code args options.limit options.burden e r runs counts compiled.generates numbered;
+        };
+        printed = λ trap line lines. printed_is options.mode compiled.program code options.burden trap line lines runs counts;
+        over = over_is options.mode code;
+        memory = memory_is options.mode code;
+        arguments = arguments_are options.mode code;
+      }
 
-  module _ {W : Type 0} (seen : W → Seen) (old new : W) where
+  -- a text that is the report of the answer
+  text_is : (a : Answer) (text : List ℕ) → analyses.answer_to compiled.program args options ≡ a → text ≡ report_of a → text ≡ analyses.text_of compiled.program args options
+  text_is a text e told = told ∙ sym (ap report_of e)
+
+  module _ {V : Type 0} (ran : V → Type 0) (told : Result V Fault → List ℕ) (tells : Tells ran told) {W : Type 0} (seen : W → Seen) (old new : W) where
+    -- a run gives what the code's meaning gives, or tells why not
+    abbrev RanAs : Result V Fault → Type 0
+    RanAs r = MatchResult r ran (Why code args options.limit options.burden)
+
+    answer_of : (e : V) (r : ran e) → analyses.answer_to compiled.program args options ≡ (tells.ended e r).answer
+    answer_of e r = let ends = tells.ended e r in answer_is (may ends.asked) ends.answer ends.serial
+
+    trap_of : (trap : Trap) (line : ℕ) (lines : Vec ℤ) → Why code args options.limit options.burden (fault.Trap trap line lines) → analyses.answer_to compiled.program args options ≡ TrappedAt trap line lines.items
+    trap_of trap line lines h = answer_is (may h.0) (TrappedAt trap line lines.items) h.1
+
     -- a run that ended, and its text was written
-    reported : (e : run.Ended) → Runs code args options.limit options.burden e → WritesAll (seen old) (seen new) (told (Ok e)) → analyses.IsReported seen old new bytes args options
-    reported e r took = record {
-      program = compiled.program;
-      run = run_of (may r.asked);
-      ended = subst analyses.HasEnded (sym (ended_is e r)) tt;
-      took = subst (λ text. WritesAll (seen old) (seen new) text) (ended_text_is e r) took;
-    }
+    reported : (e : V) → ran e → WritesAll (seen old) (seen new) (told (Ok e)) → analyses.IsReported seen old new bytes args options
+    reported e r took =
+        let ends = tells.ended e r in
+        record {
+          program = compiled.program;
+          run = run_of (may ends.asked);
+          ended = subst analyses.HasEnded (sym (answer_of e r)) ends.ended;
+          took = subst (λ text. WritesAll (seen old) (seen new) text) (text_is ends.answer (told (Ok e)) (answer_of e r) ends.told) took;
+        }
 
-    -- a run that did not end, and what the mode tells of it was written
+    -- a run that did not end, and what is told of it was written
     unreported : (f : Fault) → Why code args options.limit options.burden f → WritesAll (seen old) (seen new) (told (Err f)) → (told (Err f) ≡ [] → new ≡ old) → analyses.IsUnreported seen old new bytes args options f
     unreported fault.OverLimit h took idle =
-        record { program = compiled.program; run = run_of (may h.0); over = answer_is (may h.0) OverLimit h.1; untouched = idle (over_is options.mode code) }
+        record { program = compiled.program; run = run_of (may h.0); over = answer_is (may h.0) OverLimit h.1; untouched = idle tells.over }
     unreported (fault.Trap trap line lines) h took idle =
-        let e = answer_is (may h.0) (TrappedAt trap line lines.items) h.1 in
+        let e = trap_of trap line lines h in
         record {
           program = compiled.program;
           run = run_of (may h.0);
           trapped = e;
-          took = subst (λ text. WritesAll (seen old) (seen new) text) (printed_text_is trap line lines e) took;
+          took = subst (λ text. WritesAll (seen old) (seen new) text) (text_is (TrappedAt trap line lines.items) (told (Err (fault.Trap trap line lines))) e (tells.printed trap line lines)) took;
         }
-    unreported fault.Memory h took idle = idle (memory_is options.mode code)
+    unreported fault.Memory h took idle = idle tells.memory
     unreported fault.Arguments h took idle =
-        record { program = compiled.program; compiles = compiled.compiles; misused = λ m. false_true (sym h ∙ must m); untouched = idle (arguments_are options.mode code) }
+        record { program = compiled.program; compiles = compiled.compiles; misused = λ m. false_true (sym h ∙ must m); untouched = idle tells.arguments }
     unreported _ h took idle = absurd h
 
-    finished_itself : (ended : Result run.Ended Fault) → RunsAsCode code args options.limit options.burden ended → WritesAll (seen old) (seen new) (told ended) → (told ended ≡ [] → new ≡ old) → analyses.IsRun seen old new bytes args options (result_of ended)
+    finished_itself : (ended : Result V Fault) → RanAs ended → WritesAll (seen old) (seen new) (told ended) → (told ended ≡ [] → new ≡ old) → analyses.IsRun seen old new bytes args options (result_of ended)
     finished_itself (Ok e) r took idle = reported e r took
     finished_itself (Err f) h took idle = unreported f h took idle
 
     -- a run that ended with a value, and its text was written
-    pub finished : (ended : Result run.Ended Fault) (e : run.Ended) → ended ≡ Ok e → RunsAsCode code args options.limit options.burden ended → WritesAll (seen old) (seen new) (told ended) → (told ended ≡ [] → new ≡ old) → analyses.IsReported seen old new bytes args options
+    pub finished : (ended : Result V Fault) (e : V) → ended ≡ Ok e → RanAs ended → WritesAll (seen old) (seen new) (told ended) → (told ended ≡ [] → new ≡ old) → analyses.IsReported seen old new bytes args options
     finished ended e same h took idle =
         subst (λ r. analyses.IsRun seen old new bytes args options (result_of r)) same (finished_itself ended h took idle)
 
     -- one that has none
-    pub stopped : (ended : Result run.Ended Fault) (f : Fault) → ended ≡ Err f → RunsAsCode code args options.limit options.burden ended → WritesAll (seen old) (seen new) (told ended) → (told ended ≡ [] → new ≡ old) → analyses.IsUnreported seen old new bytes args options f
+    pub stopped : (ended : Result V Fault) (f : Fault) → ended ≡ Err f → RanAs ended → WritesAll (seen old) (seen new) (told ended) → (told ended ≡ [] → new ≡ old) → analyses.IsUnreported seen old new bytes args options f
     stopped ended f same h took idle =
         subst (λ r. analyses.IsRun seen old new bytes args options (result_of r)) same (finished_itself ended h took idle)
 
     -- a write that failed
-    cut_short : (ended : Result run.Ended Fault) → RunsAsCode code args options.limit options.burden ended → WritesPart (seen old) (seen new) (told ended) → (told ended ≡ [] → new ≡ old) → analyses.IsCutShort seen old new bytes args options
-    cut_short (Ok e) r part idle = record {
-      program = compiled.program;
-      run = run_of (may r.asked);
-      within = λ over. not_over (sym (ended_is e r) ∙ over);
-      took = subst (λ text. WritesPart (seen old) (seen new) text) (ended_text_is e r) part;
-    }
+    cut_short : (ended : Result V Fault) → RanAs ended → WritesPart (seen old) (seen new) (told ended) → (told ended ≡ [] → new ≡ old) → analyses.IsCutShort seen old new bytes args options
+    cut_short (Ok e) r part idle =
+        let ends = tells.ended e r in
+        record {
+          program = compiled.program;
+          run = run_of (may ends.asked);
+          within = λ over. not_over ends.answer ends.ended (sym (answer_of e r) ∙ over);
+          took = subst (λ text. WritesPart (seen old) (seen new) text) (text_is ends.answer (told (Ok e)) (answer_of e r) ends.told) part;
+        }
     cut_short (Err (fault.Trap trap line lines)) h part idle =
-        let e = answer_is (may h.0) (TrappedAt trap line lines.items) h.1 in
+        let e = trap_of trap line lines h in
         record {
           program = compiled.program;
           run = run_of (may h.0);
           within = λ over. trap_not_over (sym e ∙ over);
-          took = subst (λ text. WritesPart (seen old) (seen new) text) (printed_text_is trap line lines e) part;
+          took = subst (λ text. WritesPart (seen old) (seen new) text) (text_is (TrappedAt trap line lines.items) (told (Err (fault.Trap trap line lines))) e (tells.printed trap line lines)) part;
         }
-    cut_short (Err fault.OverLimit) h part idle = absurd (no_part seen old new _ (idle (over_is options.mode code)) part)
-    cut_short (Err fault.Memory) h part idle = absurd (no_part seen old new _ (idle (memory_is options.mode code)) part)
-    cut_short (Err fault.Arguments) h part idle = absurd (no_part seen old new _ (idle (arguments_are options.mode code)) part)
+    cut_short (Err fault.OverLimit) h part idle = absurd (no_part seen old new _ (idle tells.over) part)
+    cut_short (Err fault.Memory) h part idle = absurd (no_part seen old new _ (idle tells.memory) part)
+    cut_short (Err fault.Arguments) h part idle = absurd (no_part seen old new _ (idle tells.arguments) part)
     cut_short (Err _) h part idle = absurd h
 
     -- a text that was not written
-    pub unwritten : (ended : Result run.Ended Fault) → RunsAsCode code args options.limit options.burden ended → (told ended ≡ [] → new ≡ old) → (f : Fault) → AnswersLess seen old new (told ended) f → analyses.IsUnreported seen old new bytes args options f
+    pub unwritten : (ended : Result V Fault) → RanAs ended → (told ended ≡ [] → new ≡ old) → (f : Fault) → AnswersLess seen old new (told ended) f → analyses.IsUnreported seen old new bytes args options f
     unwritten ended r idle fault.Memory h = h
     unwritten ended r idle fault.Write h = cut_short ended r h idle
     unwritten ended r idle _ h = absurd h

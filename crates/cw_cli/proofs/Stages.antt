@@ -8,13 +8,12 @@ use Rattle.cw_model.specs.Text.{IsAscii, IsSourceText, line_at, IsFirstAbove, Is
 use Rattle.cw_model.specs.Tokens.{IsTokenCut, HasLexicalFault, HasNameFault}
 use Rattle.cw_model.specs.Syntax.{Program}
 use Rattle.cw_model.specs.Ownership.{ownership_faults}
-use Rattle.cw_model.specs.Sizes.{token_faults, limit_faults, program_faults}
+use Rattle.cw_model.specs.Sizes.{token_faults, limit_faults, loop_faults, program_faults}
 use Rattle.cw_model.proofs.Lowest.{no_least, one_least}
 use Rattle.cw_lex.specs.Laws.{HasOneCut, FaultsExcludeCuts, FaultsExcludeOneAnother, LexicalFaultHasOneLine, NameFaultHasOneLine}
 use Rattle.cw_model.specs.Grammar.{Derives, HasSyntaxFault}
 use Rattle.cw_model.specs.Typing.{type_faults}
 use Rattle.cw_parse.specs.Parsed.{HasOneTree, FaultsAreOne}
-use Rattle.cw_gen.specs.Later.{later_lines}
 use Rattle.cw_text.specs.declared.fault.Place.{Place}
 use Rattle.cw_text.specs.declared.fault.Fault.{Fault}
 use Rattle.cw_text.specs.declared.fault.Fault.TheVariants as fault
@@ -58,7 +57,7 @@ keeps_one lines faulty Rest rest =
 -- ---- the stages, from the last to the first
 
 abbrev AfterOwnership : Program → Result Program Fault → Type 0
-AfterOwnership p = Keeps (later_lines p) (λ at. fault.Size at) (Keeps (program_faults p) (λ at. fault.Size at) (λ r. r ≡ Ok p))
+AfterOwnership p = Keeps (loop_faults p) (λ at. fault.Size at) (Keeps (program_faults p) (λ at. fault.Size at) (λ r. r ≡ Ok p))
 
 abbrev AfterTree : Program → Result Program Fault → Type 0
 AfterTree p =
@@ -111,7 +110,7 @@ failed f = Err f
 module _ (one_cut : HasOneCut) (no_cut : FaultsExcludeCuts) (one_kind : FaultsExcludeOneAnother) (one_lexical : LexicalFaultHasOneLine) (one_name : NameFaultHasOneLine) (one_tree : (text : List ℕ) (ts : List Token) → HasOneTree text ts) (no_tree : (text : List ℕ) (ts : List Token) → FaultsAreOne text ts) (bytes : List ℕ) where
   after_tree_one : (p : Program) → IsOne (AfterTree p)
   after_tree_one p =
-      keeps_one (limit_faults p) _ _ (keeps_one (type_faults p) _ _ (keeps_one (ownership_faults p) _ _ (keeps_one (later_lines p) _ _ (keeps_one (program_faults p) _ _ (λ r s h k. h ∙ sym k)))))
+      keeps_one (limit_faults p) _ _ (keeps_one (type_faults p) _ _ (keeps_one (ownership_faults p) _ _ (keeps_one (loop_faults p) _ _ (keeps_one (program_faults p) _ _ (λ r s h k. h ∙ sym k)))))
 
   tree_choice : (ts : List Token) → IsChoice (Derives bytes ts) (HasSyntaxFault bytes ts)
   tree_choice ts = record { one_value = one_tree bytes ts; apart = λ p line h k. (no_tree bytes ts).no_tree line p k h; one_line = (no_tree bytes ts).one_line }
@@ -146,7 +145,7 @@ module _ (one_cut : HasOneCut) (no_cut : FaultsExcludeCuts) (one_kind : FaultsEx
   accepted p h x = tree p h.source (goes tt h.within (goes tt h.typed (goes tt h.owned x)))
 
   compiled : (p : Program) → sources.Compiles bytes p → Answer bytes (Ok p)
-  compiled p h = accepted p h.accepted (goes tt h.taken (goes tt h.small refl))
+  compiled p h = accepted p h.accepted (goes tt h.loops (goes tt h.small refl))
 
   lexical : (at : Place) → sources.IsLexicallyRefused bytes at.line → Answer bytes (Err (fault.Lexical at))
   lexical at (sources.byte h) = goes tt h.short (stops at h)
@@ -157,8 +156,8 @@ module _ (one_cut : HasOneCut) (no_cut : FaultsExcludeCuts) (one_kind : FaultsEx
   size at (sources.name valid h) = text valid (goes tt (λ line f. one_kind bytes line at.line f h) (stops at h))
   size at (sources.tokens ts has h) = cut ts has (stops at h)
   size at (sources.parts p source h) = tree p source (stops at h)
-  size at (sources.later p given h) = accepted p given (stops at h)
-  size at (sources.code p given taken h) = accepted p given (goes tt taken (stops at h))
+  size at (sources.loops p given h) = accepted p given (stops at h)
+  size at (sources.code p given few h) = accepted p given (goes tt few (stops at h))
 
   refused : (f : Fault) → sources.IsRefused bytes f → (f ≡ fault.Memory) ⊎ Answer bytes (Err f)
   refused (fault.Lexical at) h = inr (lexical at h)

@@ -64,7 +64,7 @@ module _ (bytes : List ℕ) (long : most_source_bytes < length bytes) where
       size (sources.name text fault) = absurd (no_source text)
       size (sources.tokens ts has least) = absurd (no_source has.text)
       size (sources.parts program source least) = absurd (no_source source.has_tokens.text)
-      size (sources.later program accepted least) = absurd (no_source accepted.source.has_tokens.text)
+      size (sources.loops program accepted least) = absurd (no_source accepted.source.has_tokens.text)
       size (sources.code program accepted taken least) = absurd (no_source accepted.source.has_tokens.text)
   refused_whole (fault.Syntax p) h = absurd (no_source h.has_tokens.text)
   refused_whole (fault.Types p) h = absurd (no_source h.source.has_tokens.text)

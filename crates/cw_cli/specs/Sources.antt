@@ -6,9 +6,8 @@ use Rattle.cw_model.specs.Text.{IsSourceText, IsTooLong, IsNotAscii}
 use Rattle.cw_model.specs.Tokens.{IsTokenCut, HasLexicalFault, HasNameFault}
 use Rattle.cw_model.specs.Syntax.{Program}
 use Rattle.cw_model.specs.Ownership.{KeepsOwnership, ownership_faults}
-use Rattle.cw_model.specs.Sizes.{token_faults, limit_faults, program_faults}
+use Rattle.cw_model.specs.Sizes.{token_faults, limit_faults, loop_faults, program_faults}
 use Rattle.cw_parse.specs.Parsed.{IsParsed, IsUnderivable}
-use Rattle.cw_gen.specs.Later.{later_lines}
 use Rattle.cw_model.specs.Typing.{type_faults}
 use Rattle.cw_types.specs.Faults.{IsFirstTypeFault}
 use Rattle.cw_text.specs.declared.fault.Fault.{Fault}
@@ -19,7 +18,7 @@ pub record HasTokens (bytes : List ℕ) (tokens : List Token) : Type 0 where
   pub text : IsSourceText bytes
   pub cut : IsTokenCut bytes tokens
 
--- the bytes are a source of this program, by the limits on tokens and the grammar alone; so far of the first grammar
+-- the bytes are a source of this program, by the limits on tokens and the grammar alone
 pub record IsSourceOf (bytes : List ℕ) (program : Program) : Type 0 where
   pub tokens : List Token
   pub has_tokens : HasTokens bytes tokens
@@ -32,10 +31,10 @@ pub record IsAccepted (bytes : List ℕ) (program : Program) : Type 0 where
   pub typed : type_faults program ≡ []
   pub owned : KeepsOwnership program
 
--- such a program holds nothing that is not compiled so far, and is small enough
+-- such a program has few enough loops, and is small enough
 pub record Compiles (bytes : List ℕ) (program : Program) : Type 0 where
   pub accepted : IsAccepted bytes program
-  pub taken : later_lines program ≡ []
+  pub loops : loop_faults program ≡ []
   pub small : program_faults program ≡ []
 
 -- the bytes are no source text, or their first fault is a byte that starts nothing or a number that is too great
@@ -63,14 +62,14 @@ pub record IsDisowned (bytes : List ℕ) (line : ℕ) : Type 0 where
   pub typed : type_faults program ≡ []
   pub least : IsLeastLine (ownership_faults program) line
 
--- the first limit that is passed, stage by stage: bytes, a name, tokens, the program's parts, what is compiled so far, and its code
+-- the first limit that is passed, stage by stage: bytes, a name, tokens, the program's parts, its loops, and its code
 pub data PassesLimit (bytes : List ℕ) (line : ℕ) : Type 0 where
   length : IsTooLong bytes line → PassesLimit bytes line
   name : IsSourceText bytes → HasNameFault bytes line → PassesLimit bytes line
   tokens : (ts : List Token) → HasTokens bytes ts → IsLeastLine (token_faults 0 0 ts) line → PassesLimit bytes line
   parts : (program : Program) → IsSourceOf bytes program → IsLeastLine (limit_faults program) line → PassesLimit bytes line
-  later : (program : Program) → IsAccepted bytes program → IsLeastLine (later_lines program) line → PassesLimit bytes line
-  code : (program : Program) → IsAccepted bytes program → later_lines program ≡ [] → IsLeastLine (program_faults program) line → PassesLimit bytes line
+  loops : (program : Program) → IsAccepted bytes program → IsLeastLine (loop_faults program) line → PassesLimit bytes line
+  code : (program : Program) → IsAccepted bytes program → loop_faults program ≡ [] → IsLeastLine (program_faults program) line → PassesLimit bytes line
 
 -- what must hold of the bytes where this fault is answered for them: the first stage that refuses them, and its line
 abbrev pub IsRefused : List ℕ → Fault → Type 0

@@ -1,15 +1,15 @@
--- What is written of a run of code, in each mode.
+-- What is written of what is counted of a run of code, in each mode.
 use Rattle.std.specs.Prelude.{ℕ, List, [], Result}
 use Rattle.cw_text.specs.declared.fault.Fault.{Fault}
 use Rattle.cw_code.specs.Code.{Code}
 use Rattle.cw_machine.specs.declared.alone.Ended.{Ended}
-use Rattle.cw_report.specs.Texts.{handed_text, scale_of, sites_of}
+use Rattle.cw_report.specs.Texts.{scale_of, sites_of}
 use Rattle.cw_cli.specs.declared.asked.Mode.{Mode}
 use Rattle.cw_cli.specs.declared.asked.Mode.TheVariants as mode
 
--- the text of a run, or of why it has no value; a check has none
+-- the tables of a run; a check has none, and a run of values alone
 abbrev pub told_of : Mode → Code → Result Ended Fault → List ℕ
 told_of mode.Check code ended = []
-told_of mode.Run code ended = handed_text code ended
+told_of mode.Run code ended = []
 told_of mode.Scale code ended = scale_of code ended
 told_of mode.Sites code ended = sites_of code ended

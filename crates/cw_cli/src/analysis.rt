@@ -1,16 +1,19 @@
 //! From bytes to a report.
 
-ghost use Rattle.std.specs.Prelude.{◌≡◌, ◌≢◌, ◌<◌, ◌-◌, ◌^◌, ℕ, List, []};
+ghost use Rattle.std.specs.Prelude.{◌≡◌, ◌≢◌, ◌<◌, ◌-◌, ◌^◌, ℕ, List, [], true};
+ghost use Rattle.std.specs.List.{list_all};
 ghost use Rattle.cw_code.specs.Code.{code_view};
 ghost use Rattle.cw_cli.specs.declared.asked.Mode.TheVariants as mode;
 ghost use Rattle.cw_cli.specs.Compiled.{IsCompiled};
 ghost use Rattle.cw_cli.specs.Analyses.{IsAnalysed, IsRun};
 ghost use Rattle.cw_cli.specs.Told.{told_of};
+ghost use Rattle.cw_model.specs.Ints.{fits};
 ghost use Rattle.cw_report.specs.Answers.{AnswersText};
 
 use crate::asked::{Mode, Options};
 use crate::compiling::compile;
 use cw_machine::alone::{Ended, run_alone};
+use cw_machine::values::values_alone;
 use cw_model::laws::derived_sites_are_numbered;
 use cw_report::{Sink, answer, ok, scale, sites};
 use cw_text::Fault;
@@ -42,11 +45,33 @@ pub fn analyse_alone<W: Sink>(
     let code = compile(alloc, bytes)?;
     match options.mode {
         Mode::Check => ok(out),
+        Mode::Run => run_plain(alloc, code, args, options, out),
         _ => run(alloc, code, args, options, out),
     }
 }
 
-// Runs code and writes the report of the run.
+// Runs code with nothing counted, and writes the values of the run.
+fn run_plain<W: Sink>(
+    alloc: Global,
+    code: Verified,
+    args: &[i64],
+    options: Options,
+    out: &mut W,
+) -> Result<(), Fault>
+    requires { (W.seen out.old).failures < 2 ^ 64 - 1 }
+    ensures { (bytes : List ℕ) → options.mode ≡ mode.Run → IsCompiled bytes (code_view code.code)
+        → IsRun W.seen out.old out.new bytes args.now options result }
+{
+    are_words(args);
+    let code = Arc::new(alloc, code)?;
+    let share = Arc::try_clone(&code)?;
+    let values = values_alone(alloc, share, args, options.limit, options.burden);
+    answer(alloc, &code, &values, out)?;
+    values?;
+    Ok(())
+}
+
+// Runs code and writes what is counted of the run.
 fn run<W: Sink>(
     alloc: Global,
     code: Verified,
@@ -55,10 +80,12 @@ fn run<W: Sink>(
     out: &mut W,
 ) -> Result<(), Fault>
     requires { (W.seen out.old).failures < 2 ^ 64 - 1 }
-    ensures { (bytes : List ℕ) → options.mode ≢ mode.Check → IsCompiled bytes (code_view code.code)
+    ensures { (bytes : List ℕ) → options.mode ≢ mode.Check → options.mode ≢ mode.Run
+        → IsCompiled bytes (code_view code.code)
         → IsRun W.seen out.old out.new bytes args.now options result }
 {
     derived_sites_are_numbered();
+    are_words(args);
     let code = Arc::new(alloc, code)?;
     let share = Arc::try_clone(&code)?;
     let ended = run_alone(alloc, share, args, options.limit, options.burden);
@@ -67,7 +94,21 @@ fn run<W: Sink>(
     Ok(())
 }
 
-// Writes what the mode tells of a run. A check tells nothing of one.
+// Reads each argument: it is a word of 64 bits.
+fn are_words(args: &[i64])
+    ensures { list_all fits args.now ≡ true }
+{
+    for arg in args {
+        is_word(*arg);
+    }
+}
+
+// A word of 64 bits is one.
+fn is_word(word: i64)
+    ensures { fits word ≡ true }
+{}
+
+// Writes what the mode tells of what is counted of a run. A check and a run of values alone tell nothing of it.
 fn report<W: Sink>(
     alloc: Global,
     mode: Mode,
@@ -81,7 +122,7 @@ fn report<W: Sink>(
 {
     match mode {
         Mode::Check => Ok(()),
-        Mode::Run => answer(alloc, code, ended, out),
+        Mode::Run => Ok(()),
         Mode::Scale => scale(alloc, code, ended, out),
         Mode::Sites => sites(alloc, code, ended, out),
     }

@@ -5,13 +5,14 @@ ghost use Rattle.cw_code.specs.Code.{code_view};
 ghost use Rattle.cw_cli.specs.Compiled.{IsCompiled};
 ghost use Rattle.cw_cli.specs.Sources.{IsRefused};
 
-use crate::later::later_line;
 use cw_gen::generate;
 use cw_lex::lex;
+use cw_loops::laws::derived_is_source_like;
+use cw_loops::lower;
 use cw_model::laws::derived_sites_are_numbered;
 use cw_own::own;
 use cw_parse::parse;
-use cw_text::{Fault, Place, Source};
+use cw_text::{Fault, Source};
 use cw_types::check;
 use cw_verify::verified::Verified;
 use cw_verify::verify::verify;
@@ -23,23 +24,21 @@ use std::alloc::Global;
 /// The first stage that refuses the bytes decides, with its line: `Size` for too many bytes, else
 /// `Lexical` for one that is not ASCII; `Lexical` and `Size` for tokens; `Size` for too many
 /// brackets open or too many tokens in a row, else `Syntax`; `Size` for the parts of the program, and
-/// `Types`; `Ownership`; `Size` at the least line of a statement or an item that is not compiled so
-/// far; and `Size` for its code, at line 1. `Memory` where memory runs out.
+/// `Types`; `Ownership`; `Size` for too many loops, at the line of the 4,097th by place; and `Size` for
+/// its code, at line 1. `Memory` where memory runs out.
 pub fn compile(alloc: Global, bytes: &[u8]) -> Result<Verified, Fault>
     ensures { MatchResult result
         (λ made. IsCompiled bytes.now (code_view made.code)) (IsRefused bytes.now) }
 {
     derived_sites_are_numbered();
+    derived_is_source_like();
     let source = Source::read(alloc, bytes)?;
     let tokens = lex(alloc, &source)?;
     let ast = parse(alloc, &source, tokens.as_slice())?;
-    let later = later_line(&ast);
     let typed = check(alloc, ast)?;
     let owned = own(alloc, typed)?;
-    if let Some(line) = later {
-        return Err(Fault::Size(Place { line }));
-    }
-    let code = generate(alloc, &owned)?;
+    let core = lower(alloc, owned)?;
+    let code = generate(alloc, &core)?;
     let verified = verify(alloc, code)?;
     Ok(verified)
 }

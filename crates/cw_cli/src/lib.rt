@@ -6,7 +6,6 @@ mod asked;
 mod command;
 mod compiling;
 mod help;
-mod later;
 pub mod laws;
 mod number;
 mod telling;

@@ -1,5 +1,6 @@
 -- What a counted reader or writer holds, and how its calls count.
-use Rattle.std.specs.Prelude.{◌≡◌, ℕ, ◌+◌, ◌==◌, Result, MatchResult, if◌then◌else◌}
+use Rattle.std.specs.Prelude.{◌≡◌, ℕ, ◌+◌, ◌-◌, ◌^◌, ◌<◌, ◌==◌, List, Option, Result, MatchResult, if◌then◌else◌}
+use Rattle.std.specs.Io.KnownBytes.{ReadConsumes, WriteAppends}
 use Rattle.cw_report.specs.declared.counted.Counted.{Counted}
 
 -- the reader or writer behind the count
@@ -17,3 +18,19 @@ CountsWrite old new r = MatchResult r (λ n. new ≡ (if n == 0 then old + 1 els
 -- a read that fails adds one to the count
 abbrev pub CountsRead : {E : Type 0} → ℕ → ℕ → Result ℕ E → Type 0
 CountsRead old new r = MatchResult r (λ _. new ≡ old) (λ _. new ≡ old + 1)
+
+-- a write is counted so, where the count has room for one more
+abbrev pub CountsWrites : {T E : Type 0} → (old new : Counted T) → Result ℕ E → Type 0
+CountsWrites old new r = failures_of old < 2 ^ 64 - 1 → CountsWrite (failures_of old) (failures_of new) r
+
+-- and a read
+abbrev pub CountsReads : {T E : Type 0} → (old new : Counted T) → Result ℕ E → Type 0
+CountsReads old new r = failures_of old < 2 ^ 64 - 1 → CountsRead (failures_of old) (failures_of new) r
+
+-- the writer behind the count appended what it says it took of the bytes
+abbrev pub AppendsBehind : {T E : Type 0} → (contents : T → Option (List ℕ)) → (old new : Counted T) → Result ℕ E → List ℕ → Type 0
+AppendsBehind contents old new r bytes = WriteAppends (contents (inner_of old)) (contents (inner_of new)) r bytes
+
+-- the reader behind the count consumed what it gave
+abbrev pub ConsumesBehind : {T E : Type 0} → (remaining : T → Option (List ℕ)) → (old new : Counted T) → Result ℕ E → List ℕ → Type 0
+ConsumesBehind remaining old new r bytes = ReadConsumes (remaining (inner_of old)) (remaining (inner_of new)) r bytes

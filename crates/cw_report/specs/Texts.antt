@@ -1,15 +1,17 @@
 -- The texts of reports.
-use Rattle.std.specs.Prelude.{◌≡◌, ℕ, ℤ, List, [], ◌∷◌, ◌++◌, codes, decimal, map, flat_map, Result, Ok, Err, OnOk}
+use Rattle.std.specs.Prelude.{◌≡◌, ℕ, ℤ, List, [], ◌∷◌, ◌++◌, codes, decimal, map, flat_map, Result, Ok, Err, IfOk, OnOk}
 use Rattle.std.specs.Global.{Vec}
 use Rattle.cw_model.specs.Syntax.{Name}
 use Rattle.cw_model.specs.Answers.{main_name}
 use Rattle.cw_model.specs.Sites.{Root, CallSite}
 use Rattle.cw_model.specs.Report.{value_line, sum_lines, csv_line, scale_header, scale_line, sites_header, site_kind_text}
-use Rattle.cw_code.specs.Code.{Code, site_view, told_sites}
+use Rattle.cw_code.specs.Code.{Code, code_view, site_view, told_sites}
 use Rattle.cw_code.specs.declared.code.Site.{Site}
 use Rattle.cw_sites.specs.declared.table.SiteRow.{SiteRow}
 use Rattle.cw_regions.specs.declared.table.RegionRow.{RegionRow}
+use Rattle.cw_verify.specs.declared.verified.Verified.{Verified}
 use Rattle.cw_machine.specs.declared.alone.Ended.{Ended}
+use Rattle.cw_machine.specs.declared.values.Values.{Values}
 use Rattle.cw_text.specs.declared.fault.Fault.{Fault}
 use Rattle.cw_text.specs.declared.fault.Fault.TheVariants as fault
 
@@ -17,9 +19,17 @@ use Rattle.cw_text.specs.declared.fault.Fault.TheVariants as fault
 abbrev pub Grows : {E : Type 0} → (old new : Vec ℕ) → List ℕ → Result (Unit {0}) E → Type 0
 Grows old new more r = OnOk r (new.items ≡ old.items ++ more)
 
--- names that are kept apart
-abbrev pub names_of : List (Vec ℕ) → List Name
-names_of names = map (λ name. name.items) names
+-- a text was made, unless memory ran out
+abbrev pub Makes : {E : Type 0} → List ℕ → Result (Vec ℕ) E → Type 0
+Makes text r = IfOk r (λ made. made.items ≡ text)
+
+-- a number after some text, and a line feed
+abbrev pub line_after : (front : List ℕ) → (number : ℕ) → List ℕ
+line_after front number = (front ++ decimal number) ++ codes "\n"
+
+-- the line of a trap
+abbrev pub trap_line : (number line : ℕ) → List ℕ
+trap_line number line = (codes "trap " ++ decimal number) ++ line_after (codes " line ") line
 
 -- the line of a reducer
 abbrev pub sum_line : Name → ℤ → List ℕ
@@ -34,12 +44,12 @@ abbrev pub ended_text : Code → (lines sums : List ℤ) → ℤ → List ℕ
 ended_text code lines sums v = flat_map value_line lines ++ (sums_text code.reducers sums ++ (codes "return " ++ value_line v))
 
 -- the same, of a run as it is handed on
-abbrev pub run_text : Code → Ended → List ℕ
-run_text code ended = ended_text code ended.lines.items ended.sums.items ended.value
+abbrev pub run_text : Code → Values → List ℕ
+run_text code values = ended_text code values.lines.items values.sums.items values.value
 
 -- of a run, or of why it has no value: the lines that it printed before a trap
-abbrev pub handed_text : Code → Result Ended Fault → List ℕ
-handed_text code (Ok ended) = run_text code ended
+abbrev pub handed_text : Code → Result Values Fault → List ℕ
+handed_text code (Ok values) = run_text code values
 handed_text code (Err (fault.Trap trap line output)) = flat_map value_line output.items
 handed_text code (Err _) = []
 
@@ -93,3 +103,15 @@ sites_text code ended = sites_header ++ row_lines (root_at code.main_line ∷ to
 abbrev pub sites_of : Code → Result Ended Fault → List ℕ
 sites_of code (Ok ended) = sites_text code ended
 sites_of code (Err e) = []
+
+-- what is reported of a run of verified code
+abbrev pub run_report : Verified → Result Values Fault → List ℕ
+run_report verified values = handed_text (code_view verified.code) values
+
+-- its work and span, and those of its tags
+abbrev pub scale_report : Verified → Result Ended Fault → List ℕ
+scale_report verified ended = scale_of (code_view verified.code) ended
+
+-- what is counted of its call sites
+abbrev pub sites_report : Verified → Result Ended Fault → List ℕ
+sites_report verified ended = sites_of (code_view verified.code) ended

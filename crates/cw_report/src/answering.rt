@@ -1,10 +1,9 @@
 //! What a check and a run are answered with: each text is made whole and then written.
 
 ghost use Rattle.std.specs.Prelude.{◌≡◌, [], ◌<◌, ◌-◌, ◌^◌};
-ghost use Rattle.cw_code.specs.Code.{code_view};
 ghost use Rattle.cw_model.specs.Report.{check_text};
 ghost use Rattle.cw_report.specs.Sinks.{Writes};
-ghost use Rattle.cw_report.specs.Texts.{handed_text, scale_of, sites_of};
+ghost use Rattle.cw_report.specs.Texts.{run_report, scale_report, sites_report};
 ghost use Rattle.cw_report.specs.Answers.{AnswersText};
 
 use crate::sink::Sink;
@@ -12,6 +11,7 @@ use crate::tables::{scale_text, sites_text};
 use crate::text::{ended_text, printed_text};
 use crate::writing::write_text;
 use cw_machine::alone::Ended;
+use cw_machine::values::Values;
 use cw_text::Fault;
 use cw_verify::verified::Verified;
 use std::alloc::Global;
@@ -41,16 +41,16 @@ pub fn ok<W: Sink>(to: &mut W) -> Result<(), Fault>
 pub fn answer<W: Sink>(
     alloc: Global,
     code: &Verified,
-    ended: &Result<Ended, Fault>,
+    values: &Result<Values, Fault>,
     to: &mut W,
 ) -> Result<(), Fault>
     requires { (W.seen to.old).failures < 2 ^ 64 - 1 }
-    ensures idle { handed_text (code_view code.now.code) ended.now ≡ [] → to.new ≡ to.old }
-    ensures answers { AnswersText W.seen to.old to.new (handed_text (code_view code.now.code) ended.now) result }
+    ensures idle { run_report code.now values.now ≡ [] → to.new ≡ to.old }
+    ensures answers { AnswersText W.seen to.old to.new (run_report code.now values.now) result }
 {
-    match ended {
-        Ok(ended) => {
-            let text = ended_text(alloc, &code.code, ended)?;
+    match values {
+        Ok(values) => {
+            let text = ended_text(alloc, &code.code, values)?;
             write_text(to, text.as_slice())
         }
         Err(Fault::Trap { output, .. }) => {
@@ -76,8 +76,8 @@ pub fn scale<W: Sink>(
     to: &mut W,
 ) -> Result<(), Fault>
     requires { (W.seen to.old).failures < 2 ^ 64 - 1 }
-    ensures idle { scale_of (code_view code.now.code) ended.now ≡ [] → to.new ≡ to.old }
-    ensures answers { AnswersText W.seen to.old to.new (scale_of (code_view code.now.code) ended.now) result }
+    ensures idle { scale_report code.now ended.now ≡ [] → to.new ≡ to.old }
+    ensures answers { AnswersText W.seen to.old to.new (scale_report code.now ended.now) result }
 {
     match ended {
         Ok(ended) => {
@@ -103,8 +103,8 @@ pub fn sites<W: Sink>(
     to: &mut W,
 ) -> Result<(), Fault>
     requires { (W.seen to.old).failures < 2 ^ 64 - 1 }
-    ensures idle { sites_of (code_view code.now.code) ended.now ≡ [] → to.new ≡ to.old }
-    ensures answers { AnswersText W.seen to.old to.new (sites_of (code_view code.now.code) ended.now) result }
+    ensures idle { sites_report code.now ended.now ≡ [] → to.new ≡ to.old }
+    ensures answers { AnswersText W.seen to.old to.new (sites_report code.now ended.now) result }
 {
     match ended {
         Ok(ended) => {

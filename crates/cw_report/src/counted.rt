@@ -1,9 +1,9 @@
 //! Readers and writers that count the calls that failed.
 
-ghost use Rattle.std.specs.Prelude.{◌≡◌, ◌<◌, ◌-◌, ◌^◌};
+ghost use Rattle.std.specs.Prelude.{◌≡◌};
 ghost use Rattle.std.specs.Io.{ReadsAtMost, WritesAtMost};
-ghost use Rattle.std.specs.Io.KnownBytes.{Keeps, ReadConsumes, WriteAppends};
-ghost use Rattle.cw_report.specs.Counters.{CountsRead, CountsWrite, failures_of, inner_of};
+ghost use Rattle.std.specs.Io.KnownBytes.{Keeps};
+ghost use Rattle.cw_report.specs.Counters.{AppendsBehind, ConsumesBehind, CountsReads, CountsWrites, failures_of, inner_of};
 
 use crate::input::Input;
 use crate::sink::Sink;
@@ -41,9 +41,8 @@ impl<W: Write> Write for Counted<W> {
 
     fn write(&mut self, bytes: &[u8]) -> io::Result<usize>
         ensures bound { WritesAtMost result bytes.now }
-        ensures bytes { WriteAppends (W.contents (inner_of self.old)) (W.contents (inner_of self.new)) result bytes.now }
-        ensures count { failures_of self.old < 2 ^ 64 - 1
-            → CountsWrite (failures_of self.old) (failures_of self.new) result }
+        ensures bytes { AppendsBehind W.contents self.old self.new result bytes.now }
+        ensures count { CountsWrites self.old self.new result }
     {
         let result = self.inner.write(bytes);
         match result {
@@ -80,9 +79,8 @@ impl<R: Read> Read for Counted<R> {
 
     fn read(&mut self, bytes: &mut [u8]) -> io::Result<usize>
         ensures bound { ReadsAtMost result bytes.new }
-        ensures bytes { ReadConsumes (R.remaining (inner_of self.old)) (R.remaining (inner_of self.new)) result bytes.new }
-        ensures count { failures_of self.old < 2 ^ 64 - 1
-            → CountsRead (failures_of self.old) (failures_of self.new) result }
+        ensures bytes { ConsumesBehind R.remaining self.old self.new result bytes.new }
+        ensures count { CountsReads self.old self.new result }
     {
         let result = self.inner.read(bytes);
         if result.is_err() {

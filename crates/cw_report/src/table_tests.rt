@@ -6,8 +6,9 @@ use crate::fields::push_parallelism;
 use crate::sink::Sink;
 use cw_code::code::{Code, Func, Instr, Site};
 use cw_machine::alone::Ended;
+use cw_machine::values::Values;
 use cw_meter::Readings;
-use cw_model::syntax::CallKind;
+use cw_model::syntax::{CallKind, Name};
 use cw_model::trap::Trap;
 use cw_regions::RegionRow;
 use cw_sites::table::SiteRow;
@@ -32,7 +33,7 @@ fn site(
         number,
         kind,
         line,
-        callee: Vec::from_slice(alloc, callee)?,
+        callee: Name::new(alloc, callee)?,
         function: 0,
     })
 }
@@ -63,7 +64,7 @@ fn code_with(alloc: Global, tags: &[&[u8]]) -> Result<Verified, Fail> {
     code.sites
         .push(site(alloc, 2, CallKind::Plain, 4294967295, b"leaf")?)?;
     for tag in tags {
-        code.tags.push(Vec::from_slice(alloc, tag)?)?;
+        code.tags.push(Name::new(alloc, tag)?)?;
     }
     Ok(verify(alloc, code)?)
 }
@@ -105,6 +106,23 @@ fn ended_with(
     }))
 }
 
+// The values of a run, or why it has none.
+fn values_of(alloc: Global, ended: &Result<Ended, Fault>) -> Result<Result<Values, Fault>, Fail> {
+    Ok(match ended {
+        Ok(ended) => Ok(Values {
+            value: ended.value,
+            lines: Vec::from_slice(alloc, ended.lines.as_slice())?,
+            sums: Vec::from_slice(alloc, ended.sums.as_slice())?,
+        }),
+        Err(Fault::Trap { code, line, output }) => Err(Fault::Trap {
+            code: *code,
+            line: *line,
+            output: Vec::from_slice(alloc, output.as_slice())?,
+        }),
+        Err(_) => Err(Fault::OverLimit),
+    })
+}
+
 #[derive(Clone, Copy)]
 enum Asked {
     Run,
@@ -128,10 +146,11 @@ fn report_to_room(
     ended: &Result<Ended, Fault>,
     room: usize,
 ) -> Result<Taken, Fail> {
+    let values = values_of(alloc, ended)?;
     let mut bytes = vec![in alloc; 0; room]?;
     let mut sink = Counted::new(Cursor::new(bytes.as_mut_slice()));
     let told = match asked {
-        Asked::Run => answer(alloc, code, ended, &mut sink),
+        Asked::Run => answer(alloc, code, &values, &mut sink),
         Asked::Scale => scale(alloc, code, ended, &mut sink),
         Asked::Sites => sites(alloc, code, ended, &mut sink),
     };

@@ -1,16 +1,16 @@
 //! The tables of tags and of call sites, made whole before any byte is written.
 
-ghost use Rattle.std.specs.Prelude.{◌≡◌, ◌++◌, IfErr, IfOk, codes};
+ghost use Rattle.std.specs.Prelude.{◌≡◌, ◌++◌, IfErr, codes};
 ghost use Rattle.cw_model.specs.Report.{csv_line, scale_line, site_kind_text};
 ghost use Rattle.cw_model.specs.Sites.{Of};
 ghost use Rattle.cw_code.specs.Code.{code_view, site_view};
-ghost use Rattle.cw_report.specs.Texts.{Grows};
+ghost use Rattle.cw_report.specs.Texts.{Grows, Makes};
 ghost use Rattle.cw_report.specs.Texts as texts;
 
 use crate::fields::{push_number, push_parallelism, push_word};
 use cw_code::code::{Code, Site};
 use cw_machine::alone::Ended;
-use cw_model::syntax::CallKind;
+use cw_model::syntax::{CallKind, Name};
 use cw_regions::RegionRow;
 use cw_sites::table::SiteRow;
 use cw_text::Fault;
@@ -24,7 +24,7 @@ const SITES_HEADER: &[u8] = b"site,kind,line,callee,calls,own_work,own_span,work
 /// Work, span and parallelism of a run that ended, and of each tag of its code, each on a line; the error is `Memory`
 /// where there is none for the text.
 pub fn scale_text(alloc: Global, code: &Code, ended: &Ended) -> Result<Vec<u8>, Fault>
-    ensures ok { IfOk result (λ text. text.items ≡ texts.scale_text (code_view code.now) ended.now) }
+    ensures ok { Makes (texts.scale_text (code_view code.now) ended.now) result }
     ensures why { IfErr result (λ e. e ≡ Fault.Memory) }
 {
     let whole = ended.measure;
@@ -37,7 +37,7 @@ pub fn scale_text(alloc: Global, code: &Code, ended: &Ended) -> Result<Vec<u8>, 
 /// What is counted over a run that ended of the call of `main` by the run itself and of each call site of its code, each
 /// on a line; the error is `Memory` where there is none for the text.
 pub fn sites_text(alloc: Global, code: &Code, ended: &Ended) -> Result<Vec<u8>, Fault>
-    ensures ok { IfOk result (λ text. text.items ≡ texts.sites_text (code_view code.now) ended.now) }
+    ensures ok { Makes (texts.sites_text (code_view code.now) ended.now) result }
     ensures why { IfErr result (λ e. e ≡ Fault.Memory) }
 {
     let mut text = Vec::from_slice(alloc, SITES_HEADER)?;
@@ -49,11 +49,11 @@ pub fn sites_text(alloc: Global, code: &Code, ended: &Ended) -> Result<Vec<u8>, 
 }
 
 // Adds a line for each tag, with its row.
-fn push_tags(text: &mut Vec<u8>, tags: &[Vec<u8>], rows: &[RegionRow]) -> Result<(), AllocError>
-    ensures { Grows text.old text.new (texts.tag_lines (texts.names_of tags.now) rows.now) result }
+fn push_tags(text: &mut Vec<u8>, tags: &[Name], rows: &[RegionRow]) -> Result<(), AllocError>
+    ensures { Grows text.old text.new (texts.tag_lines tags.now rows.now) result }
 {
     for (tag, row) in tags.iter().zip(rows) {
-        push_scale(text, tag.as_slice(), row.work, row.span, row.burdened)?;
+        push_scale(text, tag.as_bytes(), row.work, row.span, row.burdened)?;
     }
     Ok(())
 }
@@ -93,7 +93,7 @@ fn push_site(text: &mut Vec<u8>, site: &Site, row: &SiteRow) -> Result<(), Alloc
     ensures { Grows text.old text.new (texts.row_line (site_view site.now).told row.now) result }
 {
     let kind = kind_text(site.kind);
-    push_told(text, site.number, kind, site.line, site.callee.as_slice())?;
+    push_told(text, site.number, kind, site.line, site.callee.as_bytes())?;
     push_counts(text, row)?;
     Ok(())
 }

@@ -5,8 +5,8 @@ use crate::sink::Sink;
 use crate::text::{ended_text, printed_text};
 use crate::writing::{write_fault, write_text};
 use cw_code::code::Code;
-use cw_machine::alone::Ended;
-use cw_meter::Readings;
+use cw_machine::values::Values;
+use cw_model::syntax::Name;
 use cw_model::trap::Trap;
 use cw_text::{Fault, Place};
 use std::alloc::Global;
@@ -74,7 +74,7 @@ fn a_flush_that_fails_is_told_and_not_counted(rt: HostRuntime) -> Result<(), Fai
 fn code_with(alloc: Global, names: &[&[u8]]) -> Result<Code, Fail> {
     let mut reducers = Vec::new(alloc);
     for name in names {
-        reducers.push(Vec::from_slice(alloc, name)?)?;
+        reducers.push(Name::new(alloc, name)?)?;
     }
     Ok(Code {
         instrs: Vec::new(alloc),
@@ -89,18 +89,11 @@ fn code_with(alloc: Global, names: &[&[u8]]) -> Result<Code, Fail> {
 }
 
 // A run that left this value, and printed and added up these.
-fn ended_with(alloc: Global, value: i64, lines: &[i64], sums: &[i128]) -> Result<Ended, Fail> {
-    Ok(Ended {
+fn values_with(alloc: Global, value: i64, lines: &[i64], sums: &[i128]) -> Result<Values, Fail> {
+    Ok(Values {
         value,
         lines: Vec::from_slice(alloc, lines)?,
         sums: Vec::from_slice(alloc, sums)?,
-        measure: Readings {
-            work: 1,
-            span: 1,
-            burdened: 1,
-        },
-        sites: Vec::new(alloc),
-        regions: Vec::new(alloc),
     })
 }
 
@@ -108,8 +101,8 @@ fn ended_with(alloc: Global, value: i64, lines: &[i64], sums: &[i128]) -> Result
 fn prints_numbers(rt: HostRuntime) -> Result<(), Fail> {
     let alloc = rt.alloc();
     let code = code_with(alloc, &[])?;
-    let ended = ended_with(alloc, -9223372036854775808, &[], &[])?;
-    let least = ended_text(alloc, &code, &ended)?;
+    let values = values_with(alloc, -9223372036854775808, &[], &[])?;
+    let least = ended_text(alloc, &code, &values)?;
     assert_eq!(rt;
         least.as_slice(),
         b"return -9223372036854775808\n".as_slice()
@@ -126,13 +119,13 @@ fn prints_numbers(rt: HostRuntime) -> Result<(), Fail> {
 fn prints_sums_of_more_than_64_bits(rt: HostRuntime) -> Result<(), Fail> {
     let alloc = rt.alloc();
     let code = code_with(alloc, &[b"total", b"least"])?;
-    let ended = ended_with(
+    let values = values_with(
         alloc,
         3,
         &[7],
         &[9223372036854775808, -42535295865117307932921825928971026432],
     )?;
-    let text = ended_text(alloc, &code, &ended)?;
+    let text = ended_text(alloc, &code, &values)?;
     assert_eq!(rt;
         text.as_slice(),
         b"7\nsum total = 9223372036854775808\nsum least = -42535295865117307932921825928971026432\nreturn 3\n".as_slice()

@@ -3,6 +3,7 @@
 ghost use Rattle.std.specs.Prelude.{◌≡◌, [], ◌<◌, ◌-◌, ◌^◌, ◌++◌, codes, decimal};
 ghost use Rattle.cw_text.specs.Faults.{fault_text};
 ghost use Rattle.cw_report.specs.Sinks.{Writes};
+ghost use Rattle.cw_report.specs.Texts.{line_after, trap_line};
 
 use crate::sink::Sink;
 use cw_text::Fault;
@@ -36,8 +37,7 @@ pub fn write_text<W: Sink>(to: &mut W, text: &[u8]) -> Result<(), Fault>
 /// It asks that fewer than 2^64 - 1 writes to the sink failed before.
 pub fn write_fault<W: Sink>(to: &mut W, fault: &Fault) -> Result<(), Fault>
     requires { (W.seen to.old).failures < 2 ^ 64 - 1 }
-    ensures { Writes (W.seen to.old) (W.seen to.new)
-        (fault_text fault.now ++ codes "\n") result }
+    ensures { Writes (W.seen to.old) (W.seen to.new) (fault_text fault.now ++ codes "\n") result }
 {
     match fault {
         Fault::Lexical(place) => write_line(to, b"refused 1 line ", place.line),
@@ -57,8 +57,7 @@ pub fn write_fault<W: Sink>(to: &mut W, fault: &Fault) -> Result<(), Fault>
 // The line of a trap.
 fn write_trap<W: Sink>(to: &mut W, number: u32, line: u32) -> Result<(), Fault>
     requires { (W.seen to.old).failures < 2 ^ 64 - 1 }
-    ensures { Writes (W.seen to.old) (W.seen to.new)
-        ((codes "trap " ++ decimal number) ++ (codes " line " ++ decimal line ++ codes "\n")) result }
+    ensures { Writes (W.seen to.old) (W.seen to.new) (trap_line number line) result }
 {
     write_number(to, b"trap ", number)?;
     write_line(to, b" line ", line)
@@ -67,8 +66,7 @@ fn write_trap<W: Sink>(to: &mut W, number: u32, line: u32) -> Result<(), Fault>
 // A number after some text, and a line feed.
 fn write_line<W: Sink>(to: &mut W, front: &[u8], number: u32) -> Result<(), Fault>
     requires { (W.seen to.old).failures < 2 ^ 64 - 1 }
-    ensures { Writes (W.seen to.old) (W.seen to.new)
-        (front.now ++ decimal number ++ codes "\n") result }
+    ensures { Writes (W.seen to.old) (W.seen to.new) (line_after front.now number) result }
 {
     write_number(to, front, number)?;
     write_text(to, b"\n")
@@ -77,8 +75,7 @@ fn write_line<W: Sink>(to: &mut W, front: &[u8], number: u32) -> Result<(), Faul
 // A number after some text.
 fn write_number<W: Sink>(to: &mut W, front: &[u8], number: u32) -> Result<(), Fault>
     requires { (W.seen to.old).failures < 2 ^ 64 - 1 }
-    ensures { Writes (W.seen to.old) (W.seen to.new)
-        (front.now ++ decimal number) result }
+    ensures { Writes (W.seen to.old) (W.seen to.new) (front.now ++ decimal number) result }
 {
     write_text(to, front)?;
     let mut buffer = Buffer::new();

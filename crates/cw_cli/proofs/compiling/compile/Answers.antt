@@ -3,7 +3,7 @@ use Rattle.cw_parse.specs.View as parsed
 use Rattle.cw_code.specs.Code.{code_view}
 use Rattle.cw_cli.specs.Sources.{IsSourceOf}
 use Rattle.cw_cli.specs.Compiled.{IsCompiled}
-use Rattle.cw_cli.proofs.Refusals.{handed_on, tree_refused, source_of, types_refused, tree_disowned, tree_later, tree_too_large, numbered, none_later, not_unfit, compiled}
+use Rattle.cw_cli.proofs.Refusals.{handed_on, tree_refused, source_of, types_refused, tree_disowned, tree_has_many_loops, tree_too_large, numbered, source_like, not_unfit, compiled}
 use Rattle.cw_cli.proofs.compiling.compile.Goals as goal
 
 pub returns-in_err-ast : goal.returns-in_err-ast
@@ -22,41 +22,40 @@ returns-in_err-owned c =
     source_of c.args.bytes.now c.in_ok-source.source c.in_ok-tokens.tokens.items c.as_slice.result.now c.in_ok-source.ensures c.as_slice.ensures.value (search rules) c.in_ok-tokens.ensures _ c.in_ok-ast.ensures in
     handed_on _ _ _ c.from_residual-in_err-owned.result (tree_disowned c.args.bytes.now _ source c.in_ok-typed.typed.tree c.in_ok-typed.ensures _ c.in_err-owned.ensures) (search rules)
 
-pub returns-in-Some : goal.returns-in-Some
-returns-in-Some c =
+pub returns-in_err-core : goal.returns-in_err-core
+returns-in_err-core c =
     let source : IsSourceOf c.args.bytes.now (parsed.program_of c.in_ok-ast.ast) =
     source_of c.args.bytes.now c.in_ok-source.source c.in_ok-tokens.tokens.items c.as_slice.result.now c.in_ok-source.ensures c.as_slice.ensures.value (search rules) c.in_ok-tokens.ensures _ c.in_ok-ast.ensures in
-    tree_later c.args.bytes.now _ source c.in_ok-typed.typed.tree c.in_ok-typed.ensures c.in_ok-owned.owned.typed.tree c.in_ok-owned.ensures c.in_ok-owned.owned.owned c.in-Some.line (sym c.later_line-later.ensures ∙ c.in-Some.is)
+    handed_on _ _ _ c.from_residual-in_err-core.result (tree_has_many_loops c.args.bytes.now _ source c.in_ok-typed.typed.tree c.in_ok-typed.ensures c.in_ok-owned.owned.typed.tree c.in_ok-owned.ensures c.in_ok-owned.owned.owned _ c.in_err-core.ensures) (search rules)
 
 pub returns-in_err-code : goal.returns-in_err-code
 returns-in_err-code c =
     let source : IsSourceOf c.args.bytes.now (parsed.program_of c.in_ok-ast.ast) =
     source_of c.args.bytes.now c.in_ok-source.source c.in_ok-tokens.tokens.items c.as_slice.result.now c.in_ok-source.ensures c.as_slice.ensures.value (search rules) c.in_ok-tokens.ensures _ c.in_ok-ast.ensures in
-    handed_on _ _ _ c.from_residual-in_err-code.result
-    (tree_too_large c.args.bytes.now _ source c.in_ok-typed.typed.tree c.in_ok-typed.ensures c.in_ok-owned.owned.typed.tree c.in_ok-owned.ensures c.in_ok-owned.owned.owned (search rules) _ c.in_err-code.ensures) (search rules)
+    handed_on _ _ _ c.from_residual-in_err-code.result (tree_too_large c.args.bytes.now _ source c.in_ok-typed.typed.tree c.in_ok-typed.ensures c.in_ok-core.core.source.typed.tree (c.in_ok-core.ensures.same_source ∙ c.in_ok-owned.ensures) c.in_ok-core.core.source.owned c.in_ok-core.core.few _ c.in_err-code.ensures) (search rules)
 
-pub generate-requires-clause-taken : goal.generate-requires-clause-taken
-generate-requires-clause-taken c =
+pub generate-requires-clause-source_like : goal.generate-requires-clause-source_like
+generate-requires-clause-source_like c =
     let source : IsSourceOf c.args.bytes.now (parsed.program_of c.in_ok-ast.ast) =
     source_of c.args.bytes.now c.in_ok-source.source c.in_ok-tokens.tokens.items c.as_slice.result.now c.in_ok-source.ensures c.as_slice.ensures.value (search rules) c.in_ok-tokens.ensures _ c.in_ok-ast.ensures in
-    none_later c.args.bytes.now _ source c.in_ok-typed.typed.tree c.in_ok-typed.ensures c.in_ok-owned.owned.typed.tree c.in_ok-owned.ensures c.in_ok-owned.owned.owned (search rules)
+    source_like c.args.bytes.now _ source c.in_ok-typed.typed.tree c.in_ok-typed.ensures c.in_ok-core.core.source.typed.tree (c.in_ok-core.ensures.same_source ∙ c.in_ok-owned.ensures) c.in_ok-core.core.source.owned c.derived_is_source_like.ensures
 
 pub generate-requires-clause-numbered : goal.generate-requires-clause-numbered
 generate-requires-clause-numbered c =
     let source : IsSourceOf c.args.bytes.now (parsed.program_of c.in_ok-ast.ast) =
     source_of c.args.bytes.now c.in_ok-source.source c.in_ok-tokens.tokens.items c.as_slice.result.now c.in_ok-source.ensures c.as_slice.ensures.value (search rules) c.in_ok-tokens.ensures _ c.in_ok-ast.ensures in
-    numbered c.args.bytes.now _ source c.in_ok-typed.typed.tree c.in_ok-typed.ensures c.in_ok-owned.owned.typed.tree c.in_ok-owned.ensures c.in_ok-owned.owned.owned c.derived_sites_are_numbered.ensures
+    numbered c.args.bytes.now _ source c.in_ok-typed.typed.tree c.in_ok-typed.ensures c.in_ok-core.core.source.typed.tree (c.in_ok-core.ensures.same_source ∙ c.in_ok-owned.ensures) c.in_ok-core.core.source.owned c.derived_sites_are_numbered.ensures
 
 pub returns-in_err-verified : goal.returns-in_err-verified
 returns-in_err-verified c =
     let source : IsSourceOf c.args.bytes.now (parsed.program_of c.in_ok-ast.ast) =
     source_of c.args.bytes.now c.in_ok-source.source c.in_ok-tokens.tokens.items c.as_slice.result.now c.in_ok-source.ensures c.as_slice.ensures.value (search rules) c.in_ok-tokens.ensures _ c.in_ok-ast.ensures in
     handed_on _ _ _ c.from_residual-in_err-verified.result
-    (not_unfit c.args.bytes.now _ source c.in_ok-typed.typed.tree c.in_ok-typed.ensures c.in_ok-owned.owned.typed.tree c.in_ok-owned.ensures c.in_ok-owned.owned.owned (search rules) c.in_ok-code.code c.in_ok-code.ensures _ c.in_err-verified.ensures) (search rules)
+    (not_unfit c.args.bytes.now _ source c.in_ok-typed.typed.tree c.in_ok-typed.ensures c.in_ok-core.core.source.typed.tree (c.in_ok-core.ensures.same_source ∙ c.in_ok-owned.ensures) c.in_ok-core.core.source.owned c.in_ok-core.core.few c.in_ok-code.code c.in_ok-code.ensures _ c.in_err-verified.ensures) (search rules)
 
 pub returns : goal.returns
 returns c =
     let source : IsSourceOf c.args.bytes.now (parsed.program_of c.in_ok-ast.ast) =
     source_of c.args.bytes.now c.in_ok-source.source c.in_ok-tokens.tokens.items c.as_slice.result.now c.in_ok-source.ensures c.as_slice.ensures.value (search rules) c.in_ok-tokens.ensures _ c.in_ok-ast.ensures in
     subst (λ made. IsCompiled c.args.bytes.now (code_view made)) (sym c.in_ok-verified.ensures.0)
-    (compiled c.args.bytes.now _ source c.in_ok-typed.typed.tree c.in_ok-typed.ensures c.in_ok-owned.owned.typed.tree c.in_ok-owned.ensures c.in_ok-owned.owned.owned (search rules) _ c.in_ok-code.ensures)
+    (compiled c.args.bytes.now _ source c.in_ok-typed.typed.tree c.in_ok-typed.ensures c.in_ok-core.core.source.typed.tree (c.in_ok-core.ensures.same_source ∙ c.in_ok-owned.ensures) c.in_ok-core.core.source.owned c.in_ok-core.core.few _ c.in_ok-code.ensures)

@@ -1,13 +1,13 @@
-use Rattle.std.proofs.Common.{◌≡◌, ◌⊎◌, inl, inr, ◌++◌, ℕ, List, [], ◌∷◌, length, map, refl, sym, ap, ◌∙◌}
-use Rattle.std.specs.Global.{Vec}
+use Rattle.std.proofs.Common.{◌≡◌, ◌⊎◌, inl, inr, ◌++◌, List, [], ◌∷◌, length, refl, sym, ap, ◌∙◌}
 use Rattle.std.proofs.lemmas.List.{append-nil}
+use Rattle.cw_model.specs.Syntax.{Name}
 use Rattle.cw_regions.specs.declared.table.RegionRow.{RegionRow}
 use Rattle.cw_report.specs.Texts.{tag_lines}
 use Rattle.cw_report.proofs.Ends.{which_ends}
 use Rattle.cw_report.proofs.tables.push_tags.Goals as goal
 
 -- where either list is at its end no line is left
-no_more : (tags : List (Vec ℕ)) (rows : List RegionRow) → (length tags ≡ 0) ⊎ (length rows ≡ 0) → tag_lines (map (λ tag. tag.items) tags) rows ≡ []
+no_more : (tags : List Name) (rows : List RegionRow) → (length tags ≡ 0) ⊎ (length rows ≡ 0) → tag_lines tags rows ≡ []
 no_more [] rows h = refl
 no_more (tag ∷ tags) [] h = refl
 no_more (tag ∷ tags) (row ∷ rows) (inl h) = cc

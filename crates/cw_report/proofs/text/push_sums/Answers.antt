@@ -1,12 +1,12 @@
-use Rattle.std.proofs.Common.{◌≡◌, ◌⊎◌, inl, inr, ◌++◌, ℕ, ℤ, List, [], ◌∷◌, length, map, refl, sym, ap, ◌∙◌}
-use Rattle.std.specs.Global.{Vec}
+use Rattle.std.proofs.Common.{◌≡◌, ◌⊎◌, inl, inr, ◌++◌, ℤ, List, [], ◌∷◌, length, refl, sym, ap, ◌∙◌}
 use Rattle.std.proofs.lemmas.List.{append-nil}
+use Rattle.cw_model.specs.Syntax.{Name}
 use Rattle.cw_report.specs.Texts.{sums_text}
 use Rattle.cw_report.proofs.Ends.{which_ends}
 use Rattle.cw_report.proofs.text.push_sums.Goals as goal
 
 -- where either list is at its end no line is left
-no_more : (names : List (Vec ℕ)) (sums : List ℤ) → (length names ≡ 0) ⊎ (length sums ≡ 0) → sums_text (map (λ name. name.items) names) sums ≡ []
+no_more : (names : List Name) (sums : List ℤ) → (length names ≡ 0) ⊎ (length sums ≡ 0) → sums_text names sums ≡ []
 no_more [] sums h = refl
 no_more (name ∷ names) [] h = refl
 no_more (name ∷ names) (v ∷ sums) (inl h) = cc

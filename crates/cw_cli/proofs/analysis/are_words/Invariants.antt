@@ -1,0 +1,9 @@
+use Rattle.std.proofs.Common.{◌≡◌, ℕ, List, true}
+use Rattle.std.specs.Prelude.{take}
+use Rattle.std.specs.List.{list_all}
+use Rattle.cw_model.specs.Ints.{fits}
+use Rattle.cw_cli.proofs.analysis.are_words.Given as goal
+
+-- those that were read are words
+abbrev pub invariant-loop-arg : goal.invariant-loop-arg
+invariant-loop-arg l = list_all fits (take l.arg-index l.args) ≡ true
