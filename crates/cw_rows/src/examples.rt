@@ -21,6 +21,7 @@ mod spawned;
 
 use crate::program::answer;
 use std::alloc::Global;
+use std::process::Abort;
 use std::test::Fail;
 
 // A program, the words that name its file and its arguments, and its reports.
@@ -32,27 +33,23 @@ pub struct Example {
     pub sites: &'static str,
 }
 
-const EXAMPLES: [Example; 10] = [
+const EXAMPLES: [Example; 16] = [
     collatz::EXAMPLE,
     fib::EXAMPLE,
     fib_cutoff::EXAMPLE,
+    histogram::EXAMPLE,
     later::EXAMPLE,
+    matrix::EXAMPLE,
     mergesort::EXAMPLE,
+    mergesort_parallel::EXAMPLE,
     prefix::EXAMPLE,
     primes::EXAMPLE,
     primes_each::EXAMPLE,
+    primes_loop::EXAMPLE,
     queens::EXAMPLE,
+    roots::EXAMPLE,
+    roots_mended::EXAMPLE,
     spawned::EXAMPLE,
-];
-
-// Programs with a parallel loop, which is not taken yet, each with what is said of it.
-const REFUSED: [(Example, &str); 6] = [
-    (histogram::EXAMPLE, "refused 5 line 12\n"),
-    (matrix::EXAMPLE, "refused 5 line 11\n"),
-    (mergesort_parallel::EXAMPLE, "refused 5 line 84\n"),
-    (primes_loop::EXAMPLE, "refused 5 line 22\n"),
-    (roots::EXAMPLE, "refused 5 line 45\n"),
-    (roots_mended::EXAMPLE, "refused 5 line 24\n"),
 ];
 
 // The exit status, standard output and standard error of the program in this mode.
@@ -63,25 +60,39 @@ fn answer_in(alloc: Global, mode: &str, example: &Example) -> Result<(u8, Vec<u8
     answer(alloc, words.as_str(), example.source.as_bytes())
 }
 
-#[test]
-fn the_examples_report_as_beside_them(rt: HostRuntime) -> Result<(), Fail> {
+// Each example answers so in this mode.
+fn all_answer(
+    rt: &impl Abort,
+    alloc: Global,
+    mode: &str,
+    wanted: fn(&Example) -> &'static str,
+) -> Result<(), Fail> {
     for example in &EXAMPLES {
-        for (mode, wanted) in [
-            ("run", example.run),
-            ("scale", example.scale),
-            ("sites", example.sites),
-        ] {
-            let (status, out, err) = answer_in(rt.alloc(), mode, example)?;
-            assert_eq!(rt; (status, err.len()), (0, 0), "{mode} {}", example.words);
-            assert_eq!(rt;
-                out.as_slice(),
-                wanted.as_bytes(),
-                "{mode} {}",
-                example.words
-            );
-        }
+        let (status, out, err) = answer_in(alloc, mode, example)?;
+        assert_eq!(rt; (status, err.len()), (0, 0), "{mode} {}", example.words);
+        assert_eq!(rt;
+            out.as_slice(),
+            wanted(example).as_bytes(),
+            "{mode} {}",
+            example.words
+        );
     }
     Ok(())
+}
+
+#[test]
+fn the_examples_print_what_stands_beside_them(rt: HostRuntime) -> Result<(), Fail> {
+    all_answer(&rt, rt.alloc(), "run", |example| example.run)
+}
+
+#[test]
+fn the_examples_have_the_regions_beside_them(rt: HostRuntime) -> Result<(), Fail> {
+    all_answer(&rt, rt.alloc(), "scale", |example| example.scale)
+}
+
+#[test]
+fn the_examples_have_the_sites_beside_them(rt: HostRuntime) -> Result<(), Fail> {
+    all_answer(&rt, rt.alloc(), "sites", |example| example.sites)
 }
 
 #[test]
@@ -91,23 +102,6 @@ fn the_examples_are_accepted(rt: HostRuntime) -> Result<(), Fail> {
         let (status, out, err) = answer(rt.alloc(), "check example.cilk", source)?;
         assert_eq!(rt; (status, err.len()), (0, 0), "{}", example.words);
         assert_eq!(rt; out.as_slice(), "ok\n".as_bytes(), "{}", example.words);
-    }
-    Ok(())
-}
-
-#[test]
-fn parallel_loops_are_refused_yet(rt: HostRuntime) -> Result<(), Fail> {
-    for (example, wanted) in &REFUSED {
-        for mode in ["run", "scale", "sites"] {
-            let (status, out, err) = answer_in(rt.alloc(), mode, example)?;
-            assert_eq!(rt; (status, out.len()), (2, 0), "{mode} {}", example.words);
-            assert_eq!(rt;
-                err.as_slice(),
-                wanted.as_bytes(),
-                "{mode} {}",
-                example.words
-            );
-        }
     }
     Ok(())
 }

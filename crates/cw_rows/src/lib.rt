@@ -4,9 +4,13 @@
 #[cfg(test)]
 mod arrays;
 #[cfg(test)]
+mod codes;
+#[cfg(test)]
 mod examples;
 #[cfg(test)]
 mod integers;
+#[cfg(test)]
+mod loops;
 #[cfg(test)]
 mod owning;
 #[cfg(test)]

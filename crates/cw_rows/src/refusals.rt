@@ -114,11 +114,6 @@ const NO_PROGRAMS: &[(&str, &str)] = &[
         "int main() {\nregion t01234567890123456789012345678901 { }\nreturn 0; }",
         "refused 5 line 2\n",
     ),
-    // what is not taken so far: parallel loops, after ownership
-    (
-        "int main() {\ncilk_for (int i = 0; i < 2; i++) { }\nreturn 0; }",
-        "refused 5 line 2\n",
-    ),
     (
         "void g(int a[]) { }\nint main() {\nint a[1];\ncilk_spawn g(a);\nprint(a[0]);\ncilk_sync;\nreturn 0; }",
         "refused 4 line 5\n",
