@@ -19,6 +19,7 @@ class Parser:
     def __init__(self, text):
         text = re.sub(r"//[^\n]*", " ", text)
         self.tokens, self.at = TOKEN.findall(text), 0
+        self.sites = 0
 
     def peek(self, ahead=0):
         return self.tokens[self.at + ahead] if self.at + ahead < len(self.tokens) else ""
@@ -84,9 +85,11 @@ class Parser:
         if spawned:
             self.next()
         name = self.next()
+        self.sites += 1
+        site = self.sites
         arguments = self.list(self.expr)
         self.next()
-        return "call", spawned, target, name, arguments
+        return "call", spawned, target, name, arguments, site
 
     def statement(self):
         word = self.peek()
@@ -332,7 +335,7 @@ class Compiler:
         del self.arrays[arrays:]
         self.emit("ENDCUT", 0, l, r)
 
-    def do_call(self, spawned, target, name, arguments):
+    def do_call(self, spawned, target, name, arguments, site):
         passed = []
         for e, array in zip(arguments, self.takes[name]):
             if array:
@@ -340,7 +343,7 @@ class Compiler:
             else:
                 self.expr(e)
         result = self.slot(target) if target else -1
-        self.emit("SPAWN" if spawned else "CALL", self.indices[name], result, 0, passed)
+        self.emit("SPAWN" if spawned else "CALL", self.indices[name], result, site, passed)
 
     def do_for(self, name, low, high, grain, over, body):
         self.expr(low)

@@ -5,6 +5,8 @@
     python3 bench/hostile.py PROGRAM sources   the worst source of about 1 MiB of each kind: time and memory of a check
     python3 bench/hostile.py PROGRAM cuts      100,000 cuts and passes of an array of 16,777,216 elements
     python3 bench/hostile.py PROGRAM memory    the same programs with less and less memory: an answer, or `memory`
+    python3 bench/hostile.py PROGRAM refusals  the same programs and more with each single allocation refused in turn: the answer,
+                                               or `memory` with nothing written; wants gcc, which compiles bench/refuse.c
 
 The last line is `all as expected`, or the count of rows that were not. Expected answers are worked out by the rules of
 docs/LANGUAGE.md.
@@ -204,8 +206,71 @@ def memory(program):
     return wrong
 
 
+# programs that trap, are refused or use all that allocates: words, source, and the whole answer where memory is there
+REFUSALS = [
+    *[(["run"], source, (0, text, "")) for source, text in PROGRAMS],
+    (
+        ["run", "0"],
+        "int main(int z) { int i = 0; while (i < 40) { print(i); i = i + 1; } return 1 / z; }",
+        (3, "".join(f"{i}\n" for i in range(40)), "trap 2 line 1\n"),
+    ),
+    (["check"], "int main() { int a[2]; cut a at 1 as l, r { print(len(a)); } return 0; }", (2, "", "refused 4 line 1\n")),
+    (["check"], "int main() { return x; }", (2, "", "refused 3 line 1\n")),
+    (["check"], "int main() { return 0; } }", (2, "", "refused 2 line 1\n")),
+    (
+        ["scale", "--burden", "0"],
+        "reducer sum s; int main() { region t { cilk_for (int i = 0; i < 4; i++) grain 2 { s += i; } } return 0; }",
+        (
+            0,
+            "tag,work,span,parallelism,burdened_span,burdened_parallelism\n"
+            ",108,68,1.588,68,1.588\nt,104,64,1.625,64,1.625\n",
+            "",
+        ),
+    ),
+    (
+        ["sites", "3"],
+        "int f(int n) { if (n < 2) { return n; } int x = 0; int y = 0; x = cilk_spawn f(n - 1); y = f(n - 2); cilk_sync;"
+        " return x + y; } int main(int n) { int r = 0; r = f(n); return r; }",
+        None,
+    ),
+]
+
+
+def refusals(program):
+    here = pathlib.Path(__file__).parent
+    wrong = 0
+    with tempfile.TemporaryDirectory() as folder:
+        library, count = f"{folder}/refuse.so", f"{folder}/count"
+        subprocess.run(["gcc", "-O2", "-shared", "-fPIC", "-o", library, str(here / "refuse.c")], check=True)
+        for number, (words, source, wanted) in enumerate(REFUSALS):
+            path = f"{folder}/{number}.cilk"
+            pathlib.Path(path).write_text(source)
+
+            def run(refused):
+                done = subprocess.run(
+                    [program, words[0], path, *words[1:]],
+                    capture_output=True,
+                    text=True,
+                    env={"LD_PRELOAD": library, "REFUSE": str(refused), "REFUSE_COUNT": count},
+                )
+                return done.returncode, done.stdout, done.stderr
+
+            whole = run(0)
+            wrong += wanted is not None and whole != wanted
+            calls = int(pathlib.Path(count).read_text())
+            memory = 0
+            for refused in range(1, calls + 1):
+                got = run(refused)
+                memory += got == (6, "", "memory\n")
+                if got not in (whole, (6, "", "memory\n")):
+                    wrong += 1
+                    print(f"BAD {' '.join(words)} of program {number}, allocation {refused}: {got}")
+            print(f"{' '.join(words)} of program {number}: {calls} allocations, each refused in turn: {memory} times `memory`, else the answer")
+    return wrong
+
+
 if __name__ == "__main__":
-    parts = {"rows": rows, "limits": limits, "sources": sources, "cuts": cuts, "memory": memory}
+    parts = {"rows": rows, "limits": limits, "sources": sources, "cuts": cuts, "memory": memory, "refusals": refusals}
     if len(sys.argv) != 3 or sys.argv[2] not in parts:
         sys.exit(__doc__)
     bad = parts[sys.argv[2]](str(pathlib.Path(sys.argv[1]).resolve()))

@@ -1,7 +1,6 @@
 #!/bin/sh
 # Writes sources on which the tests of names, types and ownership are measured: `own_sources.sh SHAPE COUNT > FILE`, then
 # `time cilkwork check FILE`, and the same with one byte `;` more at the end of FILE, which tokens and tree alone refuse.
-# A last line `void later(int a[]) { }` ends a check behind ownership, as long as arrays are not taken.
 #   nested   COUNT functions of 256 names, with 60 `while`s inside one another: at most 137 keep within 1 MiB
 #   beside   the same with the 60 `while`s side by side; both must take about as long, and twice the count twice as long
 #   uses     COUNT functions of 256 names, each with 1,000 statements that use the last name: at most 72
