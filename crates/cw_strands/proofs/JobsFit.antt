@@ -11,7 +11,8 @@ use Rattle.cw_code.specs.Run.{Slots, Results, Taken, slot_taken, Waiting, Around
 use Rattle.cw_code.specs.Good.{slots_in, Seat, Good, IsGiven, AllResume, GoodState, GoodWent, FitSteps, FitSettles}
 use Rattle.cw_strands.specs.Jobs.{Extent, WholeCall, ToJoin, joins, is_first, has_come, Standing, standing, Came, Arrives, Returns, Falls, Beyond, Lost, moved, travel, Job, job_start}
 use Rattle.cw_strands.specs.Strands.{spawn_job, resumed}
-use Rattle.cw_strands.proofs.Under.{beneath, results_under, arrived_under, under, went_under, act_under}
+use Rattle.cw_strands.specs.Over.{beneath, results_under, arrived_under, under, went_under}
+use Rattle.cw_strands.proofs.Under.{act_under}
 use Rattle.cw_strands.proofs.Travels.{settled_append}
 use Rattle.cw_strands.proofs.Budgets.{come_at, none_left, go_one}
 

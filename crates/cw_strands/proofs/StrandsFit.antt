@@ -19,7 +19,7 @@ use Rattle.cw_strands.proofs.Acts.{acts_by}
 use Rattle.cw_strands.proofs.Budgets.{meaning_stands}
 use Rattle.cw_strands.proofs.Rests.{GoesOn, act_goes}
 use Rattle.cw_strands.proofs.JobsFit.{Base, Alone, Upon, lifted, LiftedWent, lifted_step, FitJob, hands_fit, arrived, gives_fit}
-use Rattle.cw_strands.proofs.Under.{under}
+use Rattle.cw_strands.specs.Over.{under}
 use Rattle.cw_strands.proofs.WorldLaws.{set_gives, added_gives, stays_there, one_there, last_there, Named, PlaceOk, WorldOk, next_ok, begins_ok}
 
 abbrev GoesNowhere : Went → Type 0

@@ -13,7 +13,8 @@ use Rattle.cw_strands.specs.Strands.{resumed}
 use Rattle.cw_strands.specs.RestLaws.{onwards}
 use Rattle.cw_strands.proofs.Tests.{taken, not_taken, second_false}
 use Rattle.cw_strands.proofs.Acts.{acts_by}
-use Rattle.cw_strands.proofs.Under.{under, went_under, HasCaller, IsCall, Allowed, act_under}
+use Rattle.cw_strands.specs.Over.{under, went_under}
+use Rattle.cw_strands.proofs.Under.{HasCaller, IsCall, Allowed, act_under}
 
 -- how deep the call is that a run began in
 abbrev pub base_of : ℕ → List Around → ℕ

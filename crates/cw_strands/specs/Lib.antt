@@ -1,4 +1,5 @@
 pub mod Jobs
+pub mod Over
 pub mod Strands
 pub mod Promises
 pub mod Steps
