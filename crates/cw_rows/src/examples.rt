@@ -33,23 +33,27 @@ pub struct Example {
     pub sites: &'static str,
 }
 
-const EXAMPLES: [Example; 16] = [
+const EXAMPLES: [Example; 10] = [
     collatz::EXAMPLE,
     fib::EXAMPLE,
     fib_cutoff::EXAMPLE,
-    histogram::EXAMPLE,
     later::EXAMPLE,
-    matrix::EXAMPLE,
     mergesort::EXAMPLE,
-    mergesort_parallel::EXAMPLE,
     prefix::EXAMPLE,
     primes::EXAMPLE,
     primes_each::EXAMPLE,
-    primes_loop::EXAMPLE,
     queens::EXAMPLE,
+    spawned::EXAMPLE,
+];
+
+// Those with a parallel loop.
+const WITH_LOOPS: [Example; 6] = [
+    histogram::EXAMPLE,
+    matrix::EXAMPLE,
+    mergesort_parallel::EXAMPLE,
+    primes_loop::EXAMPLE,
     roots::EXAMPLE,
     roots_mended::EXAMPLE,
-    spawned::EXAMPLE,
 ];
 
 // The exit status, standard output and standard error of the program in this mode.
@@ -60,19 +64,29 @@ fn answer_in(alloc: Global, mode: &str, example: &Example) -> Result<(u8, Vec<u8
     answer(alloc, words.as_str(), example.source.as_bytes())
 }
 
-// Each example answers so in this mode.
+// What stands beside an example of its answer in this mode.
+fn beside(example: &Example, mode: &str) -> &'static str {
+    match mode {
+        "run" => example.run,
+        "scale" => example.scale,
+        _ => example.sites,
+    }
+}
+
+// Each of these answers what stands beside it.
 fn all_answer(
     rt: &impl Abort,
     alloc: Global,
     mode: &str,
-    wanted: fn(&Example) -> &'static str,
+    examples: &[Example],
 ) -> Result<(), Fail> {
-    for example in &EXAMPLES {
+    for example in examples {
         let (status, out, err) = answer_in(alloc, mode, example)?;
         assert_eq!(rt; (status, err.len()), (0, 0), "{mode} {}", example.words);
+        let wanted = beside(example, mode);
         assert_eq!(rt;
             out.as_slice(),
-            wanted(example).as_bytes(),
+            wanted.as_bytes(),
             "{mode} {}",
             example.words
         );
@@ -80,28 +94,31 @@ fn all_answer(
     Ok(())
 }
 
-#[test]
-fn the_examples_print_what_stands_beside_them(rt: HostRuntime) -> Result<(), Fail> {
-    all_answer(&rt, rt.alloc(), "run", |example| example.run)
-}
-
-#[test]
-fn the_examples_have_the_regions_beside_them(rt: HostRuntime) -> Result<(), Fail> {
-    all_answer(&rt, rt.alloc(), "scale", |example| example.scale)
-}
-
-#[test]
-fn the_examples_have_the_sites_beside_them(rt: HostRuntime) -> Result<(), Fail> {
-    all_answer(&rt, rt.alloc(), "sites", |example| example.sites)
-}
-
-#[test]
-fn the_examples_are_accepted(rt: HostRuntime) -> Result<(), Fail> {
-    for example in &EXAMPLES {
+// Each of these is accepted.
+fn all_are_accepted(rt: &impl Abort, alloc: Global, examples: &[Example]) -> Result<(), Fail> {
+    for example in examples {
         let source = example.source.as_bytes();
-        let (status, out, err) = answer(rt.alloc(), "check example.cilk", source)?;
+        let (status, out, err) = answer(alloc, "check example.cilk", source)?;
         assert_eq!(rt; (status, err.len()), (0, 0), "{}", example.words);
         assert_eq!(rt; out.as_slice(), "ok\n".as_bytes(), "{}", example.words);
     }
     Ok(())
+}
+
+#[test]
+fn the_examples_report_as_beside_them(rt: HostRuntime) -> Result<(), Fail> {
+    let examples = &EXAMPLES;
+    all_are_accepted(&rt, rt.alloc(), examples)?;
+    all_answer(&rt, rt.alloc(), "run", examples)?;
+    all_answer(&rt, rt.alloc(), "scale", examples)?;
+    all_answer(&rt, rt.alloc(), "sites", examples)
+}
+
+#[test]
+fn those_with_loops_report_as_beside_them(rt: HostRuntime) -> Result<(), Fail> {
+    let examples = &WITH_LOOPS;
+    all_are_accepted(&rt, rt.alloc(), examples)?;
+    all_answer(&rt, rt.alloc(), "run", examples)?;
+    all_answer(&rt, rt.alloc(), "scale", examples)?;
+    all_answer(&rt, rt.alloc(), "sites", examples)
 }
