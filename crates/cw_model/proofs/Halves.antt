@@ -13,9 +13,9 @@ use Rattle.cw_model.specs.Outcome.{Trace, shows, joined, Done, Trapped, Piece, �
 use Rattle.cw_model.specs.Loops.{leaf_start, turn_start, turn_end, leaf_end, node_start, node_call, node_end, leaf_turns, halves, turns_tree, loop_tree, inner_nodes, Turn, TurnsLead, no_turn, one_turn}
 use Rattle.cw_model.specs.LoopLaws.{IsBody, spent, lines_of, additions_of, trees_of, RunsAsPlain, TrapsAsPlain}
 use Rattle.cw_model.specs.TreeLaws.{Regrouped, same, further, to_the_right, nothing_after, in_series, in_fork}
-use Rattle.cw_model.proofs.Regrouping.{same_normal}
+use Rattle.cw_model.specs.lemmas.Regrouping.{same_normal}
 use Rattle.cw_model.proofs.Endings.{Ends, at_end, at_limit, weaken, itself, after_ends, then_ends, pay_ends, one_part, one_then_ends, when_done, when_trapped}
-use Rattle.cw_model.proofs.Parts.{PartsAre, parts_nil, parts_works, parts_series, parts_fork, parts_join, regrouped_parts, tree_of_parts}
+use Rattle.cw_model.specs.lemmas.Parts.{PartsAre, parts_nil, parts_works, parts_series, parts_fork, parts_join, regrouped_parts, tree_of_parts}
 
 step : (from : ℤ) (m : ℕ) → from +ℤ pos 1 +ℤ pos m ≡ from +ℤ pos (suc m)
 step from m = omega (arith, ints)

@@ -8,7 +8,7 @@ use Rattle.std.proofs.lemmas.List.Sums.{sum_by-append, sum_by-cons}
 use Rattle.cw_model.specs.Trees.{Invocation, Execution, Tree, Leaf, Seq, Par, Marked, work, span}
 use Rattle.cw_model.specs.Rows.{leaves, chosen_leaves, site_inside, weight_of_site, sites_below}
 use Rattle.cw_model.specs.TreeLaws.{SitesAddUp}
-use Rattle.cw_model.proofs.Regrouping.{weight_if, weight_of_leaf, weight-append}
+use Rattle.cw_model.specs.lemmas.Regrouping.{weight_if, weight_of_leaf, weight-append}
 
 -- the weight of all leaves
 abbrev weight : List (ℕ × ℕ) → ℕ

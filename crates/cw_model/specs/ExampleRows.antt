@@ -6,7 +6,7 @@ use Rattle.cw_model.specs.Syntax.{Variable, Binary, Declare, If, Region, Print, 
 use Rattle.cw_model.specs.Answers.{OverLimit}
 use Rattle.cw_model.specs.Report.{Check, Run, Scale, Sites, report_text, tags_of, parallelism}
 use Rattle.cw_model.specs.Examples.{serial, Scales, Attributes}
-use Rattle.cw_model.specs.ExamplePrograms.{f, i, n, p, r, t, main, number, minus, int_param, int_function, of_functions, block, give, call, call_into, spawn, main_of, alone, first_program, idle_and, once_in_every_block}
+use Rattle.cw_model.specs.ExamplePrograms.{f, i, n, p, r, t, main, number, minus, int_param, int_function, void_function, of_functions, block, give, call, call_into, spawn, main_of, alone, first_program, idle_and, once_in_every_block}
 
 -- a region in a recursion
 abbrev pub nested_region_program : Program
@@ -20,6 +20,14 @@ nested_region_program = of_functions (
 -- one tag, executed twice, each time with a spawn
 abbrev pub two_executions_program : Program
 two_executions_program = idle_and (Region t (block (spawn 1 p [] ∷ Print (number 1) ∷ [])) ∷ Region t (block (spawn 2 p [] ∷ Print (number 1) ∷ [])) ∷ give (number 0) ∷ [])
+
+-- a child that spawns in two sync blocks, beside a short rest
+abbrev pub spawning_child_program : Program
+spawning_child_program = of_functions (
+    void_function p [] End
+    ∷ void_function f [] (block (spawn 1 p [] ∷ Sync ∷ spawn 2 p [] ∷ []))
+    ∷ main_of (spawn 3 f [] ∷ give (number 0) ∷ [])
+    ∷ [])
 
 -- one tag inside another
 abbrev pub two_tags_program : Program
@@ -42,6 +50,8 @@ pub record RowExamples : Type 0 where
       (codes "0,root,1,main,1,6,6,40,40" ∷ codes "1,call,1,f,2,20,20,20,20" ∷ codes "2,call,1,f,1,14,14,34,34" ∷ [])
   pub two_executions :
       Scales two_executions_program [] 10 (codes ",14,12,1.166,32,0.437" ∷ codes "t,8,6,1.333,26,0.307" ∷ [])
+  -- the longer side is the child, with a burden for each of its rests: 1 + (1 + 10 + 2 + 10 + 1 beside 10 + 1) + 1
+  pub burdens_of_a_child : Scales spawning_child_program [] 10 (codes ",9,8,1.125,26,0.346" ∷ [])
   pub two_tags :
       Scales two_tags_program [] 0 (codes ",10,10,1.000,10,1.000" ∷ codes "t,6,6,1.000,6,1.000" ∷ codes "r,2,2,1.000,2,1.000" ∷ [])
   pub two_tags_sites : Attributes two_tags_program [] (codes "0,root,1,main,1,10,10,10,10" ∷ [])

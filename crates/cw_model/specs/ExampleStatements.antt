@@ -1,14 +1,19 @@
 -- Worked examples of statements: what they do, what they cost, and what loops do by halves.
-use Rattle.std.specs.Prelude.{◌≡◌, ℕ, List, [], ◌∷◌, None, codes}
+use Rattle.std.specs.Prelude.{◌≡◌, ℕ, pos, List, [], ◌∷◌, None, codes}
 use Rattle.cw_model.specs.declared.trap.Trap.TheVariants as trap
-use Rattle.cw_model.specs.declared.syntax.CallKind.TheVariants.{Plain}
-use Rattle.cw_model.specs.declared.syntax.Operator.TheVariants.{Equal, Less, Times}
-use Rattle.cw_model.specs.Syntax.{Variable, Element, Length, Negative, Not, Binary, Stmt, Declare, DeclareArray, Assign, AssignElement, AddTo, Start, Begin, Sync, If, IfElse, While, For, Scope, Cut, Region, Print, Return, Block, End, Then, Program}
+use Rattle.cw_model.specs.declared.syntax.CallKind.TheVariants.{Plain, Spawned}
+use Rattle.cw_model.specs.declared.syntax.Operator.TheVariants.{Equal, Less, Times, Divide}
+use Rattle.cw_model.specs.Syntax.{Variable, Element, Length, Negative, Not, Binary, Stmt, Declare, DeclareArray, Assign, AssignElement, AddTo, Start, Begin, Sync, If, IfElse, While, For, Scope, Cut, Region, Print, Return, Block, End, Then, Function, Program}
 use Rattle.cw_model.specs.Captured.{captured}
 use Rattle.cw_model.specs.Trees.{Tree, Leaf, Seq, Par}
 use Rattle.cw_model.specs.Loops.{loop_tree, inner_nodes, loop_cost}
-use Rattle.cw_model.specs.Examples.{Writes, Scales, TrapsAt, Costs}
-use Rattle.cw_model.specs.ExamplePrograms.{a, b, f, g, h, i, j, l, n, r, s, t, v, x, y, z, main, number, plus, minus, int_param, array_param, int_function, void_function, of_functions, on_line, block, give, call, call_into, spawn_into, main_of, alone, with_sum, in_every_block}
+use Rattle.cw_model.specs.Frames.{no_frame}
+use Rattle.cw_model.specs.Outcome.{Trace, Outcome, Done, Trapped}
+use Rattle.cw_model.specs.Meaning.{Returned, Deeper}
+use Rattle.cw_model.specs.Meaning as meaning
+use Rattle.cw_model.specs.Answers.{TrappedAt}
+use Rattle.cw_model.specs.Examples.{serial, Writes, Scales, Attributes, TrapsAt, Costs}
+use Rattle.cw_model.specs.ExamplePrograms.{a, b, f, g, h, i, j, l, n, p, r, s, t, v, x, y, z, main, number, plus, minus, int_param, array_param, int_function, void_function, of_functions, on_line, block, give, call, call_into, spawn, spawn_into, main_of, alone, with_sum, in_every_block}
 
 -- a declaration in a line, and its value printed
 abbrev pub declared_and_printed : ℕ → Block
@@ -84,6 +89,12 @@ pub record EffectExamples : Type 0 where
       Writes (alone (DeclareArray a (number 2) ∷ Cut a (number 1) l r End ∷ Cut a (number 0) l r (block (Print (Length l) ∷ [])) ∷ give (number 0) ∷ [])) [] 1000 (codes "0" ∷ codes "return 0" ∷ [])
   pub new_array_is_zero :
       Writes (alone (DeclareArray a (number 2) ∷ give (Element a (number 1)) ∷ [])) [] 1000 (codes "return 0" ∷ [])
+  pub arrays_end_with_blocks :
+      Costs (alone (If (number 1) (block (DeclareArray b (number 1) ∷ [])) ∷ DeclareArray b (number 2) ∷ give (Length b) ∷ [])) [] 8 (codes "return 2" ∷ [])
+  -- what was printed before a trap is shown in order, that of the calls around it too
+  pub lines_before_a_trap :
+      serial (of_functions (void_function p [] (on_line 2 (Print (number 2) ∷ Print (Binary Divide (number 1) (number 0)) ∷ [])) ∷ main_of (Print (number 1) ∷ call 1 p [] ∷ give (number 0) ∷ []) ∷ [])) [] 1000
+      ≡ TrappedAt trap.DivisionByZero 2 (pos 1 ∷ pos 2 ∷ [])
 
 -- int main() { int i = 0; while (i < 2) { if (i == 0) { print(7); } else { print(8); } i = i + 1; } return i; }
 abbrev pub turns_program : Program
@@ -113,6 +124,80 @@ pub record CostExamples : Type 0 where
   pub plain_return :
       Costs (of_functions (void_function g [] (block (Return None ∷ [])) ∷ main_of (call 1 g [] ∷ give (number 0) ∷ []) ∷ []))
       [] 4 (codes "return 0" ∷ [])
+
+-- void p() { print(1); }, which costs 3, before main
+abbrev pub with_printer : List Stmt → Program
+with_printer ss = of_functions (void_function p [] (block (Print (number 1) ∷ [])) ∷ main_of ss ∷ [])
+
+-- the same, with void g() { cilk_spawn p(); .. } that main calls
+abbrev pub with_spawner : List Stmt → Program
+with_spawner ss = of_functions (
+    void_function p [] (block (Print (number 1) ∷ []))
+    ∷ void_function g [] (block (spawn 1 p [] ∷ ss))
+    ∷ main_of (call 2 g [] ∷ give (number 0) ∷ []) ∷ [])
+
+-- void p() { .. }, a loop that costs 62
+abbrev pub idle_loop_function : Function
+idle_loop_function = void_function p [] (block (For i i i (number 0) (number 4) 64 [] End ∷ []))
+
+-- void f() { }, and a main with a statement after the spawn of that loop
+abbrev pub beside_a_loop : Stmt → Program
+beside_a_loop st = of_functions (idle_loop_function ∷ void_function f [] End ∷ main_of (spawn 1 p [] ∷ st ∷ give (number 0) ∷ []) ∷ [])
+
+-- what each sync block joins, at its end and not before; the child is the longer side
+pub record JoinExamples : Type 0 where
+  -- a return joins after its expression and before its instruction: 1 + (3 beside 1) + 1
+  pub return_of_a_value : Scales (with_printer (spawn 1 p [] ∷ give (number 0) ∷ [])) [] 0 (codes ",6,5,1.200,5,1.200" ∷ [])
+  pub plain_return : Scales (with_spawner (Return None ∷ [])) [] 0 (codes ",8,8,1.000,8,1.000" ∷ [])
+  pub end_of_a_call : Scales (with_spawner []) [] 0 (codes ",8,8,1.000,8,1.000" ∷ [])
+  pub scope : Scales (with_printer (Scope (block (spawn 1 p [] ∷ [])) ∷ give (number 0) ∷ [])) [] 0 (codes ",8,8,1.000,8,1.000" ∷ [])
+  pub cut :
+      Scales (with_printer (DeclareArray a (number 1) ∷ Cut a (number 0) l r (block (spawn 1 p [] ∷ [])) ∷ give (number 0) ∷ [])) [] 0 (codes ",11,11,1.000,11,1.000" ∷ [])
+  pub region :
+      Scales (with_printer (Region t (block (spawn 1 p [] ∷ [])) ∷ give (number 0) ∷ [])) [] 0 (codes ",8,8,1.000,8,1.000" ∷ codes "t,4,4,1.000,4,1.000" ∷ [])
+  pub turn :
+      Scales (with_printer (For i i i (number 0) (number 1) 64 [] (block (spawn 1 p [] ∷ [])) ∷ give (number 0) ∷ [])) [] 0 (codes ",34,34,1.000,34,1.000" ∷ [])
+  -- a block joins no spawn from before it: 1 + (3 beside 3) + 1, then 1 + (62 beside 50) + 1 and 1 + (62 beside 5) + 1
+  pub spawn_before_a_scope :
+      Scales (with_printer (spawn 1 p [] ∷ Scope End ∷ give (number 0) ∷ [])) [] 0 (codes ",8,5,1.600,5,1.600" ∷ [])
+  pub spawn_before_a_loop :
+      Scales (beside_a_loop (For i i i (number 0) (number 2) 1 [] End)) [] 0 (codes ",139,64,2.171,64,2.171" ∷ [])
+  pub spawn_before_a_lowered_loop :
+      Scales (beside_a_loop (Begin f (number 0) (number 1) [] [])) [] 0 (codes ",69,64,1.078,64,1.078" ∷ [])
+
+-- a loop lowered by hand: its function is begun on a range of two arrays with two integers from outside
+abbrev pub begun_program : Program
+begun_program = of_functions (
+    void_function f (int_param i ∷ int_param j ∷ int_param x ∷ int_param y ∷ array_param a ∷ array_param b ∷ []) (block (
+    Print (Variable i) ∷ Print (Variable j) ∷ Print (minus (Variable x) (Variable y)) ∷ Print (Element a (number 0)) ∷ Print (Length b)
+    ∷ AssignElement a (number 1) (number 8) ∷ AssignElement b (number 1) (number 9) ∷ []))
+    ∷ main_of (
+    Declare x (number 7) ∷ Declare y (number 4) ∷ DeclareArray a (number 4) ∷ DeclareArray b (number 3)
+    ∷ AssignElement a (number 1) (number 5) ∷ AssignElement a (number 3) (number 6)
+    ∷ Begin f (number 1) (number 3) (x ∷ y ∷ []) (a ∷ b ∷ [])
+    ∷ Print (Element a (number 1)) ∷ Print (Element a (number 2)) ∷ Print (Element a (number 3)) ∷ give (Element b (number 2)) ∷ [])
+    ∷ [])
+
+-- one statement on line 5, in a function that is called at the greatest depth
+abbrev pub at_greatest_depth : Stmt → Outcome Returned
+at_greatest_depth st = meaning.call 3 9999 (void_function p [] End ∷ []) Deeper (void_function g [] (on_line 5 (st ∷ []))) no_frame 4 100
+
+-- what the statements of lowered loops do
+pub record LoweredExamples : Type 0 where
+  -- main 14, the start 5, the function 20, and 12 after it
+  pub begun : Costs begun_program [] 51 (codes "1" ∷ codes "3" ∷ codes "3" ∷ codes "5" ∷ codes "2" ∷ codes "5" ∷ codes "8" ∷ codes "6" ∷ codes "return 9" ∷ [])
+  pub begun_past_the_end :
+      TrapsAt (of_functions (void_function f [] End ∷ main_of (DeclareArray a (number 2) ∷ Begin f (number 0) (number 3) [] (a ∷ []) ∷ give (number 0) ∷ []) ∷ [])) [] 1000 trap.OutOfBounds 1
+  pub started_arrays :
+      Costs (with_callees (DeclareArray a (number 1) ∷ DeclareArray b (number 1) ∷ Start Plain g (Variable b ∷ Variable a ∷ []) ∷ print_both))
+      [] 20 (codes "2" ∷ codes "1" ∷ codes "return 0" ∷ [])
+  -- the function of a loop is no site
+  pub started : Attributes (with_printer (Start Plain p [] ∷ give (number 0) ∷ [])) [] (codes "0,root,1,main,1,6,6,6,6" ∷ [])
+  pub started_beside : Attributes (with_printer (Start Spawned p [] ∷ give (number 0) ∷ [])) [] (codes "0,root,1,main,1,6,5,6,5" ∷ [])
+  -- nor is it a depth of its own; a call that is too deep traps in its line
+  pub started_at_the_greatest_depth : (trace : Trace) × (at_greatest_depth (Start Plain p []) ≡ Done (None, no_frame) 97 trace)
+  pub begun_at_the_greatest_depth : (trace : Trace) × (at_greatest_depth (Begin p (number 0) (number 1) [] []) ≡ Done (None, no_frame) 95 trace)
+  pub called_at_the_greatest_depth : at_greatest_depth (call 1 p []) ≡ Trapped trap.TooDeep 5 []
 
 -- a loop that names two outer integers
 abbrev pub capture_program : (grain : ℕ) → Program
@@ -176,6 +261,16 @@ pub record LoopExamples : Type 0 where
       Scales (alone (
       For i i i (number 0) (number 2) 1 [] (block (If (Binary Less (Variable i) (number 1)) (block (Print (number 1) ∷ Print (number 2) ∷ Print (number 3) ∷ [])) ∷ []))
       ∷ give (number 0) ∷ [])) [] 0 (codes ",90,58,1.551,58,1.551" ∷ [])
+  -- a half joins at its own end alone: 3 + 17 + (92 beside 3 + 17 + (29 beside 3 + 29) + 1) + 1 + 2
+  pub longest_first_leaf :
+      Scales (of_functions (
+      idle_loop_function
+      ∷ main_of (For i i i (number 0) (number 3) 1 [] (block (If (Binary Less (Variable i) (number 1)) (block (call 1 p [] ∷ [])) ∷ [])) ∷ give (number 0) ∷ [])
+      ∷ [])) [] 0 (codes ",197,115,1.713,115,1.713" ∷ [])
+  -- own names leave the index of a loop array as dear: 2 + 3 + 14 + 2 * (11 + 11) + 3
+  pub index_beside_own_names :
+      Costs (alone (DeclareArray a (number 2) ∷ For i i i (number 0) (number 2) 64 (a ∷ []) (block (Declare y (number 0) ∷ Assign y (number 1) ∷ DeclareArray b (number 1) ∷ AssignElement a (Variable i) (Variable y) ∷ [])) ∷ give (Element a (number 1)) ∷ []))
+      [] 66 (codes "return 1" ∷ [])
   -- three leaves and two inner nodes: 3 * 14 + 5 * 11 + 2 * (21 + 5 + 2 * 2)
   pub cost_of_five_turns : loop_cost 2 2 1 5 ≡ 157
   pub cost_of_a_leaf : loop_cost 5 2 1 5 ≡ 69

@@ -1,11 +1,12 @@
 -- Worked examples of expressions: what they come to, at which cost, and where they trap.
-use Rattle.std.specs.Prelude.{◌≡◌, ℕ, zero, suc, List, [], ◌∷◌, codes}
+use Rattle.std.specs.Prelude.{◌≡◌, ℕ, zero, suc, pos, negsuc, List, [], ◌∷◌, codes}
 use Rattle.cw_model.specs.declared.trap.Trap.{Trap}
 use Rattle.cw_model.specs.declared.trap.Trap.TheVariants as trap
 use Rattle.cw_model.specs.declared.syntax.Operator.{Operator}
 use Rattle.cw_model.specs.declared.syntax.Operator.TheVariants.{Equal, Unequal, Less, AtMost, Greater, AtLeast, Plus, Minus, Times, Divide, Modulo}
 use Rattle.cw_model.specs.Syntax.{Expr, Variable, Element, Length, Negative, Not, Binary, Stmt, Declare, DeclareArray, AssignElement, AddTo, If, IfElse, While, For, Cut, Region, Print, End, Then, Program}
-use Rattle.cw_model.specs.Ints.{trap_number}
+use Rattle.cw_model.specs.Ints.{Value, trap_number, natural}
+use Rattle.cw_model.specs.Meaning.{new_length}
 use Rattle.cw_model.specs.Examples.{TrapsAt, IsOver, Costs}
 use Rattle.cw_model.specs.ExamplePrograms.{a, b, f, i, l, r, s, t, x, main, number, plus, minus, int_function, on_line, give, call, alone, same_function, with_sum}
 
@@ -55,6 +56,9 @@ pub record OperatorExamples : Type 0 where
       Costs (alone (DeclareArray a (number 2) ∷ AssignElement a (number 1) (number 9) ∷ give (Element a (number 1)) ∷ []))
       [] 8 (codes "return 9" ∷ [])
   pub variable : Costs (alone (Declare x (number 3) ∷ give (Variable x) ∷ [])) [] 4 (codes "return 3" ∷ [])
+  pub greatest_sum : Computes (plus (number 9223372036854775806) (number 1)) 4 (codes "return 9223372036854775807")
+  pub count_of_a_number_below_0 : natural (negsuc 4) ≡ 0
+  pub longest_array : new_length (pos 16777216) ≡ Value (pos 16777216)
 
 -- an array of two elements on line 1, a statement on line 2, and the end on line 3
 abbrev pub trapping : Stmt → Program

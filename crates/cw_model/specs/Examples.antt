@@ -1,5 +1,5 @@
 -- Worked examples: what the programs report, trap with, cost and are refused for. Each line was worked out by hand.
-use Rattle.std.specs.Prelude.{◌≡◌, ℕ, zero, suc, ℤ, pos, List, [], ◌∷◌, ◌++◌, flat_map, replicate, codes}
+use Rattle.std.specs.Prelude.{◌≡◌, ℕ, zero, suc, ℤ, pos, List, [], ◌∷◌, ◌++◌, Some, None, flat_map, replicate, codes}
 use Rattle.cw_model.specs.Limits.{usual_limit, usual_burden}
 use Rattle.cw_model.specs.declared.trap.Trap.{Trap}
 use Rattle.cw_model.specs.declared.trap.Trap.TheVariants as trap
@@ -8,6 +8,7 @@ use Rattle.cw_model.specs.declared.token.Kind.{Kind}
 use Rattle.cw_model.specs.declared.token.Kind.TheVariants as kind
 use Rattle.cw_model.specs.declared.syntax.Operator.TheVariants.{Divide, Modulo}
 use Rattle.cw_model.specs.Syntax.{Negative, Declare, Sync, Scope, If, Region, For, End, Program}
+use Rattle.cw_model.specs.Lines.{lowest}
 use Rattle.cw_model.specs.Trees.{Leaf, Seq, Par, Marked, Invocation, work}
 use Rattle.cw_model.specs.Answers.{Answer, Ended, TrappedAt, OverLimit, serial_answer}
 use Rattle.cw_model.specs.Report.{Check, Run, Scale, Sites, report_text, end_of_line, scale_header, sites_header}
@@ -217,6 +218,9 @@ pub record FaultExamples : Type 0 where
       BreaksOwnership (example.while_program (Declare example.y (example.number 0) ∷ []) (example.spawn_into example.y 1 example.f (example.number 1 ∷ []) ∷ [])) (1 ∷ [])
   pub same_array_twice : BreaksOwnership example.same_array_twice (1 ∷ [])
   pub sync_in_cut : BreaksOwnership example.sync_in_cut (1 ∷ [])
+  -- a refusal names the least line
+  pub least_line : lowest None (3 ∷ 1 ∷ 2 ∷ []) ≡ Some 1
+  pub no_line : lowest None [] ≡ None
 
 -- the lines at which limits are passed
 pub record LimitExamples : Type 0 where
@@ -233,10 +237,17 @@ pub record LimitExamples : Type 0 where
   pub most_loops : loop_faults (example.many 4096 (For example.i example.i example.i (example.number 0) (example.number 1) 64 [] End)) ≡ []
   pub loops : loop_faults (example.many 4097 (For example.i example.i example.i (example.number 0) (example.number 1) 64 [] End)) ≡ 4097 ∷ []
 
--- the strand tree of three prints, of which two are spawned
+-- strand trees
 pub record TreeExamples : Type 0 where
+  -- three prints, of which two are spawned
   pub prints : (value : ℤ) × (printed sums : List ℤ) × (serial example.print_program [] usual_limit ≡ Ended value printed sums
       (Marked (Invocation 0) (Seq (Leaf 2) (Seq (Par (Marked (Invocation 1) (Leaf 3)) (Seq (Leaf 2) (Par (Marked (Invocation 2) (Leaf 3)) (Leaf 2)))) (Leaf 3)))))
+  -- a plain call stands where it was made
+  pub call_between : serial (example.with_same (example.call 1 example.f (example.number 1 ∷ []) ∷ example.give (example.number 0) ∷ [])) [] usual_limit
+      ≡ Ended (pos 0) [] [] (Marked (Invocation 0) (Seq (Leaf 2) (Seq (Marked (Invocation 1) (Leaf 2)) (Leaf 2))))
+  -- one sync block after another
+  pub two_sync_blocks : serial (example.idle_and (example.spawn 1 example.p [] ∷ Sync ∷ example.spawn 2 example.p [] ∷ example.give (example.number 0) ∷ [])) [] usual_limit
+      ≡ Ended (pos 0) [] [] (Marked (Invocation 0) (Seq (Leaf 1) (Seq (Par (Marked (Invocation 1) (Leaf 1)) (Leaf 0)) (Seq (Leaf 2) (Seq (Par (Marked (Invocation 2) (Leaf 1)) (Leaf 1)) (Leaf 1))))))
 
 -- static sizes and counts of call statements
 pub record SizeExamples : Type 0 where

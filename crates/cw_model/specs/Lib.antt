@@ -35,3 +35,4 @@ pub mod ExampleSizes
 pub mod ExampleValues
 pub mod ExampleStatements
 pub mod ExampleRows
+pub mod lemmas

@@ -5,7 +5,7 @@ ghost use Rattle.cw_model.specs.ExampleTypes.{ExpressionTypeExamples, WriteTypeE
 ghost use Rattle.cw_model.specs.ExampleOwners.{TakenExamples, FreedExamples, LoopOwnerExamples};
 ghost use Rattle.cw_model.specs.ExampleSizes.{TokenSizeExamples, DeclarationSizeExamples, InstructionSizeExamples};
 ghost use Rattle.cw_model.specs.ExampleValues.{OperatorExamples, TrapExamples};
-ghost use Rattle.cw_model.specs.ExampleStatements.{EffectExamples, CostExamples, LoopExamples, CaptureExamples};
+ghost use Rattle.cw_model.specs.ExampleStatements.{EffectExamples, CostExamples, JoinExamples, LoweredExamples, LoopExamples, CaptureExamples};
 ghost use Rattle.cw_model.specs.ExampleRows.{RowExamples, TextExamples};
 
 /// Calls, spawns, prints, sums, operators and regions: texts, costs, traps and limits.
@@ -38,7 +38,7 @@ pub fn limits()
     ensures { LimitExamples }
 {}
 
-/// The strand tree of a run.
+/// The strand trees of runs.
 pub fn strand_trees()
     ensures { TreeExamples }
 {}
@@ -78,10 +78,12 @@ pub fn values()
     ensures traps { TrapExamples }
 {}
 
-/// What statements do and cost, and what loops capture.
+/// What statements do, cost and join, and what loops capture.
 pub fn statements()
     ensures effects { EffectExamples }
     ensures costs { CostExamples }
+    ensures joins { JoinExamples }
+    ensures lowered { LoweredExamples }
     ensures loops { LoopExamples }
     ensures captures { CaptureExamples }
 {}

@@ -40,4 +40,6 @@ returns c = record {
   spawn_of_another_in_while = (refl, refl, refl);
   same_array_twice = (refl, refl, refl);
   sync_in_cut = (refl, refl, refl);
+  least_line = refl;
+  no_line = refl;
 }

@@ -10,6 +10,7 @@ returns-clause-rows c = record {
   nested_region = refl;
   nested_region_sites = refl;
   two_executions = refl;
+  burdens_of_a_child = refl;
   two_tags = refl;
   two_tags_sites = refl;
   never_executed = refl;

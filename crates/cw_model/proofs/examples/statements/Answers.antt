@@ -25,6 +25,8 @@ returns-clause-effects c = record {
   parts_of_a_cut = refl;
   parts_end_with_a_cut = refl;
   new_array_is_zero = refl;
+  arrays_end_with_blocks = (refl, refl);
+  lines_before_a_trap = refl;
 }
 
 pub returns-clause-costs : goal.returns-clause-costs
@@ -41,6 +43,34 @@ returns-clause-costs c = record {
   region = (refl, refl);
   void_call = (refl, refl);
   plain_return = (refl, refl);
+}
+
+pub returns-clause-joins : goal.returns-clause-joins
+unfolding digits serial_answer call
+returns-clause-joins c = record {
+  return_of_a_value = refl;
+  plain_return = refl;
+  end_of_a_call = refl;
+  scope = refl;
+  cut = refl;
+  region = refl;
+  turn = refl;
+  spawn_before_a_scope = refl;
+  spawn_before_a_loop = refl;
+  spawn_before_a_lowered_loop = refl;
+}
+
+pub returns-clause-lowered : goal.returns-clause-lowered
+unfolding digits serial_answer call
+returns-clause-lowered c = record {
+  begun = (refl, refl);
+  begun_past_the_end = refl;
+  started_arrays = (refl, refl);
+  started = refl;
+  started_beside = refl;
+  started_at_the_greatest_depth = (_, refl);
+  begun_at_the_greatest_depth = (_, refl);
+  called_at_the_greatest_depth = refl;
 }
 
 pub returns-clause-loops : goal.returns-clause-loops
@@ -60,6 +90,8 @@ returns-clause-loops c = record {
   both_halves_are_kept = (refl, refl);
   odd_range = refl;
   longer_child = refl;
+  longest_first_leaf = refl;
+  index_beside_own_names = (refl, refl);
   cost_of_five_turns = refl;
   cost_of_a_leaf = refl;
   nodes_of_five_turns = refl;

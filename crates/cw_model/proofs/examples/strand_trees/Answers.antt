@@ -8,4 +8,6 @@ pub returns : goal.returns
 unfolding digits serial_answer call
 returns c = record {
   prints = (_, _, _, refl);
+  call_between = refl;
+  two_sync_blocks = refl;
 }

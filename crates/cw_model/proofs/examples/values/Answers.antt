@@ -33,6 +33,9 @@ returns-clause-operators c = record {
   length = (refl, refl);
   element = (refl, refl);
   variable = (refl, refl);
+  greatest_sum = (refl, refl);
+  count_of_a_number_below_0 = refl;
+  longest_array = refl;
 }
 
 pub returns-clause-traps : goal.returns-clause-traps

@@ -1,4 +1,4 @@
-use Rattle.cw_model.proofs.Regrouping.{normal-normal, normal_is_regrouped, same_normal}
+use Rattle.cw_model.specs.lemmas.Regrouping.{normal-normal, normal_is_regrouped, same_normal}
 use Rattle.cw_model.proofs.laws.normal_form_is_one.Goals as goal
 
 pub returns : goal.returns

@@ -1,5 +1,5 @@
 use Rattle.cw_model.specs.Trees.{normal}
-use Rattle.cw_model.proofs.Regrouping.{normal_is_regrouped, same_readings}
+use Rattle.cw_model.specs.lemmas.Regrouping.{normal_is_regrouped, same_readings}
 use Rattle.cw_model.proofs.laws.normal_form_reads_the_same.Goals as goal
 
 pub returns : goal.returns

@@ -1,5 +1,5 @@
--- The least line, and what is left of lines.
-use Rattle.std.proofs.Common.{◌≡◌, ℕ, zero, suc, ◌-◌, ◌≤◌, ◌<◌, Bool, true, false, nat_le, if◌then◌else◌, List, [], ◌∷◌, ◌++◌, drop, Option, Some, None, All, Contains, ◌⊎◌, refl, sym, ap, ◌∙◌, arith, inl, inr, subst}
+-- The least of lines, in whatever order they are noted.
+use Rattle.std.proofs.Common.{◌≡◌, ℕ, ◌-◌, ◌≤◌, ◌<◌, Bool, true, false, nat_le, if◌then◌else◌, List, [], ◌∷◌, ◌++◌, Option, Some, None, All, Contains, ◌⊎◌, refl, sym, ap, ◌∙◌, arith, inl, inr, subst}
 use Rattle.std.proofs.lemmas.List.Elements.{All-cons, All-contains, Contains-append_left, Contains-append_right, Contains-push}
 use Rattle.std.proofs.lemmas.Bool.Decides.{nat_tests}
 use Rattle.cw_model.specs.Lines.{IsLeastLine, lesser, lowest}
@@ -7,12 +7,6 @@ use Rattle.cw_model.specs.Lines.{IsLeastLine, lesser, lowest}
 pub lowest-append : (least : Option ℕ) (xs ys : List ℕ) → lowest least (xs ++ ys) ≡ lowest (lowest least xs) ys
 lowest-append least [] ys = refl
 lowest-append least (x ∷ xs) ys = lowest-append (lesser least x) xs ys
-
-pub drop_room : (room line : ℕ) (lines : List ℕ) → (room ≡ 0 → ⊥) → drop room (line ∷ lines) ≡ drop (room - 1) lines
-drop_room zero line lines h = absurd (h refl)
-drop_room (suc room) line lines h =
-    let e : suc room - 1 ≡ room = omega arith in
-    ap (λ n. drop n lines) (sym e)
 
 lesser-lesser : (o : Option ℕ) (x y : ℕ) → lesser (lesser o x) y ≡ lesser (lesser o y) x
 lesser-lesser None x y = ap Some (grind (arith, nat_tests))
@@ -99,5 +93,3 @@ one_least lines l m a b =
     let le = All-contains (λ other. l ≤ other) lines m a.least b.there in
     let ge = All-contains (λ other. m ≤ other) lines l b.least a.there in
     omega (arith, le, ge)
-
-pub ruleset lines = (lowest-append, drop_room)

@@ -1,0 +1,5 @@
+-- Lemmas on the definitions, which the proofs of the crates above cite.
+pub mod Kept
+pub mod Lowest
+pub mod Parts
+pub mod Regrouping
