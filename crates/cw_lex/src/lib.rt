@@ -9,6 +9,3 @@ mod numbers;
 mod tables;
 
 pub use lexer::lex;
-
-#[cfg(test)]
-mod tests;

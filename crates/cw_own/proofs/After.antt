@@ -10,16 +10,17 @@ use Rattle.cw_model.specs.Answers.{main_name}
 use Rattle.cw_model.specs.Meaning.{function_of}
 use Rattle.cw_model.specs.Typing.{Known, Returns, Nowhere, is_int, is_array, is_new, globals, is_fine, is_argument, are_arguments, called, is_target, is_call, declares, surely_returns, block_returns, ends_block, is_head_of_loop, is_cut, faults_in, faults_in_block}
 use Rattle.cw_model.specs.Ownership.{Holder, SpawnIn, CutOf, Taken, freed, without, names_in, arrays_given, given, target_names, taken_by, where_it_goes_on, own_names, taken_after, taken_after_all}
-use Rattle.cw_types.specs.Resolved.{Locals, Lists, slot_of, use_of, resolved_expr, resolved_argument}
-use Rattle.cw_types.specs.Resolved as spec
+use Rattle.cw_model.specs.lemmas.Kept.{both_left, both_right, left_none, right_none, kept}
+use Rattle.cw_tree.specs.Resolved.{Locals, Lists, slot_of, use_of, resolved_expr, resolved_argument}
+use Rattle.cw_tree.specs.Resolved as spec
+use Rattle.cw_tree.specs.lemmas.NamedSlots.{turned}
 use Rattle.cw_own.specs.Sets.{Slots, with_slot, Row, no_local, with_int, with_array, either_row, both_rows}
 use Rattle.cw_own.specs.Taken.{with_target, with_arrays, known_after, after, after_all, gain, cuts_after, cuts_after_all}
-use Rattle.cw_own.proofs.Small.{both_left, both_right, left_none, right_none, kept}
 use Rattle.cw_own.proofs.Words.{and_none, or_turn}
 use Rattle.cw_own.proofs.Laws.{same_rows, turn_law, cuts_stay, no_more, no_more_all}
 use Rattle.cw_own.proofs.Holding.{held, held_without}
 use Rattle.cw_own.proofs.Holding as holding
-use Rattle.cw_own.proofs.Showing.{turned, shows_as, shows_row, shows_none, known_row}
+use Rattle.cw_own.proofs.Showing.{shows_as, shows_row, shows_none, known_row}
 use Rattle.cw_own.proofs.Knowing.{Knows, fresh_name, knows_int, knows_array, known_int, known_array}
 use Rattle.cw_own.proofs.Following.{part, all_of, Holds, Steady, entered, steady_inside, holds_int, holds_array, holds_either, holds_freed, holds_inside, holds_left, holds_push_int, holds_push_array, holds_cut, holds_uncut}
 use Rattle.cw_own.proofs.Ending.{all_locals, drop_block}

@@ -5,14 +5,15 @@ use Rattle.std.proofs.lemmas.Slice.Eq.{bytes_eq-Decides}
 use Rattle.cw_model.specs.Syntax.{Name, Param}
 use Rattle.cw_model.specs.Names.{same_name, is_among, differ}
 use Rattle.cw_model.specs.Typing.{Known, known_of}
-use Rattle.cw_types.specs.Resolved.{Locals, slot_of, locals_of}
-use Rattle.cw_types.specs.Resolved as spec
+use Rattle.cw_model.specs.lemmas.Kept.{both_left, both_right}
+use Rattle.cw_tree.specs.Resolved.{Locals, slot_of, locals_of}
+use Rattle.cw_tree.specs.Resolved as spec
+use Rattle.cw_tree.specs.lemmas.NamedSlots.{among_push, slot_in, slot_out}
 use Rattle.cw_own.specs.Sets.{no_local, with_int, with_array}
 use Rattle.cw_own.specs.Taken.{with_params}
-use Rattle.cw_own.proofs.Small.{both_left, both_right}
 use Rattle.cw_own.proofs.Words.{if_or, or_none, or_all, or_turn}
 use Rattle.cw_own.proofs.Laws.{same_rows}
-use Rattle.cw_own.proofs.Showing.{among_push, Shows, slot_in, slot_out, known_row}
+use Rattle.cw_own.proofs.Showing.{Shows, known_row}
 use Rattle.cw_own.proofs.Knowing.{Knows, Fresh, knows_int, knows_array, known_int, known_array, below_is, above_is}
 
 -- these parameters, after locals that are known

@@ -1,13 +1,13 @@
 -- What a statement with blocks is, and how deep.
 use Rattle.std.proofs.Common.{◌≡◌, ℕ, List, ◌∷◌, Vec, Global, ap}
-use Rattle.cw_types.specs.declared.tree.Expr.{Expr}
-use Rattle.cw_types.specs.declared.tree.Line.{Line}
-use Rattle.cw_types.specs.declared.tree.Stmt as tree_stmt
-use Rattle.cw_types.specs.declared.tree.Stmt.TheOpen.{Stmt-F}
-use Rattle.cw_types.specs.declared.tree.Stmt.TheFolds.{fold-roll-Stmt, fold_out-Line}
-use Rattle.cw_types.specs.declared.tree.Stmt.TheVariants as variant
-use Rattle.cw_types.specs.Resolved as spec
-use Rattle.cw_types.specs.View.{expr_of, stmt_of, block_of, stmt_step, line_step}
+use Rattle.cw_tree.specs.declared.resolved.Expr.{Expr}
+use Rattle.cw_tree.specs.declared.resolved.Line.{Line}
+use Rattle.cw_tree.specs.declared.resolved.Stmt as tree_stmt
+use Rattle.cw_tree.specs.declared.resolved.Stmt.TheOpen.{Stmt-F}
+use Rattle.cw_tree.specs.declared.resolved.Stmt.TheFolds.{fold-roll-Stmt, fold_out-Line}
+use Rattle.cw_tree.specs.declared.resolved.Stmt.TheVariants as variant
+use Rattle.cw_tree.specs.Resolved as spec
+use Rattle.cw_tree.specs.ResolvedView.{expr_of, stmt_of, block_of, stmt_step, line_step}
 
 pub if_else_is : (e : Expr) (b d : Vec Line Global) → stmt_of (variant.IfElse e b d) ≡ spec.IfElse (expr_of e) (block_of b.items) (block_of d.items)
 unfolding tree_stmt.roll-Stmt denote.Hole.Carrier.roll

@@ -6,10 +6,10 @@ use Rattle.cw_model.specs.Limits.{most_declared, most_parameters, most_functions
 use Rattle.cw_model.specs.Lines.{unless}
 use Rattle.cw_model.specs.Syntax as model
 use Rattle.cw_model.specs.Sizes.{limit_faults, function_limits, lines_beyond}
-use Rattle.cw_types.specs.Resolved.{Use, Argument, Int, Array, Stmt, Declare, DeclareArray, Assign, AssignElement, AddTo, Call, Sync, If, IfElse, While, For, Scope, Cut, Region, Print, Return, Block, End, Then, Function, Resolved, plain, plain_function}
-use Rattle.cw_types.specs.Bounds.{Counts, is_below, fits_expr, fits_argument, fits_target, fits_head, fits_parts, fits_stmt, fits_block, fits_function, counts_of, is_fitting}
+use Rattle.cw_model.specs.lemmas.Kept.{both_left, both_right, left_none, right_none, kept}
+use Rattle.cw_tree.specs.Resolved.{Use, Argument, Int, Array, Stmt, Declare, DeclareArray, Assign, AssignElement, AddTo, Call, Sync, If, IfElse, While, For, Scope, Cut, Region, Print, Return, Block, End, Then, Function, Resolved, plain, plain_function}
+use Rattle.cw_tree.specs.Bounds.{Counts, is_below, fits_expr, fits_argument, fits_target, fits_head, fits_parts, fits_stmt, fits_block, fits_function, counts_of, is_fitting}
 use Rattle.cw_own.specs.Bounds.{is_small, small_argument, small_target, small_stmt, small_block, small_function}
-use Rattle.cw_own.proofs.Small.{both_left, both_right, left_none, right_none, kept}
 
 -- few enough slots
 record Few (n : Counts) : Type 0 where

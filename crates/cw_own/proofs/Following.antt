@@ -4,13 +4,14 @@ use Rattle.std.proofs.lemmas.Bool.Decides.{nat_tests}
 use Rattle.cw_model.specs.Syntax.{Name}
 use Rattle.cw_model.specs.Names.{same_name, is_among}
 use Rattle.cw_model.specs.Ownership.{Holder, SpawnIn, CutOf, Taken, freed, cut_ended}
-use Rattle.cw_types.specs.Resolved.{Locals, slot_of}
-use Rattle.cw_types.specs.Resolved as spec
+use Rattle.cw_tree.specs.Resolved.{Locals, slot_of}
+use Rattle.cw_tree.specs.Resolved as spec
+use Rattle.cw_tree.specs.lemmas.NamedSlots.{turned, one_slot}
 use Rattle.cw_own.specs.Sets.{Slots, with_slot, without_slot, either, Row, no_local, with_int, with_array, either_row}
 use Rattle.cw_own.proofs.Words.{or_none, or_all, and_all, and_none, or_group}
 use Rattle.cw_own.proofs.Laws.{same_rows}
 use Rattle.cw_own.proofs.Holding.{held, is_cut, but_spawn, but_cut, held_append, held_freed, uncut_test, held_uncut, held_same}
-use Rattle.cw_own.proofs.Showing.{turned, one_slot, Shows, shows_as, shows_row, shows_either, shows_int, shows_array, shows_push_int, shows_push_array}
+use Rattle.cw_own.proofs.Showing.{Shows, shows_as, shows_row, shows_either, shows_int, shows_array, shows_push_int, shows_push_array}
 
 -- what holders of a kind hold, of spawns of a sync block and of cuts
 abbrev pub part : (Holder → Bool) → ℕ → Row → Slots → Row

@@ -5,12 +5,13 @@ use Rattle.std.proofs.lemmas.Slice.Eq.{bytes_eq-Decides}
 use Rattle.cw_model.specs.Syntax.{Name, Program}
 use Rattle.cw_model.specs.Names.{same_name, is_among}
 use Rattle.cw_model.specs.Typing.{Known, is_int, is_array, is_new, globals}
-use Rattle.cw_types.specs.Resolved.{Locals, slot_of}
-use Rattle.cw_types.specs.Resolved as spec
+use Rattle.cw_tree.specs.Resolved.{Locals, slot_of}
+use Rattle.cw_tree.specs.Resolved as spec
+use Rattle.cw_tree.specs.lemmas.NamedSlots.{among_push, slot_in, slot_out}
 use Rattle.cw_own.specs.Sets.{Row, with_int, with_array, both_rows}
 use Rattle.cw_own.proofs.Words.{or_none, or_all}
 use Rattle.cw_own.proofs.Laws.{same_rows}
-use Rattle.cw_own.proofs.Showing.{among_push, known_row, Shows, slot_in, slot_out, slot_kept}
+use Rattle.cw_own.proofs.Showing.{known_row, Shows, slot_kept}
 
 -- the kinds that typing knows are those of the locals, and no name is of both
 pub record Knows (known : Known) (locals : Locals) : Type 0 where

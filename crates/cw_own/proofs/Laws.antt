@@ -1,7 +1,7 @@
 -- What is taken after a statement is what it takes where nothing is taken before it, and what it keeps of what was taken.
 use Rattle.std.proofs.Common.{◌≡◌, ℕ, Bool, true, false, not, ◌&&◌, ◌||◌, List, [], ◌∷◌, ◌==◌, Option, Some, None, refl, sym, ap, ◌∙◌}
 use Rattle.cw_model.specs.declared.syntax.CallKind.TheVariants.{Plain, Spawned}
-use Rattle.cw_types.specs.Resolved.{Use, Argument, Int, Array, Stmt, Declare, DeclareArray, Assign, AssignElement, AddTo, Call, Sync, If, IfElse, While, For, Scope, Cut, Region, Print, Return, Block, End, Then}
+use Rattle.cw_tree.specs.Resolved.{Use, Argument, Int, Array, Stmt, Declare, DeclareArray, Assign, AssignElement, AddTo, Call, Sync, If, IfElse, While, For, Scope, Cut, Region, Print, Return, Block, End, Then}
 use Rattle.cw_own.specs.Sets.{Slots, with_slot, Row, no_local, with_int, with_array, either_row, both_rows}
 use Rattle.cw_own.specs.Taken.{with_target, with_arrays, known_after, after, after_all, gain, cuts_after, cuts_after_all}
 use Rattle.cw_own.proofs.Words.{and_all, two_steps, two_ways, turn_adds, masked}

@@ -5,23 +5,24 @@ use Rattle.std.proofs.lemmas.Slice.Eq.{bytes_eq-Decides}
 use Rattle.cw_model.specs.Limits.{most_grain}
 use Rattle.cw_model.specs.Syntax.{Name, Program, Expr, Stmt, Declare, DeclareArray, Assign, AssignElement, AddTo, Call, Start, Begin, Sync, If, IfElse, While, For, Scope, Cut, Region, Print, Return, Block, End, Then}
 use Rattle.cw_model.specs.Lines.{unless, lowest}
-use Rattle.cw_model.proofs.Lowest.{lowest-append, lowest-swap}
+use Rattle.cw_model.specs.lemmas.Lowest.{lowest-append, lowest-swap}
 use Rattle.cw_model.specs.Names.{same_name, is_among, differ}
 use Rattle.cw_model.specs.Typing.{Known, Returns, Nowhere, WithInt, Alone, is_int, is_array, is_new, is_fine, may_return, is_reducer, called, is_call, declares, surely_returns, ends_block, is_head_of_loop, is_cut, faults_in, faults_in_block}
 use Rattle.cw_model.specs.Ownership as own
 use Rattle.cw_model.specs.Ownership.{CutOf, Taken, is_taken, freed, Around, InLoop, for_head, may_read, may_write, are_free, may_index, left_taken, Declared, declared_by, Closing, Joins, Leaves, taken_after, taken_after_all, owner_faults, owner_faults_in}
-use Rattle.cw_types.specs.Resolved.{Locals, Lists, slot_of, use_of}
-use Rattle.cw_types.specs.Resolved as spec
+use Rattle.cw_model.specs.lemmas.Kept.{both_left, both_right, left_none, right_none, kept}
+use Rattle.cw_tree.specs.Resolved.{Locals, Lists, slot_of, use_of}
+use Rattle.cw_tree.specs.Resolved as spec
+use Rattle.cw_tree.specs.lemmas.NamedSlots.{among_push}
 use Rattle.cw_own.specs.Sets.{Slots, no_slot, with_slot, Row, no_local, with_int, with_array, either_row}
 use Rattle.cw_own.specs.Taken as rows
 use Rattle.cw_own.specs.Taken.{int_taken, array_taken, known_after, after, after_all, cuts_after, cuts_after_all, gain}
 use Rattle.cw_own.specs.Rules as rules
 use Rattle.cw_own.specs.Rules.{Loop, with_uses, keeps, left_line, left_lines, left_at_end, seen_by, lines_within, lines_in}
-use Rattle.cw_own.proofs.Small.{both_left, both_right, left_none, right_none, kept}
 use Rattle.cw_own.proofs.Words.{if_or, or_none, or_all}
 use Rattle.cw_own.proofs.Laws.{no_more}
 use Rattle.cw_own.proofs.Holding.{held, any_holder, taken_is}
-use Rattle.cw_own.proofs.Showing.{Shows, shows_as, shows_row, shows_none, shows_int, shows_array, shows_push_int, shows_push_array, int_shown, array_shown, known_row, among_push, slot_kept}
+use Rattle.cw_own.proofs.Showing.{Shows, shows_as, shows_row, shows_none, shows_int, shows_array, shows_push_int, shows_push_array, int_shown, array_shown, known_row, slot_kept}
 use Rattle.cw_own.proofs.Knowing.{Knows, Fresh, fresh_name, array_apart, knows_int, knows_array, known_int, known_array}
 use Rattle.cw_own.proofs.Following.{all_of, Holds, Steady, entered, steady_inside, holds_freed, holds_inside, holds_push_int, holds_push_array, holds_cut}
 use Rattle.cw_own.proofs.Ending.{all_locals}

@@ -5,10 +5,10 @@ use Rattle.std.proofs.lemmas.Bool.{eqb-true}
 use Rattle.std.proofs.lemmas.Slice.Eq.{bytes_eq-Decides}
 use Rattle.cw_model.specs.Syntax.{Name}
 use Rattle.cw_model.specs.Names.{is_among}
-use Rattle.cw_types.specs.Resolved.{Use, Listed, Expr, Number, Variable, Element, Length, Negative, Not, Binary, Argument, Int, Array, Head, Parts, Stmt, Declare, DeclareArray, Assign, AssignElement, AddTo, Call, Sync, If, IfElse, While, For, Scope, Cut, Region, Print, Return, Block, End, Then, Function, Resolved, Lists, Locals, slot_of, use_of, next_use, listed_in, with_int, with_array, resolved_expr, resolved_argument, locals_after, captured_in, loop_of, parts_of, resolved_stmt, resolved_block, locals_of, lists_of, tags_of, ints_in_block, arrays_in_block, plain_expr, plain_argument, plain_stmt, plain_block, plain}
-use Rattle.cw_types.specs.Slots.{is_use, is_next, is_listed, same_uses, same_names, is_right_expr, is_right_argument, is_right_target, is_right_return, is_right_head, is_right_cut, is_right_stmt, is_right_block, is_right_function, is_resolved}
+use Rattle.cw_tree.specs.Resolved.{Use, Listed, Expr, Number, Variable, Element, Length, Negative, Not, Binary, Argument, Int, Array, Head, Parts, Stmt, Declare, DeclareArray, Assign, AssignElement, AddTo, Call, Sync, If, IfElse, While, For, Scope, Cut, Region, Print, Return, Block, End, Then, Function, Resolved, Lists, Locals, slot_of, use_of, next_use, listed_in, with_int, with_array, resolved_expr, resolved_argument, locals_after, captured_in, loop_of, parts_of, resolved_stmt, resolved_block, locals_of, lists_of, tags_of, ints_in_block, arrays_in_block, plain_expr, plain_argument, plain_stmt, plain_block, plain}
+use Rattle.cw_tree.specs.Slots.{is_use, is_next, is_listed, same_uses, same_names, is_right_expr, is_right_argument, is_right_target, is_right_return, is_right_head, is_right_cut, is_right_stmt, is_right_block, is_right_function, is_resolved}
 use Rattle.cw_model.specs.Answers.{main_name}
-use Rattle.cw_own.proofs.Small.{both_left, both_right}
+use Rattle.cw_model.specs.lemmas.Kept.{both_left, both_right}
 
 use_is : (names : List Name) (u : Use) → is_use names u ≡ true → u ≡ use_of names u.name
 use_is names u h = let p : u.slot ≡ slot_of u.name names = eqb-true _ _ h in λ i. record { name = u.name; slot = p i }

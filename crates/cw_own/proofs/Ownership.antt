@@ -8,12 +8,11 @@ use Rattle.cw_model.specs.Syntax as model
 use Rattle.cw_model.specs.Answers.{main_name}
 use Rattle.cw_model.specs.Typing.{WithInt, Alone, globals, block_returns, known_of, is_head, faults_of, faults_in_block, repeated_names, type_faults}
 use Rattle.cw_model.specs.Ownership.{NoLoop, Joins, owner_faults_of, ownership_faults}
-use Rattle.cw_types.specs.Resolved.{Function, Resolved, Lists, locals_of, lists_of, resolved_block, plain, plain_function}
-use Rattle.cw_types.specs.Slots.{is_right_function, is_resolved}
+use Rattle.cw_tree.specs.Resolved.{Function, Resolved, Lists, locals_of, lists_of, resolved_block, plain, plain_function}
+use Rattle.cw_tree.specs.Slots.{is_right_function, is_resolved}
 use Rattle.cw_own.specs.Sets.{no_slot, no_local}
 use Rattle.cw_own.specs.Taken.{nothing, with_params}
 use Rattle.cw_own.specs.Rules.{block_lines, function_lines}
-use Rattle.cw_own.proofs.Small.{both_left, both_right, left_none, right_none, kept}
 use Rattle.cw_own.proofs.Showing.{shows_none}
 use Rattle.cw_own.proofs.Beginning.{head_row, head_known, head_names}
 use Rattle.cw_own.proofs.Lines.{Same, same_append, block_whole}
@@ -22,6 +21,7 @@ use Rattle.cw_own.proofs.Holding as holding
 use Rattle.cw_own.proofs.Showing as showing
 use Rattle.cw_own.proofs.Following as following
 use Rattle.cw_model.specs.Ownership.{Holder, SpawnIn, CutOf}
+use Rattle.cw_model.specs.lemmas.Kept.{both_left, both_right, left_none, right_none, kept}
 use Rattle.cw_own.proofs.Laws.{same_rows}
 use Rattle.cw_own.proofs.Looked.{body_is, all_right}
 

@@ -6,15 +6,16 @@ use Rattle.cw_model.specs.Names.{same_name, is_among, differ}
 use Rattle.cw_model.specs.Answers.{main_name}
 use Rattle.cw_model.specs.Typing.{Known, is_int, is_array, is_argument, are_arguments, is_target, is_call, called}
 use Rattle.cw_model.specs.Ownership.{Taken, is_taken, names_in, arrays_given, given, target_names, Around, is_outer, may_read, may_write}
-use Rattle.cw_types.specs.Resolved.{Locals, slot_of, use_of, resolved_argument}
-use Rattle.cw_types.specs.Resolved as spec
+use Rattle.cw_model.specs.lemmas.Kept.{both_left, both_right}
+use Rattle.cw_tree.specs.Resolved.{Locals, slot_of, use_of, resolved_argument}
+use Rattle.cw_tree.specs.Resolved as spec
+use Rattle.cw_tree.specs.lemmas.NamedSlots.{turned}
 use Rattle.cw_own.specs.Sets.{Slots, no_slot, with_slot, Row}
 use Rattle.cw_own.specs.Taken as rows
 use Rattle.cw_own.specs.Rules as rules
 use Rattle.cw_own.specs.Rules.{Loop, passed_once, named_once}
-use Rattle.cw_own.proofs.Small.{both_left, both_right}
 use Rattle.cw_own.proofs.Words.{if_or, and_all, and_group, four_and}
-use Rattle.cw_own.proofs.Showing.{turned, Shows, shows_as, shows_none, shows_array, array_shown}
+use Rattle.cw_own.proofs.Showing.{Shows, shows_as, shows_none, shows_array, array_shown}
 use Rattle.cw_own.proofs.Knowing.{Knows, array_apart}
 use Rattle.cw_own.proofs.After.{int_argument, array_argument, called_is}
 use Rattle.cw_own.proofs.Wording.{Sees, Rounds, read_same, write_same, pass_same}

@@ -3,12 +3,12 @@ use Rattle.std.proofs.Common.{◌≡◌, ℕ, Bool, true, false, not, ◌&&◌, 
 use Rattle.cw_model.specs.Syntax.{Program, Stmt, Declare, DeclareArray, Assign, AssignElement, AddTo, Call, Start, Begin, Sync, If, IfElse, While, For, Scope, Cut, Region, Print, Return, Block, End, Then}
 use Rattle.cw_model.specs.Lines.{unless}
 use Rattle.cw_model.specs.Typing.{Known, Nowhere, is_fine, declares, surely_returns, block_returns, ends_block, faults_in, faults_in_block}
-use Rattle.cw_types.specs.Resolved.{Locals, Lists}
-use Rattle.cw_types.specs.Resolved as spec
+use Rattle.cw_model.specs.lemmas.Kept.{both_left, both_right, left_none, right_none}
+use Rattle.cw_tree.specs.Resolved.{Locals, Lists}
+use Rattle.cw_tree.specs.Resolved as spec
 use Rattle.cw_own.specs.Sets.{Row, no_local, either_row, both_rows}
 use Rattle.cw_own.specs.Taken.{after, after_all, known_after}
 use Rattle.cw_own.proofs.Words.{and_none}
-use Rattle.cw_own.proofs.Small.{both_left, both_right, left_none, right_none}
 use Rattle.cw_own.proofs.Laws.{same_rows}
 
 pub none_known : (known : Row) → both_rows known no_local ≡ no_local

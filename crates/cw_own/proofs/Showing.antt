@@ -1,75 +1,13 @@
 -- Sets of names, shown by rows of slots.
 use Rattle.std.proofs.Common.{◌≡◌, ℕ, suc, ◌<◌, ◌≤◌, ◌==◌, nat_lt, Bool, true, false, ◌||◌, if◌then◌else◌, List, [], ◌∷◌, ◌++◌, length, refl, sym, ap, ◌∙◌, arith, length-append}
 use Rattle.std.proofs.lemmas.Bool.Decides.{nat_tests}
-use Rattle.std.proofs.lemmas.Slice.Eq.{bytes_eq-Decides}
 use Rattle.cw_model.specs.Syntax.{Name}
 use Rattle.cw_model.specs.Names.{same_name, is_among}
-use Rattle.cw_types.specs.Resolved.{Locals, slot_of}
-use Rattle.cw_types.specs.Resolved as spec
+use Rattle.cw_tree.specs.Resolved.{Locals, slot_of}
+use Rattle.cw_tree.specs.Resolved as spec
+use Rattle.cw_tree.specs.lemmas.NamedSlots.{one_slot, slot_in, slot_out}
 use Rattle.cw_own.specs.Sets.{Slots, Row, no_local, with_int, with_array, either_row}
-use Rattle.cw_own.proofs.Words.{if_or, or_none, four_or, or_group}
-
-pub turned : (x y : Name) → same_name x y ≡ same_name y x
-turned x y = one (same_name x y) (same_name y x) (bytes_eq-Decides x y).0 (bytes_eq-Decides x y).1 (bytes_eq-Decides y x).0 (bytes_eq-Decides y x).1
-  where
-    one : (a b : Bool) → (a ≡ true → x ≡ y) → (x ≡ y → a ≡ true) → (b ≡ true → y ≡ x) → (y ≡ x → b ≡ true) → a ≡ b
-    one true true f g h i = refl
-    one false false f g h i = refl
-    one true false f g h i = sym (i (sym (f refl)))
-    one false true f g h i = g (sym (h refl))
-
-suc_same : (m n : ℕ) → (suc m == suc n) ≡ (m == n)
-suc_same m n = grind (arith, nat_tests)
-
-suc_not : (m : ℕ) → (suc m == 0) ≡ false
-suc_not m = grind (arith, nat_tests)
-
-not_suc : (m : ℕ) → (0 == suc m) ≡ false
-not_suc m = grind (arith, nat_tests)
-
-same_as_third : (x y z : Name) → same_name x z ≡ true → same_name y z ≡ same_name y x
-same_as_third x y z h = ap (λ w. same_name y w) (sym ((bytes_eq-Decides x z).0 h))
-
-not_same : (x y z : Name) → same_name z y ≡ true → same_name x y ≡ false → same_name z x ≡ false
-not_same x y z ea eb = turned z x ∙ ap (λ w. same_name x w) ((bytes_eq-Decides z y).0 ea) ∙ eb
-
--- two names have one slot where they are one, if one of them is known
-pub one_slot : (z x : Name) (names : List Name) → is_among x names ≡ true → (slot_of z names == slot_of x names) ≡ same_name z x
-one_slot z x [] h = cc
-one_slot z x (y ∷ names) h = first (same_name z y) (same_name x y) refl refl (one_slot z x names) h
-  where
-    first : (a b : Bool) → same_name z y ≡ a → same_name x y ≡ b → (is_among x names ≡ true → (slot_of z names == slot_of x names) ≡ same_name z x) →
-        (if b then true else is_among x names) ≡ true → ((if a then 0 else suc (slot_of z names)) == (if b then 0 else suc (slot_of x names))) ≡ same_name z x
-    first true true ea eb h g = sym (sym (same_as_third x z y eb) ∙ ea)
-    first true false ea eb h g = not_suc (slot_of x names) ∙ sym (not_same x y z ea eb)
-    first false true ea eb h g = suc_not (slot_of z names) ∙ sym (sym (same_as_third x z y eb) ∙ ea)
-    first false false ea eb h g = suc_same (slot_of z names) (slot_of x names) ∙ h g
-
--- a name that is known has a slot below, and another none
-pub slot_in : (x : Name) (names : List Name) → is_among x names ≡ true → slot_of x names < length names
-slot_in x [] h = cc
-slot_in x (y ∷ names) h = first (same_name x y) (slot_in x names) h
-  where
-    first : (b : Bool) → (is_among x names ≡ true → slot_of x names < length names) → (if b then true else is_among x names) ≡ true → (if b then 0 else suc (slot_of x names)) < suc (length names)
-    first true f g = omega arith
-    first false f g = let e = f g in omega (arith, e)
-
-pub slot_out : (x : Name) (names : List Name) → is_among x names ≡ false → slot_of x names ≡ length names
-slot_out x [] h = refl
-slot_out x (y ∷ names) h = first (same_name x y) (slot_out x names) h
-  where
-    first : (b : Bool) → (is_among x names ≡ false → slot_of x names ≡ length names) → (if b then true else is_among x names) ≡ false → (if b then 0 else suc (slot_of x names)) ≡ suc (length names)
-    first true f g = cc
-    first false f g = ap suc (f g)
-
-pub among_push : (x : Name) (names : List Name) (y : Name) → is_among x (names ++ y ∷ []) ≡ (is_among x names || same_name x y)
-among_push x [] y = if_or (same_name x y) false ∙ or_none (same_name x y)
-among_push x (z ∷ names) y = first (same_name x z) (among_push x names y)
-  where
-    first : (b : Bool) → is_among x (names ++ y ∷ []) ≡ (is_among x names || same_name x y) →
-        (if b then true else is_among x (names ++ y ∷ [])) ≡ ((if b then true else is_among x names) || same_name x y)
-    first true h = refl
-    first false h = h
+use Rattle.cw_own.proofs.Words.{or_none, four_or, or_group}
 
 -- a known name keeps its slot
 pub slot_kept : (x : Name) (names : List Name) (y : Name) → is_among x names ≡ true → slot_of x (names ++ y ∷ []) ≡ slot_of x names

@@ -2,7 +2,7 @@
 use Rattle.std.proofs.Common.{◌≡◌, ℕ, zero, suc, List, [], ◌∷◌, ◌++◌, length, drop, map, slice_set, refl, sym, ap, ◌∙◌}
 use Rattle.cw_own.specs.declared.row.Row as code
 use Rattle.cw_own.specs.Sets.{Row, row_of}
-use Rattle.cw_types.specs.Resolved.{Stmt, Declare, DeclareArray, Assign, AssignElement, AddTo, Call, Sync, If, IfElse, While, For, Scope, Cut, Region, Print, Return}
+use Rattle.cw_tree.specs.Resolved.{Stmt, Declare, DeclareArray, Assign, AssignElement, AddTo, Call, Sync, If, IfElse, While, For, Scope, Cut, Region, Print, Return}
 use Rattle.cw_own.specs.Taken.{Taken, BeginWith, taken_after, left_by}
 use Rattle.cw_own.specs.Rules.{seen_by}
 

@@ -5,16 +5,17 @@ use Rattle.cw_model.specs.Syntax.{Name, Expr, Number, Variable, Element, Length,
 use Rattle.cw_model.specs.Names.{same_name, is_among}
 use Rattle.cw_model.specs.Typing.{Known, is_int, is_array, is_fine}
 use Rattle.cw_model.specs.Ownership.{Taken, is_taken, names_in, Around, NoLoop, InLoop, for_head, is_outer, may_index, keeps_loop, are_free, may_read, may_write}
-use Rattle.cw_types.specs.Resolved.{Locals, slot_of, resolved_expr}
-use Rattle.cw_types.specs.Resolved as spec
+use Rattle.cw_model.specs.lemmas.Kept.{both_left, both_right}
+use Rattle.cw_tree.specs.Resolved.{Locals, slot_of, resolved_expr}
+use Rattle.cw_tree.specs.Resolved as spec
+use Rattle.cw_tree.specs.lemmas.NamedSlots.{one_slot, among_push}
 use Rattle.cw_own.specs.Sets.{no_slot, Row}
 use Rattle.cw_own.specs.Taken as rows
 use Rattle.cw_own.specs.Taken.{int_taken, array_taken}
 use Rattle.cw_own.specs.Rules as rules
 use Rattle.cw_own.specs.Rules.{Loop, is_outer_int, is_outer_array}
-use Rattle.cw_own.proofs.Small.{both_left, both_right}
 use Rattle.cw_own.proofs.Words.{or_none, or_group}
-use Rattle.cw_own.proofs.Showing.{one_slot, slot_kept, among_push, Shows, shows_none, shows_push_int, shows_push_array, int_shown, array_shown}
+use Rattle.cw_own.proofs.Showing.{slot_kept, Shows, shows_none, shows_push_int, shows_push_array, int_shown, array_shown}
 use Rattle.cw_own.proofs.Knowing.{Knows, array_apart}
 
 -- the row of what is taken

@@ -3,7 +3,7 @@ use Rattle.std.specs.Prelude.{ℕ, ◌==◌, Bool, true, false, not, ◌&&◌, �
 use Rattle.std.specs.List.{list_all}
 use Rattle.cw_model.specs.Lines.{unless}
 use Rattle.cw_model.specs.Ownership.{Closing, Joins, Leaves}
-use Rattle.cw_types.specs.Resolved.{Use, Expr, Number, Variable, Element, Length, Negative, Not, Binary, Argument, Int, Array, Stmt, Declare, DeclareArray, Assign, AssignElement, AddTo, Call, Sync, If, IfElse, While, For, Scope, Cut, Region, Print, Return, Head, Block, End, Then, Function}
+use Rattle.cw_tree.specs.Resolved.{Use, Expr, Number, Variable, Element, Length, Negative, Not, Binary, Argument, Int, Array, Stmt, Declare, DeclareArray, Assign, AssignElement, AddTo, Call, Sync, If, IfElse, While, For, Scope, Cut, Region, Print, Return, Head, Block, End, Then, Function}
 use Rattle.cw_own.specs.declared.around.Loop as code
 use Rattle.cw_own.specs.Sets.{Slots, no_slot, with_slot, slots_of, Row, no_local, with_int, either_row, row_of}
 use Rattle.cw_own.specs.Taken.{Taken, nothing, int_taken, array_taken, inside, inside_cut, joined, with_parts, known_after, taken_after, taken_after_all, gain, with_params}

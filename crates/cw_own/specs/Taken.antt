@@ -3,7 +3,7 @@
 use Rattle.std.specs.Prelude.{◌≡◌, ℕ, length, drop, Bool, ◌||◌, List, [], ◌∷◌, ◌++◌, ◌+◌, if◌then◌else◌, Option, Some, None}
 use Rattle.cw_model.specs.declared.syntax.CallKind.{CallKind}
 use Rattle.cw_model.specs.declared.syntax.CallKind.TheVariants.{Plain, Spawned}
-use Rattle.cw_types.specs.Resolved.{Use, Parts, Argument, Int, Array, Stmt, Declare, DeclareArray, Call, Sync, If, IfElse, While, For, Scope, Cut, Region, Return, Block, End, Then}
+use Rattle.cw_tree.specs.Resolved.{Use, Parts, Argument, Int, Array, Stmt, Declare, DeclareArray, Call, Sync, If, IfElse, While, For, Scope, Cut, Region, Return, Block, End, Then}
 use Rattle.cw_model.specs.Syntax.{Param}
 use Rattle.cw_own.specs.declared.taken.Taken as code
 use Rattle.cw_own.specs.Sets.{Slots, no_slot, with_slot, without_slot, either, slots_of, Row, no_local, with_int, with_array, either_row, both_rows, row_of}

@@ -5,14 +5,14 @@ use Rattle.cw_model.specs.declared.syntax.CallKind.{CallKind}
 use Rattle.cw_model.specs.Lines.{lowest}
 use Rattle.cw_model.specs.Ownership.{Joins, Leaves}
 use Rattle.cw_text.specs.declared.least.LeastLine.{LeastLine}
-use Rattle.cw_types.specs.declared.tree.Use as code_use
-use Rattle.cw_types.specs.declared.tree.Expr as code_expr
-use Rattle.cw_types.specs.declared.tree.Argument as code_argument
-use Rattle.cw_types.specs.declared.tree.Stmt as code_stmt
-use Rattle.cw_types.specs.declared.tree.Line as code_line
-use Rattle.cw_types.specs.declared.tree.Function as code_function
-use Rattle.cw_types.specs.Resolved.{Use, Expr, Block}
-use Rattle.cw_types.specs.View.{use_of, expr_of, argument_of, stmt_of, block_of, function_of}
+use Rattle.cw_tree.specs.declared.resolved.Use as code_use
+use Rattle.cw_tree.specs.declared.resolved.Expr as code_expr
+use Rattle.cw_tree.specs.declared.resolved.Argument as code_argument
+use Rattle.cw_tree.specs.declared.resolved.Stmt as code_stmt
+use Rattle.cw_tree.specs.declared.resolved.Line as code_line
+use Rattle.cw_tree.specs.declared.resolved.Function as code_function
+use Rattle.cw_tree.specs.Resolved.{Use, Expr, Block}
+use Rattle.cw_tree.specs.ResolvedView.{use_of, expr_of, argument_of, stmt_of, block_of, function_of}
 use Rattle.cw_own.specs.declared.bits.Bits as code_bits
 use Rattle.cw_own.specs.declared.row.Row as code_row
 use Rattle.cw_own.specs.declared.taken.Taken as code_taken

@@ -2,7 +2,7 @@
 
 ghost use Rattle.std.specs.Prelude.{◌≡◌, map, true};
 ghost use Rattle.std.specs.List.{list_all};
-ghost use Rattle.cw_types.specs.View.{use_of, head_of};
+ghost use Rattle.cw_tree.specs.ResolvedView.{use_of, head_of};
 ghost use Rattle.cw_own.specs.Bounds.{is_small};
 ghost use Rattle.cw_own.specs.Sets.{row_of};
 ghost use Rattle.cw_own.specs.Rules.{loop_of, loop_in, with_uses, for_head};
@@ -11,7 +11,7 @@ ghost use Rattle.cw_own.specs.Views.{set_of, around_of};
 
 use crate::bits::Bits;
 use crate::row::Row;
-use cw_types::tree::{Head, Use};
+use cw_tree::resolved::{Head, Use};
 
 /// A loop: the locals from outside its body and its variable, the slot of that, and the arrays of the loop.
 #[derive(Clone, Copy, Debug)]

@@ -6,7 +6,7 @@
 
 ghost use Rattle.std.specs.Prelude.{◌≡◌, ◌∷◌, [], length, slice_set, map, true};
 ghost use Rattle.std.specs.List.{list_all};
-ghost use Rattle.cw_types.specs.View.{argument_of, stmt_of, block_of};
+ghost use Rattle.cw_tree.specs.ResolvedView.{argument_of, stmt_of, block_of};
 ghost use Rattle.cw_own.specs.Bounds.{small_target, small_argument, small_stmt, small_block};
 ghost use Rattle.cw_own.specs.Sets.{row_of, no_local};
 ghost use Rattle.cw_own.specs.Grown.{Grown};
@@ -17,7 +17,7 @@ ghost use Rattle.cw_own.specs.Views.{turns_of_other, turns_of_while};
 
 use crate::row::Row;
 use cw_model::syntax::CallKind;
-use cw_types::tree::{Argument, Line, Stmt, Use};
+use cw_tree::resolved::{Argument, Line, Stmt, Use};
 use std::alloc::Global;
 
 // With the integer that a result goes to, if there is one.

@@ -1,9 +1,9 @@
 //! Trees that keep ownership.
 
 ghost use Rattle.cw_model.specs.Ownership.{KeepsOwnership};
-ghost use Rattle.cw_types.specs.View.{program_of};
+ghost use Rattle.cw_tree.specs.ResolvedView.{program_of};
 
-use cw_types::Typed;
+use cw_tree::Typed;
 
 /// A tree that keeps every rule of names, types and ownership.
 #[derive(Drop, Debug)]

@@ -3,7 +3,7 @@
 ghost use Rattle.std.specs.Prelude.{◌≡◌, ◌≤◌, length, map, true, MatchResult, OnOk};
 ghost use Rattle.std.specs.List.{list_all};
 ghost use Rattle.cw_model.specs.Limits.{most_parameters};
-ghost use Rattle.cw_types.specs.View.{program_of, param_of, function_of};
+ghost use Rattle.cw_tree.specs.ResolvedView.{program_of, param_of, function_of};
 ghost use Rattle.cw_own.specs.Bounds.{small_function};
 ghost use Rattle.cw_own.specs.Faults.{BreaksOwnership};
 ghost use Rattle.cw_own.specs.Sets.{row_of, no_local};
@@ -16,8 +16,8 @@ use crate::row::Row;
 use crate::rules::{Turns, note_sync_block};
 use crate::taken::Taken;
 use cw_text::{Fault, LeastLine, Place};
-use cw_types::Typed;
-use cw_types::tree::{Function, Param};
+use cw_tree::Typed;
+use cw_tree::resolved::{Function, Param};
 use std::alloc::{AllocError, Global};
 
 /// The same tree, which keeps ownership.

@@ -2,7 +2,7 @@
 
 ghost use Rattle.std.specs.Prelude.{◌≡◌, map, true};
 ghost use Rattle.std.specs.List.{list_all};
-ghost use Rattle.cw_types.specs.View.{use_of, expr_of, argument_of, head_of, stmt_of};
+ghost use Rattle.cw_tree.specs.ResolvedView.{use_of, expr_of, argument_of, head_of, stmt_of};
 ghost use Rattle.cw_own.specs.Bounds.{is_small, small_argument, small_stmt};
 ghost use Rattle.cw_own.specs.Sets.{no_slot};
 ghost use Rattle.cw_own.specs.Taken.{taken_of};
@@ -14,7 +14,7 @@ ghost use Rattle.cw_own.specs.Views.{around_of, used, returned, may_give_all, ma
 use crate::around::{Loop, for_head, is_outer_array, is_outer_int};
 use crate::bits::Bits;
 use crate::taken::Taken;
-use cw_types::tree::{Argument, Expr, Head, Stmt, Use};
+use cw_tree::resolved::{Argument, Expr, Head, Stmt, Use};
 
 // Whether an expression is this integer alone.
 fn is_variable(slot: u32, e: &Expr) -> bool

@@ -1,7 +1,7 @@
 //! Which lines break a rule of ownership.
 
 ghost use Rattle.std.specs.Prelude.{◌≡◌, ◌∷◌, ◌<◌, length, drop, true};
-ghost use Rattle.cw_types.specs.View.{stmt_of, block_of};
+ghost use Rattle.cw_tree.specs.ResolvedView.{stmt_of, block_of};
 ghost use Rattle.cw_own.specs.Bounds.{small_stmt, small_block};
 ghost use Rattle.cw_own.specs.Sets.{row_of};
 ghost use Rattle.cw_own.specs.Taken.{taken_of, BeginWith};
@@ -18,7 +18,7 @@ use crate::reading::keeps;
 use crate::row::Row;
 use crate::taken::Taken;
 use cw_text::LeastLine;
-use cw_types::tree::{Line, Stmt};
+use cw_tree::resolved::{Line, Stmt};
 
 /// What one turn of each `while` takes that is still to come, in order.
 #[derive(Drop)]

@@ -5,7 +5,7 @@ use Rattle.cw_model.specs.Lines.{unless}
 use Rattle.cw_model.specs.Limits.{most_open_brackets, most_tokens_in_a_row}
 use Rattle.cw_model.specs.Sizes.{token_faults, open_after, row_after}
 use Rattle.cw_model.specs.Lines.{lowest}
-use Rattle.cw_model.proofs.Lowest.{lowest-append}
+use Rattle.cw_model.specs.lemmas.Lowest.{lowest-append}
 
 pub one_token : (o : Option ℕ) (opened row : ℕ) (t : Token) (ts : List Token) →
     lowest o (token_faults opened row (t ∷ ts)) ≡

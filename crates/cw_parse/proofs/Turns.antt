@@ -7,7 +7,7 @@ use Rattle.cw_parse.specs.declared.marks.Mark.{Mark}
 use Rattle.cw_parse.specs.Marks.{is_mark, past}
 use Rattle.cw_model.specs.Syntax.{Name, Param, End}
 use Rattle.cw_parse.specs.declared.marks.Mark.TheVariants as mark
-use Rattle.cw_parse.specs.View.{block_from}
+use Rattle.cw_tree.specs.SyntaxView.{block_from}
 use Rattle.cw_parse.specs.Parts.{add_front, Line, put_before, array, single, behind_name}
 use Rattle.cw_parse.specs.Reading.{Read, Reader, ◌>>=◌, Fails, if_next, row, pile, with_front}
 

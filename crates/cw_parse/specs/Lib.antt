@@ -1,4 +1,3 @@
-pub mod View
 pub mod Reading
 pub mod Marks
 pub mod Parts

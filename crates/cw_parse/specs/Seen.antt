@@ -3,14 +3,14 @@ use Rattle.std.specs.Prelude.{◌≡◌, map}
 use Rattle.cw_model.specs.Grammar.{Head}
 use Rattle.cw_model.specs.Syntax as model
 use Rattle.cw_model.specs.Syntax.{Name}
-use Rattle.cw_parse.specs.declared.tree.Expr.{Expr}
-use Rattle.cw_parse.specs.declared.tree.Head as code
-use Rattle.cw_parse.specs.declared.tree.Ast.{Ast}
+use Rattle.cw_tree.specs.declared.syntax.Expr.{Expr}
+use Rattle.cw_tree.specs.declared.syntax.Head as code
+use Rattle.cw_tree.specs.declared.syntax.Ast.{Ast}
 use Rattle.cw_parse.specs.declared.opening.Opening.{Opening}
 use Rattle.cw_parse.specs.declared.opening.Opening.TheVariants as opening
 use Rattle.cw_parse.specs.declared.item.Item.{Item}
 use Rattle.cw_parse.specs.declared.item.Item.TheVariants as item
-use Rattle.cw_parse.specs.View.{expr_of, function_of, reducer_of}
+use Rattle.cw_tree.specs.SyntaxView.{expr_of, function_of, reducer_of}
 use Rattle.cw_parse.specs.Parts as part
 
 -- the head of a loop

@@ -2,16 +2,16 @@
 
 ghost use Rattle.std.specs.Prelude.{◌≡◌, ◌-◌, ◌<◌, option_map, IfOk};
 ghost use Rattle.cw_model.specs.Grammar.{name_of, infix_of};
-ghost use Rattle.cw_parse.specs.View.{expr_of};
+ghost use Rattle.cw_tree.specs.SyntaxView.{expr_of};
 ghost use Rattle.cw_parse.specs.Reading.{Parses};
 ghost use Rattle.cw_parse.specs.Parts.{unindexed, element, named, measured, atom_from, operand_from, operand_over, operator_at, chain_above, operand, level, expr};
 
 use crate::input::{Read, Reading};
 use crate::marks::{Mark, expect, past};
 use crate::stop::Stop;
-use crate::tree::{Expr, Name};
 use cw_model::syntax::Operator;
 use cw_model::token::{Kind, Token};
+use cw_tree::syntax::{Expr, Name};
 use std::alloc::AllocError;
 
 /// The level of the operators that bind least.

@@ -3,7 +3,7 @@
 ghost use Rattle.std.specs.Prelude.{◌≡◌, ◌+◌, ◌<◌, ◌^◌, [], length, MatchResult};
 ghost use Rattle.cw_parse.specs.declared.stop.Stop.TheVariants.{Memory};
 ghost use Rattle.cw_model.specs.Syntax as model;
-ghost use Rattle.cw_parse.specs.View.{param_of, function_of, reducer_of, numbered};
+ghost use Rattle.cw_tree.specs.SyntaxView.{param_of, function_of, reducer_of, numbered};
 ghost use Rattle.cw_parse.specs.Seen.{item_of, items_of, IsPushed};
 ghost use Rattle.cw_parse.specs.Reading.{Gives, Parses, by_first};
 ghost use Rattle.cw_parse.specs.Parts.{array, single, behind_name, param, reducer, function, item, whole};
@@ -14,8 +14,8 @@ use crate::list::{Part, list};
 use crate::marks::{Mark, expect, past};
 use crate::stmt::lines;
 use crate::stop::Stop;
-use crate::tree::{Ast, Function, Name, Param, Reducer};
 use cw_model::token::{Kind, Token};
+use cw_tree::syntax::{Ast, Function, Name, Param, Reducer};
 
 // An array parameter behind its opening bracket.
 fn array<'a>(name: Name, tokens: &'a [Token]) -> Read<'a, Param>

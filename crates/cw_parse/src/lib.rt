@@ -13,6 +13,5 @@ mod parser;
 mod simple;
 mod stmt;
 mod stop;
-pub mod tree;
 
 pub use parser::parse;

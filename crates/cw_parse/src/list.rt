@@ -3,15 +3,15 @@
 ghost use Rattle.std.specs.Prelude.{ℕ, List, map};
 ghost use Rattle.cw_parse.specs.Reading.{Gives, Parses, Reader};
 ghost use Rattle.cw_parse.specs.Parts.{further, others_behind, some_of, list, name, expr};
-ghost use Rattle.cw_parse.specs.View.{expr_of};
+ghost use Rattle.cw_tree.specs.SyntaxView.{expr_of};
 ghost use Rattle.cw_model.specs.Syntax as model;
 
 use crate::expr::{expr, name_of};
 use crate::input::{Read, Reading};
 use crate::marks::{Mark, expect, past};
 use crate::stop::Stop;
-use crate::tree::{Expr, Name};
 use cw_model::token::Token;
+use cw_tree::syntax::{Expr, Name};
 
 /// What stands between commas.
 pub(crate) trait Part: Drop + Sized {

@@ -1,7 +1,7 @@
 //! What stands in front of a block.
 
 ghost use Rattle.std.specs.Prelude.{map};
-ghost use Rattle.cw_parse.specs.View.{expr_of};
+ghost use Rattle.cw_tree.specs.SyntaxView.{expr_of};
 ghost use Rattle.cw_parse.specs.Seen.{head_of, named_expr_of, opening_of};
 ghost use Rattle.cw_parse.specs.Reading.{Gives, Parses};
 ghost use Rattle.cw_parse.specs.Parts.{condition, turns, grain, over, range_from, range_to, range_step, head, cut, region, opening};
@@ -11,8 +11,8 @@ use crate::input::{Read, Reading};
 use crate::list::some_of;
 use crate::marks::{Mark, expect, past};
 use crate::stop::Stop;
-use crate::tree::{Cut, Expr, Head, Name};
 use cw_model::token::{Kind, Token};
+use cw_tree::syntax::{Cut, Expr, Head, Name};
 
 /// What stands in front of a block.
 #[derive(Drop)]

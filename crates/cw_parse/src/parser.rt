@@ -5,16 +5,16 @@ ghost use Rattle.cw_model.specs.Limits.{most_source_bytes};
 ghost use Rattle.cw_model.specs.Text.{end_line};
 ghost use Rattle.cw_model.specs.Tokens.{IsTokenCut};
 ghost use Rattle.cw_model.specs.Grammar.{Derives, first_line};
-ghost use Rattle.cw_parse.specs.View.{program_of};
+ghost use Rattle.cw_tree.specs.SyntaxView.{program_of};
 ghost use Rattle.cw_parse.specs.Parsed.{HasNoTree, IsParsed, IsUnparsed};
 
 use crate::input::Reading;
 use crate::item::whole;
 use crate::nesting::test_nesting;
 use crate::stop::Stop;
-use crate::tree::Ast;
 use cw_model::token::Token;
 use cw_text::{Fault, Place, Source};
+use cw_tree::syntax::Ast;
 use std::alloc::Global;
 
 // The line of a text's end.

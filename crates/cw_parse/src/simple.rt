@@ -1,7 +1,7 @@
 //! Statements without a block.
 
 ghost use Rattle.std.specs.Prelude.{◌≡◌, ◌+◌, ◌<◌, ◌^◌};
-ghost use Rattle.cw_parse.specs.View.{numbered, stmt_of};
+ghost use Rattle.cw_tree.specs.SyntaxView.{numbered, stmt_of};
 ghost use Rattle.cw_parse.specs.Reading.{Parses, by_first};
 ghost use Rattle.cw_parse.specs.Parts.{is_call, called, call, assigned, element_assigned, named_stmt, declared_as, declared, returned, printed, simple};
 
@@ -10,9 +10,9 @@ use crate::input::{Read, Reading};
 use crate::list::list;
 use crate::marks::{Mark, expect, past};
 use crate::stop::Stop;
-use crate::tree::{Call, Name, Stmt};
 use cw_model::syntax::CallKind;
 use cw_model::token::{Kind, Token};
+use cw_tree::syntax::{Call, Name, Stmt};
 
 // A call after its opening parenthesis, and the number after its own.
 #[tactic(auto, unfolding(crate::specs::Parts::called))]

@@ -1,7 +1,7 @@
 //! Statements and blocks.
 
 ghost use Rattle.std.specs.Prelude.{◌+◌, ◌<◌, ◌^◌, length};
-ghost use Rattle.cw_parse.specs.View.{stmt_of, line_of, block_of, numbered};
+ghost use Rattle.cw_tree.specs.SyntaxView.{stmt_of, line_of, block_of, numbered};
 ghost use Rattle.cw_parse.specs.Seen.{opening_of};
 ghost use Rattle.cw_parse.specs.Reading.{Parses};
 ghost use Rattle.cw_parse.specs.Parts.{unanswered, framed_in, framed_from, stmt_from, line_over, line, lines};
@@ -11,8 +11,8 @@ use crate::marks::{Mark, expect, past};
 use crate::opening::{Opening, opened};
 use crate::simple::simple;
 use crate::stop::Stop;
-use crate::tree::{Line, Stmt};
 use cw_model::token::{Kind, Token};
+use cw_tree::syntax::{Line, Stmt};
 
 // A statement that was read whole: an "else" stands behind the block of an "if" alone.
 fn unanswered<'a>(stmt: Stmt, site: u32, tokens: &'a [Token]) -> Read<'a, (Stmt, u32)>

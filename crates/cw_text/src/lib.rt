@@ -8,6 +8,3 @@ pub mod source;
 pub use fault::{Fault, Place};
 pub use least::LeastLine;
 pub use source::Source;
-
-#[cfg(test)]
-mod tests;

@@ -2,10 +2,10 @@
 use Rattle.std.proofs.Common.{ℕ, take, ◌≡◌, ◌+◌, ◌≤◌, List, [], ◌∷◌, ◌++◌, length, refl, ap, length-append, arith}
 use Rattle.std.proofs.lemmas.List.{take-append-le}
 use Rattle.cw_model.specs.Syntax.{Name, Stmt, Declare, DeclareArray, Assign, AssignElement, AddTo, Call, Start, Begin, Sync, If, IfElse, While, For, Scope, Cut, Region, Print, Return}
-use Rattle.cw_types.specs.declared.tree.Line.{Line, the_lemmas}
-use Rattle.cw_types.specs.Declares.{declares_in}
-use Rattle.cw_types.specs.Resolved.{Block, End, Then, Locals, locals_after}
-use Rattle.cw_types.specs.View.{block_of, line_of, stmt_of}
+use Rattle.cw_tree.specs.declared.resolved.Line.{Line, the_lemmas}
+use Rattle.cw_tree.specs.Declares.{declares_in}
+use Rattle.cw_tree.specs.Resolved.{Block, End, Then, Locals, locals_after}
+use Rattle.cw_tree.specs.ResolvedView.{block_of, line_of, stmt_of}
 
 -- statements after statements
 abbrev pub joined : Block → Block → Block

@@ -3,11 +3,5 @@ pub mod Newest
 pub mod Noting
 pub mod Reading
 pub mod Joined
-pub mod Plain
 pub mod Pushed
-pub mod Right
-pub mod Slotted
-pub mod Looked
-pub mod Few
 pub mod Heading
-pub mod Fitting

@@ -6,12 +6,12 @@ use Rattle.cw_model.specs.Lines.{unless, lowest}
 use Rattle.cw_model.specs.Names.{same_name, is_among}
 use Rattle.cw_model.specs.Syntax.{Name, Expr, Param, Function, Program, Stmt, Declare, DeclareArray, Assign, AssignElement, AddTo, Call, Start, Begin, Sync, If, IfElse, While, For, Scope, Cut, Region, Print, Return}
 use Rattle.cw_model.specs.Typing.{Known, Returns, ends_block, faults_in, declares, called, is_argument, are_arguments, block_returns, surely_returns}
-use Rattle.cw_model.proofs.Lowest.{lowest-append}
-use Rattle.cw_parse.specs.declared.tree.Function.{Function as CodeFunction}
-use Rattle.cw_parse.specs.declared.tree.Line.{Line, the_lemmas}
-use Rattle.cw_parse.specs.View.{function_of, block_of, stmt_of}
+use Rattle.cw_model.specs.lemmas.Lowest.{lowest-append}
+use Rattle.cw_tree.specs.declared.syntax.Function.{Function as CodeFunction}
+use Rattle.cw_tree.specs.declared.syntax.Line.{Line, the_lemmas}
+use Rattle.cw_tree.specs.SyntaxView.{function_of, block_of, stmt_of}
 use Rattle.cw_types.specs.Globals.{option_function}
-use Rattle.cw_types.specs.Resolved.{slot_of, function_names}
+use Rattle.cw_tree.specs.Resolved.{slot_of, function_names}
 use Rattle.cw_types.specs.Typing.{keeps_rules, faults_inside, oldest}
 
 pub by_parts : (program : Program) (returns : Returns) (known : Known) (line : ℕ) (s : Stmt) →

@@ -6,7 +6,7 @@ use Rattle.std.specs.HashMap as hash
 use Rattle.std.specs.HashMap.{HashMap, get_by}
 use Rattle.cw_model.specs.Syntax.{Name}
 use Rattle.cw_model.specs.Names.{same_name, is_among}
-use Rattle.cw_types.specs.Resolved.{slot_of}
+use Rattle.cw_tree.specs.Resolved.{slot_of}
 use Rattle.cw_types.specs.Places.{place_of, ArePlaces}
 
 abbrev pub place_or : Option ℕ → ℕ → ℕ

@@ -1,6 +1,6 @@
 -- Uses that are read one after another.
 use Rattle.std.proofs.Common.{◌≡◌, ℕ, List, [], ◌∷◌, ◌++◌, refl}
-use Rattle.cw_types.specs.Resolved.{Use, first_uses, with_first}
+use Rattle.cw_tree.specs.Resolved.{Use, first_uses, with_first}
 
 pub uses_append : (n : ℕ) (found xs ys : List Use) → first_uses n found (xs ++ ys) ≡ first_uses n (first_uses n found xs) ys
 uses_append n found [] ys = refl

@@ -4,9 +4,9 @@ use Rattle.cw_model.specs.Syntax.{Program}
 use Rattle.cw_model.specs.Lines.{IsLeastLine}
 use Rattle.cw_model.specs.Sizes.{limit_faults}
 use Rattle.cw_model.specs.Typing.{type_faults}
-use Rattle.cw_types.specs.declared.tree.Tree.{Tree}
-use Rattle.cw_types.specs.declared.typed.Typed.{Typed}
-use Rattle.cw_types.specs.View.{program_of}
+use Rattle.cw_tree.specs.declared.resolved.Tree.{Tree}
+use Rattle.cw_tree.specs.declared.typed.Typed.{Typed}
+use Rattle.cw_tree.specs.ResolvedView.{program_of}
 use Rattle.cw_text.specs.declared.fault.Fault.{Fault}
 use Rattle.cw_text.specs.declared.fault.Fault.TheVariants as fault
 

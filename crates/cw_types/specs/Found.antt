@@ -3,33 +3,33 @@ use Rattle.std.specs.Prelude.{◌≡◌, ◌≤◌, ◌+◌, ◌++◌, ℕ, List
 use Rattle.std.specs.Global.{Vec}
 use Rattle.cw_model.specs.Limits.{most_declared}
 use Rattle.cw_model.specs.Syntax.{Name}
-use Rattle.cw_parse.specs.declared.tree.Call.{Call}
-use Rattle.cw_parse.specs.declared.tree.Cut.{Cut}
-use Rattle.cw_parse.specs.declared.tree.Expr.{Expr}
-use Rattle.cw_parse.specs.declared.tree.Function.{Function}
-use Rattle.cw_parse.specs.declared.tree.Head.{Head}
-use Rattle.cw_parse.specs.declared.tree.Line.{Line}
-use Rattle.cw_parse.specs.declared.tree.Param.{Param}
-use Rattle.cw_parse.specs.declared.tree.Reducer.{Reducer}
-use Rattle.cw_parse.specs.declared.tree.Stmt.{Stmt}
-use Rattle.cw_parse.specs.View as parsed
+use Rattle.cw_tree.specs.declared.syntax.Call.{Call}
+use Rattle.cw_tree.specs.declared.syntax.Cut.{Cut}
+use Rattle.cw_tree.specs.declared.syntax.Expr.{Expr}
+use Rattle.cw_tree.specs.declared.syntax.Function.{Function}
+use Rattle.cw_tree.specs.declared.syntax.Head.{Head}
+use Rattle.cw_tree.specs.declared.syntax.Line.{Line}
+use Rattle.cw_tree.specs.declared.syntax.Param.{Param}
+use Rattle.cw_tree.specs.declared.syntax.Reducer.{Reducer}
+use Rattle.cw_tree.specs.declared.syntax.Stmt.{Stmt}
+use Rattle.cw_tree.specs.SyntaxView as parsed
 use Rattle.cw_types.specs.declared.lists.Lists.{Lists}
 use Rattle.cw_types.specs.declared.locals.Locals.{Locals}
-use Rattle.cw_types.specs.declared.tree.Argument as made_argument
-use Rattle.cw_types.specs.declared.tree.Call as made_call
-use Rattle.cw_types.specs.declared.tree.Cut as made_cut
-use Rattle.cw_types.specs.declared.tree.Expr as made_expr
-use Rattle.cw_types.specs.declared.tree.Function as made_function
-use Rattle.cw_types.specs.declared.tree.Head as made_head
-use Rattle.cw_types.specs.declared.tree.Line as made_line
-use Rattle.cw_types.specs.declared.tree.Reducer as made_reducer
-use Rattle.cw_types.specs.declared.tree.Stmt as made_stmt
-use Rattle.cw_types.specs.declared.tree.Use as made_use
-use Rattle.cw_types.specs.Declares.{declares_in_block}
+use Rattle.cw_tree.specs.declared.resolved.Argument as made_argument
+use Rattle.cw_tree.specs.declared.resolved.Call as made_call
+use Rattle.cw_tree.specs.declared.resolved.Cut as made_cut
+use Rattle.cw_tree.specs.declared.resolved.Expr as made_expr
+use Rattle.cw_tree.specs.declared.resolved.Function as made_function
+use Rattle.cw_tree.specs.declared.resolved.Head as made_head
+use Rattle.cw_tree.specs.declared.resolved.Line as made_line
+use Rattle.cw_tree.specs.declared.resolved.Reducer as made_reducer
+use Rattle.cw_tree.specs.declared.resolved.Stmt as made_stmt
+use Rattle.cw_tree.specs.declared.resolved.Use as made_use
+use Rattle.cw_tree.specs.Declares.{declares_in_block}
 use Rattle.cw_types.specs.Heads.{call_of, resolved_call, resolved_head, resolved_cut}
 use Rattle.cw_types.specs.Locals.{locals_view, lists_view}
-use Rattle.cw_types.specs.Resolved as spec
-use Rattle.cw_types.specs.View.{use_of, expr_of, argument_of, head_of, parts_of, stmt_of, block_of, function_of, reducer_of}
+use Rattle.cw_tree.specs.Resolved as spec
+use Rattle.cw_tree.specs.ResolvedView.{use_of, expr_of, argument_of, head_of, parts_of, stmt_of, block_of, function_of, reducer_of}
 
 -- an expression, where these locals are known
 abbrev pub IsExpr : Locals → Expr → made_expr.Expr → Type 0

@@ -2,8 +2,8 @@
 use Rattle.std.specs.Prelude.{Option, option_map}
 use Rattle.std.specs.Borrow.{Bor}
 use Rattle.cw_model.specs.Syntax as model
-use Rattle.cw_parse.specs.declared.tree.Function.{Function}
-use Rattle.cw_parse.specs.View.{function_of}
+use Rattle.cw_tree.specs.declared.syntax.Function.{Function}
+use Rattle.cw_tree.specs.SyntaxView.{function_of}
 
 -- the function of the definitions that was found, if one was
 abbrev pub option_function : Option (Bor Function) → Option model.Function

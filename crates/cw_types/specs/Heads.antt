@@ -1,12 +1,12 @@
 -- What stands in a statement of the code beside its blocks, with each name looked up.
 use Rattle.std.specs.Prelude.{map, option_map}
-use Rattle.cw_parse.specs.declared.tree.Call.{Call}
-use Rattle.cw_parse.specs.declared.tree.Head.{Head}
-use Rattle.cw_parse.specs.declared.tree.Cut.{Cut}
-use Rattle.cw_parse.specs.View.{expr_of, exprs_of}
-use Rattle.cw_types.specs.declared.tree.Call.{Call as Made}
-use Rattle.cw_types.specs.Resolved as spec
-use Rattle.cw_types.specs.View.{use_of, listed_of, argument_of}
+use Rattle.cw_tree.specs.declared.syntax.Call.{Call}
+use Rattle.cw_tree.specs.declared.syntax.Head.{Head}
+use Rattle.cw_tree.specs.declared.syntax.Cut.{Cut}
+use Rattle.cw_tree.specs.SyntaxView.{expr_of, exprs_of}
+use Rattle.cw_tree.specs.declared.resolved.Call.{Call as Made}
+use Rattle.cw_tree.specs.Resolved as spec
+use Rattle.cw_tree.specs.ResolvedView.{use_of, listed_of, argument_of}
 
 -- a call
 abbrev pub resolved_call : spec.Lists → spec.Locals → Call → spec.Stmt

@@ -2,7 +2,7 @@
 use Rattle.std.specs.Prelude.{ℕ, ◌+◌, length}
 use Rattle.cw_types.specs.declared.locals.Locals.{Locals}
 use Rattle.cw_types.specs.declared.lists.Lists.{Lists}
-use Rattle.cw_types.specs.Resolved as spec
+use Rattle.cw_tree.specs.Resolved as spec
 
 -- the locals of the code as those of the definitions
 abbrev pub locals_view : Locals → spec.Locals

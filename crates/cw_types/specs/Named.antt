@@ -2,9 +2,9 @@
 use Rattle.std.specs.Prelude.{ℕ, List, [], map, flat_map}
 use Rattle.cw_model.specs.Syntax.{Name, Function, Reducer}
 use Rattle.cw_model.specs.Typing.{repeated, of_both_kinds}
-use Rattle.cw_parse.specs.declared.tree.Function as code_function
-use Rattle.cw_parse.specs.declared.tree.Reducer as code_reducer
-use Rattle.cw_parse.specs.View.{function_of, reducer_of}
+use Rattle.cw_tree.specs.declared.syntax.Function as code_function
+use Rattle.cw_tree.specs.declared.syntax.Reducer as code_reducer
+use Rattle.cw_tree.specs.SyntaxView.{function_of, reducer_of}
 
 -- functions, each by its name and its line
 abbrev pub functions_named : List Function → List (Name × ℕ)

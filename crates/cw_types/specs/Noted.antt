@@ -1,24 +1,16 @@
--- What noting lines leaves of the least one, and of the room under a limit.
+-- The lines that pass a limit, and what noting those of tags leaves.
 use Rattle.std.specs.Prelude.{◌≡◌, ℕ, nat_le, List, [], ◌∷◌, ◌++◌, length, map, drop, Result, OnOk}
 use Rattle.cw_model.specs.Limits.{most_functions, most_reducers, most_tag_bytes, most_tags}
 use Rattle.cw_model.specs.Lines.{lowest, unless}
 use Rattle.cw_model.specs.Sizes.{first_places, lines_beyond}
 use Rattle.cw_model.specs.Syntax.{Name}
 use Rattle.cw_model.specs.Typing.{Known}
-use Rattle.cw_parse.specs.declared.tree.Function.{Function}
-use Rattle.cw_parse.specs.declared.tree.Reducer.{Reducer}
-use Rattle.cw_parse.specs.View.{function_of, reducer_of}
+use Rattle.cw_tree.specs.declared.syntax.Function.{Function}
+use Rattle.cw_tree.specs.declared.syntax.Reducer.{Reducer}
+use Rattle.cw_tree.specs.SyntaxView.{function_of, reducer_of}
 use Rattle.cw_text.specs.declared.least.LeastLine.{LeastLine}
 use Rattle.cw_types.specs.declared.regions.Marked.{Marked}
 use Rattle.cw_types.specs.Regions.{region_of}
-
--- these lines were noted
-abbrev pub Noted : List ℕ → (before after : LeastLine) → Type 0
-Noted lines before after = after.line ≡ lowest before.line lines
-
--- these lines were noted, where memory did not run out
-abbrev pub Notes : {R E : Type 0} → List ℕ → (before after : LeastLine) → Result R E → Type 0
-Notes lines before after r = OnOk r (Noted lines before after)
 
 -- the lines of functions
 abbrev pub function_lines : List Function → List ℕ
@@ -43,11 +35,6 @@ long_tag d = unless (nat_le (length d.0) most_tag_bytes) d.1
 -- the lines of the first places of tags behind the most of them
 abbrev pub tags_past : List (Name × ℕ) → List ℕ
 tags_past regions = lines_beyond most_tags (map (λ d. d.1) (first_places regions []))
-
--- of these lines, before which there is this room, those past it were noted, and so much room is left for more
-abbrev pub TakesRoom : (room left : ℕ) → List ℕ → (before after : LeastLine) → Type 0
-TakesRoom room left lines before after =
-    (more : List ℕ) → lowest after.line (drop left more) ≡ lowest before.line (drop room (lines ++ more))
 
 -- the lines of the first places of tags behind those that were seen
 abbrev pub places_behind : Known → List (Name × ℕ) → List ℕ

@@ -3,8 +3,8 @@ use Rattle.std.specs.Prelude.{◌≡◌, ℕ, List, [], ◌++◌, map, flat_map}
 use Rattle.std.specs.Global.{Vec}
 use Rattle.cw_model.specs.Sizes.{first_places, regions_in_block}
 use Rattle.cw_model.specs.Syntax.{Name}
-use Rattle.cw_parse.specs.declared.tree.Function.{Function}
-use Rattle.cw_parse.specs.View.{function_of}
+use Rattle.cw_tree.specs.declared.syntax.Function.{Function}
+use Rattle.cw_tree.specs.SyntaxView.{function_of}
 use Rattle.cw_types.specs.declared.regions.Marked.{Marked}
 
 -- a region by its tag and its line

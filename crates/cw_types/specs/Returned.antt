@@ -2,8 +2,8 @@
 use Rattle.std.specs.Prelude.{Bool, Option, option_map, if◌then◌else◌}
 use Rattle.cw_model.specs.Syntax.{Function}
 use Rattle.cw_model.specs.Typing as rule
-use Rattle.cw_parse.specs.declared.tree.Expr.{Expr}
-use Rattle.cw_parse.specs.View.{expr_of}
+use Rattle.cw_tree.specs.declared.syntax.Expr.{Expr}
+use Rattle.cw_tree.specs.SyntaxView.{expr_of}
 use Rattle.cw_types.specs.declared.rules.Returns.{Returns}
 use Rattle.cw_types.specs.declared.rules.Returns.TheVariants as returns
 

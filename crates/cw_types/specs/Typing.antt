@@ -5,12 +5,12 @@ use Rattle.cw_model.specs.Names.{same_name}
 use Rattle.cw_model.specs.Typing.{Known, Returns, Nowhere, is_fine, is_new, is_int, is_array, is_reducer, is_call, called, are_arguments, is_head_of_loop, is_cut, may_return, block_returns, faults_in_block}
 use Rattle.std.specs.List.{list_any}
 use Rattle.cw_model.specs.Answers.{main_name}
-use Rattle.cw_parse.specs.declared.tree.Call.{Call as Made}
-use Rattle.cw_parse.specs.declared.tree.Expr.{Expr}
-use Rattle.cw_parse.specs.declared.tree.Head.{Head}
-use Rattle.cw_parse.specs.declared.tree.Cut.{Cut as Parts}
-use Rattle.cw_parse.specs.declared.tree.Param as code_param
-use Rattle.cw_parse.specs.View.{param_of, expr_of, exprs_of}
+use Rattle.cw_tree.specs.declared.syntax.Call.{Call as Made}
+use Rattle.cw_tree.specs.declared.syntax.Expr.{Expr}
+use Rattle.cw_tree.specs.declared.syntax.Head.{Head}
+use Rattle.cw_tree.specs.declared.syntax.Cut.{Cut as Parts}
+use Rattle.cw_tree.specs.declared.syntax.Param as code_param
+use Rattle.cw_tree.specs.SyntaxView.{param_of, expr_of, exprs_of}
 
 -- the newest name that is spelled so is an array, or an integer, if there is one
 abbrev pub kind_of : Name → Known → Option Bool

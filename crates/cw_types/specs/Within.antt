@@ -2,15 +2,15 @@
 use Rattle.std.specs.Prelude.{ℕ, Bool, List, map, flat_map, Result}
 use Rattle.cw_model.specs.Syntax.{Program}
 use Rattle.cw_model.specs.Typing.{Known, faults_of, faults_in_block}
-use Rattle.cw_parse.specs.declared.tree.Function.{Function}
-use Rattle.cw_parse.specs.declared.tree.Line.{Line}
-use Rattle.cw_parse.specs.declared.tree.Param.{Param}
-use Rattle.cw_parse.specs.declared.tree.Stmt.{Stmt}
-use Rattle.cw_parse.specs.View.{program_of, function_of, param_of, stmt_of, block_of}
+use Rattle.cw_tree.specs.declared.syntax.Function.{Function}
+use Rattle.cw_tree.specs.declared.syntax.Line.{Line}
+use Rattle.cw_tree.specs.declared.syntax.Param.{Param}
+use Rattle.cw_tree.specs.declared.syntax.Stmt.{Stmt}
+use Rattle.cw_tree.specs.SyntaxView.{program_of, function_of, param_of, stmt_of, block_of}
 use Rattle.cw_text.specs.declared.least.LeastLine.{LeastLine}
 use Rattle.cw_types.specs.declared.globals.Globals.{Globals}
 use Rattle.cw_types.specs.declared.rules.Returns.{Returns}
-use Rattle.cw_types.specs.Noted.{Notes}
+use Rattle.cw_text.specs.Noted.{Notes}
 use Rattle.cw_types.specs.Returned.{returns_of}
 use Rattle.cw_types.specs.Typing.{are_new, keeps_rules, faults_inside}
 

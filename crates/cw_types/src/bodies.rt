@@ -2,14 +2,14 @@
 
 ghost use Rattle.std.specs.Prelude.{◌≡◌, not, ◌||◌, OnOk};
 ghost use Rattle.cw_model.specs.Typing.{declares, surely_returns, ends_block};
-ghost use Rattle.cw_parse.specs.View.{stmt_of, block_of};
+ghost use Rattle.cw_tree.specs.SyntaxView.{stmt_of, block_of};
 ghost use Rattle.cw_types.specs.Within.{NotesBlock, NotesInner};
 
 use crate::globals::Globals;
 use crate::known::Known;
 use crate::rules::{Returns, keeps_rules, surely_returns};
-use cw_parse::tree::{Line, Stmt};
 use cw_text::LeastLine;
+use cw_tree::syntax::{Line, Stmt};
 use std::alloc::AllocError;
 
 /// Notes the lines of a block that break a rule, where these names are known before it and after it.

@@ -3,12 +3,12 @@
 
 ghost use Rattle.std.specs.Prelude.{◌≡◌, map, IfOk, OnOk};
 ghost use Rattle.cw_types.specs.Found.{AreCaptured, Finds, FindsOne, read_by};
-ghost use Rattle.cw_types.specs.Resolved.{reads, argument_reads, head_reads};
-ghost use Rattle.cw_types.specs.Resolved.{reads_in, reads_in_block, is_slot_in};
-ghost use Rattle.cw_types.specs.View.{use_of, expr_of, argument_of, head_of, stmt_of, block_of};
+ghost use Rattle.cw_tree.specs.Resolved.{reads, argument_reads, head_reads};
+ghost use Rattle.cw_tree.specs.Resolved.{reads_in, reads_in_block, is_slot_in};
+ghost use Rattle.cw_tree.specs.ResolvedView.{use_of, expr_of, argument_of, head_of, stmt_of, block_of};
 
-use crate::tree::{Argument, Expr, Head, Line, Stmt, Use};
-use cw_parse::tree::Name;
+use cw_tree::resolved::{Argument, Expr, Head, Line, Stmt, Use};
+use cw_tree::syntax::Name;
 use std::alloc::{AllocError, Global};
 
 /// The integers that a body reads of those that have the first so many slots, each once and in the

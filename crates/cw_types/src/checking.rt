@@ -4,7 +4,7 @@ ghost use Rattle.std.specs.Prelude.{◌≡◌, MatchResult, IfOk, None, []};
 ghost use Rattle.cw_model.specs.Lines.{lowest};
 ghost use Rattle.cw_model.specs.Sizes.{limit_faults};
 ghost use Rattle.cw_model.specs.Typing.{type_faults};
-ghost use Rattle.cw_parse.specs.View.{program_of};
+ghost use Rattle.cw_tree.specs.SyntaxView.{program_of};
 ghost use Rattle.cw_types.specs.Faults.{IsTypedOf, IsIllTyped};
 
 use crate::functions::functions_faults;
@@ -13,9 +13,10 @@ use crate::limits::limits;
 use crate::program::resolve;
 use crate::repeated::{repeated_functions, repeated_reducers, shared_names};
 use crate::rules::MAIN;
-use crate::typed::Typed;
-use cw_parse::tree::Ast;
 use cw_text::{Fault, LeastLine, Place};
+use cw_tree::Typed;
+use cw_tree::laws::{plain_of_resolved, resolved_is_fitting, resolved_is_right};
+use cw_tree::syntax::Ast;
 use std::alloc::{AllocError, Global};
 
 /// The tree with each name looked up.
@@ -37,6 +38,9 @@ pub fn check(alloc: Global, ast: Ast) -> Result<Typed, Fault>
         return Err(Fault::Types(Place { line }));
     }
     let tree = resolve(alloc, &ast)?;
+    plain_of_resolved();
+    resolved_is_right();
+    resolved_is_fitting();
     Ok(Typed { tree })
 }
 

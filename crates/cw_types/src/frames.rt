@@ -1,10 +1,10 @@
 //! How many slots the locals of a body take.
 
 ghost use Rattle.std.specs.Prelude.{◌≡◌, max, suc};
-ghost use Rattle.cw_types.specs.Resolved.{ints_in, ints_in_block, arrays_in, arrays_in_block};
-ghost use Rattle.cw_types.specs.View.{use_of, stmt_of, block_of};
+ghost use Rattle.cw_tree.specs.Resolved.{ints_in, ints_in_block, arrays_in, arrays_in_block};
+ghost use Rattle.cw_tree.specs.ResolvedView.{use_of, stmt_of, block_of};
 
-use crate::tree::{Line, Stmt, Use};
+use cw_tree::resolved::{Line, Stmt, Use};
 
 // So many slots, and enough for one more local.
 fn with_slot(slots: u64, used: &Use) -> u64

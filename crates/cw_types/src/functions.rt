@@ -3,8 +3,8 @@
 ghost use Rattle.std.specs.Prelude.{◌≡◌, ◌++◌, ◌&&◌, map, IfOk, OnOk};
 ghost use Rattle.std.specs.List.{list_any};
 ghost use Rattle.cw_model.specs.Typing.{known_of};
-ghost use Rattle.cw_parse.specs.View.{function_of, param_of};
-ghost use Rattle.cw_types.specs.Noted.{Notes};
+ghost use Rattle.cw_tree.specs.SyntaxView.{function_of, param_of};
+ghost use Rattle.cw_text.specs.Noted.{Notes};
 ghost use Rattle.cw_types.specs.Returned as returned;
 ghost use Rattle.cw_types.specs.Typing as spec;
 ghost use Rattle.cw_types.specs.Within.{faults_in_all, faults_in_function, params_are_new};
@@ -13,8 +13,8 @@ use crate::bodies::block;
 use crate::globals::Globals;
 use crate::known::Known;
 use crate::rules::{Returns, block_returns, is_main, is_new};
-use cw_parse::tree::{Function, Param};
 use cw_text::LeastLine;
+use cw_tree::syntax::{Function, Param};
 use std::alloc::{AllocError, Global};
 
 /// Notes the lines of all functions that break a rule.

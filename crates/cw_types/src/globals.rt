@@ -3,12 +3,12 @@
 ghost use Rattle.std.specs.Prelude.{◌≡◌, ◌<◌, ◌≤◌, ◌^◌, length, map, IfOk, OnOk, option_copied, IfSome};
 ghost use Rattle.cw_model.specs.Names.{is_among};
 ghost use Rattle.cw_model.specs.Typing.{globals as globals_of, called};
-ghost use Rattle.cw_parse.specs.View.{program_of, function_of, reducer_of};
+ghost use Rattle.cw_tree.specs.SyntaxView.{program_of, function_of, reducer_of};
 ghost use Rattle.cw_types.specs.Globals.{option_function};
-ghost use Rattle.cw_types.specs.Resolved as spec;
+ghost use Rattle.cw_tree.specs.Resolved as spec;
 
 use crate::table::Table;
-use cw_parse::tree::{Ast, Function, Reducer};
+use cw_tree::syntax::{Ast, Function, Reducer};
 use std::alloc::{AllocError, Global};
 
 /// A program, and its functions and reducers by their names.

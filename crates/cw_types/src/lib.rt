@@ -8,7 +8,6 @@ mod frames;
 mod functions;
 mod globals;
 mod known;
-pub mod laws;
 mod limits;
 mod lists;
 mod locals;
@@ -20,8 +19,5 @@ mod rules;
 mod statements;
 mod table;
 mod tags;
-pub mod tree;
-mod typed;
 
 pub use checking::check;
-pub use typed::Typed;

@@ -4,15 +4,16 @@ ghost use Rattle.std.specs.Prelude.{◌≡◌, ◌∷◌, [], None, map, flat_ma
 ghost use Rattle.cw_model.specs.Lines.{lowest};
 ghost use Rattle.cw_model.specs.Sizes.{limit_faults, function_limits as limits_of};
 ghost use Rattle.cw_model.specs.Sizes.{declaring_lines, declaring_lines_in};
-ghost use Rattle.cw_parse.specs.View.{program_of, function_of, block_of, stmt_of};
-ghost use Rattle.cw_types.specs.Noted.{Noted, Notes, TakesRoom, TakesTag};
+ghost use Rattle.cw_tree.specs.SyntaxView.{program_of, function_of, block_of, stmt_of};
+ghost use Rattle.cw_text.specs.Noted.{Noted, Notes, TakesRoom};
+ghost use Rattle.cw_types.specs.Noted.{TakesTag};
 ghost use Rattle.cw_types.specs.Noted.{functions_past, reducers_past, long_tag, tags_past};
 ghost use Rattle.cw_types.specs.Regions.{regions_of};
 
 use crate::known::Known;
 use crate::regions::{Marked, regions};
-use cw_parse::tree::{Ast, Function, Line, Param, Reducer, Stmt};
 use cw_text::LeastLine;
+use cw_tree::syntax::{Ast, Function, Line, Param, Reducer, Stmt};
 use std::alloc::{AllocError, Global};
 
 /// The most functions of a program.

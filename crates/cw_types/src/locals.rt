@@ -1,13 +1,13 @@
 //! The locals that are known.
 
 ghost use Rattle.std.specs.Prelude.{◌≡◌, ◌<◌, ◌+◌, ◌^◌, [], OnOk};
-ghost use Rattle.cw_parse.specs.View.{stmt_of};
-ghost use Rattle.cw_types.specs.Declares.{declares_in};
+ghost use Rattle.cw_tree.specs.SyntaxView.{stmt_of};
+ghost use Rattle.cw_tree.specs.Declares.{declares_in};
 ghost use Rattle.cw_types.specs.Found.{Declared};
 ghost use Rattle.cw_types.specs.Locals.{locals_count};
 
 use crate::table::Table;
-use cw_parse::tree::Stmt;
+use cw_tree::syntax::Stmt;
 use std::alloc::{AllocError, Global};
 
 /// The integers and the arrays that are known, each in the order of their declaration.

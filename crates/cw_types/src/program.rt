@@ -2,11 +2,11 @@
 
 ghost use Rattle.std.specs.Prelude.{◌≡◌, ◌<◌, ◌+◌, ◌^◌, [], map, length, All, IfOk, OnOk};
 ghost use Rattle.cw_model.specs.Sizes.{limit_faults};
-ghost use Rattle.cw_parse.specs.View as parsed;
+ghost use Rattle.cw_tree.specs.SyntaxView as parsed;
 ghost use Rattle.cw_types.specs.Found.{AddsInts, AddsArrays, AreFunctions, AreReducers, DeclaresFew, IsFunction};
 ghost use Rattle.cw_types.specs.Locals.{locals_count};
-ghost use Rattle.cw_types.specs.Resolved as spec;
-ghost use Rattle.cw_types.specs.View.{resolved_of, param_of};
+ghost use Rattle.cw_tree.specs.Resolved as spec;
+ghost use Rattle.cw_tree.specs.ResolvedView.{resolved_of, param_of};
 
 use crate::frames::{arrays_of_block, ints_of_block};
 use crate::globals::{function_names, reducer_names};
@@ -17,8 +17,8 @@ use crate::resolve::copy;
 use crate::rules::MAIN;
 use crate::statements::block;
 use crate::tags::{different, tag_names, tag_table};
-use crate::tree;
-use cw_parse::tree::{Ast, Function, Param, Reducer};
+use cw_tree::resolved as tree;
+use cw_tree::syntax::{Ast, Function, Param, Reducer};
 use std::alloc::{AllocError, Global};
 
 /// The resolved tree of a program that passes no limit.

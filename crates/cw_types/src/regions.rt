@@ -2,10 +2,10 @@
 
 ghost use Rattle.std.specs.Prelude.{◌≡◌, IfOk, OnOk};
 ghost use Rattle.cw_model.specs.Sizes.{regions_in, regions_in_block};
-ghost use Rattle.cw_parse.specs.View.{block_of, stmt_of};
+ghost use Rattle.cw_tree.specs.SyntaxView.{block_of, stmt_of};
 ghost use Rattle.cw_types.specs.Regions.{regions_of, regions_of_all, Adds};
 
-use cw_parse::tree::{Function, Line, Stmt};
+use cw_tree::syntax::{Function, Line, Stmt};
 use std::alloc::{AllocError, Global};
 
 /// A region by its tag, and the line of its first token.

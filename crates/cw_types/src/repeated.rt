@@ -3,11 +3,11 @@
 ghost use Rattle.std.specs.Prelude.{◌≡◌, [], nat_le, if◌then◌else◌};
 ghost use Rattle.cw_model.specs.Typing.{repeated};
 ghost use Rattle.cw_types.specs.Named.{listed_functions, listed_reducers, shared_lines, lines_shared_by};
-ghost use Rattle.cw_types.specs.Noted.{Noted, Notes};
+ghost use Rattle.cw_text.specs.Noted.{Noted, Notes};
 
 use crate::known::Known;
-use cw_parse::tree::{Function, Reducer};
 use cw_text::LeastLine;
+use cw_tree::syntax::{Function, Reducer};
 use std::alloc::{AllocError, Global};
 
 /// Notes the line of each function whose name an earlier one has.

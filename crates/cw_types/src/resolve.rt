@@ -2,15 +2,15 @@
 
 ghost use Rattle.std.specs.Prelude.{◌≡◌, ◌<◌, ◌+◌, ◌^◌, length, map, IfOk};
 ghost use Rattle.cw_types.specs.Found as looked;
-ghost use Rattle.cw_types.specs.Resolved as spec;
-ghost use Rattle.cw_types.specs.View.{use_of, listed_of};
+ghost use Rattle.cw_tree.specs.Resolved as spec;
+ghost use Rattle.cw_tree.specs.ResolvedView.{use_of, listed_of};
 
 use crate::captured::captured;
 use crate::lists::Lists;
 use crate::locals::Locals;
 use crate::table::Table;
-use crate::tree;
-use cw_parse::tree::{Call, Cut, Expr, Head, Name};
+use cw_tree::resolved as tree;
+use cw_tree::syntax::{Call, Cut, Expr, Head, Name};
 use std::alloc::{AllocError, Global};
 
 /// A copy of a name.

@@ -5,15 +5,15 @@ ghost use Rattle.std.specs.List.{list_all};
 ghost use Rattle.cw_model.specs.Names.{same_name};
 ghost use Rattle.cw_model.specs.Answers.{main_name};
 ghost use Rattle.cw_model.specs.Typing as rule;
-ghost use Rattle.cw_parse.specs.View.{program_of, function_of, param_of, expr_of, stmt_of, block_of};
-ghost use Rattle.cw_parse.specs.declared.tree.Stmt.TheOpen.{Stmt-F};
+ghost use Rattle.cw_tree.specs.SyntaxView.{program_of, function_of, param_of, expr_of, stmt_of, block_of};
+ghost use Rattle.cw_tree.specs.declared.syntax.Stmt.TheOpen.{Stmt-F};
 ghost use Rattle.cw_types.specs.Returned.{may_give};
 ghost use Rattle.cw_types.specs.Typing as spec;
 ghost use Rattle.cw_types.specs.Within.{line_keeps};
 
 use crate::globals::Globals;
 use crate::known::Known;
-use cw_parse::tree::{Call, Cut, Expr, Function, Head, Line, Name, Param, Stmt};
+use cw_tree::syntax::{Call, Cut, Expr, Function, Head, Line, Name, Param, Stmt};
 
 /// The name of the function that a run begins with.
 pub const MAIN: &[u8] = b"main";

@@ -1,16 +1,16 @@
 //! Names looked up in statements and blocks.
 
 ghost use Rattle.std.specs.Prelude.{◌≡◌, ◌<◌, ◌+◌, ◌^◌, true, IfOk, OnOk};
-ghost use Rattle.cw_parse.specs.View as parsed;
-ghost use Rattle.cw_types.specs.Declares.{declares_in, declares_in_block, is_plain};
+ghost use Rattle.cw_tree.specs.SyntaxView as parsed;
+ghost use Rattle.cw_tree.specs.Declares.{declares_in, declares_in_block, is_plain};
 ghost use Rattle.cw_types.specs.Found.{IsBlock, IsStmt};
 ghost use Rattle.cw_types.specs.Locals.{locals_count};
 
 use crate::lists::Lists;
 use crate::locals::{Locals, declare};
 use crate::resolve::{call, cut, expression, head, listed, next_use, returned, use_of};
-use crate::tree;
-use cw_parse::tree::{Line, Stmt};
+use cw_tree::resolved as tree;
+use cw_tree::syntax::{Line, Stmt};
 use std::alloc::{AllocError, Global};
 
 /// The statements of a block, each name looked up; the names that it declares are gone after it.

@@ -3,7 +3,7 @@
 ghost use Rattle.std.specs.Prelude.{◌≡◌, ◌<◌, ◌≤◌, ◌+◌, ◌-◌, ◌^◌, [], ◌∷◌, ◌++◌, length, take};
 ghost use Rattle.cw_model.specs.Names.{is_among};
 ghost use Rattle.cw_types.specs.Grows.{Becomes};
-ghost use Rattle.cw_types.specs.Resolved.{slot_of};
+ghost use Rattle.cw_tree.specs.Resolved.{slot_of};
 
 use std::alloc::{AllocError, Global};
 use std::collections::HashMap;

@@ -6,7 +6,7 @@ ghost use Rattle.cw_types.specs.Regions.{AreFirst, tags_of};
 use crate::known::Known;
 use crate::regions::Marked;
 use crate::table::Table;
-use cw_parse::tree::Name;
+use cw_tree::syntax::Name;
 use std::alloc::{AllocError, Global};
 
 /// The first region of each tag.

@@ -1,12 +1,13 @@
 use Rattle.std.proofs.Common.{◌≡◌, ◌++◌, ◌∷◌, ◌+◌, rules, map, drop, slice_set, ap, sym, ◌∙◌, arith}
 use Rattle.std.proofs.lemmas.Grind.{common_steps}
-use Rattle.cw_types.specs.declared.tree.Stmt.TheViews.{the_lemmas}
-use Rattle.cw_types.specs.Resolved as spec
-use Rattle.cw_types.specs.View.{expr_of, stmt_of, block_of}
+use Rattle.cw_model.specs.lemmas.Kept.{both_right}
+use Rattle.cw_tree.specs.declared.resolved.Stmt.TheViews.{the_lemmas}
+use Rattle.cw_tree.specs.Resolved as spec
+use Rattle.cw_tree.specs.ResolvedView.{expr_of, stmt_of, block_of}
 use Rattle.cw_own.specs.Bounds.{small_stmt, small_block}
 use Rattle.cw_own.specs.Sets.{row_of, no_local, both_rows}
 use Rattle.cw_own.specs.Taken.{turns, turns_in, after_all, known_after, gain}
-use Rattle.cw_own.proofs.Small.{both_right, appended}
+use Rattle.cw_own.proofs.Small.{appended}
 use Rattle.cw_own.proofs.Branches.{if_else_is, line_is}
 use Rattle.cw_own.proofs.Turns.{set_kept}
 use Rattle.cw_own.proofs.gains.+gains.Goals as goal

@@ -1,5 +1,5 @@
 use Rattle.std.proofs.Common.{◌≡◌, ◌++◌, drop, map, true}
-use Rattle.cw_types.specs.View.{block_of}
+use Rattle.cw_tree.specs.ResolvedView.{block_of}
 use Rattle.cw_own.specs.Bounds.{small_block}
 use Rattle.cw_own.specs.Sets.{row_of}
 use Rattle.cw_own.specs.Taken.{after_all, turns_in}

@@ -2,11 +2,12 @@ use Rattle.std.proofs.Common.{◌≡◌, List, ◌∷◌, ◌+◌, map, flat_map
 use Rattle.std.specs.List.{list_all}
 use Rattle.std.proofs.lemmas.Grind.{common_steps}
 use Rattle.cw_model.specs.Lines.{lowest}
-use Rattle.cw_types.specs.Resolved as spec
-use Rattle.cw_types.specs.View.{function_of}
+use Rattle.cw_model.specs.lemmas.Kept.{both_left, both_right}
+use Rattle.cw_tree.specs.Resolved as spec
+use Rattle.cw_tree.specs.ResolvedView.{function_of}
 use Rattle.cw_own.specs.Bounds.{small_function}
 use Rattle.cw_own.specs.Rules.{function_lines}
-use Rattle.cw_own.proofs.Small.{both_left, both_right, lowest_append}
+use Rattle.cw_own.proofs.Small.{lowest_append}
 use Rattle.cw_own.proofs.owning.note_functions.Goals as goal
 
 pub note_function-requires : goal.note_function-requires

@@ -1,7 +1,7 @@
 use Rattle.std.proofs.Common.{◌≡◌, drop, map, flat_map, true}
 use Rattle.std.specs.List.{list_all}
 use Rattle.cw_model.specs.Lines.{lowest}
-use Rattle.cw_types.specs.View.{function_of}
+use Rattle.cw_tree.specs.ResolvedView.{function_of}
 use Rattle.cw_own.specs.Bounds.{small_function}
 use Rattle.cw_own.specs.Rules.{function_lines}
 use Rattle.cw_own.proofs.owning.note_functions.Given as goal

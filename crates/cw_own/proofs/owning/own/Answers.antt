@@ -2,8 +2,8 @@ use Rattle.std.proofs.Common.{None, map, flat_map, sym, ap, ◌∙◌}
 use Rattle.std.specs.List.{list_all}
 use Rattle.cw_model.specs.Ownership.{ownership_faults}
 use Rattle.cw_model.specs.Lines.{lowest}
-use Rattle.cw_types.specs.View.{program_of, resolved_of, function_of}
-use Rattle.cw_model.proofs.Lowest.{no_lines, least_line}
+use Rattle.cw_tree.specs.ResolvedView.{program_of, resolved_of, function_of}
+use Rattle.cw_model.specs.lemmas.Lowest.{no_lines, least_line}
 use Rattle.cw_own.specs.Bounds.{small_function}
 use Rattle.cw_own.specs.Rules.{function_lines}
 use Rattle.cw_own.proofs.Fitting.{tree_small}

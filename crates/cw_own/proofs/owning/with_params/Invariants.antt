@@ -1,5 +1,5 @@
 use Rattle.std.proofs.Common.{◌≡◌, ◌+◌, drop, map}
-use Rattle.cw_types.specs.View.{param_of}
+use Rattle.cw_tree.specs.ResolvedView.{param_of}
 use Rattle.cw_own.specs.Sets.{row_of, no_local}
 use Rattle.cw_own.specs.Taken.{with_params}
 use Rattle.cw_own.proofs.owning.with_params.Given as goal

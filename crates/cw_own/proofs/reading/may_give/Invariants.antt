@@ -1,6 +1,6 @@
 use Rattle.std.proofs.Common.{◌≡◌, drop, map, option_map}
 use Rattle.std.specs.List.{list_all}
-use Rattle.cw_types.specs.View.{argument_of}
+use Rattle.cw_tree.specs.ResolvedView.{argument_of}
 use Rattle.cw_own.specs.Taken.{taken_of}
 use Rattle.cw_own.specs.Rules.{loop_of, may_give}
 use Rattle.cw_own.proofs.reading.may_give.Given as goal

@@ -1,7 +1,7 @@
 use Rattle.std.proofs.Common.{◌≡◌, drop, map, option_map}
 use Rattle.std.specs.List.{list_all}
-use Rattle.cw_types.specs.View.{use_of}
-use Rattle.cw_types.specs.Resolved.{Use}
+use Rattle.cw_tree.specs.ResolvedView.{use_of}
+use Rattle.cw_tree.specs.Resolved.{Use}
 use Rattle.cw_own.specs.Taken.{taken_of}
 use Rattle.cw_own.specs.Rules.{loop_of, may_pass}
 use Rattle.cw_own.proofs.reading.may_pass_all.Given as goal

@@ -1,6 +1,6 @@
 use Rattle.std.proofs.Common.{◌≡◌, drop, map, true}
 use Rattle.std.specs.List.{list_all}
-use Rattle.cw_types.specs.View.{use_of}
+use Rattle.cw_tree.specs.ResolvedView.{use_of}
 use Rattle.cw_own.specs.Bounds.{is_small}
 use Rattle.cw_own.specs.Sets.{slots_of, no_slot}
 use Rattle.cw_own.specs.Rules.{named_once}

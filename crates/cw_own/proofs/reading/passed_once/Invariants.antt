@@ -1,6 +1,6 @@
 use Rattle.std.proofs.Common.{◌≡◌, drop, map, true}
 use Rattle.std.specs.List.{list_all}
-use Rattle.cw_types.specs.View.{argument_of}
+use Rattle.cw_tree.specs.ResolvedView.{argument_of}
 use Rattle.cw_own.specs.Bounds.{small_argument}
 use Rattle.cw_own.specs.Sets.{slots_of, no_slot}
 use Rattle.cw_own.specs.Rules.{passed_once}

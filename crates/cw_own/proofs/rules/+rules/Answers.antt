@@ -1,14 +1,15 @@
 use Rattle.std.proofs.Common.{◌≡◌, ◌++◌, ◌∷◌, ◌+◌, [], map, option_map, length, drop, ap, sym, ◌∙◌, arith}
 use Rattle.cw_model.specs.Lines.{lowest, unless}
 use Rattle.cw_model.specs.Ownership.{Leaves}
-use Rattle.cw_types.specs.Resolved as spec
-use Rattle.cw_types.specs.View.{expr_of, stmt_of, block_of}
+use Rattle.cw_model.specs.lemmas.Kept.{both_left, both_right}
+use Rattle.cw_tree.specs.Resolved as spec
+use Rattle.cw_tree.specs.ResolvedView.{expr_of, stmt_of, block_of}
 use Rattle.std.proofs.lemmas.Grind.{common_steps}
 use Rattle.cw_own.specs.Bounds.{small_stmt, small_block}
 use Rattle.cw_own.specs.Sets.{row_of}
 use Rattle.cw_own.specs.Taken.{taken_of, taken_after, taken_after_all, left_by, known_after, other_of, turns, turns_in, turns_within}
 use Rattle.cw_own.specs.Rules.{loop_of, block_lines, keeps, seen_by, lines_within, lines_in}
-use Rattle.cw_own.proofs.Small.{both_left, both_right, appended, lowest_append}
+use Rattle.cw_own.proofs.Small.{appended, lowest_append}
 use Rattle.cw_own.proofs.Branches.{if_else_is, line_is}
 use Rattle.cw_own.proofs.Turns.{drop_both, rest_is, left_is}
 use Rattle.cw_own.proofs.rules.+rules.Goals as goal

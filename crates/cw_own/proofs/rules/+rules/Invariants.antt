@@ -1,6 +1,6 @@
 use Rattle.std.proofs.Common.{◌≡◌, ◌++◌, drop, length, map, option_map, true}
 use Rattle.cw_model.specs.Lines.{lowest}
-use Rattle.cw_types.specs.View.{block_of}
+use Rattle.cw_tree.specs.ResolvedView.{block_of}
 use Rattle.cw_own.specs.Bounds.{small_block}
 use Rattle.cw_own.specs.Sets.{row_of}
 use Rattle.cw_own.specs.Taken.{taken_of, taken_after_all, turns_in}

@@ -1,6 +1,6 @@
 use Rattle.std.proofs.Common.{◌≡◌, drop}
 use Rattle.cw_model.specs.Lines.{lowest}
-use Rattle.cw_types.specs.View.{block_of}
+use Rattle.cw_tree.specs.ResolvedView.{block_of}
 use Rattle.cw_own.specs.Taken.{taken_of}
 use Rattle.cw_own.specs.Rules.{left_lines}
 use Rattle.cw_own.proofs.rules.note_left.Given as goal

@@ -1,5 +1,5 @@
 use Rattle.std.proofs.Common.{◌≡◌, ◌+◌, ◌-◌, ◌*◌, Ok}
-use Rattle.cw_parse.specs.View.{expr_of}
+use Rattle.cw_tree.specs.SyntaxView.{expr_of}
 use Rattle.cw_parse.specs.Parts.{chain, level}
 use Rattle.cw_parse.proofs.expr.+expr.Given as goal
 

@@ -1,6 +1,6 @@
 use Rattle.std.proofs.Common.{map, arith}
 use Rattle.cw_parse.specs.declared.marks.Mark.TheVariants as mark
-use Rattle.cw_parse.specs.View.{param_of}
+use Rattle.cw_tree.specs.SyntaxView.{param_of}
 use Rattle.cw_parse.proofs.Rooms.{token_less, params_less}
 use Rattle.cw_parse.proofs.item.function.Goals as goal
 

@@ -1,5 +1,5 @@
 use Rattle.std.proofs.Common.{sym, ◌∙◌}
-use Rattle.cw_model.proofs.Lowest.{no_lines, least_line}
+use Rattle.cw_model.specs.lemmas.Lowest.{no_lines, least_line}
 use Rattle.cw_parse.proofs.nesting.test_nesting.Goals as goal
 
 pub returns-in-None : goal.returns-in-None

@@ -1,6 +1,6 @@
 use Rattle.std.proofs.Common.{◌≡◌, ◌-◌, length, drop, Err, sym, ap, subst, ◌∙◌, arith}
 use Rattle.cw_model.specs.Grammar.{Derives, HasSyntaxFault, first_line}
-use Rattle.cw_parse.specs.View.{program_of}
+use Rattle.cw_tree.specs.SyntaxView.{program_of}
 use Rattle.cw_parse.specs.Reading.{Fails}
 use Rattle.cw_parse.specs.Parts.{whole}
 use Rattle.cw_parse.proofs.Items.{Answer, whole_answers}

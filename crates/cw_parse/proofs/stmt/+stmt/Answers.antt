@@ -4,7 +4,7 @@ use Rattle.std.proofs.lemmas.List.{map_push}
 use Rattle.cw_parse.specs.declared.marks.Mark.TheVariants as mark
 use Rattle.cw_model.specs.Syntax.{End}
 use Rattle.cw_parse.specs.Parts.{put_before, line}
-use Rattle.cw_parse.specs.View.{line_of}
+use Rattle.cw_tree.specs.SyntaxView.{line_of}
 use Rattle.cw_parse.proofs.Turns.{closes, goes_on, fails, runs_out, block_all}
 use Rattle.cw_parse.proofs.Steps.{line_none, line_step}
 use Rattle.cw_parse.proofs.Rooms.{line_room, lines_room, opening_less}

@@ -2,7 +2,7 @@ use Rattle.std.proofs.Common.{◌≡◌, ◌+◌, ◌-◌, ◌*◌, ◌<◌, ◌
 use Rattle.cw_parse.specs.declared.marks.Mark.TheVariants as mark
 use Rattle.cw_model.specs.Syntax.{End}
 use Rattle.cw_parse.specs.Marks.{is_mark}
-use Rattle.cw_parse.specs.View.{line_of}
+use Rattle.cw_tree.specs.SyntaxView.{line_of}
 use Rattle.cw_parse.specs.Reading.{row, with_front}
 use Rattle.cw_parse.specs.Parts.{put_before, line, lines}
 use Rattle.cw_parse.proofs.stmt.+stmt.Given as goal

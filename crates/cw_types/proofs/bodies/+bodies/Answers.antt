@@ -3,12 +3,12 @@ use Rattle.std.proofs.lemmas.Grind.{common_steps}
 use Rattle.cw_model.specs.Lines.{lowest, unless}
 use Rattle.cw_model.specs.Syntax as model
 use Rattle.cw_model.specs.Typing.{faults_in_block, declares, surely_returns, ends_block}
-use Rattle.cw_parse.specs.declared.tree.Line.{the_lemmas}
-use Rattle.cw_parse.specs.declared.tree.Stmt.{the_lemmas as stmt_lemmas}
-use Rattle.cw_parse.specs.View.{program_of, block_of, stmt_of, expr_of}
+use Rattle.cw_tree.specs.declared.syntax.Line.{the_lemmas}
+use Rattle.cw_tree.specs.declared.syntax.Stmt.{the_lemmas as stmt_lemmas}
+use Rattle.cw_tree.specs.SyntaxView.{program_of, block_of, stmt_of, expr_of}
 use Rattle.cw_types.specs.Returned.{returns_of}
 use Rattle.cw_types.specs.Typing.{keeps_rules, faults_inside, oldest}
-use Rattle.cw_model.proofs.Lowest.{lowest-append}
+use Rattle.cw_model.specs.lemmas.Lowest.{lowest-append}
 use Rattle.cw_types.proofs.Noting.{by_parts, noted, oldest_declares, longer_declares}
 use Rattle.cw_types.proofs.bodies.+bodies.Goals as goal
 

@@ -1,7 +1,7 @@
 use Rattle.std.proofs.Common.{◌≡◌, ◌≤◌, drop, length}
 use Rattle.cw_model.specs.Lines.{lowest}
 use Rattle.cw_model.specs.Typing.{faults_in_block}
-use Rattle.cw_parse.specs.View.{program_of, block_of}
+use Rattle.cw_tree.specs.SyntaxView.{program_of, block_of}
 use Rattle.cw_types.specs.Returned.{returns_of}
 use Rattle.cw_types.specs.Typing.{oldest}
 use Rattle.cw_types.proofs.bodies.+bodies.Given as goal

@@ -1,9 +1,9 @@
 use Rattle.std.proofs.Common.{◌≡◌, ◌++◌, ◌+◌, drop, map, ap, sym, ◌∙◌, arith}
 use Rattle.std.proofs.lemmas.Grind.{common_steps}
-use Rattle.cw_types.specs.declared.tree.Line.{the_lemmas}
-use Rattle.cw_types.specs.declared.tree.Stmt.{the_lemmas as stmt_lemmas}
-use Rattle.cw_types.specs.Resolved.{Then, reads, reads_in, reads_in_block, first_uses}
-use Rattle.cw_types.specs.View.{use_of, expr_of, stmt_of, block_of}
+use Rattle.cw_tree.specs.declared.resolved.Line.{the_lemmas}
+use Rattle.cw_tree.specs.declared.resolved.Stmt.{the_lemmas as stmt_lemmas}
+use Rattle.cw_tree.specs.Resolved.{Then, reads, reads_in, reads_in_block, first_uses}
+use Rattle.cw_tree.specs.ResolvedView.{use_of, expr_of, stmt_of, block_of}
 use Rattle.cw_types.proofs.Reading.{uses_append}
 use Rattle.cw_types.proofs.captured.+reading.Goals as goal
 

@@ -1,6 +1,6 @@
 use Rattle.std.proofs.Common.{◌≡◌, drop, map}
-use Rattle.cw_types.specs.Resolved.{first_uses, reads_in_block}
-use Rattle.cw_types.specs.View.{use_of, block_of}
+use Rattle.cw_tree.specs.Resolved.{first_uses, reads_in_block}
+use Rattle.cw_tree.specs.ResolvedView.{use_of, block_of}
 use Rattle.cw_types.proofs.captured.+reading.Given as goal
 
 abbrev pub invariant-block-loop-line : goal.invariant-block-loop-line

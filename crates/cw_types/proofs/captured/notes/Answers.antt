@@ -1,7 +1,7 @@
 use Rattle.std.proofs.Common.{◌≡◌, ◌∷◌, ◌+◌, List, drop, map, ap, sym, ◌∙◌, arith}
 use Rattle.std.proofs.lemmas.Grind.{common_steps}
-use Rattle.cw_types.specs.Resolved.{Use, first_uses}
-use Rattle.cw_types.specs.View.{use_of}
+use Rattle.cw_tree.specs.Resolved.{Use, first_uses}
+use Rattle.cw_tree.specs.ResolvedView.{use_of}
 use Rattle.cw_types.proofs.captured.notes.Goals as goal
 
 pub loop-used-preserved : goal.loop-used-preserved

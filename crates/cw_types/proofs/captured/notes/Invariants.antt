@@ -1,6 +1,6 @@
 use Rattle.std.proofs.Common.{◌≡◌, drop, map}
-use Rattle.cw_types.specs.Resolved.{first_uses}
-use Rattle.cw_types.specs.View.{use_of}
+use Rattle.cw_tree.specs.Resolved.{first_uses}
+use Rattle.cw_tree.specs.ResolvedView.{use_of}
 use Rattle.cw_types.proofs.captured.notes.Given as goal
 
 abbrev pub invariant-loop-used : goal.invariant-loop-used

@@ -1,14 +1,11 @@
 use Rattle.std.proofs.Common.{◌≡◌, ℕ, refl, sym, ap, ◌∙◌, Option, Some, None}
 use Rattle.cw_model.specs.Sizes.{limit_faults}
 use Rattle.cw_model.specs.Typing.{type_faults}
-use Rattle.cw_model.proofs.Lowest.{no_lines, least_line}
-use Rattle.cw_parse.specs.View.{program_of}
-use Rattle.cw_types.specs.Bounds.{is_fitting}
-use Rattle.cw_types.specs.Resolved.{plain}
-use Rattle.cw_types.specs.Slots.{is_resolved}
-use Rattle.cw_types.proofs.Fitting.{resolved_fits}
-use Rattle.cw_types.proofs.Plain.{plain_of_resolved}
-use Rattle.cw_types.proofs.Right.{resolved_is_right}
+use Rattle.cw_model.specs.lemmas.Lowest.{no_lines, least_line}
+use Rattle.cw_tree.specs.SyntaxView.{program_of}
+use Rattle.cw_tree.specs.Bounds.{is_fitting}
+use Rattle.cw_tree.specs.Resolved.{plain}
+use Rattle.cw_tree.specs.Slots.{is_resolved}
 use Rattle.cw_types.proofs.checking.check.Goals as goal
 
 not_some : (o : Option ℕ) → ((n : ℕ) → o ≡ Some n → ⊥) → o ≡ None
@@ -39,12 +36,12 @@ invariant_of-result c =
     let program = program_of c.args.ast in
     let within = no_lines (limit_faults program) (sym c.in_ok-size.ensures ∙ not_some c.in_ok-size.size.line c.in_default.not-Some) in
     let none = no_lines (type_faults program) (sym c.in_ok-types.ensures ∙ not_some c.in_ok-types.types.line c.in_default-line.not-Some) in
-    let same = ap plain c.in_ok-tree.ensures ∙ plain_of_resolved program none in
+    let same = ap plain c.in_ok-tree.ensures ∙ c.plain_of_resolved.ensures program none in
     record {
-      resolved = ap is_resolved c.in_ok-tree.ensures ∙ resolved_is_right program none;
+      resolved = ap is_resolved c.in_ok-tree.ensures ∙ c.resolved_is_right.ensures program none;
       within = ap limit_faults same ∙ within;
       typed = ap type_faults same ∙ none;
-      fitting = ap is_fitting c.in_ok-tree.ensures ∙ resolved_fits program within none;
+      fitting = ap is_fitting c.in_ok-tree.ensures ∙ c.resolved_is_fitting.ensures program within none;
     }
 
 pub returns : goal.returns
@@ -52,7 +49,7 @@ returns c =
     let program = program_of c.args.ast in
     let none = no_lines (type_faults program) (sym c.in_ok-types.ensures ∙ not_some c.in_ok-types.types.line c.in_default-line.not-Some) in
     record {
-      same = ap plain c.in_ok-tree.ensures ∙ plain_of_resolved program none;
+      same = ap plain c.in_ok-tree.ensures ∙ c.plain_of_resolved.ensures program none;
       within = no_lines (limit_faults program) (sym c.in_ok-size.ensures ∙ not_some c.in_ok-size.size.line c.in_default.not-Some);
       typed = none;
     }

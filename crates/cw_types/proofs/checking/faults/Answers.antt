@@ -5,11 +5,11 @@ use Rattle.cw_model.specs.Lines.{lowest, unless}
 use Rattle.cw_model.specs.Names.{is_among}
 use Rattle.cw_model.specs.Syntax.{Program}
 use Rattle.cw_model.specs.Typing.{repeated, of_both_kinds, faults_of}
-use Rattle.cw_model.proofs.Lowest.{lowest-append}
-use Rattle.cw_parse.specs.View.{program_of, function_of, reducer_of}
+use Rattle.cw_model.specs.lemmas.Lowest.{lowest-append}
+use Rattle.cw_tree.specs.SyntaxView.{program_of, function_of, reducer_of}
 use Rattle.cw_types.specs.Named.{functions_named, reducers_named}
-use Rattle.cw_types.specs.Resolved.{function_names}
-use Rattle.cw_types.proofs.Few.{functions_few, reducers_few}
+use Rattle.cw_tree.specs.Resolved.{function_names}
+use Rattle.cw_tree.specs.lemmas.Few.{functions_few, reducers_few}
 use Rattle.cw_types.proofs.checking.faults.Goals as goal
 
 pub new-requires-clause-few_functions : goal.new-requires-clause-few_functions

@@ -1,6 +1,6 @@
 use Rattle.std.proofs.Common.{◌≡◌, drop}
-use Rattle.cw_types.specs.Resolved.{arrays_in_block}
-use Rattle.cw_types.specs.View.{block_of}
+use Rattle.cw_tree.specs.Resolved.{arrays_in_block}
+use Rattle.cw_tree.specs.ResolvedView.{block_of}
 use Rattle.cw_types.proofs.frames.+arrays.Given as goal
 
 abbrev pub invariant-arrays_of_block-loop-line : goal.invariant-arrays_of_block-loop-line

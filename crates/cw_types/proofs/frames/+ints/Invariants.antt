@@ -1,6 +1,6 @@
 use Rattle.std.proofs.Common.{◌≡◌, drop}
-use Rattle.cw_types.specs.Resolved.{ints_in_block}
-use Rattle.cw_types.specs.View.{block_of}
+use Rattle.cw_tree.specs.Resolved.{ints_in_block}
+use Rattle.cw_tree.specs.ResolvedView.{block_of}
 use Rattle.cw_types.proofs.frames.+ints.Given as goal
 
 abbrev pub invariant-ints_of_block-loop-line : goal.invariant-ints_of_block-loop-line

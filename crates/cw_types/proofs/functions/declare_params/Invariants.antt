@@ -1,6 +1,6 @@
 use Rattle.std.proofs.Common.{◌≡◌, ◌++◌, ◌&&◌, drop, map}
 use Rattle.cw_model.specs.Typing.{known_of}
-use Rattle.cw_parse.specs.View.{program_of, param_of}
+use Rattle.cw_tree.specs.SyntaxView.{program_of, param_of}
 use Rattle.cw_types.specs.Typing.{are_new}
 use Rattle.cw_types.proofs.functions.declare_params.Given as goal
 

@@ -2,8 +2,8 @@ use Rattle.std.proofs.Common.{if◌then◌else◌, ◌≡◌, ◌++◌, ◌&&◌
 use Rattle.std.proofs.lemmas.List.{append-nil}
 use Rattle.cw_model.specs.Lines.{lowest, unless}
 use Rattle.cw_model.specs.Typing.{known_of, faults_in_block, is_head, WithInt, Alone}
-use Rattle.cw_model.proofs.Lowest.{lowest-append}
-use Rattle.cw_parse.specs.View.{program_of, function_of, param_of, block_of}
+use Rattle.cw_model.specs.lemmas.Lowest.{lowest-append}
+use Rattle.cw_tree.specs.SyntaxView.{program_of, function_of, param_of, block_of}
 use Rattle.cw_types.specs.Typing.{are_new, keeps_head}
 use Rattle.cw_types.proofs.Heading.{head_by_parts}
 use Rattle.cw_types.proofs.functions.function_faults.Goals as goal

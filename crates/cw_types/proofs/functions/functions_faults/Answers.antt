@@ -3,8 +3,8 @@ use Rattle.std.proofs.lemmas.Grind.{common_steps}
 use Rattle.cw_model.specs.Lines.{lowest}
 use Rattle.cw_model.specs.Syntax.{Function}
 use Rattle.cw_model.specs.Typing.{faults_of}
-use Rattle.cw_model.proofs.Lowest.{lowest-append}
-use Rattle.cw_parse.specs.View.{program_of, function_of}
+use Rattle.cw_model.specs.lemmas.Lowest.{lowest-append}
+use Rattle.cw_tree.specs.SyntaxView.{program_of, function_of}
 use Rattle.cw_types.proofs.functions.functions_faults.Goals as goal
 
 pub loop-function-preserved : goal.loop-function-preserved

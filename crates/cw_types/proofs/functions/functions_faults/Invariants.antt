@@ -1,7 +1,7 @@
 use Rattle.std.proofs.Common.{◌≡◌, drop, map, flat_map}
 use Rattle.cw_model.specs.Lines.{lowest}
 use Rattle.cw_model.specs.Typing.{faults_of}
-use Rattle.cw_parse.specs.View.{program_of, function_of}
+use Rattle.cw_tree.specs.SyntaxView.{program_of, function_of}
 use Rattle.cw_types.proofs.functions.functions_faults.Given as goal
 
 abbrev pub invariant-loop-function : goal.invariant-loop-function

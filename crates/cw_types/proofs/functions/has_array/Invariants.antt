@@ -1,6 +1,6 @@
 use Rattle.std.proofs.Common.{◌≡◌, drop, map}
 use Rattle.std.specs.List.{list_any}
-use Rattle.cw_parse.specs.View.{param_of}
+use Rattle.cw_tree.specs.SyntaxView.{param_of}
 use Rattle.cw_types.proofs.functions.has_array.Given as goal
 
 abbrev pub invariant-loop-param : goal.invariant-loop-param

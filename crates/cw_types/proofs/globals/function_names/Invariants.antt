@@ -1,6 +1,6 @@
 use Rattle.std.proofs.Common.{◌≡◌, ◌++◌, drop, map, length}
-use Rattle.cw_parse.specs.View.{function_of}
-use Rattle.cw_types.specs.Resolved.{function_names}
+use Rattle.cw_tree.specs.SyntaxView.{function_of}
+use Rattle.cw_tree.specs.Resolved.{function_names}
 use Rattle.cw_types.proofs.globals.function_names.Given as goal
 
 abbrev pub invariant-loop-function : goal.invariant-loop-function

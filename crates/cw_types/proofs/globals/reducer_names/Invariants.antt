@@ -1,6 +1,6 @@
 use Rattle.std.proofs.Common.{◌≡◌, ◌++◌, drop, map, length}
-use Rattle.cw_parse.specs.View.{reducer_of}
-use Rattle.cw_types.specs.Resolved.{reducer_names}
+use Rattle.cw_tree.specs.SyntaxView.{reducer_of}
+use Rattle.cw_tree.specs.Resolved.{reducer_names}
 use Rattle.cw_types.proofs.globals.reducer_names.Given as goal
 
 abbrev pub invariant-loop-reducer : goal.invariant-loop-reducer

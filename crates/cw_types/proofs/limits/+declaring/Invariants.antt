@@ -1,7 +1,7 @@
 use Rattle.std.proofs.Common.{◌≡◌, ℕ, List, ◌++◌, drop}
 use Rattle.cw_model.specs.Lines.{lowest}
 use Rattle.cw_model.specs.Sizes.{declaring_lines_in}
-use Rattle.cw_parse.specs.View.{block_of}
+use Rattle.cw_tree.specs.SyntaxView.{block_of}
 use Rattle.cw_types.proofs.limits.+declaring.Given as goal
 
 abbrev pub invariant-block_beyond-loop-line : goal.invariant-block_beyond-loop-line

@@ -3,10 +3,10 @@ use Rattle.std.proofs.lemmas.List.{length-map, append-nil}
 use Rattle.cw_model.specs.Limits.{most_declared}
 use Rattle.cw_model.specs.Lines.{unless}
 use Rattle.cw_model.specs.Sizes.{declaring_lines_in}
-use Rattle.cw_parse.specs.View.{param_of, block_of}
-use Rattle.cw_parse.specs.declared.tree.Param.{Param}
+use Rattle.cw_tree.specs.SyntaxView.{param_of, block_of}
+use Rattle.cw_tree.specs.declared.syntax.Param.{Param}
 use Rattle.cw_model.specs.Lines.{lowest}
-use Rattle.cw_model.proofs.Lowest.{lowest-append}
+use Rattle.cw_model.specs.lemmas.Lowest.{lowest-append}
 use Rattle.cw_types.proofs.limits.function_limits.Goals as goal
 
 heads : (line : ℕ) (ps : List Param) → map (λ _. line) ps ≡ map (λ _. line) (map param_of ps)

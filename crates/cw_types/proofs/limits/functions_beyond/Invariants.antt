@@ -1,5 +1,5 @@
 use Rattle.std.proofs.Common.{◌≡◌, drop, map}
-use Rattle.cw_parse.specs.View.{function_of}
+use Rattle.cw_tree.specs.SyntaxView.{function_of}
 use Rattle.cw_model.specs.Lines.{lowest}
 use Rattle.cw_types.proofs.limits.functions_beyond.Given as goal
 

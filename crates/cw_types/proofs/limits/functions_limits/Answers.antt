@@ -2,9 +2,9 @@ use Rattle.std.proofs.Common.{◌≡◌, List, ◌∷◌, map, drop, flat_map, �
 use Rattle.std.proofs.lemmas.Grind.{common_steps}
 use Rattle.cw_model.specs.Syntax.{Function}
 use Rattle.cw_model.specs.Sizes.{function_limits}
-use Rattle.cw_parse.specs.View.{function_of}
+use Rattle.cw_tree.specs.SyntaxView.{function_of}
 use Rattle.cw_model.specs.Lines.{lowest}
-use Rattle.cw_model.proofs.Lowest.{lowest-append}
+use Rattle.cw_model.specs.lemmas.Lowest.{lowest-append}
 use Rattle.cw_types.proofs.limits.functions_limits.Goals as goal
 
 pub loop-function-preserved : goal.loop-function-preserved

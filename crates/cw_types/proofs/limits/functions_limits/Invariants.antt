@@ -1,6 +1,6 @@
 use Rattle.std.proofs.Common.{◌≡◌, drop, map, flat_map}
 use Rattle.cw_model.specs.Sizes.{function_limits}
-use Rattle.cw_parse.specs.View.{function_of}
+use Rattle.cw_tree.specs.SyntaxView.{function_of}
 use Rattle.cw_model.specs.Lines.{lowest}
 use Rattle.cw_types.proofs.limits.functions_limits.Given as goal
 

@@ -3,8 +3,8 @@ use Rattle.cw_model.specs.Syntax.{Name, Function, Reducer}
 use Rattle.cw_model.specs.Limits.{most_functions, most_reducers, most_tags, most_tag_bytes}
 use Rattle.cw_model.specs.Lines.{lowest, unless}
 use Rattle.cw_model.specs.Sizes.{function_limits, lines_beyond, first_places, regions_in_block}
-use Rattle.cw_model.proofs.Lowest.{lowest-append}
-use Rattle.cw_parse.specs.View.{function_of, reducer_of}
+use Rattle.cw_model.specs.lemmas.Lowest.{lowest-append}
+use Rattle.cw_tree.specs.SyntaxView.{function_of, reducer_of}
 use Rattle.cw_types.specs.Regions.{regions_of}
 use Rattle.cw_types.proofs.limits.limits.Goals as goal
 

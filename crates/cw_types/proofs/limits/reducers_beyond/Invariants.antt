@@ -1,5 +1,5 @@
 use Rattle.std.proofs.Common.{◌≡◌, drop, map}
-use Rattle.cw_parse.specs.View.{reducer_of}
+use Rattle.cw_tree.specs.SyntaxView.{reducer_of}
 use Rattle.cw_model.specs.Lines.{lowest}
 use Rattle.cw_types.proofs.limits.reducers_beyond.Given as goal
 

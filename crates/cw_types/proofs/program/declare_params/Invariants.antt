@@ -1,7 +1,7 @@
 use Rattle.std.proofs.Common.{◌≡◌, ◌++◌, ◌+◌, drop, map}
-use Rattle.cw_parse.specs.View as parsed
+use Rattle.cw_tree.specs.SyntaxView as parsed
 use Rattle.cw_types.specs.Locals.{locals_count}
-use Rattle.cw_types.specs.Resolved as spec
+use Rattle.cw_tree.specs.Resolved as spec
 use Rattle.cw_types.proofs.program.declare_params.Given as goal
 
 abbrev pub invariant-loop-param : goal.invariant-loop-param

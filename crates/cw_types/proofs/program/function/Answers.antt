@@ -1,11 +1,11 @@
 use Rattle.std.proofs.Common.{◌≡◌, ℕ, ◌+◌, ◌++◌, ◌≤◌, List, length, map, ap, ◌∙◌, arith}
 use Rattle.std.proofs.lemmas.List.{length-map}
-use Rattle.cw_parse.specs.View as parsed
-use Rattle.cw_types.specs.Declares.{declares_in_block}
+use Rattle.cw_tree.specs.SyntaxView as parsed
+use Rattle.cw_tree.specs.Declares.{declares_in_block}
 use Rattle.cw_types.specs.Locals.{lists_view}
-use Rattle.cw_types.specs.Resolved as spec
-use Rattle.cw_types.specs.View.{block_of}
-use Rattle.cw_types.proofs.Slotted.{params_count, ints_fit, arrays_fit}
+use Rattle.cw_tree.specs.Resolved as spec
+use Rattle.cw_tree.specs.ResolvedView.{block_of}
+use Rattle.cw_tree.specs.lemmas.Slotted.{params_count, ints_fit, arrays_fit}
 use Rattle.cw_types.proofs.program.function.Goals as goal
 
 pub block-requires : goal.block-requires

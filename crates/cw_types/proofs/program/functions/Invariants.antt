@@ -1,8 +1,8 @@
 use Rattle.std.proofs.Common.{◌≡◌, ◌++◌, drop, map}
-use Rattle.cw_parse.specs.View as parsed
+use Rattle.cw_tree.specs.SyntaxView as parsed
 use Rattle.cw_types.specs.Locals.{lists_view}
-use Rattle.cw_types.specs.Resolved as spec
-use Rattle.cw_types.specs.View.{function_of}
+use Rattle.cw_tree.specs.Resolved as spec
+use Rattle.cw_tree.specs.ResolvedView.{function_of}
 use Rattle.cw_types.proofs.program.functions.Given as goal
 
 abbrev pub invariant-loop-f : goal.invariant-loop-f

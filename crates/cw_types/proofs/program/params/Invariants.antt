@@ -1,6 +1,6 @@
 use Rattle.std.proofs.Common.{◌≡◌, ◌++◌, drop, map}
-use Rattle.cw_parse.specs.View as parsed
-use Rattle.cw_types.specs.View.{param_of}
+use Rattle.cw_tree.specs.SyntaxView as parsed
+use Rattle.cw_tree.specs.ResolvedView.{param_of}
 use Rattle.cw_types.proofs.program.params.Given as goal
 
 abbrev pub invariant-loop-param : goal.invariant-loop-param

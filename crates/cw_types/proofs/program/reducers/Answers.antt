@@ -1,8 +1,8 @@
 use Rattle.std.proofs.Common.{◌≡◌, ◌∷◌, ◌++◌, ◌+◌, ℕ, List, drop, map, ap, sym, ◌∙◌, arith}
 use Rattle.std.proofs.lemmas.Grind.{common_steps}
 use Rattle.cw_model.specs.Syntax.{Reducer}
-use Rattle.cw_parse.specs.View as parsed
-use Rattle.cw_types.specs.View.{reducer_of}
+use Rattle.cw_tree.specs.SyntaxView as parsed
+use Rattle.cw_tree.specs.ResolvedView.{reducer_of}
 use Rattle.cw_types.proofs.Pushed.{map_pushed}
 use Rattle.cw_types.proofs.program.reducers.Goals as goal
 

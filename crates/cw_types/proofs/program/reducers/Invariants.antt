@@ -1,6 +1,6 @@
 use Rattle.std.proofs.Common.{◌≡◌, ◌++◌, drop, map}
-use Rattle.cw_parse.specs.View as parsed
-use Rattle.cw_types.specs.View.{reducer_of}
+use Rattle.cw_tree.specs.SyntaxView as parsed
+use Rattle.cw_tree.specs.ResolvedView.{reducer_of}
 use Rattle.cw_types.proofs.program.reducers.Given as goal
 
 abbrev pub invariant-loop-reducer : goal.invariant-loop-reducer

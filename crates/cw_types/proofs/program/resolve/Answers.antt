@@ -3,14 +3,14 @@ use Rattle.std.proofs.lemmas.List.{length-map}
 use Rattle.cw_model.specs.Answers.{main_name}
 use Rattle.cw_model.specs.Sizes.{first_places, regions_in_block}
 use Rattle.cw_model.specs.Syntax.{Name, Reducer}
-use Rattle.cw_parse.specs.declared.tree.Function.{Function}
-use Rattle.cw_parse.specs.View as parsed
+use Rattle.cw_tree.specs.declared.syntax.Function.{Function}
+use Rattle.cw_tree.specs.SyntaxView as parsed
 use Rattle.cw_types.specs.declared.regions.Marked.{Marked}
-use Rattle.cw_types.specs.Declares.{declares_in_block}
+use Rattle.cw_tree.specs.Declares.{declares_in_block}
 use Rattle.cw_types.specs.Regions as code
-use Rattle.cw_types.specs.Resolved as spec
-use Rattle.cw_types.specs.View.{function_of, reducer_of}
-use Rattle.cw_types.proofs.Few.{functions_few, reducers_few, tags_few, heads_small, all_small}
+use Rattle.cw_tree.specs.Resolved as spec
+use Rattle.cw_tree.specs.ResolvedView.{function_of, reducer_of}
+use Rattle.cw_tree.specs.lemmas.Few.{functions_few, reducers_few, tags_few, heads_small, all_small}
 use Rattle.cw_types.proofs.program.resolve.Goals as goal
 
 tags_by_region : (ms : List Marked) → code.tags_of ms ≡ map (λ (d : Name × ℕ). d.0) (code.regions_of ms)

@@ -1,6 +1,6 @@
 use Rattle.std.proofs.Common.{◌≡◌, ◌++◌, drop}
 use Rattle.cw_model.specs.Sizes.{regions_in_block}
-use Rattle.cw_parse.specs.View.{block_of}
+use Rattle.cw_tree.specs.SyntaxView.{block_of}
 use Rattle.cw_types.specs.Regions.{regions_of}
 use Rattle.cw_types.proofs.regions.+marking.Given as goal
 

@@ -1,6 +1,6 @@
 use Rattle.std.proofs.Common.{◌≡◌, ◌++◌, drop, map, flat_map}
 use Rattle.cw_model.specs.Sizes.{regions_in_block}
-use Rattle.cw_parse.specs.View.{function_of}
+use Rattle.cw_tree.specs.SyntaxView.{function_of}
 use Rattle.cw_types.specs.Regions.{regions_of}
 use Rattle.cw_types.proofs.regions.regions.Given as goal
 

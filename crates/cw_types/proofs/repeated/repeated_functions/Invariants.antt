@@ -1,7 +1,7 @@
 use Rattle.std.proofs.Common.{◌≡◌, drop, map, []}
 use Rattle.cw_model.specs.Lines.{lowest}
 use Rattle.cw_model.specs.Typing.{repeated}
-use Rattle.cw_parse.specs.View.{function_of}
+use Rattle.cw_tree.specs.SyntaxView.{function_of}
 use Rattle.cw_types.specs.Named.{functions_named}
 use Rattle.cw_types.proofs.repeated.repeated_functions.Given as goal
 

@@ -1,7 +1,7 @@
 use Rattle.std.proofs.Common.{◌≡◌, drop, map, []}
 use Rattle.cw_model.specs.Lines.{lowest}
 use Rattle.cw_model.specs.Typing.{repeated}
-use Rattle.cw_parse.specs.View.{reducer_of}
+use Rattle.cw_tree.specs.SyntaxView.{reducer_of}
 use Rattle.cw_types.specs.Named.{reducers_named}
 use Rattle.cw_types.proofs.repeated.repeated_reducers.Given as goal
 

@@ -3,8 +3,8 @@ use Rattle.std.proofs.lemmas.Grind.{common_steps}
 use Rattle.cw_model.specs.Lines.{lowest}
 use Rattle.cw_model.specs.Syntax.{Name}
 use Rattle.cw_model.specs.Typing.{of_both_kinds}
-use Rattle.cw_model.proofs.Lowest.{lowest-append}
-use Rattle.cw_parse.specs.View.{function_of, reducer_of}
+use Rattle.cw_model.specs.lemmas.Lowest.{lowest-append}
+use Rattle.cw_tree.specs.SyntaxView.{function_of, reducer_of}
 use Rattle.cw_types.specs.Named.{functions_named, reducers_named}
 use Rattle.cw_types.proofs.repeated.shared_names.Goals as goal
 

@@ -1,7 +1,7 @@
 use Rattle.std.proofs.Common.{◌≡◌, drop, map, flat_map}
 use Rattle.cw_model.specs.Lines.{lowest}
 use Rattle.cw_model.specs.Typing.{of_both_kinds}
-use Rattle.cw_parse.specs.View.{function_of, reducer_of}
+use Rattle.cw_tree.specs.SyntaxView.{function_of, reducer_of}
 use Rattle.cw_types.specs.Named.{functions_named, reducers_named}
 use Rattle.cw_types.proofs.repeated.shared_names.Given as goal
 

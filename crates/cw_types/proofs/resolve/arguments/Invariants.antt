@@ -1,8 +1,8 @@
 use Rattle.std.proofs.Common.{◌≡◌, ◌++◌, map, drop}
-use Rattle.cw_parse.specs.View as parsed
+use Rattle.cw_tree.specs.SyntaxView as parsed
 use Rattle.cw_types.specs.Locals.{locals_view}
-use Rattle.cw_types.specs.Resolved as spec
-use Rattle.cw_types.specs.View.{argument_of}
+use Rattle.cw_tree.specs.Resolved as spec
+use Rattle.cw_tree.specs.ResolvedView.{argument_of}
 use Rattle.cw_types.proofs.resolve.arguments.Given as goal
 
 abbrev pub invariant-loop-e : goal.invariant-loop-e

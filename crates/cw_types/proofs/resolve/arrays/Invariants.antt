@@ -1,6 +1,6 @@
 use Rattle.std.proofs.Common.{◌≡◌, ◌++◌, map, drop}
-use Rattle.cw_types.specs.Resolved as spec
-use Rattle.cw_types.specs.View.{use_of}
+use Rattle.cw_tree.specs.Resolved as spec
+use Rattle.cw_tree.specs.ResolvedView.{use_of}
 use Rattle.cw_types.proofs.resolve.arrays.Given as goal
 
 abbrev pub invariant-loop-name : goal.invariant-loop-name

@@ -1,6 +1,6 @@
 use Rattle.std.proofs.Common.{map, sym, ◌∙◌}
 use Rattle.std.proofs.lemmas.List.{length-map}
-use Rattle.cw_parse.specs.View.{param_of, expr_of}
+use Rattle.cw_tree.specs.SyntaxView.{param_of, expr_of}
 use Rattle.cw_types.proofs.Noting.{unequal}
 use Rattle.cw_types.proofs.rules.are_arguments.Goals as goal
 

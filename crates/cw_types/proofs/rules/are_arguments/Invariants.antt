@@ -1,6 +1,6 @@
 use Rattle.std.proofs.Common.{◌≡◌, drop, map, length}
 use Rattle.cw_model.specs.Typing.{are_arguments}
-use Rattle.cw_parse.specs.View.{param_of, expr_of}
+use Rattle.cw_tree.specs.SyntaxView.{param_of, expr_of}
 use Rattle.cw_types.proofs.rules.are_arguments.Given as goal
 
 abbrev pub invariant-loop-i : goal.invariant-loop-i

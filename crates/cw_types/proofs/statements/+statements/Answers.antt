@@ -1,13 +1,13 @@
 use Rattle.std.proofs.Common.{◌≡◌, ◌+◌, drop, take, length, ap, sym, ◌∙◌, arith, ℕ, List}
 use Rattle.std.proofs.lemmas.Grind.{common_steps}
 use Rattle.cw_model.specs.Syntax as model
-use Rattle.cw_parse.specs.declared.tree.Line.{the_lemmas}
-use Rattle.cw_parse.specs.View as parsed
-use Rattle.cw_types.specs.declared.tree.Line.{Line}
-use Rattle.cw_types.specs.Declares.{declares_in_block}
+use Rattle.cw_tree.specs.declared.syntax.Line.{the_lemmas}
+use Rattle.cw_tree.specs.SyntaxView as parsed
+use Rattle.cw_tree.specs.declared.resolved.Line.{Line}
+use Rattle.cw_tree.specs.Declares.{declares_in_block}
 use Rattle.cw_types.specs.Locals.{locals_view, lists_view}
-use Rattle.cw_types.specs.Resolved as spec
-use Rattle.cw_types.specs.View.{block_of}
+use Rattle.cw_tree.specs.Resolved as spec
+use Rattle.cw_tree.specs.ResolvedView.{block_of}
 use Rattle.cw_types.proofs.Joined.{joined, joined_end, joined_push, counted, grown_ints, grown_arrays, first_ints, first_arrays}
 use Rattle.cw_types.proofs.statements.+statements.Goals as goal
 

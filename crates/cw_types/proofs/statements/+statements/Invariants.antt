@@ -1,9 +1,9 @@
 use Rattle.std.proofs.Common.{◌≡◌, ◌+◌, ◌≤◌, ◌<◌, ◌^◌, drop, take, length}
-use Rattle.cw_parse.specs.View as parsed
-use Rattle.cw_types.specs.Declares.{declares_in_block}
+use Rattle.cw_tree.specs.SyntaxView as parsed
+use Rattle.cw_tree.specs.Declares.{declares_in_block}
 use Rattle.cw_types.specs.Locals.{locals_view, locals_count, lists_view}
-use Rattle.cw_types.specs.Resolved.{resolved_block}
-use Rattle.cw_types.specs.View.{block_of}
+use Rattle.cw_tree.specs.Resolved.{resolved_block}
+use Rattle.cw_tree.specs.ResolvedView.{block_of}
 use Rattle.cw_types.proofs.Joined.{joined}
 use Rattle.cw_types.proofs.statements.+statements.Given as goal
 

@@ -1,8 +1,8 @@
 use Rattle.std.proofs.Common.{ap, ◌∙◌, ◌≡◌, map, slice_get, option_copied, arith}
 use Rattle.std.proofs.lemmas.Grind.{common_steps}
 use Rattle.std.proofs.lemmas.Option.{gets}
-use Rattle.cw_parse.specs.View.{function_of}
-use Rattle.cw_types.specs.Resolved.{slot_of}
+use Rattle.cw_tree.specs.SyntaxView.{function_of}
+use Rattle.cw_tree.specs.Resolved.{slot_of}
 use Rattle.cw_types.proofs.Noting.{found_function, called_at}
 use Rattle.cw_types.proofs.globals.Globals.function.Goals as goal
 

@@ -1,0 +1,4 @@
+mod Plain
+mod Right
+mod Looked
+mod Fitting

@@ -1,0 +1,98 @@
+-- How great slots and indices are: each slot is below the count of its kind in its function, which is at most the most
+-- names of a function, and each index is below the length of its table.
+use Rattle.std.specs.Prelude.{ℕ, Bool, true, ◌&&◌, nat_lt, nat_le, length, Option, Some, None}
+use Rattle.std.specs.List.{list_all}
+use Rattle.cw_model.specs.Limits.{most_declared}
+use Rattle.cw_tree.specs.Resolved.{Expr, Number, Variable, Element, Length, Negative, Not, Binary, Use, Argument, Int, Array, Head, Parts, Stmt, Declare, DeclareArray, Assign, AssignElement, AddTo, Call, Sync, If, IfElse, While, For, Scope, Cut, Region, Print, Return, Block, End, Then, Function, Resolved}
+
+-- how many there are: slots of integers and of arrays, functions, reducers and tags
+pub record Counts : Type 0 where
+  pub ints : ℕ
+  pub arrays : ℕ
+  pub functions : ℕ
+  pub reducers : ℕ
+  pub tags : ℕ
+
+-- the slot of a use is below a count
+abbrev pub is_below : ℕ → Use → Bool
+is_below n u = nat_lt u.slot n
+
+-- an expression fits
+abbrev pub fits_expr : Counts → Expr → Bool
+fits_expr n (Number v) = true
+fits_expr n (Variable u) = is_below n.ints u
+fits_expr n (Element u e) = is_below n.arrays u && fits_expr n e
+fits_expr n (Length u) = is_below n.arrays u
+fits_expr n (Negative e) = fits_expr n e
+fits_expr n (Not e) = fits_expr n e
+fits_expr n (Binary operator d e) = fits_expr n d && fits_expr n e
+
+-- an argument fits
+abbrev pub fits_argument : Counts → Argument → Bool
+fits_argument n (Int e) = fits_expr n e
+fits_argument n (Array u) = is_below n.arrays u
+
+-- what a result goes to fits, if it goes anywhere
+abbrev pub fits_target : Counts → Option Use → Bool
+fits_target n None = true
+fits_target n (Some u) = is_below n.ints u
+
+-- what is returned fits, if anything is
+abbrev pub fits_return : Counts → Option Expr → Bool
+fits_return n None = true
+fits_return n (Some e) = fits_expr n e
+
+-- the head of a loop fits
+abbrev pub fits_head : Counts → Head → Bool
+fits_head n h =
+    is_below n.ints h.variable && fits_expr n h.from && fits_expr n h.to && list_all (is_below n.ints) h.captured
+    && list_all (is_below n.arrays) h.over
+
+-- a cut fits
+abbrev pub fits_parts : Counts → Parts → Bool
+fits_parts n c = is_below n.arrays c.array && fits_expr n c.at && is_below n.arrays c.left && is_below n.arrays c.right
+
+abbrev mutual
+  -- a statement fits
+  pub fits_stmt : Counts → Stmt → Bool
+  fits_stmt n (Declare u e) = is_below n.ints u && fits_expr n e
+  fits_stmt n (DeclareArray u e) = is_below n.arrays u && fits_expr n e
+  fits_stmt n (Assign u e) = is_below n.ints u && fits_expr n e
+  fits_stmt n (AssignElement u i e) = is_below n.arrays u && fits_expr n i && fits_expr n e
+  fits_stmt n (AddTo s e) = nat_lt s.index n.reducers && fits_expr n e
+  fits_stmt n (Call kind site target f es) =
+      fits_target n target && nat_lt f.index n.functions && list_all (fits_argument n) es
+  fits_stmt n Sync = true
+  fits_stmt n (If e b) = fits_expr n e && fits_block n b
+  fits_stmt n (IfElse e b c) = fits_expr n e && fits_block n b && fits_block n c
+  fits_stmt n (While e b) = fits_expr n e && fits_block n b
+  fits_stmt n (For head b) = fits_head n head && fits_block n b
+  fits_stmt n (Scope b) = fits_block n b
+  fits_stmt n (Cut parts b) = fits_parts n parts && fits_block n b
+  fits_stmt n (Region tag b) = nat_lt tag.index n.tags && fits_block n b
+  fits_stmt n (Print e) = fits_expr n e
+  fits_stmt n (Return e) = fits_return n e
+
+  -- a block fits
+  pub fits_block : Counts → Block → Bool
+  fits_block n End = true
+  fits_block n (Then line s b) = fits_stmt n s && fits_block n b
+
+-- how many there are of each where a function of a program is
+abbrev pub counts_of : Resolved → Function → Counts
+counts_of tree f = record {
+  ints = f.ints;
+  arrays = f.arrays;
+  functions = length tree.functions;
+  reducers = length tree.reducers;
+  tags = length tree.tags;
+}
+
+-- a function has few enough slots, and its body fits
+abbrev pub fits_function : Resolved → Function → Bool
+fits_function tree f =
+    nat_le f.ints most_declared && nat_le f.arrays most_declared && fits_block (counts_of tree f) f.body
+
+-- a program fits, and has a main
+abbrev pub is_fitting : Resolved → Bool
+is_fitting tree = list_all (fits_function tree) tree.functions && nat_lt tree.main (length tree.functions)

@@ -1,0 +1,114 @@
+-- Whether each slot, each index and each count of slots of a resolved tree is right: a test, since a `Typed` can keep
+-- only that. A tree that passes it is `resolved` of its program, as the law `slots_are_right` says.
+use Rattle.std.specs.Prelude.{◌==◌, Bool, true, false, not, ◌&&◌, bytes_eq, List, [], ◌∷◌, ◌++◌, length, Option, Some, None}
+use Rattle.std.specs.List.{list_all}
+use Rattle.cw_model.specs.Syntax.{Name}
+use Rattle.cw_model.specs.Names.{is_among}
+use Rattle.cw_model.specs.Answers.{main_name}
+use Rattle.cw_tree.specs.Resolved.{Use, Listed, Expr, Number, Variable, Element, Length, Negative, Not, Binary, Argument, Int, Array, Head, Parts, Stmt, Declare, DeclareArray, Assign, AssignElement, AddTo, Call, Sync, If, IfElse, While, For, Scope, Cut, Region, Print, Return, Block, End, Then, Function, Resolved, Lists, Locals, slot_of, with_int, with_array, locals_after, captured_in, ints_in_block, arrays_in_block, locals_of, lists_of, tags_of, plain_stmt, plain}
+
+-- a use has the slot of its name
+abbrev pub is_use : List Name → Use → Bool
+is_use names u = u.slot == slot_of u.name names
+
+-- a declaration has the next slot
+abbrev pub is_next : List Name → Use → Bool
+is_next names u = u.slot == length names
+
+-- a use of what a program lists has the index of its name
+abbrev pub is_listed : List Name → Listed → Bool
+is_listed names l = l.index == slot_of l.name names
+
+-- the same uses
+abbrev pub same_uses : List Use → List Use → Bool
+same_uses [] [] = true
+same_uses (u ∷ us) (w ∷ ws) = bytes_eq u.name w.name && (u.slot == w.slot) && same_uses us ws
+same_uses _ _ = false
+
+-- the same names
+abbrev pub same_names : List Name → List Name → Bool
+same_names [] [] = true
+same_names (x ∷ xs) (y ∷ ys) = bytes_eq x y && same_names xs ys
+same_names _ _ = false
+
+-- each use in an expression has its slot
+abbrev pub is_right_expr : Locals → Expr → Bool
+is_right_expr locals (Number n) = true
+is_right_expr locals (Variable u) = is_use locals.ints u
+is_right_expr locals (Element u e) = is_use locals.arrays u && is_right_expr locals e
+is_right_expr locals (Length u) = is_use locals.arrays u
+is_right_expr locals (Negative e) = is_right_expr locals e
+is_right_expr locals (Not e) = is_right_expr locals e
+is_right_expr locals (Binary operator d e) = is_right_expr locals d && is_right_expr locals e
+
+-- each use in an argument has its slot, and a name alone is an array where an array is known by it
+abbrev pub is_right_argument : Locals → Argument → Bool
+is_right_argument locals (Int (Variable u)) = not (is_among u.name locals.arrays) && is_use locals.ints u
+is_right_argument locals (Int e) = is_right_expr locals e
+is_right_argument locals (Array u) = is_among u.name locals.arrays && is_use locals.arrays u
+
+-- what a result goes to has its slot
+abbrev pub is_right_target : Locals → Option Use → Bool
+is_right_target locals None = true
+is_right_target locals (Some u) = is_use locals.ints u
+
+-- each use in what is returned has its slot
+abbrev pub is_right_return : Locals → Option Expr → Bool
+is_right_return locals None = true
+is_right_return locals (Some e) = is_right_expr locals e
+
+-- each use in the head of a loop has its slot, and what it captures is what this body does
+abbrev pub is_right_head : Locals → Head → Block → Bool
+is_right_head locals h b =
+    is_next locals.ints h.variable && is_right_expr locals h.from && is_right_expr locals h.to
+    && same_uses h.captured (captured_in (length locals.ints) b) && list_all (is_use locals.arrays) h.over
+
+-- each use in a cut has its slot
+abbrev pub is_right_cut : Locals → Parts → Bool
+is_right_cut locals c =
+    is_use locals.arrays c.array && is_right_expr locals c.at && is_next locals.arrays c.left
+    && is_next (locals.arrays ++ c.left.name ∷ []) c.right
+
+abbrev mutual
+  -- each slot and index in a statement is right
+  pub is_right_stmt : Lists → Locals → Stmt → Bool
+  is_right_stmt lists locals (Declare u e) = is_next locals.ints u && is_right_expr locals e
+  is_right_stmt lists locals (DeclareArray u e) = is_next locals.arrays u && is_right_expr locals e
+  is_right_stmt lists locals (Assign u e) = is_use locals.ints u && is_right_expr locals e
+  is_right_stmt lists locals (AssignElement u i e) = is_use locals.arrays u && is_right_expr locals i && is_right_expr locals e
+  is_right_stmt lists locals (AddTo s e) = is_listed lists.reducers s && is_right_expr locals e
+  is_right_stmt lists locals (Call kind site target f es) =
+      is_right_target locals target && is_listed lists.functions f && list_all (is_right_argument locals) es
+  is_right_stmt lists locals Sync = true
+  is_right_stmt lists locals (If e b) = is_right_expr locals e && is_right_block lists locals b
+  is_right_stmt lists locals (IfElse e b c) =
+      is_right_expr locals e && is_right_block lists locals b && is_right_block lists locals c
+  is_right_stmt lists locals (While e b) = is_right_expr locals e && is_right_block lists locals b
+  is_right_stmt lists locals (For head b) =
+      is_right_head locals head b && is_right_block lists (with_int head.variable.name locals) b
+  is_right_stmt lists locals (Scope b) = is_right_block lists locals b
+  is_right_stmt lists locals (Cut parts b) =
+      is_right_cut locals parts && is_right_block lists (with_array parts.right.name (with_array parts.left.name locals)) b
+  is_right_stmt lists locals (Region tag b) = is_listed lists.tags tag && is_right_block lists locals b
+  is_right_stmt lists locals (Print e) = is_right_expr locals e
+  is_right_stmt lists locals (Return e) = is_right_return locals e
+
+  -- each slot and index in a block is right
+  pub is_right_block : Lists → Locals → Block → Bool
+  is_right_block lists locals End = true
+  is_right_block lists locals (Then line s b) =
+      is_right_stmt lists locals s && is_right_block lists (locals_after locals (plain_stmt s)) b
+
+-- each slot, each index and both counts of slots of a function are right
+abbrev pub is_right_function : Lists → Function → Bool
+is_right_function lists f =
+    let locals = locals_of f.params in
+    (f.ints == ints_in_block (length locals.ints) f.body) && (f.arrays == arrays_in_block (length locals.arrays) f.body)
+    && is_right_block lists locals f.body
+
+-- each slot, each index and each count of slots is right, and so are the tags and the place of main
+abbrev pub is_resolved : Resolved → Bool
+is_resolved tree =
+    let lists = lists_of (plain tree) in
+    same_names tree.tags (tags_of (plain tree)) && (tree.main == slot_of main_name lists.functions)
+    && list_all (is_right_function lists) tree.functions

@@ -1,0 +1,87 @@
+-- The tree of the definitions that a tree of the code stands for.
+use Rattle.std.specs.Prelude.{ℕ, List, [], ◌∷◌, map, option_map}
+use Rattle.cw_tree.specs.declared.syntax.Expr.{Expr}
+use Rattle.cw_tree.specs.declared.syntax.Expr.TheVariants.{Number, Variable, Element', Length, Negative', Not', Binary'}
+use Rattle.cw_tree.specs.declared.syntax.Stmt.{Stmt, fold-Stmt}
+use Rattle.cw_tree.specs.declared.syntax.Line.{Line, fold-Line}
+use Rattle.cw_tree.specs.declared.syntax.Stmt.TheOpen.{Stmt-F, Line-F}
+use Rattle.cw_tree.specs.declared.syntax.Param.{Param}
+use Rattle.cw_tree.specs.declared.syntax.Function.{Function}
+use Rattle.cw_tree.specs.declared.syntax.Reducer.{Reducer}
+use Rattle.cw_tree.specs.declared.syntax.Ast.{Ast}
+use Rattle.cw_model.specs.Syntax as model
+
+-- an expression of the code as one of the definitions
+abbrev pub expr_of : Expr → model.Expr
+expr_of (Number n) = model.Number n
+expr_of (Variable x) = model.Variable x
+expr_of (Element' a p e) = model.Element a (expr_of e)
+expr_of (Length a) = model.Length a
+expr_of (Negative' p e) = model.Negative (expr_of e)
+expr_of (Not' p e) = model.Not (expr_of e)
+expr_of (Binary' o p d q e) = model.Binary o (expr_of d) (expr_of e)
+
+-- expressions, each seen so
+abbrev pub exprs_of : List Expr → List model.Expr
+exprs_of es = map expr_of es
+
+-- statements in order, each beside its line
+abbrev pub block_from : List (ℕ × model.Stmt) → model.Block
+block_from [] = model.End
+block_from (l ∷ ls) = model.Then l.0 l.1 (block_from ls)
+
+-- one level, with each statement inside already seen
+abbrev pub stmt_step : Stmt-F model.Stmt (ℕ × model.Stmt) → model.Stmt
+stmt_step (Stmt-F.Declare x e) = model.Declare x (expr_of e)
+stmt_step (Stmt-F.DeclareArray x e) = model.DeclareArray x (expr_of e)
+stmt_step (Stmt-F.Assign x e) = model.Assign x (expr_of e)
+stmt_step (Stmt-F.AssignElement x i e) = model.AssignElement x (expr_of i) (expr_of e)
+stmt_step (Stmt-F.AddTo x e) = model.AddTo x (expr_of e)
+stmt_step (Stmt-F.Call c) = model.Call c.value.kind c.value.site c.value.target c.value.callee (exprs_of c.value.arguments.items)
+stmt_step Stmt-F.Sync = model.Sync
+stmt_step (Stmt-F.If e b) = model.If (expr_of e) (block_from b.items)
+stmt_step (Stmt-F.IfElse e b c) = model.IfElse (expr_of e) (block_from b.items) (block_from c.items)
+stmt_step (Stmt-F.While e b) = model.While (expr_of e) (block_from b.items)
+stmt_step (Stmt-F.For h b) =
+    model.For h.value.variable h.value.tested h.value.stepped (expr_of h.value.from) (expr_of h.value.to) h.value.grain h.value.over.items (block_from b.items)
+stmt_step (Stmt-F.Scope b) = model.Scope (block_from b.items)
+stmt_step (Stmt-F.Cut c b) = model.Cut c.value.array (expr_of c.value.at) c.value.left c.value.right (block_from b.items)
+stmt_step (Stmt-F.Region tag b) = model.Region tag (block_from b.items)
+stmt_step (Stmt-F.Print e) = model.Print (expr_of e)
+stmt_step (Stmt-F.Return e) = model.Return (option_map expr_of e)
+
+-- a statement that is already seen, beside its line
+abbrev pub line_step : Line-F model.Stmt (ℕ × model.Stmt) → ℕ × model.Stmt
+line_step l = (l.line, l.stmt)
+
+-- a statement of the code as one of the definitions
+abbrev pub stmt_of : Stmt → model.Stmt
+stmt_of = fold-Stmt model.Stmt (ℕ × model.Stmt) stmt_step line_step
+
+-- a statement beside its line
+abbrev pub line_of : Line → ℕ × model.Stmt
+line_of = fold-Line model.Stmt (ℕ × model.Stmt) stmt_step line_step
+
+-- lines of the code as a block of the definitions
+abbrev pub block_of : List Line → model.Block
+block_of ls = block_from (map line_of ls)
+
+-- what is seen by view, beside the number of the next call statement
+abbrev pub numbered : {X Y : Type 0} → (X → Y) → X × ℕ → Y × ℕ
+numbered view x = (view x.0, x.1)
+
+-- a parameter of the code as one of the definitions
+abbrev pub param_of : Param → model.Param
+param_of p = record { name = p.name; is_array = p.is_array }
+
+-- a function of the code as one of the definitions
+abbrev pub function_of : Function → model.Function
+function_of f = record { name = f.name; line = f.line; gives_int = f.gives_int; params = map param_of f.params.items; body = block_of f.body.items }
+
+-- a reducer of the code as one of the definitions
+abbrev pub reducer_of : Reducer → model.Reducer
+reducer_of r = record { name = r.name; line = r.line }
+
+-- the program that a tree of the code stands for
+abbrev pub program_of : Ast → model.Program
+program_of ast = record { reducers = map reducer_of ast.reducers.items; functions = map function_of ast.functions.items }

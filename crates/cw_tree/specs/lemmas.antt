@@ -1,0 +1,4 @@
+-- Lemmas on resolved trees, which the proofs of the crates above cite.
+pub mod Few
+pub mod Slotted
+pub mod NamedSlots
