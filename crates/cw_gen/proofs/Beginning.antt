@@ -15,7 +15,7 @@ use Rattle.cw_model.specs.Outcome.{Outcome, Trace, then_do, joined_up, pay, pay_
 use Rattle.cw_model.specs.Meaning.{Returned, Completion, Normal, ByReturn, Calls, Deeper, going, onward, scoped, turns, Entry, SameDepth, depth_of, call_event, start_event, given_array, function_of, arguments, new_length, cut_place, uncut, loop_frame, slices_back, returned_arrays, end_of_call, run_all, call}
 use Rattle.cw_model.specs.Meaning as meaning
 use Rattle.cw_model.specs.Ownership.{Taken}
-use Rattle.cw_types.specs.Resolved.{Lists, Locals, slot_of}
+use Rattle.cw_tree.specs.Resolved.{Lists, Locals, slot_of}
 use Rattle.cw_code.specs.declared.code.Func.{Func}
 use Rattle.cw_code.specs.declared.code.Instr.TheVariants as instr
 use Rattle.cw_code.specs.Code.{Code}

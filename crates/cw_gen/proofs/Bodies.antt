@@ -11,7 +11,7 @@ use Rattle.cw_model.specs.Meaning.{Returned, Completion, Normal, ByReturn, Calls
 use Rattle.cw_model.specs.Meaning as meaning
 use Rattle.cw_model.specs.Typing.{Returns, Nowhere, block_returns}
 use Rattle.cw_model.specs.Ownership.{CutOf, Taken, cut_ended, is_taken, freed, without, own_names, where_it_goes_on, Joins, Leaves}
-use Rattle.cw_types.specs.Resolved.{Lists, Locals, slot_of, with_array}
+use Rattle.cw_tree.specs.Resolved.{Lists, Locals, slot_of, with_array}
 use Rattle.cw_code.specs.declared.code.BlockKind.{BlockKind}
 use Rattle.cw_code.specs.declared.code.Instr.{Instr}
 use Rattle.cw_code.specs.declared.code.Instr.TheVariants as instr

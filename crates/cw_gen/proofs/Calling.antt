@@ -13,7 +13,7 @@ use Rattle.cw_model.specs.Frames.{Frame, no_frame, set_result}
 use Rattle.cw_model.specs.Outcome.{Trapped, Trace}
 use Rattle.cw_model.specs.Meaning.{Returned, Completion, Normal, Calls, Deeper, going, Entry, depth_of}
 use Rattle.cw_model.specs.Ownership.{SpawnIn, Taken, target_names, taken_by}
-use Rattle.cw_types.specs.Resolved.{Lists, Locals, slot_of, locals_of}
+use Rattle.cw_tree.specs.Resolved.{Lists, Locals, slot_of, locals_of}
 use Rattle.cw_code.specs.declared.code.Func.{Func}
 use Rattle.cw_code.specs.Code.{Code}
 use Rattle.cw_code.specs.Run as run

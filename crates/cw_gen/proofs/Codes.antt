@@ -10,7 +10,7 @@ use Rattle.cw_model.specs.Meaning.{Returned, Completion, going, returned_arrays}
 use Rattle.cw_model.specs.Answers.{main_frame}
 use Rattle.cw_model.specs.Typing.{Returns, Nowhere, WithInt, Alone, surely_returns, block_returns}
 use Rattle.cw_model.specs.Ownership.{Taken}
-use Rattle.cw_types.specs.Resolved.{Locals, slot_of, locals_of}
+use Rattle.cw_tree.specs.Resolved.{Locals, slot_of, locals_of}
 use Rattle.cw_loops.specs.Slotted.{slotted_argument}
 use Rattle.cw_loops.specs.Slotted as slotted
 use Rattle.cw_code.specs.declared.code.Func.{Func}

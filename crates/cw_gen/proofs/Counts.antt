@@ -7,7 +7,7 @@ use Rattle.cw_model.specs.Meaning.{function_of}
 use Rattle.cw_model.specs.Typing.{Returns, Nowhere, WithInt, Alone}
 use Rattle.cw_model.specs.Ownership.{CutOf, Taken}
 use Rattle.cw_model.specs.Sizes.{size_of, arguments_size, stmt_size, block_size, function_size, static_size}
-use Rattle.cw_types.specs.Resolved.{Lists, Locals, slot_of, with_array, locals_after, locals_of}
+use Rattle.cw_tree.specs.Resolved.{Lists, Locals, slot_of, with_array, locals_after, locals_of}
 use Rattle.cw_loops.specs.Lowered.{lowered}
 use Rattle.cw_loops.specs.Slotted.{slotted_argument, slotted_block, slotted_function, lowered_lists}
 use Rattle.cw_code.specs.declared.code.Instr.{Instr}

@@ -8,7 +8,7 @@ use Rattle.cw_model.specs.Syntax.{Name, Stmt, Declare, DeclareArray, Assign, Ass
 use Rattle.cw_model.specs.Names.{same_name, is_among}
 use Rattle.cw_model.specs.Typing.{Nowhere, surely_returns, block_returns}
 use Rattle.cw_model.specs.Ownership.{Holder, SpawnIn, CutOf, Taken, is_taken, is_spawn_in, is_cut_of, freed, without, own_names, where_it_goes_on, target_names, given, Closing, Joins, Leaves, at_end}
-use Rattle.cw_types.specs.Resolved.{Lists, Locals, with_array, locals_after}
+use Rattle.cw_tree.specs.Resolved.{Lists, Locals, with_array, locals_after}
 use Rattle.cw_gen.proofs.Decided.{first_false}
 use Rattle.cw_gen.specs.Emit.{Tables}
 use Rattle.cw_gen.proofs.Held.{held_after, held_after_all}

@@ -10,7 +10,7 @@ use Rattle.cw_model.specs.Meaning.{uncut}
 use Rattle.cw_model.specs.Ownership.{CutOf, Taken, is_taken, cut_ended, freed, without}
 use Rattle.cw_code.specs.declared.code.Halves.{Halves}
 use Rattle.cw_code.specs.Run.{is_full, settled, cut_arrays, may_cut, uncut_arrays}
-use Rattle.cw_types.specs.Resolved.{Locals, slot_of, with_array}
+use Rattle.cw_tree.specs.Resolved.{Locals, slot_of, with_array}
 use Rattle.cw_gen.proofs.Decided.{both_true}
 use Rattle.cw_gen.proofs.Fine.{IsUsable, Room}
 use Rattle.cw_gen.proofs.Takens.{holds, holds_behind, freed_without, spawn_past_cut}

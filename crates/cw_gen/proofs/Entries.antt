@@ -5,7 +5,7 @@ use Rattle.std.proofs.lemmas.List.{map-append}
 use Rattle.cw_model.specs.Syntax.{Name, Param, Function, Program}
 use Rattle.cw_model.specs.Names.{same_name, is_among}
 use Rattle.cw_model.specs.Answers.{main_name}
-use Rattle.cw_types.specs.Resolved.{Lists, locals_of, slot_of, function_names}
+use Rattle.cw_tree.specs.Resolved.{Lists, locals_of, slot_of, function_names}
 use Rattle.cw_loops.specs.Lowered.{loop_count_in, lower_functions, made_of}
 use Rattle.cw_loops.specs.Slotted.{slotted_block, slotted_function, lowered_lists}
 use Rattle.cw_gen.specs.Emit.{count_ints, count_arrays, ints_in_block, arrays_in_block, emitted_func}

@@ -5,7 +5,7 @@ use Rattle.cw_model.specs.Names.{same_name, is_among, differ}
 use Rattle.cw_model.specs.Meaning.{function_of}
 use Rattle.cw_model.specs.Typing.{Returns, Nowhere, WithInt, Alone, block_returns}
 use Rattle.cw_model.specs.Ownership.{Taken, CutOf, is_taken, given, own_names, Closing, Joins, Leaves, at_end}
-use Rattle.cw_types.specs.Resolved.{Lists, Locals, slot_of, with_array, locals_after, locals_of}
+use Rattle.cw_tree.specs.Resolved.{Lists, Locals, slot_of, with_array, locals_after, locals_of}
 use Rattle.cw_loops.specs.Slotted.{slotted_argument, slotted_block}
 use Rattle.cw_model.specs.declared.syntax.CallKind.{CallKind}
 use Rattle.cw_model.specs.Sites.{Of}

@@ -8,7 +8,7 @@ use Rattle.cw_model.specs.Syntax.{Function, Program}
 use Rattle.cw_model.specs.Answers.{main_name}
 use Rattle.cw_model.specs.Typing.{WithInt, Alone, block_returns}
 use Rattle.cw_model.specs.Meaning.{function_of}
-use Rattle.cw_types.specs.Resolved.{Lists, Locals, locals_of}
+use Rattle.cw_tree.specs.Resolved.{Lists, Locals, locals_of}
 use Rattle.cw_loops.specs.Lowered.{lowered}
 use Rattle.cw_loops.specs.Slotted.{slotted_function, lowered_lists}
 use Rattle.cw_code.specs.declared.code.Func.{Func}

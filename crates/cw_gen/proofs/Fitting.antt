@@ -5,7 +5,7 @@ use Rattle.cw_model.specs.Syntax.{Stmt, Declare, DeclareArray, Assign, AssignEle
 use Rattle.cw_model.specs.Meaning.{function_of}
 use Rattle.cw_model.specs.Typing.{Returns, Nowhere, surely_returns, block_returns}
 use Rattle.cw_model.specs.Ownership.{CutOf, Taken, freed, without, own_names, where_it_goes_on, Leaves}
-use Rattle.cw_types.specs.Resolved.{Locals, slot_of, with_array, locals_after}
+use Rattle.cw_tree.specs.Resolved.{Locals, slot_of, with_array, locals_after}
 use Rattle.cw_loops.specs.Slotted.{slotted_block}
 use Rattle.cw_code.specs.declared.code.BlockKind.TheVariants as block
 use Rattle.cw_code.specs.declared.code.Instr.TheVariants as instr

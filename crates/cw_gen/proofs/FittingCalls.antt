@@ -12,7 +12,7 @@ use Rattle.cw_model.specs.Sites.{Of}
 use Rattle.cw_model.specs.Typing.{Nowhere}
 use Rattle.cw_model.specs.Ownership.{SpawnIn, Taken, taken_by, target_names}
 use Rattle.cw_model.specs.Ownership as ownership
-use Rattle.cw_types.specs.Resolved.{Locals, slot_of, locals_of}
+use Rattle.cw_tree.specs.Resolved.{Locals, slot_of, locals_of}
 use Rattle.std.proofs.lemmas.Slice.Eq.{bytes_eq-Decides}
 use Rattle.cw_code.specs.declared.code.Callee.{Callee}
 use Rattle.cw_code.specs.declared.code.Instr.TheVariants as instr

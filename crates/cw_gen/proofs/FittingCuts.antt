@@ -6,7 +6,7 @@ use Rattle.cw_model.specs.Names.{same_name, is_among}
 use Rattle.std.proofs.lemmas.List.{set-set}
 use Rattle.cw_model.specs.Typing.{Nowhere, block_returns}
 use Rattle.cw_model.specs.Ownership.{CutOf, cut_ended, Taken, is_taken, freed, without, own_names, Joins}
-use Rattle.cw_types.specs.Resolved.{Locals, slot_of, with_array}
+use Rattle.cw_tree.specs.Resolved.{Locals, slot_of, with_array}
 use Rattle.std.proofs.lemmas.Slice.Eq.{bytes_eq-Decides}
 use Rattle.cw_code.specs.declared.code.Instr.TheVariants as instr
 use Rattle.cw_code.specs.Fits.{names_halves, gone_rows, is_full_in, full_in_all, has_array, has_arrays, is_no_part, are_no_parts, is_ready, leaves, Covers, CoversEach, Leads}

@@ -3,7 +3,7 @@ use Rattle.std.proofs.Common.{◌≡◌, ◌≢◌, ℕ, suc, ◌+◌, ◌≤◌
 use Rattle.cw_model.specs.Syntax.{Name, Block}
 use Rattle.cw_model.specs.Names.{is_among}
 use Rattle.cw_model.specs.Ownership.{Taken, is_taken, freed, without, own_names, Joins, Leaves}
-use Rattle.cw_types.specs.Resolved.{Locals}
+use Rattle.cw_tree.specs.Resolved.{Locals}
 use Rattle.cw_code.specs.declared.code.Instr.TheVariants as instr
 use Rattle.cw_code.specs.declared.code.Halves.{Halves}
 use Rattle.cw_code.specs.Fits.{leaves, Covers, CoversEach}

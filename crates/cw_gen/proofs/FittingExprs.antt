@@ -4,7 +4,7 @@ use Rattle.std.specs.Prelude.{nat_le}
 use Rattle.cw_model.specs.Syntax.{Name, Expr, Number, Variable, Element, Length, Negative, Not, Binary, Param}
 use Rattle.std.proofs.lemmas.List.{append-nil}
 use Rattle.cw_model.specs.Ownership.{Taken}
-use Rattle.cw_types.specs.Resolved.{Locals, slot_of}
+use Rattle.cw_tree.specs.Resolved.{Locals, slot_of}
 use Rattle.cw_loops.specs.Slotted.{slotted_argument}
 use Rattle.cw_code.specs.declared.code.UnaryOperator.TheVariants as unary
 use Rattle.cw_code.specs.declared.code.Instr.{Instr}

@@ -4,7 +4,7 @@ use Rattle.cw_model.specs.Syntax.{Expr, Stmt, Declare, DeclareArray, Assign, Ass
 use Rattle.cw_model.specs.Meaning.{function_of}
 use Rattle.cw_model.specs.Typing.{Returns, Nowhere, WithInt, Alone, block_returns}
 use Rattle.cw_model.specs.Ownership.{Taken, without, own_names, where_it_goes_on}
-use Rattle.cw_types.specs.Resolved.{Locals, locals_after}
+use Rattle.cw_tree.specs.Resolved.{Locals, locals_after}
 use Rattle.cw_code.specs.Fits.{Leads}
 use Rattle.cw_gen.proofs.Held.{held_after, held_after_all}
 use Rattle.cw_gen.proofs.Fine.{ExprFine, ArgsFine, ReturnFine, StmtFine, BlockFine}

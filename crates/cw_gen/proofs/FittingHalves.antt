@@ -8,7 +8,7 @@ use Rattle.cw_model.specs.Meaning.{function_of}
 use Rattle.cw_model.specs.Typing.{Nowhere}
 use Rattle.cw_model.specs.Ownership.{Taken}
 use Rattle.cw_model.specs.Ownership as ownership
-use Rattle.cw_types.specs.Resolved.{Locals, slot_of, locals_of}
+use Rattle.cw_tree.specs.Resolved.{Locals, slot_of, locals_of}
 use Rattle.cw_code.specs.declared.code.Instr.TheVariants as instr
 use Rattle.cw_code.specs.Run.{slots_named, passed_by}
 use Rattle.cw_code.specs.Fits.{params_of, has_arrays, has_arguments, with_passed, leaves, Covers, CoversEach, Leads}

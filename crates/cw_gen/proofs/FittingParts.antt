@@ -5,7 +5,7 @@ use Rattle.std.proofs.lemmas.Option.{slice_get_within}
 use Rattle.cw_model.specs.Syntax.{Name, Expr, Block}
 use Rattle.cw_model.specs.Typing.{Returns, Nowhere, WithInt, Alone, block_returns}
 use Rattle.cw_model.specs.Ownership.{Taken, freed, without, own_names, Joins}
-use Rattle.cw_types.specs.Resolved.{Locals, slot_of}
+use Rattle.cw_tree.specs.Resolved.{Locals, slot_of}
 use Rattle.cw_code.specs.declared.code.BlockKind.{BlockKind}
 use Rattle.cw_code.specs.declared.code.Instr.{Instr}
 use Rattle.cw_code.specs.declared.code.Instr.TheVariants as instr

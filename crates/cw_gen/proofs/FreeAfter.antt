@@ -12,11 +12,11 @@ use Rattle.cw_model.specs.Ownership.{SpawnIn, CutOf, Taken, freed, without, own_
 use Rattle.cw_model.specs.WhileLaw.{WhilesAreLeast}
 use Rattle.cw_loops.specs.Lowered.{is_plain, lower_exprs, lower_stmt, lower_block, loop_count, loop_count_in}
 use Rattle.cw_loops.specs.SourceLike.{is_source_expr, is_source_target, is_source_stmt, is_source_block}
-use Rattle.cw_loops.proofs.Worlds.{both_true}
-use Rattle.cw_loops.proofs.Naming.{later_among, either_right}
-use Rattle.cw_loops.proofs.Knowing.{known_array_more}
-use Rattle.cw_loops.proofs.Declaring.{left_none, right_none, kept, CutKept, cut_kept}
-use Rattle.cw_loops.proofs.Seeing.{SameKnown, after_known, CallKept, call_kept}
+use Rattle.cw_loops.specs.lemmas.Tests.{both_true, either_right}
+use Rattle.cw_loops.specs.lemmas.Naming.{later_among}
+use Rattle.cw_loops.specs.lemmas.Knowing.{known_array_more}
+use Rattle.cw_loops.specs.lemmas.Declaring.{left_none, right_none, kept, CutKept, cut_kept}
+use Rattle.cw_loops.specs.lemmas.Seeing.{SameKnown, after_known, CallKept, call_kept}
 use Rattle.cw_gen.proofs.Held.{held_after, held_after_all}
 use Rattle.cw_gen.proofs.FreeTexts.{returns_same, own_same, given_same}
 use Rattle.cw_gen.proofs.FreeMembers.{in_append, in_left, in_contains, contains_in, either_way}

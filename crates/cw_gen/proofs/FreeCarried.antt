@@ -10,9 +10,9 @@ use Rattle.cw_model.specs.Typing.{Known, is_int, is_array, is_argument, are_argu
 use Rattle.cw_model.specs.Ownership.{Holder, SpawnIn, CutOf, Taken, is_taken, is_spawn_in, is_cut_of, freed, cut_ended, without, own_names, where_it_goes_on, target_names, arrays_given, given, names_in, Closing, Joins, Leaves, at_end, known_after}
 use Rattle.cw_loops.specs.Lowered.{is_plain}
 use Rattle.cw_loops.specs.SourceLike.{is_source_expr, is_source_target}
-use Rattle.cw_loops.proofs.Worlds.{both_true, not_true}
-use Rattle.cw_loops.proofs.Naming.{Placed, at_front, after_it, placed, Side, in_first, in_second, side, told, yes_is, no_is, Told, never, refuted, front_among, later_among, among_left, among_right, either_left, either_right}
-use Rattle.cw_loops.proofs.Seeing.{SameKnown, CallKept}
+use Rattle.cw_loops.specs.lemmas.Tests.{both_true, not_true, told, yes_is, no_is, Told, never, refuted, either_left, either_right}
+use Rattle.cw_loops.specs.lemmas.Naming.{Placed, at_front, after_it, placed, Side, in_first, in_second, side, front_among, later_among, among_left, among_right}
+use Rattle.cw_loops.specs.lemmas.Seeing.{SameKnown, CallKept}
 use Rattle.cw_gen.proofs.FreeMembers.{In, in_append, in_left, in_right, in_filter, in_kept, in_taken, not_in, by_spawn, spawn_has, Outer, either_way}
 
 -- a holder as much deeper

@@ -7,9 +7,9 @@ use Rattle.cw_model.specs.Names.{same_name, is_among, differ}
 use Rattle.cw_model.specs.Meaning.{function_of}
 use Rattle.cw_model.specs.Ownership.{Holder, SpawnIn, CutOf, Taken, is_taken, own_names, given, arrays_given, taken_by, Joins, Leaves}
 use Rattle.cw_loops.specs.Lowered.{is_plain, low, high, middle, left_part, right_part, int_params, array_params, variables, leaf_turn, leaf_block, left_arguments, right_arguments, both_halves, in_cuts, node_block, loop_function}
-use Rattle.cw_loops.proofs.Tables.{plain_apart, not_later}
-use Rattle.cw_loops.proofs.Worlds.{both_true, not_true}
-use Rattle.cw_loops.proofs.Naming.{Placed, at_front, after_it, placed, front_among, later_among, all_of}
+use Rattle.cw_loops.specs.lemmas.Tests.{both_true, not_true, all_of}
+use Rattle.cw_loops.specs.lemmas.Apart.{plain_apart, not_later}
+use Rattle.cw_loops.specs.lemmas.Naming.{Placed, at_front, after_it, placed, front_among, later_among}
 use Rattle.cw_gen.proofs.Held.{held_after, held_after_all}
 use Rattle.cw_gen.proofs.Fine.{EndsFree}
 use Rattle.cw_gen.proofs.Kept.{ExprsFree, BlockFree}

@@ -10,11 +10,11 @@ use Rattle.cw_model.specs.Names.{same_name, is_among, differ}
 use Rattle.cw_model.specs.Captured.{read_by, read_by_all, read_in, read_in_block}
 use Rattle.cw_model.specs.Typing.{Known, Returns, Nowhere, is_fine, is_int, is_array, is_cut, is_new, is_head_of_loop, surely_returns, block_returns, declares, ends_block, faults_in, faults_in_block}
 use Rattle.cw_model.specs.Ownership.{Holder, SpawnIn, CutOf, Taken, is_taken, is_spawn_in, is_cut_of, freed, without, own_names, where_it_goes_on, target_names, given, names_in, are_free, may_read, may_write, may_index, keeps_loop, are_inner, for_head, Around, InLoop, Closing, Joins, Leaves, Declared, declared_by, known_after, taken_after, taken_after_all, owner_faults, owner_faults_in}
-use Rattle.cw_loops.proofs.Worlds.{both_true}
-use Rattle.cw_loops.proofs.Naming.{among_join, never, refuted, front_among, later_among}
-use Rattle.cw_loops.proofs.Knowing.{Unknown, new_unknown, known_more, known_array_more}
-use Rattle.cw_loops.proofs.Declaring.{left_none, right_none, kept, CutKept, cut_kept, head_kept, block_new}
-use Rattle.cw_loops.proofs.Seeing.{SameKnown, after_known}
+use Rattle.cw_loops.specs.lemmas.Tests.{both_true, never, refuted}
+use Rattle.cw_loops.specs.lemmas.Naming.{among_join, front_among, later_among}
+use Rattle.cw_loops.specs.lemmas.Knowing.{Unknown, new_unknown, known_more, known_array_more}
+use Rattle.cw_loops.specs.lemmas.Declaring.{left_none, right_none, kept, CutKept, cut_kept, head_kept, block_new}
+use Rattle.cw_loops.specs.lemmas.Seeing.{SameKnown, after_known}
 use Rattle.cw_gen.proofs.FreeTexts.{own_declared, read_is_in, free_each}
 use Rattle.cw_gen.proofs.FreeMembers.{In, in_left, in_right, in_kept, in_taken, Outer, outer_more, outer_not}
 

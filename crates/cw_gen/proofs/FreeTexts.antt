@@ -8,8 +8,8 @@ use Rattle.cw_model.specs.Captured.{read_by, declared_in, declared_in_block}
 use Rattle.cw_model.specs.Typing.{Known, is_argument, are_arguments, surely_returns, block_returns}
 use Rattle.cw_model.specs.Ownership.{Taken, is_taken, own_names, names_in, arrays_given, are_free}
 use Rattle.cw_loops.specs.Lowered.{low, lower_index, lower_expr, lower_exprs, lower_stmt, lower_block, loop_count, loop_count_in}
-use Rattle.cw_loops.proofs.Worlds.{both_true, not_true}
-use Rattle.cw_loops.proofs.Naming.{Placed, at_front, after_it, placed, Side, in_first, in_second, side, none_any, among_left, among_right, front_among, later_among}
+use Rattle.cw_loops.specs.lemmas.Tests.{both_true, not_true}
+use Rattle.cw_loops.specs.lemmas.Naming.{Placed, at_front, after_it, placed, Side, in_first, in_second, side, none_any, among_left, among_right, front_among, later_among}
 
 mutual
   -- a lowered statement surely returns where its source does

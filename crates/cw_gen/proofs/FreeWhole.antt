@@ -12,16 +12,16 @@ use Rattle.cw_model.specs.Typing.{Known, Returns, Nowhere, WithInt, Alone, is_fi
 use Rattle.cw_model.specs.Ownership.{Holder, CutOf, Taken, is_taken, freed, own_names, target_names, given, names_in, are_free, are_inner, keeps_loop, may_read, may_write, may_index, for_head, Around, NoLoop, InLoop, Closing, Joins, Leaves, Declared, declared_by, known_after, taken_after, taken_after_all, owner_faults, owner_faults_in, owner_faults_of}
 use Rattle.cw_model.specs.WhileLaw.{WhilesAreLeast}
 use Rattle.cw_loops.specs.Lowered.{is_plain, low, lower_expr, lower_exprs, lower_stmt, lower_block, loop_count, loop_count_in, made_by, made_in, made_of, loop_name, loop_function, lower_functions, lowered}
+use Rattle.cw_loops.specs.Lowerable.{is_lowerable}
 use Rattle.cw_loops.specs.SourceLike.{is_source_expr, is_source_target, is_source_stmt, is_source_block, is_source_function}
 use Rattle.cw_loops.specs.LoweringLaws.{IsOwnedSource}
-use Rattle.cw_loops.proofs.Worlds.{both_true}
-use Rattle.cw_loops.proofs.Naming.{Placed, at_front, after_it, placed, never, refuted, each_of, among_right, front_among, later_among, either_right, new_are_there}
-use Rattle.cw_loops.proofs.Knowing.{known_more, known_array_more, new_unknown, not_both}
-use Rattle.cw_loops.proofs.Declaring.{left_none, right_none, kept, HeadKept, head_kept, CutKept, cut_kept}
-use Rattle.cw_loops.proofs.Seeing.{SameKnown, after_known, call_kept, Seen, Home, declared_there, known_before, home, block_seen}
-use Rattle.cw_loops.proofs.Accepting.{begins, head_of, heads_kept, owned_can}
-use Rattle.cw_loops.proofs.Simulation.{Found, found_left, found_right}
-use Rattle.cw_loops.proofs.Whole.{all_found, params_same}
+use Rattle.cw_loops.specs.lemmas.Tests.{both_true, never, refuted, either_right}
+use Rattle.cw_loops.specs.lemmas.Naming.{Placed, at_front, after_it, placed, each_of, among_right, front_among, later_among, new_are_there}
+use Rattle.cw_loops.specs.lemmas.Knowing.{known_more, known_array_more, new_unknown, not_both}
+use Rattle.cw_loops.specs.lemmas.Declaring.{left_none, right_none, kept, HeadKept, head_kept, CutKept, cut_kept}
+use Rattle.cw_loops.specs.lemmas.Seeing.{SameKnown, after_known, call_kept, Seen, Home, declared_there, known_before, home, block_seen}
+use Rattle.cw_loops.specs.lemmas.Heads.{parameters_known, head_of, heads_kept}
+use Rattle.cw_loops.specs.lemmas.Finding.{Found, found_left, found_right, all_found, params_same}
 use Rattle.cw_gen.proofs.Held.{held_after, held_after_all}
 use Rattle.cw_gen.proofs.Fine.{EndsFree}
 use Rattle.cw_gen.proofs.Kept.{ExprsFree, StmtFree, BlockFree, AllFree}
@@ -337,7 +337,7 @@ module _ (program : Program) (least : WhilesAreLeast) (gs : List Function) (same
   function_frees : (f : Function) (k : ℕ) → faults_of program f ≡ [] → owner_faults_of program.functions f ≡ [] → is_source_function f ≡ true → Found gs (made_in k f.body) → BlockFree gs 1 [] (lower_block [] k f.body) × AllFree gs (made_in k f.body)
   function_frees f k types owns src found =
       let returns = if f.gives_int then WithInt else Alone in
-      block_frees f.body [] k (known_of f.params) (map (λ p. p.name) f.params) NoLoop (begins program.functions f.params returns (head_of program f types).params).owners_are returns 1 1 0 (omega arith) refl Joins [] [] []
+      block_frees f.body [] k (known_of f.params) (map (λ p. p.name) f.params) NoLoop (parameters_known f.params (head_of program f types).params) returns 1 1 0 (omega arith) refl Joins [] [] []
       (both_true (is_plain f.name) (is_source_block f.body) src).1 (right_none (unless (is_head program f) f.line) _ types) owns (λ t i. absurd i) found
 
   functions_walk : (fs : List Function) (k : ℕ) → flat_map (faults_of program) fs ≡ [] → flat_map (owner_faults_of program.functions) fs ≡ [] → list_all is_source_function fs ≡ true → Found gs (made_of k fs) → AllFree gs (lower_functions k fs) × AllFree gs (made_of k fs)
@@ -349,9 +349,8 @@ module _ (program : Program) (least : WhilesAreLeast) (gs : List Function) (same
       ((here.0, rest.0), both_free gs (made_in k f.body) (made_of (k + loop_count_in f.body) fs) here.1 rest.1)
 
 -- all functions of a lowered program
-pub functions_free : (program : Program) → WhilesAreLeast → IsOwnedSource program → AllFree (lowered program).functions (lowered program).functions
-functions_free program least source =
-    let can = owned_can program source.typed source.owned source.source_like in
+pub functions_free : (program : Program) → WhilesAreLeast → IsOwnedSource program → is_lowerable program ≡ true → AllFree (lowered program).functions (lowered program).functions
+functions_free program least source can =
     let gs : List Function = (lowered program).functions in
     let walk = functions_walk program least gs (params_same program.functions can) program.functions 0 (heads_kept program source.typed) source.owned source.source_like (all_found program.functions can) in
     both_free gs (lower_functions 0 program.functions) (made_of 0 program.functions) walk.0 walk.1

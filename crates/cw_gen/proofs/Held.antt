@@ -1,6 +1,6 @@
 -- What is taken after a statement of a lowered program: as in a source, and a spawned call on one half takes its arrays.
-use Rattle.std.specs.Prelude.{◌≡◌, ℕ, ◌+◌, Bool, true, false, ◌&&◌, List, [], ◌∷◌, ◌++◌}
-use Rattle.cw_model.specs.declared.syntax.CallKind.TheVariants.{Plain, Spawned}
+use Rattle.std.specs.Prelude.{ℕ, ◌+◌, Bool, true, false, ◌&&◌, List, ◌∷◌, ◌++◌}
+use Rattle.cw_model.specs.declared.syntax.CallKind.TheVariants.{Spawned}
 use Rattle.cw_model.specs.Syntax.{Stmt, Call, Start, Sync, If, IfElse, While, For, Scope, Cut, Region, Return, Block, End, Then, Function}
 use Rattle.cw_model.specs.Typing.{block_returns}
 use Rattle.cw_model.specs.Ownership.{CutOf, Taken, freed, cut_ended, without, own_names, where_it_goes_on, target_names, given, taken_by}

@@ -1,9 +1,9 @@
 -- What is made of functions one after another: of those of the source with their bodies, and of those of loops.
 use Rattle.std.proofs.Common.{◌≡◌, ◌⊎◌, inl, inr, Vec, Global, ℕ, suc, ◌+◌, ◌*◌, List, [], ◌∷◌, ◌++◌, length, map, refl, sym, ap, ◌∙◌, arith, append_assoc, length-append}
 use Rattle.std.specs.Prelude.{replicate}
-use Rattle.cw_types.specs.declared.tree.Function as code
-use Rattle.cw_types.specs.Resolved as source
-use Rattle.cw_types.specs.View.{function_of}
+use Rattle.cw_tree.specs.declared.resolved.Function as code
+use Rattle.cw_tree.specs.Resolved as source
+use Rattle.cw_tree.specs.ResolvedView.{function_of}
 use Rattle.cw_loops.specs.declared.tree.Line.{Line}
 use Rattle.cw_loops.specs.View.{block_of}
 use Rattle.cw_loops.specs.Slotted.{Block, Function}

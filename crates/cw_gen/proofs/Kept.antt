@@ -1,12 +1,11 @@
 -- The rules that a lowered program keeps, in two parts: that names are known, and that none that is used is taken.
-use Rattle.std.specs.Prelude.{◌≡◌, suc, map, ℕ, ◌+◌, if◌then◌else◌, Bool, true, false, ◌++◌, List, [], ◌∷◌, length, Option, Some, None}
-use Rattle.std.specs.List.{list_all}
+use Rattle.std.specs.Prelude.{◌≡◌, map, ℕ, ◌+◌, if◌then◌else◌, Bool, true, false, ◌++◌, List, [], ◌∷◌, Option, Some, None}
 use Rattle.cw_model.specs.Syntax.{Name, Expr, Number, Variable, Element, Length, Negative, Not, Binary, Stmt, Declare, DeclareArray, Assign, AssignElement, AddTo, Call, Start, Begin, Sync, If, IfElse, While, Scope, Cut, Region, Print, Return, Block, End, Then, Param, Function}
 use Rattle.cw_model.specs.Names.{is_among, differ}
 use Rattle.cw_model.specs.Meaning.{function_of}
 use Rattle.cw_model.specs.Typing.{Returns, Nowhere, WithInt, Alone, block_returns}
 use Rattle.cw_model.specs.Ownership.{Taken, CutOf, is_taken, given, own_names, names_in, target_names, Joins, Leaves, are_free}
-use Rattle.cw_types.specs.Resolved.{Lists, Locals, with_array, locals_after, locals_of}
+use Rattle.cw_tree.specs.Resolved.{Locals, with_array, locals_after, locals_of}
 use Rattle.cw_gen.proofs.Held.{held_after, has_no_half_in}
 use Rattle.cw_gen.proofs.Fine.{NoArray, Begins, FreeAtEnd, EndsFree, is_function, TakesRange}
 

@@ -8,7 +8,7 @@ use Rattle.cw_model.specs.Syntax.{Name, Expr, Stmt, Start, If, IfElse, While, Fo
 use Rattle.cw_model.specs.Names.{same_name, is_among, differ}
 use Rattle.cw_model.specs.Captured.{captured}
 use Rattle.cw_model.specs.Typing.{Returns, Nowhere, Alone, Known, is_array, is_fine, is_cut, is_head_of_loop, called, surely_returns, ends_block, declares, faults_in, faults_in_block}
-use Rattle.cw_types.specs.Resolved.{Locals, with_int, with_array, locals_after, locals_of}
+use Rattle.cw_tree.specs.Resolved.{Locals, with_int, with_array, locals_after, locals_of}
 use Rattle.cw_loops.specs.Lowered.{is_plain, low, high, middle, left_part, right_part, loop_name, int_params, array_params, variables, leaf_block, left_arguments, right_arguments, both_halves, in_cuts, node_block, loop_function, loop_count, loop_count_in, lower_block, made_by, made_in}
 use Rattle.cw_loops.specs.Lowerable.{Surroundings, can_read, is_local, can_evaluate, new_integers, new_arrays, can_capture, can_slice, inside, can_lower, can_lower_all}
 use Rattle.cw_gen.proofs.Held.{has_no_half_in}

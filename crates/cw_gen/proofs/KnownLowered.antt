@@ -7,7 +7,7 @@ use Rattle.cw_model.specs.Syntax.{Name, Function, Program}
 use Rattle.cw_model.specs.Names.{same_name, is_among, differ}
 use Rattle.cw_model.specs.Answers.{main_name}
 use Rattle.cw_model.specs.Typing.{WithInt, Alone, globals, block_returns, faults_in_block, known_of, is_head, called, faults_of, repeated_names, IsWellTyped}
-use Rattle.cw_types.specs.Resolved.{locals_of}
+use Rattle.cw_tree.specs.Resolved.{locals_of}
 use Rattle.cw_loops.specs.Lowered.{is_plain, loop_count_in, lower_function, lower_functions, made_in, made_of, lowered}
 use Rattle.cw_loops.specs.Lowerable.{nothing_around, integers_of, arrays_of, can_lower_function, is_lowerable}
 use Rattle.cw_loops.specs.LoweringLaws.{IsOwnedSource}

@@ -4,7 +4,7 @@ use Rattle.std.specs.Prelude.{if◌then◌else◌, not, ◌||◌, map, filter}
 use Rattle.cw_model.specs.Syntax.{Name, Param}
 use Rattle.cw_model.specs.Names.{same_name, is_among, differ}
 use Rattle.cw_model.specs.Typing.{Known, is_known, is_int, is_array, known_of}
-use Rattle.cw_types.specs.Resolved.{locals_of}
+use Rattle.cw_tree.specs.Resolved.{locals_of}
 use Rattle.cw_loops.specs.Lowered.{int_params, array_params}
 use Rattle.cw_loops.specs.Lowerable.{integers_of, arrays_of}
 use Rattle.cw_gen.proofs.KnownNames.{both_of, neither_of, turned, never, same_are}

@@ -4,7 +4,7 @@ use Rattle.std.specs.Prelude.{if◌then◌else◌, not, ◌&&◌, ◌||◌, map,
 use Rattle.cw_model.specs.Syntax.{Name, Expr, Number, Variable, Element, Length, Negative, Not, Binary, Stmt, Declare, DeclareArray, Param, Function, Program}
 use Rattle.cw_model.specs.Names.{same_name, is_among, differ}
 use Rattle.cw_model.specs.Typing.{Known, is_int, is_array, is_new, is_fine, is_argument, are_arguments, is_target, globals, declares, known_of, faults_in, Returns, Nowhere, WithInt, Alone, may_return}
-use Rattle.cw_types.specs.Resolved.{Locals, with_int, with_array, locals_after, locals_of}
+use Rattle.cw_tree.specs.Resolved.{Locals, with_int, with_array, locals_after, locals_of}
 use Rattle.cw_loops.specs.Lowered.{is_plain, low, high, lower_index, lower_expr, lower_exprs, lower_option}
 use Rattle.cw_loops.specs.Lowerable.{Surroundings, nothing_around, can_write, can_read, is_local, is_variable, can_evaluate, can_pass, can_pass_all, can_target, new_integers, new_arrays, can_capture, can_slice, inside, integers_of, arrays_of}
 use Rattle.cw_gen.proofs.Kept.{ExprKnown, ArgKnown, ArgsKnown, TargetKnown, ReturnKnown, AllKnown}

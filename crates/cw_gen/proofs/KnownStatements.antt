@@ -10,7 +10,7 @@ use Rattle.cw_model.specs.Answers.{main_name}
 use Rattle.cw_model.specs.Meaning.{function_of}
 use Rattle.cw_model.specs.Captured.{captured}
 use Rattle.cw_model.specs.Typing.{Returns, Nowhere, Known, is_int, is_array, is_new, is_fine, are_arguments, is_target, is_call, is_reducer, is_cut, is_head_of_loop, called, surely_returns, block_returns, ends_block, declares, faults_in, faults_in_block}
-use Rattle.cw_types.specs.Resolved.{Locals, with_array, locals_after}
+use Rattle.cw_tree.specs.Resolved.{Locals, with_array, locals_after}
 use Rattle.cw_loops.specs.Lowered.{is_plain, loop_name, loop_function, loop_count, loop_count_in, lower_exprs, lower_stmt, lower_block, made_by, made_in}
 use Rattle.cw_loops.specs.Lowerable.{Surroundings, can_write, is_local, can_evaluate, can_pass_all, can_target, new_integers, new_arrays, can_capture, can_slice, can_loop, inside, can_lower, can_lower_all}
 use Rattle.cw_gen.proofs.Ordered.{range_order}

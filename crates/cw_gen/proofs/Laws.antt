@@ -9,7 +9,7 @@ use Rattle.cw_model.specs.Frames.{Frame, no_frame}
 use Rattle.cw_model.specs.Outcome.{Trapped, then_do, Piece}
 use Rattle.cw_model.specs.Meaning.{Returned, Calls, depth_of, end_of_call, run_all, call}
 use Rattle.cw_model.specs.Typing.{WithInt, Alone, block_returns}
-use Rattle.cw_types.specs.Resolved.{Lists, locals_of}
+use Rattle.cw_tree.specs.Resolved.{Lists, locals_of}
 use Rattle.cw_code.specs.declared.code.Func.{Func}
 use Rattle.cw_code.specs.declared.code.Instr.TheVariants as instr
 use Rattle.cw_code.specs.Code.{Code}

@@ -11,13 +11,13 @@ use Rattle.cw_model.specs.Limits.{most_call_statements}
 use Rattle.cw_model.specs.Syntax.{Name, Stmt, Declare, DeclareArray, Assign, AssignElement, AddTo, Call, Start, Begin, Sync, If, IfElse, While, For, Scope, Cut, Region, Print, Return, Block, End, Then, Function, Program}
 use Rattle.cw_model.specs.Names.{same_name}
 use Rattle.cw_model.specs.Sites.{CallSite, call_sites, are_numbered}
-use Rattle.cw_types.specs.Resolved.{Lists, Locals, slot_of, with_array, locals_after, locals_of, function_names, resolved}
+use Rattle.cw_tree.specs.Resolved.{Lists, Locals, slot_of, with_array, locals_after, locals_of, function_names, resolved}
 use Rattle.cw_loops.specs.Lowered.{is_plain, loop_name, loop_count_in, lower_functions, made_of, lowered}
 use Rattle.cw_loops.specs.LoweringLaws.{IsOwnedSource}
 use Rattle.cw_loops.specs.SourceLike.{is_source_block, is_source_function}
 use Rattle.cw_loops.specs.Slotted.{slotted_stmt, slotted_block, slotted_function, slotted_functions, lowered_lists}
-use Rattle.cw_loops.proofs.Tables.{same_itself, apart_plain}
-use Rattle.cw_loops.proofs.Whole.{Numbered, Made, count_of, made_functions, loops_apart}
+use Rattle.cw_loops.specs.lemmas.Apart.{same_itself, apart_plain}
+use Rattle.cw_loops.specs.lemmas.Numbering.{Numbered, Made, count_of, made_functions, loops_apart}
 use Rattle.cw_gen.specs.Emit.{Tables, first_list, most_jump, whole_list, half_list, emitted_sites_of, no_lists}
 use Rattle.cw_gen.proofs.Decided.{first_true, second_true}
 use Rattle.cw_gen.proofs.Texts.{tables_in, code_of}

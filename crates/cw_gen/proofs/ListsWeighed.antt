@@ -9,7 +9,7 @@ use Rattle.cw_model.specs.Captured.{captured}
 use Rattle.cw_model.specs.Sites.{CallSite, sites_in, sites_in_block}
 use Rattle.cw_loops.specs.Lowered.{is_plain, in_cuts, both_halves, left_arguments, right_arguments, loop_name, loop_function, loop_count, loop_count_in, lower_stmt, lower_block, made_by, made_in, lower_functions, made_of}
 use Rattle.cw_loops.specs.SourceLike.{is_source_expr, is_source_stmt, is_source_block, is_source_function}
-use Rattle.cw_loops.proofs.Whole.{count_of}
+use Rattle.cw_loops.specs.lemmas.Numbering.{count_of}
 use Rattle.cw_gen.proofs.Decided.{first_true, second_true}
 
 -- what calls weigh: that of a site, the first one of a loop's function, and those on its halves

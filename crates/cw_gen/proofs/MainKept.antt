@@ -10,7 +10,7 @@ use Rattle.cw_model.specs.Meaning.{function_of}
 use Rattle.cw_model.specs.Answers.{main_name}
 use Rattle.cw_model.specs.Sites.{call_sites, are_numbered}
 use Rattle.cw_model.specs.Typing.{is_head, faults_of, repeated, repeated_names, type_faults}
-use Rattle.cw_types.specs.Resolved.{reducer_names}
+use Rattle.cw_tree.specs.Resolved.{reducer_names}
 use Rattle.cw_code.specs.Fits as fits
 use Rattle.cw_loops.specs.Lowered.{loop_count_in, lower_function, lower_functions, made_of, lowered}
 use Rattle.cw_loops.specs.LoweringLaws.{IsOwnedSource}

@@ -5,7 +5,7 @@ use Rattle.cw_model.specs.Syntax.{Name, Stmt, Declare, DeclareArray, Assign, Ass
 use Rattle.cw_model.specs.Names.{is_among}
 use Rattle.cw_model.specs.Captured.{captured}
 use Rattle.cw_model.specs.Sites.{call_sites, are_numbered}
-use Rattle.cw_types.specs.Resolved.{Lists, slot_of, function_names}
+use Rattle.cw_tree.specs.Resolved.{Lists, slot_of, function_names}
 use Rattle.cw_loops.specs.Lowered.{loop_name, loop_count, loop_count_in, lower_stmt, lower_block, made_by, made_in, in_cuts, both_halves, left_arguments, right_arguments, loop_function, lower_functions, made_of, lowered}
 use Rattle.cw_loops.specs.LoweringLaws.{IsOwnedSource}
 use Rattle.cw_loops.specs.Slotted.{lowered_lists}

@@ -8,7 +8,7 @@ use Rattle.cw_model.specs.Lines.{unless}
 use Rattle.cw_model.specs.Typing.{Returns, Nowhere, WithInt, Alone, Known, is_fine, called, is_call, is_cut, is_head_of_loop, is_head, is_reducer, surely_returns, declares, ends_block, faults_in, faults_in_block, faults_of, known_of, repeated_names, type_faults}
 use Rattle.cw_model.specs.Answers.{main_name}
 use Rattle.cw_model.specs.Report.{tags_in, tags_in_block}
-use Rattle.cw_types.specs.Resolved.{Lists, Locals, slot_of, with_int, with_array, locals_after, locals_of, lists_of, function_names, reducer_names, tags_of, resolved_stmt, resolved_block, resolved_function, resolved}
+use Rattle.cw_tree.specs.Resolved.{Lists, Locals, slot_of, with_int, with_array, locals_after, locals_of, lists_of, function_names, reducer_names, tags_of, resolved_stmt, resolved_block, resolved_function, resolved}
 use Rattle.cw_gen.specs.Emit.{Tables, emitted_sites, emitted_sites_in, emitted_sites_of}
 use Rattle.cw_gen.proofs.Decided.{first_true}
 use Rattle.cw_gen.proofs.Fine.{IsListed, HasSite}

@@ -9,7 +9,7 @@ use Rattle.cw_model.specs.Syntax.{Name}
 use Rattle.cw_model.specs.Names.{same_name, is_among, find, put}
 use Rattle.cw_model.specs.Ownership.{Taken, is_taken, cut_ended, freed, without}
 use Rattle.cw_code.specs.Run.{Slots, Results, is_full, full, settled}
-use Rattle.cw_types.specs.Resolved.{slot_of}
+use Rattle.cw_tree.specs.Resolved.{slot_of}
 use Rattle.cw_gen.proofs.Fine.{IsUsable}
 use Rattle.cw_gen.proofs.Takens.{holds, held_is_taken, held_past, held_past_cut, held_without}
 

@@ -11,7 +11,7 @@ use Rattle.cw_model.specs.Frames.{Frame, array_of, set_array, set_result}
 use Rattle.cw_model.specs.Meaning.{returned_array, returned_arrays}
 use Rattle.cw_model.specs.Ownership.{Taken, names_in, arrays_given}
 use Rattle.cw_code.specs.Run.{Slots, Results, Whole, moved_out, and_array, arrays_in, and_result, settled, full, given_back}
-use Rattle.cw_types.specs.Resolved.{Locals, slot_of, locals_of}
+use Rattle.cw_tree.specs.Resolved.{Locals, slot_of, locals_of}
 use Rattle.cw_loops.specs.Slotted.{slotted_argument}
 use Rattle.cw_loops.specs.Slotted as slotted
 use Rattle.cw_gen.specs.Emit.{passed_in}

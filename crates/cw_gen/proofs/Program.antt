@@ -9,7 +9,7 @@ use Rattle.cw_model.specs.Outcome.{Outcome, Done, Trapped, Over, quiet}
 use Rattle.cw_model.specs.Meaning.{Returned, Deeper, function_of, call}
 use Rattle.cw_model.specs.Answers.{Ended, sum_to, int_given, answer_of, main_frame, main_name, serial_answer}
 use Rattle.cw_model.specs.Trees.{Marked, Invocation, tree_of, normal}
-use Rattle.cw_types.specs.Resolved.{Lists, slot_of, locals_of, function_names, reducer_names}
+use Rattle.cw_tree.specs.Resolved.{Lists, slot_of, locals_of, function_names, reducer_names}
 use Rattle.cw_loops.specs.Lowered.{lower_function, lower_functions, made_by, made_in, made_of, loop_count, loop_count_in, lowered}
 use Rattle.cw_loops.specs.Slotted.{slotted_block, slotted_function, lowered_lists}
 use Rattle.cw_code.specs.declared.code.Func.{Func}

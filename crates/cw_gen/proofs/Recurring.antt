@@ -12,7 +12,7 @@ use Rattle.cw_model.specs.Outcome.{Trapped, Trace, then_do, joined_up, pay}
 use Rattle.cw_model.specs.Meaning.{Completion, Calls, Deeper, going, SameDepth, call_event, start_event, function_of, returned_arrays}
 use Rattle.cw_model.specs.Ownership.{Holder, SpawnIn, CutOf, Taken, IsLeastClosed, arrays_given, target_names, cut_ended, is_taken, taken_by, freed, without, own_names, where_it_goes_on, Joins, Leaves}
 use Rattle.cw_model.specs.Ownership as ownership
-use Rattle.cw_types.specs.Resolved.{Lists, Locals, slot_of, locals_of}
+use Rattle.cw_tree.specs.Resolved.{Lists, Locals, slot_of, locals_of}
 use Rattle.cw_code.specs.declared.code.Func.{Func}
 use Rattle.cw_code.specs.declared.code.Instr.TheVariants as instr
 use Rattle.cw_code.specs.Code.{Code}

@@ -2,7 +2,7 @@
 use Rattle.std.proofs.Common.{ℕ, suc, ◌≤◌, List, [], ◌∷◌, length, arith, max}
 use Rattle.cw_model.specs.Syntax as model
 use Rattle.cw_model.specs.Syntax.{Declare, DeclareArray, Assign, AssignElement, AddTo, Call, Start, Begin, Sync, If, IfElse, While, For, Scope, Cut, Region, Print, Return, End, Then}
-use Rattle.cw_types.specs.Resolved.{Lists, Locals, with_array, locals_after, locals_of}
+use Rattle.cw_tree.specs.Resolved.{Lists, Locals, with_array, locals_after, locals_of}
 use Rattle.cw_loops.specs.Slotted as slotted
 use Rattle.cw_loops.specs.Slotted.{slotted_stmt, slotted_block}
 use Rattle.cw_gen.specs.Emit.{ints_in, ints_in_block, arrays_in, arrays_in_block}

@@ -7,7 +7,7 @@ use Rattle.std.proofs.lemmas.Slice.Eq.{bytes_eq-Decides}
 use Rattle.cw_model.specs.Syntax.{Name}
 use Rattle.cw_model.specs.Names.{same_name, is_among}
 use Rattle.cw_model.specs.Ownership.{Holder, CutOf, Taken, is_taken}
-use Rattle.cw_types.specs.Resolved.{Locals, slot_of, with_int, with_array}
+use Rattle.cw_tree.specs.Resolved.{Locals, slot_of, with_int, with_array}
 use Rattle.cw_code.specs.declared.code.Halves.{Halves}
 use Rattle.cw_code.specs.Fits.{Row, Outer, Shape, empty_rows, gone_rows, is_full_in, full_in_all, has_slot, has_array, is_no_part, none_empty, Covers, CoversEach}
 use Rattle.cw_gen.specs.Emit.{halves_of}

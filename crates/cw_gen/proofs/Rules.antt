@@ -5,7 +5,7 @@ use Rattle.std.proofs.lemmas.Slice.Eq.{bytes_eq-Decides}
 use Rattle.cw_model.specs.Syntax.{Name, Function}
 use Rattle.cw_model.specs.Names.{same_name, is_among}
 use Rattle.cw_model.specs.Lines.{unless}
-use Rattle.cw_types.specs.Resolved.{slot_of}
+use Rattle.cw_tree.specs.Resolved.{slot_of}
 use Rattle.cw_gen.proofs.Fine.{IsListed, is_function}
 
 -- a rule that gives no line is kept

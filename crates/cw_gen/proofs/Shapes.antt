@@ -5,7 +5,7 @@ use Rattle.cw_model.specs.Syntax.{Name, Expr, Number, Variable, Element, Length,
 use Rattle.cw_model.specs.Meaning.{function_of}
 use Rattle.cw_model.specs.Typing.{Returns, Nowhere, block_returns}
 use Rattle.cw_model.specs.Ownership.{CutOf, Taken}
-use Rattle.cw_types.specs.Resolved.{Lists, Locals, slot_of, with_array, locals_after}
+use Rattle.cw_tree.specs.Resolved.{Lists, Locals, slot_of, with_array, locals_after}
 use Rattle.cw_loops.specs.Slotted.{slotted_argument, slotted_block}
 use Rattle.cw_code.specs.declared.code.Instr.TheVariants as instr
 use Rattle.cw_code.specs.Fits.{Shape}

@@ -9,7 +9,7 @@ use Rattle.cw_model.specs.Outcome.{Outcome, Trace, joined, then_do, pay, show, p
 use Rattle.cw_model.specs.Meaning.{Completion, Normal, ByReturn, going}
 use Rattle.cw_model.specs.Typing.{Returns}
 use Rattle.cw_model.specs.Ownership.{Taken}
-use Rattle.cw_types.specs.Resolved.{Locals}
+use Rattle.cw_tree.specs.Resolved.{Locals}
 use Rattle.cw_code.specs.declared.code.Instr.{Instr}
 use Rattle.cw_code.specs.declared.code.Instr.TheVariants as instr
 use Rattle.cw_code.specs.Code.{Code}

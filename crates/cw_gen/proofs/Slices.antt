@@ -13,7 +13,7 @@ use Rattle.cw_model.specs.Meaning.{with_slice, loop_frame, slices_back}
 use Rattle.cw_model.specs.Ownership.{Taken}
 use Rattle.cw_code.specs.declared.code.Func.{Func}
 use Rattle.cw_code.specs.Run.{and_result, full, Part, parts_of, slot_taken, given_back}
-use Rattle.cw_types.specs.Resolved.{Lists, Locals, slot_of, locals_of}
+use Rattle.cw_tree.specs.Resolved.{Lists, Locals, slot_of, locals_of}
 use Rattle.cw_code.specs.Code.{Code}
 use Rattle.cw_gen.proofs.Decided.{first_true, second_true}
 use Rattle.cw_gen.proofs.Fine.{AllUsable, ints_first, TakesRange}

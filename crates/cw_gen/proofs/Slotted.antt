@@ -7,8 +7,8 @@ use Rattle.std.proofs.lemmas.Slice.Eq.{bytes_eq-Decides}
 use Rattle.cw_model.specs.Syntax.{Name, Reducer}
 use Rattle.cw_model.specs.Names.{is_among}
 use Rattle.cw_model.specs.Answers.{main_name}
-use Rattle.cw_types.specs.Resolved.{Use, Listed, Expr, Number, Variable, Element, Length, Negative, Not, Binary, Argument, Int, Array, Head, Parts, Stmt, Declare, DeclareArray, Assign, AssignElement, AddTo, Call, Sync, If, IfElse, While, For, Scope, Cut, Region, Print, Return, Block, End, Then, Function, Resolved, Lists, Locals, slot_of, use_of, next_use, listed_in, with_int, with_array, locals_after, captured_in, ints_in_block, arrays_in_block, locals_of, lists_of, tags_of, resolved_expr, resolved_argument, resolved_stmt, resolved_block, resolved_function, resolved, plain_expr, plain_argument, plain_stmt, plain_block, plain_function, plain}
-use Rattle.cw_types.specs.Slots.{is_use, is_next, is_listed, same_uses, same_names, is_right_expr, is_right_argument, is_right_target, is_right_return, is_right_head, is_right_cut, is_right_stmt, is_right_block, is_right_function, is_resolved}
+use Rattle.cw_tree.specs.Resolved.{Use, Listed, Expr, Number, Variable, Element, Length, Negative, Not, Binary, Argument, Int, Array, Head, Parts, Stmt, Declare, DeclareArray, Assign, AssignElement, AddTo, Call, Sync, If, IfElse, While, For, Scope, Cut, Region, Print, Return, Block, End, Then, Function, Resolved, Lists, Locals, slot_of, use_of, next_use, listed_in, with_int, with_array, locals_after, captured_in, ints_in_block, arrays_in_block, locals_of, lists_of, tags_of, resolved_expr, resolved_argument, resolved_stmt, resolved_block, resolved_function, resolved, plain_expr, plain_argument, plain_stmt, plain_block, plain_function, plain}
+use Rattle.cw_tree.specs.Slots.{is_use, is_next, is_listed, same_uses, same_names, is_right_expr, is_right_argument, is_right_target, is_right_return, is_right_head, is_right_cut, is_right_stmt, is_right_block, is_right_function, is_resolved}
 use Rattle.cw_gen.proofs.Decided.{first_true, second_true}
 
 abbrev use_with : Name → ℕ → Use

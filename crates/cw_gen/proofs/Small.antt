@@ -1,6 +1,6 @@
 -- What the generator answers, from the code that was emitted and what is proved of it.
 use Rattle.std.proofs.Common.{◌≡◌, ℕ, ◌≤◌, ◌<◌, Bool, true, false, length, [], ◌∷◌, ◌++◌, List, Some, refl, sym, ap, ◌∙◌, subst, arith}
-use Rattle.std.specs.Prelude.{nat_le, map, ℤ}
+use Rattle.std.specs.Prelude.{nat_le, map}
 use Rattle.std.proofs.lemmas.Bool.Decides.{nat_tests}
 use Rattle.std.proofs.lemmas.List.{length-map}
 use Rattle.cw_model.specs.Limits.{most_instructions, most_call_statements}
@@ -10,18 +10,16 @@ use Rattle.cw_model.specs.Sizes.{static_size, call_count, limit_faults, loop_fau
 use Rattle.cw_model.specs.Syntax.{Program}
 use Rattle.cw_model.specs.Typing.{type_faults}
 use Rattle.cw_model.specs.Ownership.{ownership_faults}
-use Rattle.cw_model.specs.Answers.{main_name, serial_answer}
+use Rattle.cw_model.specs.Answers.{main_name}
 use Rattle.cw_model.specs.WhileLaw.{WhilesAreLeast}
-use Rattle.cw_model.proofs.Lowest.{least_line}
-use Rattle.cw_types.specs.declared.tree.Tree as source
-use Rattle.cw_types.specs.Resolved.{lists_of, resolved}
-use Rattle.cw_types.specs.Slots.{is_resolved}
-use Rattle.cw_types.specs.View.{resolved_of, program_of}
+use Rattle.cw_model.specs.lemmas.Lowest.{least_line}
+use Rattle.cw_tree.specs.declared.resolved.Tree as source
+use Rattle.cw_tree.specs.Resolved.{lists_of, resolved}
+use Rattle.cw_tree.specs.Slots.{is_resolved}
+use Rattle.cw_tree.specs.ResolvedView.{resolved_of, program_of}
 use Rattle.cw_code.specs.declared.code.Code as declared
 use Rattle.cw_code.specs.declared.code.Site.{Site}
 use Rattle.cw_code.specs.Code.{Code, code_view, site_view}
-use Rattle.cw_code.specs.Fits.{are_apart, main_params, Fits}
-use Rattle.cw_code.specs.Run.{code_serial}
 use Rattle.cw_loops.specs.declared.tree.Tree.{Tree}
 use Rattle.cw_loops.specs.Lowered.{lowered}
 use Rattle.cw_loops.specs.LoweringLaws.{IsOwnedSource, OwnedIsLowerable, LoweringKeepsAnswers, LoweringKeepsSize}
@@ -29,7 +27,7 @@ use Rattle.cw_loops.specs.Seen.{functions_of, IsLowered}
 use Rattle.cw_loops.specs.Slotted.{lowered_lists, slotted_functions}
 use Rattle.cw_loops.specs.SourceLike.{is_source_like}
 use Rattle.cw_gen.specs.Emit.{most_jump, emitted_sites_of, emitted}
-use Rattle.cw_gen.specs.Generates.{main_count, Generates}
+use Rattle.cw_gen.specs.Generates.{Generates}
 use Rattle.cw_gen.proofs.FewFunctions.{few_functions}
 use Rattle.cw_gen.proofs.Counts.{code_count}
 use Rattle.cw_gen.proofs.Fine.{ProgramFine}
@@ -104,7 +102,7 @@ module _ (least : WhilesAreLeast) (lowerable : OwnedIsLowerable) (answers : Lowe
     -- what the code relies on
     fine : Relied program
     fine =
-        program_fine program owned_source numbered (functions_known program owned_source (lowerable program owned_source)) (functions_free program least owned_source)
+        program_fine program owned_source numbered (functions_known program owned_source (lowerable program owned_source)) (functions_free program least owned_source (lowerable program owned_source))
         (all_pass program owned_source numbered few_calls (few_functions program (record { limits = limits; loops = few })) (as_many_sites program))
 
     -- the code is that of the program, each name looked up

@@ -7,7 +7,7 @@ use Rattle.std.proofs.lemmas.List.{length-map, map-append}
 use Rattle.std.proofs.lemmas.Option.{slice_get-get_or}
 use Rattle.cw_model.specs.Syntax.{Stmt, Declare, DeclareArray, Assign, AssignElement, AddTo, Call, Start, Begin, Sync, If, IfElse, While, For, Scope, Cut, Region, Print, Return, Block, End, Then, Function, Program}
 use Rattle.cw_model.specs.Sites.{sites_in, sites_in_block, call_sites, are_numbered}
-use Rattle.cw_types.specs.Resolved.{Lists, Locals, with_int, with_array, locals_after, locals_of, lists_of, resolved_stmt, resolved_block, resolved_function, resolved}
+use Rattle.cw_tree.specs.Resolved.{Lists, Locals, with_int, with_array, locals_after, locals_of, lists_of, resolved_stmt, resolved_block, resolved_function, resolved}
 use Rattle.cw_code.specs.Code.{CodeSite, told_sites}
 use Rattle.cw_gen.specs.Emit.{emitted_sites, emitted_sites_in, emitted_sites_of}
 use Rattle.cw_gen.proofs.Decided.{first_true, second_true}

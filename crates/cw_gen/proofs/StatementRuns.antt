@@ -16,7 +16,7 @@ use Rattle.cw_model.specs.Meaning as meaning
 use Rattle.cw_model.specs.Typing.{Returns, Nowhere, WithInt, Alone, surely_returns, block_returns}
 use Rattle.cw_model.specs.Ownership.{Holder, SpawnIn, CutOf, Taken, IsLeastClosed, arrays_given, target_names, cut_ended, is_taken, taken_by, freed, without, own_names, where_it_goes_on, Joins, Leaves}
 use Rattle.cw_model.specs.Ownership as ownership
-use Rattle.cw_types.specs.Resolved.{Lists, Locals, slot_of, with_array, locals_after}
+use Rattle.cw_tree.specs.Resolved.{Lists, Locals, slot_of, with_array, locals_after}
 use Rattle.cw_loops.specs.Slotted.{slotted_block}
 use Rattle.cw_code.specs.declared.code.BlockKind.TheVariants as block
 use Rattle.cw_code.specs.declared.code.Instr.TheVariants as instr

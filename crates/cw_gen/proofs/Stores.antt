@@ -7,7 +7,7 @@ use Rattle.cw_model.specs.Names.{is_among}
 use Rattle.cw_model.specs.Frames.{Frame, int_of, array_of, new_int, new_array, set_int, set_array, leave}
 use Rattle.cw_model.specs.Ownership.{Taken, is_taken, freed, without}
 use Rattle.cw_code.specs.Run.{Slots, Results, is_full, settled}
-use Rattle.cw_types.specs.Resolved.{Locals, slot_of, with_int, with_array}
+use Rattle.cw_tree.specs.Resolved.{Locals, slot_of, with_int, with_array}
 use Rattle.cw_gen.proofs.Fine.{IsUsable, Room}
 use Rattle.cw_gen.proofs.Takens.{holds}
 use Rattle.cw_gen.proofs.Names.{Entries, names_in, values_in, NotAwaited, all_of, get-other, length-settled, slot_new, slot_stays, slot_within, AgreesOf, is_free, is_later, can_write, count_slots}

@@ -9,7 +9,7 @@ use Rattle.cw_model.specs.Meaning.{function_of}
 use Rattle.cw_model.specs.Report.{tags_in, tags_in_block}
 use Rattle.cw_model.specs.Report as report
 use Rattle.cw_model.specs.Sizes.{first_places, regions_in, regions_in_block}
-use Rattle.cw_types.specs.Resolved.{Lists, slot_of, function_names, resolved_function, tags_of}
+use Rattle.cw_tree.specs.Resolved.{Lists, slot_of, function_names, resolved_function, tags_of}
 use Rattle.cw_code.specs.Fits as fits
 use Rattle.cw_gen.specs.Emit.{head_line}
 use Rattle.cw_gen.proofs.Fine.{is_function}

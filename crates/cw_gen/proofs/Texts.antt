@@ -1,11 +1,11 @@
 -- The code of each part of a lowered program, its names looked up; and that functions have their code where their entries say.
-use Rattle.std.specs.Prelude.{◌≡◌, ℕ, ◌≤◌, Bool, true, if◌then◌else◌, List, [], ◌++◌, length, map, Some, slice_get}
+use Rattle.std.specs.Prelude.{◌≡◌, ℕ, ◌≤◌, true, if◌then◌else◌, List, [], ◌++◌, length, map, Some, slice_get}
 use Rattle.cw_model.specs.Syntax.{Name, Expr, While, Stmt, Block, Function, Program}
 use Rattle.cw_model.specs.Names.{differ}
 use Rattle.cw_model.specs.Meaning.{function_of}
 use Rattle.cw_model.specs.Typing.{Returns, WithInt, Alone, block_returns}
 use Rattle.cw_model.specs.Ownership.{Taken, IsLeastClosed}
-use Rattle.cw_types.specs.Resolved.{Lists, Locals, slot_of, locals_of, resolved}
+use Rattle.cw_tree.specs.Resolved.{Lists, Locals, slot_of, locals_of, resolved}
 use Rattle.cw_loops.specs.Slotted.{slotted_expr, slotted_argument, slotted_stmt, slotted_block, slotted_functions}
 use Rattle.cw_code.specs.declared.code.Func.{Func}
 use Rattle.cw_code.specs.declared.code.Instr.{Instr}

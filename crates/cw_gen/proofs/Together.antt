@@ -5,7 +5,7 @@ use Rattle.cw_model.specs.Syntax.{Name, Expr, Number, Variable, Element, Length,
 use Rattle.cw_model.specs.Meaning.{function_of}
 use Rattle.cw_model.specs.Typing.{Returns, Nowhere, WithInt, Alone}
 use Rattle.cw_model.specs.Ownership.{Taken, CutOf, is_taken, names_in, target_names, are_free}
-use Rattle.cw_types.specs.Resolved.{Lists, Locals, with_array, locals_after, locals_of}
+use Rattle.cw_tree.specs.Resolved.{Lists, Locals, with_array, locals_after, locals_of}
 use Rattle.cw_gen.specs.Emit.{Tables}
 use Rattle.cw_gen.proofs.Held.{held_after}
 use Rattle.cw_gen.proofs.Fine.{ExprFine, ArgFine, ArgsFine, TargetFine, ReturnFine, AllUsable, Room, room_of, StmtFine, BlockFine, FunctionFine, FunctionsFine}

@@ -1,7 +1,7 @@
 -- What the code of a lowered program tells of its text: rooms, lists of array slots, sites, reducers and tags.
-use Rattle.std.specs.Prelude.{◌≡◌, ℕ, suc, ◌<◌, ◌≤◌, List, [], ◌∷◌, length, map}
+use Rattle.std.specs.Prelude.{suc, ◌<◌, ◌≤◌, List, [], ◌∷◌, length, map}
 use Rattle.cw_model.specs.Syntax.{Stmt, Declare, DeclareArray, AddTo, Call, Start, Begin, If, IfElse, While, Scope, Cut, Region, Block, End, Then, Function}
-use Rattle.cw_types.specs.Resolved.{Lists, Locals, slot_of, with_array, locals_after, locals_of}
+use Rattle.cw_tree.specs.Resolved.{Lists, Locals, slot_of, with_array, locals_after, locals_of}
 use Rattle.cw_loops.specs.Slotted.{slotted_argument}
 use Rattle.cw_gen.specs.Emit.{Tables, first_list, whole_list, half_list, passed_in}
 use Rattle.cw_gen.proofs.Fine.{Room, room_of, IsListed, IsPassed, HasSite}

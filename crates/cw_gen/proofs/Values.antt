@@ -12,7 +12,7 @@ use Rattle.cw_model.specs.Outcome.{Outcome, Trace, then_do, pay_for}
 use Rattle.cw_model.specs.Meaning.{given_array, arguments}
 use Rattle.cw_model.specs.Ownership.{Holder, SpawnIn, CutOf, Taken, IsLeastClosed, arrays_given, target_names, cut_ended, is_taken, taken_by, freed, without, own_names, where_it_goes_on, Joins, Leaves}
 use Rattle.cw_model.specs.Ownership as ownership
-use Rattle.cw_types.specs.Resolved.{Locals, slot_of, locals_of}
+use Rattle.cw_tree.specs.Resolved.{Locals, slot_of, locals_of}
 use Rattle.cw_loops.specs.Slotted.{slotted_argument}
 use Rattle.cw_code.specs.declared.code.UnaryOperator.TheVariants as unary
 use Rattle.cw_code.specs.declared.code.Instr.{Instr}

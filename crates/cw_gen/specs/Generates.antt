@@ -11,8 +11,8 @@ use Rattle.cw_model.specs.Sites.{call_sites, root_site}
 use Rattle.cw_model.specs.Sizes.{program_faults}
 use Rattle.cw_text.specs.declared.fault.Fault.{Fault}
 use Rattle.cw_text.specs.declared.fault.Fault.TheVariants as fault
-use Rattle.cw_types.specs.Resolved.{reducer_names}
-use Rattle.cw_types.specs.View.{program_of}
+use Rattle.cw_tree.specs.Resolved.{reducer_names}
+use Rattle.cw_tree.specs.ResolvedView.{program_of}
 use Rattle.cw_loops.specs.declared.program.Core.{Core}
 use Rattle.cw_code.specs.declared.code.Code as made_code
 use Rattle.cw_code.specs.Code.{Code, code_view, told_sites}

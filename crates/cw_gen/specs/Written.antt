@@ -3,13 +3,13 @@ use Rattle.std.specs.Prelude.{◌≡◌, ℕ, ◌+◌, ◌-◌, ◌*◌, pos, ma
 use Rattle.std.specs.Global.{Vec}
 use Rattle.cw_model.specs.declared.syntax.CallKind.{CallKind}
 use Rattle.cw_model.specs.declared.syntax.Operator.TheVariants.{AtMost, Plus, Minus, Divide}
-use Rattle.cw_types.specs.declared.tree.Call as code_call
-use Rattle.cw_types.specs.declared.tree.Function as code
-use Rattle.cw_types.specs.declared.tree.Param.{Param}
-use Rattle.cw_types.specs.declared.tree.Reducer.{Reducer}
-use Rattle.cw_types.specs.declared.tree.Tree as source
-use Rattle.cw_types.specs.Resolved.{reducer_names}
-use Rattle.cw_types.specs.View.{function_of, listed_of, param_of, reducer_of, resolved_of}
+use Rattle.cw_tree.specs.declared.resolved.Call as code_call
+use Rattle.cw_tree.specs.declared.resolved.Function as code
+use Rattle.cw_tree.specs.declared.resolved.Param.{Param}
+use Rattle.cw_tree.specs.declared.resolved.Reducer.{Reducer}
+use Rattle.cw_tree.specs.declared.resolved.Tree as source
+use Rattle.cw_tree.specs.Resolved.{reducer_names}
+use Rattle.cw_tree.specs.ResolvedView.{function_of, listed_of, param_of, reducer_of, resolved_of}
 use Rattle.cw_loops.specs.declared.program.Core.{Core}
 use Rattle.cw_loops.specs.declared.tree.Argument.{Argument}
 use Rattle.cw_loops.specs.declared.tree.Begin.{Begin}

@@ -12,7 +12,7 @@ use crate::slots::{arrays_in_block, count_arrays, count_ints, ints_in_block};
 use crate::statements::block;
 use cw_code::code::{Func, Instr};
 use cw_loops::tree::{Line, Loop};
-use cw_types::tree::Function;
+use cw_tree::resolved::Function;
 use std::alloc::AllocError;
 
 /// The code of the functions of the source, each with its body.

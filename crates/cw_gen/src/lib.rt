@@ -11,8 +11,6 @@ mod loops;
 mod sites;
 mod slots;
 mod statements;
-#[cfg(test)]
-mod tests;
 mod whole;
 
 pub use generating::generate;

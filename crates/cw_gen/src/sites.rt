@@ -5,11 +5,11 @@ ghost use Rattle.cw_code.specs.Code as code;
 ghost use Rattle.cw_gen.specs.Emit as spec;
 ghost use Rattle.cw_gen.specs.Written as written;
 ghost use Rattle.cw_gen.specs.Written.{AddsSites, call_site, seen_sites};
-ghost use Rattle.cw_types.specs.View.{block_of, stmt_of};
+ghost use Rattle.cw_tree.specs.ResolvedView.{block_of, stmt_of};
 
 use cw_code::code::Site;
 use cw_model::syntax::Name;
-use cw_types::tree::{Call, Function, Line, Stmt};
+use cw_tree::resolved::{Call, Function, Line, Stmt};
 use std::alloc::{AllocError, Global};
 
 /// The call sites of functions, in source order.

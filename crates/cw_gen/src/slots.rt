@@ -6,7 +6,7 @@ ghost use Rattle.cw_loops.specs.View as view;
 ghost use Rattle.cw_gen.specs.Written.{are_arrays};
 
 use cw_loops::tree::{Line, Stmt};
-use cw_types::tree::Param;
+use cw_tree::resolved::Param;
 
 /// How many parameters are integers.
 pub(crate) fn count_ints(params: &[Param]) -> usize

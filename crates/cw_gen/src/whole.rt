@@ -7,14 +7,14 @@ ghost use Rattle.cw_gen.specs.Written.{all_code, all_funcs, all_lists, code_of_c
 ghost use Rattle.cw_gen.specs.Written.{names_of_reducers, seen_sites, sites_of};
 ghost use Rattle.cw_loops.specs.Small.{IsSmallTree};
 ghost use Rattle.cw_model.specs.Limits.{most_call_statements};
-ghost use Rattle.cw_types.specs.View as view;
+ghost use Rattle.cw_tree.specs.ResolvedView as view;
 
 use crate::functions::{functions_with, loop_functions};
 use crate::lists::{lists_of_bodies, lists_of_loops, no_lists};
 use cw_code::code::{Code, Func, Instr, Site};
 use cw_loops::{Core, tree};
 use cw_model::syntax::Name;
-use cw_types::tree::{Function, Reducer, Tree};
+use cw_tree::resolved::{Function, Reducer, Tree};
 use std::alloc::{AllocError, Global};
 
 /// The code of a tree whose loops are lowered, with the call sites of its source.

@@ -12,11 +12,12 @@ use Rattle.cw_model.specs.Outcome.{quiet, Done, Piece}
 use Rattle.cw_model.specs.Meaning.{Completion, Normal, ByReturn, onward, going, scoped, Calls, run}
 use Rattle.cw_loops.specs.Lowered.{lower_index, lower_expr}
 use Rattle.cw_loops.specs.Lowerable.{Surroundings, is_local, is_variable, can_evaluate, can_lower}
+use Rattle.cw_loops.specs.lemmas.Tests.{both_true}
 use Rattle.cw_loops.proofs.Alike.{Alike, alike_then}
 use Rattle.cw_loops.proofs.Cuts.{alike_right}
 use Rattle.cw_loops.proofs.Tables.{keys}
 use Rattle.cw_loops.proofs.Fitting.{Good, ValueFits, Kept, kept_same, kept_then, sizes-put, sizes-leave, find_fine, fit-take, fine-put, fine-take, then_fits, dearer_fits, evaluate_fits}
-use Rattle.cw_loops.proofs.Worlds.{World, Rel, related, source, target, both_true, find_in, put_in, local_same, variable_gives, spot_gives, sliced_cost, local_cost, evaluate_same, can_fit}
+use Rattle.cw_loops.proofs.Worlds.{World, Rel, related, source, target, find_in, put_in, local_same, variable_gives, spot_gives, sliced_cost, local_cost, evaluate_same, can_fit}
 use Rattle.cw_loops.proofs.Statements.{OptionFits, Out, goes, returns, OutAll, alike_done, value_then, values_then, keys-take, length-keys, placed, placed_fits, written_is, and_then_same, fine_set, rel_set_array}
 
 written_fits : (xs : List ℤ) (i v : ℤ) → fits v ≡ true → ValueFits (written xs i v)

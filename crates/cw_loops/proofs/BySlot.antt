@@ -13,20 +13,20 @@ use Rattle.cw_model.specs.Names.{same_name, is_among}
 use Rattle.cw_model.specs.Meaning.{function_of}
 use Rattle.cw_model.specs.Captured.{captured}
 use Rattle.cw_model.specs.Typing.{Known, is_int, is_array, is_fine, is_new, is_head_of_loop, faults_in, faults_in_block, declares, ends_block, surely_returns, Returns, Nowhere}
-use Rattle.cw_types.specs.Resolved.{Lists, Locals, Use, slot_of, use_of, resolved_expr, resolved_argument, resolved_stmt, resolved_block, with_int, with_array, locals_after, head_with}
-use Rattle.cw_types.specs.Resolved as source
-use Rattle.cw_types.specs.Bounds.{Counts, fits_expr, fits_head, fits_parts, fits_stmt, fits_block}
+use Rattle.cw_tree.specs.Resolved.{Lists, Locals, Use, slot_of, use_of, resolved_expr, resolved_argument, resolved_stmt, resolved_block, with_int, with_array, locals_after, head_with}
+use Rattle.cw_tree.specs.Resolved as source
+use Rattle.cw_tree.specs.Bounds.{Counts, fits_expr, fits_head, fits_parts, fits_stmt, fits_block}
 use Rattle.cw_loops.specs.Lowered.{is_plain, low, high, loop_name, lower_index, lower_expr, lower_exprs, lower_option, loop_count, loop_count_in, lower_stmt, lower_block, made_by, made_in, loop_function}
 use Rattle.cw_loops.specs.Lowerable.{Surroundings, can_write, can_read, is_local, is_variable, can_evaluate, can_pass, can_pass_all, can_target, new_integers, new_arrays, can_loop, inside, can_lower, can_lower_all}
 use Rattle.cw_loops.specs.Slotted.{slotted_expr, slotted_argument, slotted_stmt, slotted_block, slotted_function}
 use Rattle.cw_loops.specs.Slotted as slotted
 use Rattle.cw_loops.specs.Moved.{slot, Moves, slots_of, moves_of, moved_int, moved_array, is_over, from_low, moved_expr, moved_argument, moved_target, moved_return, moved_ints, moved_arrays, arrays_after, Loop, moved_head, loop_with, loop_index, Made, MadeAll, made_stmt, made_block}
 use Rattle.cw_loops.specs.Expanded.{loop_text, loop_texts}
-use Rattle.cw_loops.proofs.Worlds.{both_true}
-use Rattle.cw_loops.proofs.Naming.{Told, yes_is, no_is, told, never, refuted, either_right, each_of, same_turned, Side, in_first, in_second, side, among_right, among_join, front_among, later_among}
-use Rattle.cw_loops.proofs.Tables.{same_are}
-use Rattle.cw_loops.proofs.Knowing.{new_unknown, not_both}
-use Rattle.cw_loops.proofs.Declaring.{left_none, right_none, kept, HeadKept, head_kept, CutKept, cut_kept}
+use Rattle.cw_loops.specs.lemmas.Tests.{both_true, Told, yes_is, no_is, told, never, refuted, either_right}
+use Rattle.cw_loops.specs.lemmas.Apart.{same_are}
+use Rattle.cw_loops.specs.lemmas.Naming.{each_of, same_turned, Side, in_first, in_second, side, among_right, among_join, front_among, later_among}
+use Rattle.cw_loops.specs.lemmas.Knowing.{new_unknown, not_both}
+use Rattle.cw_loops.specs.lemmas.Declaring.{left_none, right_none, kept, HeadKept, head_kept, CutKept, cut_kept}
 use Rattle.cw_loops.proofs.Shifting.{small_slot}
 use Rattle.cw_loops.proofs.Entering.{joined, at, lowered_at, two_lists, Entered, entered, variable_can, after_stmt, after_array}
 use Rattle.cw_loops.proofs.OuterReads.{captured_in_order}

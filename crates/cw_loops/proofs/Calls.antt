@@ -13,6 +13,7 @@ use Rattle.cw_model.specs.Outcome.{Outcome, Done, then_do, quiet, pay, pay_for, 
 use Rattle.cw_model.specs.Meaning.{Completion, Normal, Returned, Deeper, Calls, function_of, given_array, arguments, returned_array, returned_arrays, call_event, run}
 use Rattle.cw_loops.specs.Lowered.{lower_expr, lower_exprs}
 use Rattle.cw_loops.specs.Lowerable.{Surroundings, can_evaluate, can_pass, can_pass_all, can_target, can_read, is_local, integers_of, arrays_of}
+use Rattle.cw_loops.specs.lemmas.Tests.{both_true}
 use Rattle.cw_loops.proofs.Alike.{Alike, Whole, Keeps, same_series, same_fork, no_event, alike_pay, alike_then, alike_one, alike_weaken}
 use Rattle.cw_loops.proofs.Tables.{keys}
 use Rattle.cw_loops.proofs.Arguments.{Fresh, find_at, keys-append}
@@ -20,7 +21,7 @@ use Rattle.cw_loops.proofs.Fitting.{Good, Fine, find_fine, fit-append, fine-appe
 use Rattle.cw_loops.proofs.Statements.{OptionFits, Out, goes, alike_done, value_then, rel_set_array, rel_set_int}
 use Rattle.cw_loops.proofs.Slices.{among_first, among_rest}
 use Rattle.cw_loops.proofs.Cuts.{alike_right}
-use Rattle.cw_loops.proofs.Worlds.{World, Rel, related, source, target, both_true, find_in, evaluate_same, can_fit, local_same}
+use Rattle.cw_loops.proofs.Worlds.{World, Rel, related, source, target, find_in, evaluate_same, can_fit, local_same}
 
 -- a call that gives the same
 pub data CallSame (given : Frame) : Returned → Returned → Type 0 where

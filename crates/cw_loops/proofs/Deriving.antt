@@ -15,8 +15,7 @@ use Rattle.cw_model.specs.Grammar as grammar
 use Rattle.cw_model.specs.Grammar.{name_of, Part, level, chain, ReadsExpr, operand, operators, end, infixed, ReadsOperand, negative, negation, number, variable, element, length_of, parentheses, ReadsMoreArguments, ReadsArguments, ReadsCall, ReadsMoreNames, ReadsGrain, ReadsOver, Head, ReadsHead, ReadsAssigned, ReadsNamed, ReadsDeclared, ReadsReturned, ReadsStmt, begins, ReadsStmtBy, ReadsBlock, braces, ReadsStmts, ReadsParam, ReadsMoreParams, ReadsParams, ReadsFunction, ReadsItems, Derives}
 use Rattle.cw_loops.specs.Lowered.{is_plain}
 use Rattle.cw_loops.specs.SourceLike.{is_source_expr, is_source_return, is_source_stmt, is_source_block, is_source_function, is_source_like}
-use Rattle.cw_loops.proofs.Worlds.{both_true}
-use Rattle.cw_loops.proofs.Naming.{all_of}
+use Rattle.cw_loops.specs.lemmas.Tests.{both_true, all_of}
 use Rattle.cw_loops.proofs.Numbers.{tested}
 
 -- the names among tokens

@@ -3,12 +3,12 @@ use Rattle.std.proofs.Common.{◌≡◌, true, false, List, [], ◌∷◌, ◌++
 use Rattle.std.specs.Prelude.{not, ◌&&◌}
 use Rattle.cw_model.specs.Syntax.{Name, Expr, Number, Variable, Element, Length, Negative, Not, Binary, Stmt, Declare, DeclareArray, Assign, AssignElement, AddTo, Call, Start, Begin, Sync, If, IfElse, While, For, Scope, Cut, Region, Print, Return}
 use Rattle.cw_model.specs.Names.{is_among, differ}
-use Rattle.cw_types.specs.Resolved.{Locals, with_int, with_array, locals_after}
+use Rattle.cw_tree.specs.Resolved.{Locals, with_int, with_array, locals_after}
 use Rattle.cw_loops.specs.Lowered.{is_plain}
 use Rattle.cw_loops.specs.Lowerable.{Surroundings, can_read, is_local, is_variable, can_evaluate, new_integers, new_arrays, can_capture, can_slice, can_loop}
-use Rattle.cw_loops.proofs.Worlds.{both_true}
-use Rattle.cw_loops.proofs.Naming.{Placed, at_front, after_it, placed, turned}
-use Rattle.cw_loops.proofs.Tables.{same_are}
+use Rattle.cw_loops.specs.lemmas.Tests.{both_true, not_true}
+use Rattle.cw_loops.specs.lemmas.Apart.{same_are}
+use Rattle.cw_loops.specs.lemmas.Naming.{Placed, at_front, after_it, placed}
 
 -- integers and arrays behind others
 abbrev pub joined : (o q ints arrays : List Name) → Locals
@@ -80,8 +80,8 @@ entered c ints arrays x taken over h =
     let six = both_true (can_capture c ints taken) (can_slice c arrays over) five.1 in
     record {
       plain = one.0;
-      new = turned (is_among x (c.outer ++ ints)) two.0;
-      not_taken = turned (is_among x taken) three.0;
+      new = not_true (is_among x (c.outer ++ ints)) two.0;
+      not_taken = not_true (is_among x taken) three.0;
       taken_differ = four.0;
       over_differ = five.0;
       taken_plain = λ v o. (each_captured c ints taken six.0 v o).0;

@@ -9,7 +9,7 @@ use Rattle.cw_loops.specs.Slotted.{Expr, Number, Variable, Element, Length, Nega
 use Rattle.cw_loops.specs.Moved.{Loop}
 use Rattle.cw_loops.specs.Lowers.{Bodies}
 use Rattle.cw_loops.specs.Same.{number_of, same_kind, same_int, same_slots, same_target, same_expr, same_argument, same_arguments, same_return, same_stmt, same_block, same_loop, same_loops, same_blocks, same_bodies}
-use Rattle.cw_loops.proofs.Worlds.{both_true}
+use Rattle.cw_loops.specs.lemmas.Tests.{both_true}
 
 operator_equal : (o p : Operator) → (number_of o == number_of p) ≡ true → o ≡ p
 operator_equal operator.Equal operator.Equal h = refl

@@ -7,10 +7,9 @@ use Rattle.std.proofs.lemmas.Bool.Decides.{nat_tests}
 use Rattle.std.proofs.lemmas.List.{map-append, length-map}
 use Rattle.std.proofs.lemmas.List.Folds.{list_any-append}
 use Rattle.std.proofs.lemmas.Map.Steps.{length-le_from_distinct_below}
-use Rattle.cw_types.specs.Resolved.{Use, is_slot_in, with_first, first_uses, reads_in_block, captured_in, Block}
+use Rattle.cw_tree.specs.Resolved.{Use, is_slot_in, with_first, first_uses, reads_in_block, captured_in, Block}
 use Rattle.cw_loops.specs.Moved.{slots_of}
-use Rattle.cw_loops.proofs.Worlds.{both_true, not_true}
-use Rattle.cw_loops.proofs.Naming.{none_of}
+use Rattle.cw_loops.specs.lemmas.Tests.{both_true, not_true, none_of}
 
 -- slots of which no two are equal, each below a number
 record AreApart (n : ℕ) (slots : List ℕ) : Type 0 where

@@ -16,15 +16,17 @@ use Rattle.cw_model.specs.LoopLaws.{for_body}
 use Rattle.cw_model.specs.Meaning.{Normal, Returned, SameDepth, Calls, function_of, loop_frame, with_slice, slices_back, call}
 use Rattle.cw_loops.specs.Lowered.{is_plain, low, high, loop_function}
 use Rattle.cw_loops.specs.Lowerable.{Surroundings, can_read, is_local, can_capture, can_slice, can_loop}
+use Rattle.cw_loops.specs.lemmas.Tests.{both_true, not_true}
+use Rattle.cw_loops.specs.lemmas.Apart.{same_are, plain_apart}
 use Rattle.cw_loops.proofs.Alike.{Alike, alike_then, alike_one, series_keeps}
-use Rattle.cw_loops.proofs.Tables.{keys, find_past, put_past, same_are, plain_apart}
+use Rattle.cw_loops.proofs.Tables.{keys, find_past, put_past}
 use Rattle.cw_loops.proofs.Arguments.{Fresh, table, keys-append}
 use Rattle.cw_loops.proofs.Cuts.{Half, alike_left, alike_right}
 use Rattle.cw_loops.proofs.Leaf.{entry}
 use Rattle.cw_loops.proofs.HalvesCall.{halves_call}
 use Rattle.cw_loops.proofs.Fitting.{Good, kept_same, sizes, sizes-put}
 use Rattle.cw_loops.proofs.Statements.{Out, goes, alike_done}
-use Rattle.cw_loops.proofs.Worlds.{World, Rel, related, source, target, both_true, not_true, reads_same, local_same, local_outer, local_given}
+use Rattle.cw_loops.proofs.Worlds.{World, Rel, related, source, target, reads_same, local_same, local_outer, local_given}
 use Rattle.cw_loops.proofs.Slices.{mapped, Distinct, differ_distinct, keys-mapped, mapped_alike, find_put_other, among_first, among_rest, slice_none, slice_length, back_is}
 use Rattle.cw_loops.proofs.Ranges.{Agrees, Put, ranges}
 use Rattle.cw_loops.proofs.Turn.{turn_scope, BodyAlike, each_turn, among_right, table_at, other_than}

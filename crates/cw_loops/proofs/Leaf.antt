@@ -16,11 +16,12 @@ use Rattle.cw_model.specs.Loops.{leaf_turns, turn_end}
 use Rattle.cw_model.specs.LoopLaws.{for_body}
 use Rattle.cw_model.specs.Meaning.{Completion, Normal, onward, going, scoped, frame_of, Calls, turns, run, run_all, call}
 use Rattle.cw_loops.specs.Lowered.{is_plain, low, high, on_line, leaf_turn}
+use Rattle.cw_loops.specs.lemmas.Apart.{plain_apart}
 use Rattle.cw_loops.proofs.Alike.{Alike, as_whole, then_then, after_quiet, pay_pay}
 use Rattle.cw_loops.proofs.Chained.{Chained, chained_then, chained_pay, chained_series, chained_gives}
 use Rattle.cw_loops.proofs.Runs.{one_line, assign_runs, one_more_turn, no_more_turn}
 use Rattle.cw_loops.proofs.Numbers.{between, lt_more, lt_same, add_range}
-use Rattle.cw_loops.proofs.Tables.{keys, plain_apart, find_last, put_last}
+use Rattle.cw_loops.proofs.Tables.{keys, find_last, put_last}
 
 pub from_left : {A B : Type 0} {R : A → B → Type 0} {given : ℕ} {o p : Outcome A} {o' : Outcome B} → o ≡ p → Chained R given p o' → Chained R given o o'
 from_left {R = R} {given = given} {o' = o'} e h = subst (λ x. Chained R given x o') (sym e) h

@@ -1,43 +1,40 @@
-pub mod Alike
-pub mod Chained
-pub mod Runs
-pub mod Numbers
-pub mod Tables
-pub mod Leaf
-pub mod Lags
-pub mod Pieces
-pub mod LeafCall
-pub mod Arguments
-pub mod Cuts
-pub mod HalvesCall
-pub mod Fitting
-pub mod Worlds
-pub mod Statements
-pub mod Blocks
-pub mod Control
-pub mod Slices
-pub mod Ranges
-pub mod Turn
-pub mod Fresh
-pub mod Loop
-pub mod For
-pub mod Calls
-pub mod Simulation
-pub mod Whole
-pub mod CutStatement
-pub mod Sizes
-pub mod Counts
+mod Alike
+mod Chained
+mod Runs
+mod Numbers
+mod Tables
+mod Leaf
+mod Lags
+mod Pieces
+mod LeafCall
+mod Arguments
+mod Cuts
+mod HalvesCall
+mod Fitting
+mod Worlds
+mod Statements
+mod Blocks
+mod Control
+mod Slices
+mod Ranges
+mod Turn
+mod Fresh
+mod Loop
+mod For
+mod Calls
+mod Simulation
+mod Whole
+mod CutStatement
+mod Sizes
+mod Counts
 mod Grains
-pub mod Rows
-pub mod Sameness
-pub mod Equal
-pub mod Views
-pub mod Naming
-pub mod Knowing
-pub mod Seeing
-pub mod Declaring
+mod Rows
+mod Sameness
+mod Equal
+mod Views
+mod Agreeing
 mod Lowering
-pub mod Accepting
+mod Accepting
 mod Deriving
 mod Shifting
 mod Taken

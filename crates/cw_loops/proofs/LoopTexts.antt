@@ -7,15 +7,15 @@ use Rattle.cw_model.specs.declared.syntax.Operator.TheVariants.{AtMost, Less, Pl
 use Rattle.cw_model.specs.Syntax.{Name, Param}
 use Rattle.cw_model.specs.Syntax as model
 use Rattle.cw_model.specs.Names.{same_name, is_among, differ}
-use Rattle.cw_types.specs.Resolved.{Lists, Locals, slot_of}
+use Rattle.cw_tree.specs.Resolved.{Lists, Locals, slot_of}
 use Rattle.cw_loops.specs.Lowered.{is_plain, low, high, middle, left_part, right_part, int_params, array_params, variables, loop_function, leaf_block, node_block, both_halves, in_cuts, left_arguments, right_arguments}
 use Rattle.cw_loops.specs.Slotted.{Expr, Number, Variable, Binary, Int, Array, Declare, Assign, Start, IfElse, While, Scope, Cut, Block, End, Then, Function, slotted_name, slotted_argument, slotted_block, slotted_function}
 use Rattle.cw_loops.specs.Expanded.{turn_slot, left_slot, right_slot, numbers, half, loop_text}
 use Rattle.cw_loops.specs.Expanded as by_slot
 use Rattle.cw_loops.specs.Moved.{Loop}
-use Rattle.cw_loops.proofs.Worlds.{both_true}
-use Rattle.cw_loops.proofs.Naming.{never, refuted, turned, Placed, at_front, after_it, placed, among_right, among_join, front_among, later_among}
-use Rattle.cw_loops.proofs.Tables.{same_are, same_itself, plain_apart, apart_plain}
+use Rattle.cw_loops.specs.lemmas.Tests.{both_true, never, refuted, not_true}
+use Rattle.cw_loops.specs.lemmas.Apart.{same_are, same_itself, plain_apart, apart_plain}
+use Rattle.cw_loops.specs.lemmas.Naming.{Placed, at_front, after_it, placed, among_right, among_join, front_among, later_among}
 use Rattle.cw_loops.proofs.Fresh.{left_left, right_right}
 use Rattle.cw_loops.proofs.Shifting.{slot_stays, slot_past}
 use Rattle.cw_loops.proofs.Entering.{joined}
@@ -29,7 +29,7 @@ not_before : (v : Name) (done rest : List Name) → differ (done ++ v ∷ rest) 
 not_before v [] rest h = refl
 not_before v (y ∷ done) rest h =
     let two = both_true (not (is_among y (done ++ v ∷ rest))) (differ (done ++ v ∷ rest)) h in
-    let other : same_name v y ≡ false = refuted (same_name v y) (λ e. never (is_among y (done ++ v ∷ rest)) (among_right y done (v ∷ rest) (ap (λ w. is_among w (v ∷ rest)) (sym (same_are v y e)) ∙ front_among v rest)) (turned _ two.0)) in
+    let other : same_name v y ≡ false = refuted (same_name v y) (λ e. never (is_among y (done ++ v ∷ rest)) (among_right y done (v ∷ rest) (ap (λ w. is_among w (v ∷ rest)) (sym (same_are v y e)) ∙ front_among v rest)) (not_true _ two.0)) in
     ap (λ b. if b then true else is_among v done) other ∙ not_before v done rest two.1
 
 at_place : (v : Name) (done rest : List Name) → differ (done ++ v ∷ rest) ≡ true → slot_of v (done ++ v ∷ rest) ≡ length done

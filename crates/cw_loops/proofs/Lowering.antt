@@ -14,11 +14,12 @@ use Rattle.cw_model.specs.Ownership.{Around, InLoop, for_head, is_outer, may_ind
 use Rattle.cw_loops.specs.Lowered.{is_plain, low, high}
 use Rattle.cw_loops.specs.Lowerable.{Surroundings, can_write, can_read, is_local, is_variable, can_evaluate, can_pass, can_pass_all, can_target, new_integers, new_arrays, can_capture, can_slice, can_loop, inside, can_lower, can_lower_all}
 use Rattle.cw_loops.specs.SourceLike.{is_source_expr, is_source_stmt, is_source_block, is_source_target}
-use Rattle.cw_loops.proofs.Worlds.{both_true}
-use Rattle.cw_loops.proofs.Naming.{Placed, at_front, after_it, placed, Side, in_first, in_second, side, never, refuted, all_of, turned, each_of, among_left, among_right, front_among, later_among, neither_among, same_turned, new_are_there, new_are_all, new_differ}
-use Rattle.cw_loops.proofs.Knowing.{Unknown, new_unknown, Agree, reads_well, AllReadWell, first_well, second_well, outside, local_from, write_from, read_from, int_local, expr_can, head_keeps, Adds, an_int, an_array, nothing, adds, pushed, passed, known_more, with_int, with_array, with_returns}
-use Rattle.cw_loops.proofs.Declaring.{left_none, right_none, kept, HeadKept, head_kept, CutKept, cut_kept, block_new}
-use Rattle.cw_loops.proofs.Seeing.{CallKept, call_kept, GivenKept, given_kept, AllInner, inner_names, Seen, Home, declared_there, known_before, home, block_seen}
+use Rattle.cw_loops.specs.lemmas.Tests.{both_true, never, refuted, all_of, not_true}
+use Rattle.cw_loops.specs.lemmas.Naming.{Placed, at_front, after_it, placed, Side, in_first, in_second, side, each_of, among_left, among_right, front_among, later_among, neither_among, same_turned, new_are_there, new_are_all, new_differ}
+use Rattle.cw_loops.specs.lemmas.Knowing.{Unknown, new_unknown, Adds, an_int, an_array, nothing, adds, known_more}
+use Rattle.cw_loops.specs.lemmas.Declaring.{left_none, right_none, kept, HeadKept, head_kept, CutKept, cut_kept, block_new}
+use Rattle.cw_loops.specs.lemmas.Seeing.{CallKept, call_kept, GivenKept, given_kept, AllInner, inner_names, Seen, Home, declared_there, known_before, home, block_seen}
+use Rattle.cw_loops.proofs.Agreeing.{Agree, reads_well, AllReadWell, first_well, second_well, outside, local_from, write_from, read_from, int_local, expr_can, head_keeps, pushed, passed, with_int, with_array, with_returns}
 
 -- lists that are tested name by name
 
@@ -160,12 +161,12 @@ module _ {c : Surroundings} {ints arrays : List Name} {known : Known} {owners : 
 
       index : (a : Name) (e : Expr) → may_index (InLoop (x ∷ owners) x over) a e ≡ true → is_among a over ≡ true → is_among a (x ∷ owners) ≡ true → is_variable (inside c ints arrays x taken over) e ≡ true
       index a (Variable j) may o out = indexes (is_among a (x ∷ owners)) (is_among a over) x j out may
-      index a (Number n) may o out = never (is_among a (x ∷ owners)) out (turned _ may)
-      index a (Element b e) may o out = never (is_among a (x ∷ owners)) out (turned _ may)
-      index a (Length b) may o out = never (is_among a (x ∷ owners)) out (turned _ may)
-      index a (Negative e) may o out = never (is_among a (x ∷ owners)) out (turned _ may)
-      index a (Not e) may o out = never (is_among a (x ∷ owners)) out (turned _ may)
-      index a (Binary operator d e) may o out = never (is_among a (x ∷ owners)) out (turned _ may)
+      index a (Number n) may o out = never (is_among a (x ∷ owners)) out (not_true _ may)
+      index a (Element b e) may o out = never (is_among a (x ∷ owners)) out (not_true _ may)
+      index a (Length b) may o out = never (is_among a (x ∷ owners)) out (not_true _ may)
+      index a (Negative e) may o out = never (is_among a (x ∷ owners)) out (not_true _ may)
+      index a (Not e) may o out = never (is_among a (x ∷ owners)) out (not_true _ may)
+      index a (Binary operator d e) may o out = never (is_among a (x ∷ owners)) out (not_true _ may)
 
       unindexed : (outer there : Bool) (i j : Name) → there ≡ false → (not outer || (there && same_name i j)) ≡ true → outer ≡ false
       unindexed true true i j e h = absurd cc
@@ -174,12 +175,12 @@ module _ {c : Surroundings} {ints arrays : List Name} {known : Known} {owners : 
 
       no_index : (a : Name) (e : Expr) → may_index (InLoop (x ∷ owners) x over) a e ≡ true → is_among a over ≡ false → is_among a (x ∷ owners) ≡ false
       no_index a (Variable j) may o = unindexed (is_among a (x ∷ owners)) (is_among a over) x j o may
-      no_index a (Number n) may o = turned _ may
-      no_index a (Element b e) may o = turned _ may
-      no_index a (Length b) may o = turned _ may
-      no_index a (Negative e) may o = turned _ may
-      no_index a (Not e) may o = turned _ may
-      no_index a (Binary operator d e) may o = turned _ may
+      no_index a (Number n) may o = not_true _ may
+      no_index a (Element b e) may o = not_true _ may
+      no_index a (Length b) may o = not_true _ may
+      no_index a (Negative e) may o = not_true _ may
+      no_index a (Not e) may o = not_true _ may
+      no_index a (Binary operator d e) may o = not_true _ may
 
       nowhere : (known' : Known) (e : Option Expr) → may_return Nowhere known' e ≡ true → false ≡ true
       nowhere known' None h = h

@@ -6,12 +6,12 @@ use Rattle.cw_model.specs.Names.{same_name, is_among, new_names}
 use Rattle.cw_model.specs.Meaning.{function_of}
 use Rattle.cw_loops.specs.Lowered.{is_plain}
 use Rattle.cw_model.specs.Captured.{captured, read_by, read_by_all, read_in, read_in_block, declared_in, declared_in_block}
-use Rattle.cw_types.specs.Resolved.{Lists, Locals, Use, slot_of, use_of, resolved_expr, resolved_argument, resolved_stmt, resolved_block, with_int, with_array, locals_after, reads, argument_reads, arguments_read, reads_in, reads_in_block, captured_in}
-use Rattle.cw_types.specs.Resolved as spec
+use Rattle.cw_tree.specs.Resolved.{Lists, Locals, Use, slot_of, use_of, resolved_expr, resolved_argument, resolved_stmt, resolved_block, with_int, with_array, locals_after, reads, argument_reads, arguments_read, reads_in, reads_in_block, captured_in}
+use Rattle.cw_tree.specs.Resolved as spec
 use Rattle.cw_loops.specs.Lowerable.{Surroundings, can_write, can_read, is_local, is_variable, can_evaluate, can_pass, can_pass_all, can_target, new_integers, new_arrays, can_loop, inside, can_lower, can_lower_all}
-use Rattle.cw_loops.proofs.Worlds.{both_true}
-use Rattle.cw_loops.proofs.Naming.{Told, yes_is, no_is, told, never, turned, Side, in_first, in_second, side, among_left, among_right, front_among, later_among, neither_among, new_are_there, new_are_all}
-use Rattle.cw_loops.proofs.Tables.{same_are}
+use Rattle.cw_loops.specs.lemmas.Tests.{both_true, Told, yes_is, no_is, told, never, not_true}
+use Rattle.cw_loops.specs.lemmas.Apart.{same_are}
+use Rattle.cw_loops.specs.lemmas.Naming.{Side, in_first, in_second, side, among_left, among_right, front_among, later_among, neither_among, new_are_there, new_are_all}
 use Rattle.cw_loops.proofs.Shifting.{above, slot_stays, slot_past}
 use Rattle.cw_loops.proofs.Taken.{Matches, both_match, kept_match, own_match, dropped_match, fewer_match, each_match, matched}
 use Rattle.cw_loops.proofs.Entering.{at, Entered, entered, variable_can, two_lists, after_stmt, after_array}
@@ -62,7 +62,7 @@ module _ (c : Surroundings) (ints0 arrays0 : List Name) (x : Name) (total declar
       go : Told (is_among v (new_names total (x ∷ declared) ++ x ∷ [])) → is_among v before ≡ false
       go (yes_is e) = by (side v (new_names total (x ∷ declared)) (x ∷ []) e)
       go (no_is e) =
-          (neither_among v before (x ∷ []) (turned (is_among v (before ++ x ∷ [])) (both_true (not (is_among v (before ++ x ∷ []))) _ (ap (λ b. b || can_write turn v) (sym e) ∙ r)).0)).0
+          (neither_among v before (x ∷ []) (not_true (is_among v (before ++ x ∷ [])) (both_true (not (is_among v (before ++ x ∷ []))) _ (ap (λ b. b || can_write turn v) (sym e) ∙ r)).0)).0
 
   name_in : (v : Name) (ints : List Name) → can_read turn v ≡ true → is_among v total ≡ true → In (use_of (turn.outer ++ ints) v ∷ []) (v ∷ [])
   name_in v ints r there = go (told (is_among v (new_names total (x ∷ declared))))
@@ -120,7 +120,7 @@ module _ (c : Surroundings) (ints0 arrays0 : List Name) (x : Name) (total declar
       go true e = dropped_match before (x ∷ declared) y (own y (by (side y turn.arrays arrays e)))
         where
           by : Side y turn.arrays arrays → is_among y arrays ≡ true
-          by (in_first p) = never (is_among y turn.arrays) p (turned (is_among y turn.arrays) (both_true (not (is_among y turn.arrays)) _ g.1).0)
+          by (in_first p) = never (is_among y turn.arrays) p (not_true (is_among y turn.arrays) (both_true (not (is_among y turn.arrays)) _ g.1).0)
           by (in_second p) = p
       go false e = name_in y ints g.0 there
 

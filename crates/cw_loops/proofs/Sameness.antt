@@ -7,7 +7,7 @@ use Rattle.cw_loops.specs.Slotted.{Expr, Number, Variable, Element, Length, Nega
 use Rattle.cw_loops.specs.Moved.{Loop}
 use Rattle.cw_loops.specs.Lowers.{Bodies}
 use Rattle.cw_loops.specs.Same.{number_of, same_kind, same_int, same_slots, same_target, same_expr, same_argument, same_arguments, same_return, same_stmt, same_block, same_loop, same_loops, same_blocks, same_bodies}
-use Rattle.cw_loops.proofs.Naming.{all_of}
+use Rattle.cw_loops.specs.lemmas.Tests.{all_of}
 
 itself : (n : ℕ) → (n == n) ≡ true
 itself n = grind (arith, nat_tests)

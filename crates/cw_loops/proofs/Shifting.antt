@@ -4,12 +4,12 @@ use Rattle.std.specs.Prelude.{if◌then◌else◌}
 use Rattle.std.proofs.lemmas.Bool.Decides.{nat_tests}
 use Rattle.cw_model.specs.Syntax.{Name}
 use Rattle.cw_model.specs.Names.{same_name, is_among}
-use Rattle.cw_types.specs.Resolved.{slot_of}
-use Rattle.cw_own.proofs.Showing.{one_slot, slot_in}
+use Rattle.cw_tree.specs.Resolved.{slot_of}
+use Rattle.cw_tree.specs.lemmas.NamedSlots.{one_slot, slot_in}
 use Rattle.cw_loops.specs.Lowered.{is_plain, low, high}
 use Rattle.cw_loops.specs.Moved.{most_slot, slot, Moves, place_from, moved_int, moved_array}
-use Rattle.cw_loops.proofs.Tables.{plain_apart}
-use Rattle.cw_loops.proofs.Naming.{same_turned}
+use Rattle.cw_loops.specs.lemmas.Apart.{plain_apart}
+use Rattle.cw_loops.specs.lemmas.Naming.{same_turned}
 
 -- a count that is small is told as it is
 pub small_slot : (n : ℕ) → n ≤ most_slot → slot n ≡ n

@@ -13,11 +13,13 @@ use Rattle.cw_model.specs.Loops.{loop_turns}
 use Rattle.cw_model.specs.Meaning.{Completion, Deeper, Calls, function_of, run, run_all, call}
 use Rattle.cw_loops.specs.Lowered.{is_plain, lower_expr, lower_stmt, lower_block, loop_count, loop_count_in, made_by, made_in, loop_function, loop_name}
 use Rattle.cw_loops.specs.Lowerable.{Surroundings, can_evaluate, can_lower, can_lower_all, can_loop, can_target, can_pass_all, can_write, is_local, new_integers, new_arrays, integers_of, arrays_of}
+use Rattle.cw_loops.specs.lemmas.Finding.{Found, found_left, found_right}
+use Rattle.cw_loops.specs.lemmas.Tests.{both_true, not_true}
 use Rattle.cw_loops.proofs.Alike.{Alike, Whole, alike_pay, alike_then, alike_weaken}
 use Rattle.cw_loops.proofs.Arguments.{Fresh}
 use Rattle.cw_loops.proofs.Tables.{keys}
 use Rattle.cw_loops.proofs.Fitting.{Good, evaluate_fits}
-use Rattle.cw_loops.proofs.Worlds.{World, Rel, related, source, target, both_true, not_true, evaluate_same, can_fit, local_same}
+use Rattle.cw_loops.proofs.Worlds.{World, Rel, related, source, target, evaluate_same, can_fit, local_same}
 use Rattle.cw_loops.proofs.Statements.{Out, returns, OutAll, alike_done, value_then, declare_alike, declare_array_alike, assign_alike, add_alike, print_alike, sync_alike, return_alike}
 use Rattle.cw_loops.proofs.Blocks.{write_alike, out_before, onward_then}
 use Rattle.cw_loops.proofs.Control.{if_alike, if_else_alike, while_alike, scope_alike, region_alike, stays}
@@ -27,19 +29,6 @@ use Rattle.cw_loops.proofs.Loop.{such_paid, Counted, turns_counted}
 use Rattle.cw_loops.proofs.For.{LoopTests, loop_tests, begun, map_same}
 use Rattle.cw_loops.proofs.CutStatement.{cut_alike}
 use Rattle.cw_loops.proofs.Calls.{CallSame, call_alike}
-
--- each of these functions is found by its name
-abbrev pub Found : List Function → List Function → Type 0
-Found fs [] = Unit {0}
-Found fs (f ∷ made) = (function_of f.name fs ≡ f) × Found fs made
-
-pub found_left : (fs xs ys : List Function) → Found fs (xs ++ ys) → Found fs xs
-found_left fs [] ys h = tt
-found_left fs (x ∷ xs) ys h = (h.0, found_left fs xs ys h.1)
-
-pub found_right : (fs xs ys : List Function) → Found fs (xs ++ ys) → Found fs ys
-found_right fs [] ys h = h
-found_right fs (x ∷ xs) ys h = found_right fs xs ys h.1
 
 -- nothing is declared
 no_more : {c : Surroundings} {fo go : List (Name × ℤ)} {Slot : (fa ga : List (Name × List ℤ)) → Type 0} {ints arrays : List Name} {before : Frame} {given : ℕ} {o o' : Outcome Completion} →

@@ -15,12 +15,13 @@ use Rattle.cw_model.specs.Outcome.{shows, quiet, Outcome, Done, Trapped, Over, t
 use Rattle.cw_model.specs.Meaning.{Completion, Normal, ByReturn, Calls, new_length, run}
 use Rattle.cw_loops.specs.Lowered.{lower_expr, lower_option}
 use Rattle.cw_loops.specs.Lowerable.{Surroundings, can_write, is_local, can_evaluate, can_lower}
+use Rattle.cw_loops.specs.lemmas.Tests.{both_true}
 use Rattle.cw_loops.proofs.Alike.{Alike, both_done, both_trapped, both_over, alike_pay, alike_after, same_events, value_pays}
 use Rattle.cw_loops.proofs.Cuts.{alike_right, alike_left}
 use Rattle.cw_loops.proofs.Tables.{keys, put_past}
 use Rattle.cw_loops.proofs.Arguments.{keys-append}
 use Rattle.cw_loops.proofs.Fitting.{Good, Fine, GivesFit, ValueFits, Kept, kept_same, sizes, sizes-append, fit-append, fit-put, fine-append, fine-put, elements-replicate, elements-set, then_fits, evaluate_fits}
-use Rattle.cw_loops.proofs.Worlds.{World, Rel, related, source, target, both_true, writes_outer, writes_given, local_outer, local_given, evaluate_same, can_fit}
+use Rattle.cw_loops.proofs.Worlds.{World, Rel, related, source, target, writes_outer, writes_given, local_outer, local_given, evaluate_same, can_fit}
 
 -- a value that a call gives fits
 abbrev pub OptionFits : Option ℤ → Type 0

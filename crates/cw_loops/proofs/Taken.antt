@@ -3,11 +3,12 @@ use Rattle.std.proofs.Common.{◌≡◌, ℕ, nat_lt, Bool, true, false, List, [
 use Rattle.std.specs.Prelude.{if◌then◌else◌, not, ◌&&◌, ◌||◌}
 use Rattle.cw_model.specs.Syntax.{Name}
 use Rattle.cw_model.specs.Names.{same_name, is_among, new_names}
-use Rattle.cw_types.specs.Resolved.{Use, slot_of, use_of, is_slot_in, with_first, first_uses}
-use Rattle.cw_own.proofs.Showing.{one_slot, slot_in, among_push}
+use Rattle.cw_tree.specs.Resolved.{Use, slot_of, use_of, is_slot_in, with_first, first_uses}
+use Rattle.cw_tree.specs.lemmas.NamedSlots.{one_slot, slot_in, among_push}
 use Rattle.std.proofs.lemmas.List.{map-append}
-use Rattle.cw_loops.proofs.Naming.{Placed, at_front, after_it, placed, either_left, front_among, later_among, same_turned}
-use Rattle.cw_loops.proofs.Tables.{same_itself}
+use Rattle.cw_loops.specs.lemmas.Tests.{either_left}
+use Rattle.cw_loops.specs.lemmas.Apart.{same_itself}
+use Rattle.cw_loops.specs.lemmas.Naming.{Placed, at_front, after_it, placed, front_among, later_among, same_turned}
 use Rattle.cw_loops.proofs.Shifting.{below}
 
 -- the names found so far, and behind them a name that is neither known nor found

@@ -3,14 +3,14 @@ use Rattle.std.proofs.Common.{◌≡◌, ℕ, suc, ◌+◌, ◌-◌, ◌≤◌, 
 use Rattle.std.specs.Prelude.{if◌then◌else◌, not, ◌&&◌, ◌||◌}
 use Rattle.cw_model.specs.Syntax.{Name, Function}
 use Rattle.cw_model.specs.Names.{same_name, is_among, differ}
-use Rattle.cw_types.specs.Resolved.{Use, slot_of, use_of, is_slot_in}
-use Rattle.cw_own.proofs.Showing.{slot_in, slot_out}
+use Rattle.cw_tree.specs.Resolved.{Use, slot_of, use_of, is_slot_in}
+use Rattle.cw_tree.specs.lemmas.NamedSlots.{slot_in, slot_out}
 use Rattle.cw_loops.specs.Lowered.{is_plain, low, high}
 use Rattle.cw_loops.specs.Lowerable.{Surroundings, can_write, can_read, is_local, nothing_around, inside}
 use Rattle.cw_loops.specs.Moved.{slot, Moves, nothing_moved, moved_int, moved_array, is_over}
-use Rattle.cw_loops.proofs.Worlds.{both_true}
-use Rattle.cw_loops.proofs.Naming.{Told, yes_is, no_is, told, never, refuted, turned, all_of, Placed, at_front, after_it, placed, Side, in_first, in_second, side, among_right, front_among, later_among, neither_among}
-use Rattle.cw_loops.proofs.Tables.{same_are, same_itself, plain_apart}
+use Rattle.cw_loops.specs.lemmas.Tests.{both_true, Told, yes_is, no_is, told, never, refuted, not_true, all_of}
+use Rattle.cw_loops.specs.lemmas.Apart.{same_are, same_itself, plain_apart}
+use Rattle.cw_loops.specs.lemmas.Naming.{Placed, at_front, after_it, placed, Side, in_first, in_second, side, among_right, front_among, later_among, neither_among}
 use Rattle.cw_loops.proofs.Shifting.{small_slot, below, above, slot_stays, slot_past, int_moved, past_int, own_int_moved, array_moved, past_array, own_array_moved}
 use Rattle.cw_loops.proofs.Taken.{slots_among}
 use Rattle.cw_loops.proofs.Entering.{Entered}
@@ -43,7 +43,7 @@ pub no_more : (xs ys : List Name) → differ xs ≡ true → ((v : Name) → is_
 no_more [] ys h all = omega arith
 no_more (x ∷ xs) ys h all =
     let two = both_true (not (is_among x xs)) (differ xs) h in
-    let apart : (v : Name) → is_among v xs ≡ true → same_name v x ≡ false = λ v o. refuted (same_name v x) (λ e. never (is_among x xs) (ap (λ w. is_among w xs) (sym (same_are v x e)) ∙ o) (turned (is_among x xs) two.0)) in
+    let apart : (v : Name) → is_among v xs ≡ true → same_name v x ≡ false = λ v o. refuted (same_name v x) (λ e. never (is_among x xs) (ap (λ w. is_among w xs) (sym (same_are v x e)) ∙ o) (not_true (is_among x xs) two.0)) in
     let rest = no_more xs (without x ys) two.1 (λ v o. still_there v x ys (all v (later_among v x xs o)) (apart v o)) in
     let less = one_less x ys (all x (front_among x xs)) in
     omega (arith, rest, less)
@@ -72,10 +72,10 @@ pub record Tracks (m : Moves) (c : Surroundings) : Type 0 where
   pub variable_read : (a : Name) → is_among a c.over ≡ true → can_read c c.variable ≡ true
 
 pub outside_not_arrays : (c : Surroundings) (a : Name) → is_local c a ≡ true → is_among a c.arrays ≡ false
-outside_not_arrays c a h = turned (is_among a c.arrays) (both_true (not (is_among a c.arrays)) _ h).0
+outside_not_arrays c a h = not_true (is_among a c.arrays) (both_true (not (is_among a c.arrays)) _ h).0
 
 pub outside_not_over : (c : Surroundings) (a : Name) → is_local c a ≡ true → is_among a c.over ≡ false
-outside_not_over c a h = turned (is_among a c.over) (both_true (not (is_among a c.over)) _ (both_true (not (is_among a c.arrays)) _ h).1).0
+outside_not_over c a h = not_true (is_among a c.over) (both_true (not (is_among a c.over)) _ (both_true (not (is_among a c.arrays)) _ h).1).0
 
 -- outside all loops each local stays
 int_stays : (s : ℕ) → s ≤ 256 → moved_int nothing_moved s ≡ s
@@ -144,7 +144,7 @@ module _ (c : Surroundings) (ints0 arrays0 : List Name) (x : Name) (taken over :
       go (yes_is e) = by (side v taken (x ∷ []) e)
       go (no_is e) =
           let w = both_true (not (is_among v (before ++ x ∷ []))) (not (is_among v ((low ∷ high ∷ taken) ++ x ∷ []))) (ap (λ b. b || can_write turn v) (sym e) ∙ r) in
-          ((neither_among v before (x ∷ []) (turned (is_among v (before ++ x ∷ [])) w.0)).0, (neither_among v (low ∷ high ∷ taken) (x ∷ []) (turned (is_among v ((low ∷ high ∷ taken) ++ x ∷ [])) w.1)).0)
+          ((neither_among v before (x ∷ []) (not_true (is_among v (before ++ x ∷ [])) w.0)).0, (neither_among v (low ∷ high ∷ taken) (x ∷ []) (not_true (is_among v ((low ∷ high ∷ taken) ++ x ∷ [])) w.1)).0)
 
   own_few : (ints : List Name) → length ((before ++ x ∷ []) ++ ints) ≤ 256 → length (x ∷ ints) ≤ 256
   own_few ints room =

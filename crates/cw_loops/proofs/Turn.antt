@@ -12,9 +12,10 @@ use Rattle.cw_model.specs.Outcome.{Done, quiet}
 use Rattle.cw_model.specs.Meaning.{Completion, Normal, onward, going, Calls, run_all, call, with_slice}
 use Rattle.cw_loops.specs.Lowered.{is_plain, low, high}
 use Rattle.cw_loops.specs.Lowerable.{Surroundings}
+use Rattle.cw_loops.specs.lemmas.Apart.{same_are, same_itself, not_first, not_later, apart, plain_apart}
 use Rattle.cw_loops.proofs.Alike.{Alike, alike_then, then_gives}
 use Rattle.cw_loops.proofs.Numbers.{tested, between}
-use Rattle.cw_loops.proofs.Tables.{keys, same_are, same_itself, not_first, not_later, apart, plain_apart}
+use Rattle.cw_loops.proofs.Tables.{keys}
 use Rattle.cw_loops.proofs.Arguments.{table, keys-append, keys-table, find_at}
 use Rattle.cw_loops.proofs.Cuts.{alike_left}
 use Rattle.cw_loops.proofs.Leaf.{at_turn, Next, Turns}

@@ -2,11 +2,11 @@
 use Rattle.std.proofs.Common.{◌≡◌, arith}
 use Rattle.std.specs.Prelude.{map, option_map}
 use Rattle.std.proofs.lemmas.Grind.{common_steps}
-use Rattle.cw_types.specs.declared.tree.Call as source_call
-use Rattle.cw_types.specs.declared.tree.Stmt.TheBlock as source_code
-use Rattle.cw_types.specs.declared.tree.Stmt.{the_lemmas as source_lemmas}
-use Rattle.cw_types.specs.Resolved as resolved
-use Rattle.cw_types.specs.View as source
+use Rattle.cw_tree.specs.declared.resolved.Call as source_call
+use Rattle.cw_tree.specs.declared.resolved.Stmt.TheBlock as source_code
+use Rattle.cw_tree.specs.declared.resolved.Stmt.{the_lemmas as source_lemmas}
+use Rattle.cw_tree.specs.Resolved as resolved
+use Rattle.cw_tree.specs.ResolvedView as source
 use Rattle.cw_loops.specs.declared.tree.Call as own_call
 use Rattle.cw_loops.specs.declared.tree.Stmt.TheBlock as own_code
 use Rattle.cw_loops.specs.declared.tree.Stmt.{the_lemmas}

@@ -1,5 +1,5 @@
 -- A lowered program answers as its source.
-use Rattle.std.proofs.Common.{◌≡◌, ℕ, zero, suc, ◌+◌, ◌-◌, ◌≤◌, ◌<◌, Bool, true, false, ℤ, pos, List, [], ◌∷◌, ◌++◌, length, arith, refl, sym, ◌∙◌, ap, append_assoc, append-nil, subst, length-append}
+use Rattle.std.proofs.Common.{◌≡◌, ℕ, zero, suc, ◌+◌, ◌-◌, ◌<◌, Bool, true, false, ℤ, pos, List, [], ◌∷◌, ◌++◌, length, arith, refl, sym, ◌∙◌, ap, append_assoc, append-nil, subst}
 use Rattle.std.specs.Prelude.{if◌then◌else◌, not, nat_lt, map, None}
 use Rattle.std.specs.List.{list_all}
 use Rattle.cw_model.specs.Limits.{most_depth}
@@ -7,21 +7,23 @@ use Rattle.cw_model.specs.Ints.{fits}
 use Rattle.cw_model.specs.declared.trap.Trap.TheVariants as trap
 use Rattle.cw_model.specs.Trees.{Join, tree_of, normal, Marked, Invocation}
 use Rattle.cw_model.specs.TreeLaws.{in_mark}
-use Rattle.cw_model.proofs.Regrouping.{same_normal}
-use Rattle.cw_model.specs.Syntax.{Name, Stmt, Declare, DeclareArray, Assign, AssignElement, AddTo, Call, Start, Begin, Sync, If, IfElse, While, For, Scope, Cut, Region, Print, Return, Block, End, Then, Param, Function, Reducer, Program}
-use Rattle.cw_model.specs.Names.{same_name, differ}
+use Rattle.cw_model.specs.lemmas.Regrouping.{same_normal}
+use Rattle.cw_model.specs.Syntax.{Name, Param, Function, Reducer, Program}
+use Rattle.cw_model.specs.Names.{differ}
 use Rattle.cw_model.specs.Frames.{Frame, no_frame, new_int}
 use Rattle.cw_model.specs.Outcome.{Outcome, Trapped, then_do, Piece, shows}
-use Rattle.cw_model.specs.Meaning.{Completion, Returned, Deeper, no_function, function_of, run_all, end_of_call, call}
+use Rattle.cw_model.specs.Meaning.{Completion, Returned, Deeper, function_of, run_all, end_of_call, call}
 use Rattle.cw_model.specs.Answers.{Ended, TrappedAt, sum_to, int_given, answer_of, main_frame, main_name, serial_answer}
-use Rattle.cw_loops.specs.Lowered.{is_plain, loop_name, loop_count, loop_count_in, lower_block, made_by, made_in, lower_function, lower_functions, made_of, lowered}
+use Rattle.cw_loops.specs.Lowered.{is_plain, loop_count_in, lower_block, made_in, lower_function, lower_functions, made_of, lowered}
 use Rattle.cw_loops.specs.Lowerable.{nothing_around, integers_of, arrays_of, can_lower_all, can_lower_function, is_lowerable}
+use Rattle.cw_loops.specs.lemmas.Tests.{both_true, not_true}
+use Rattle.cw_loops.specs.lemmas.Finding.{Found, found_left, found_right, looked, fs', all_found, params_same}
 use Rattle.cw_loops.proofs.Alike.{Alike, Whole, whole_done, whole_trapped, whole_over, as_whole, alike_then, alike_after, alike_pay, same_events}
 use Rattle.cw_loops.proofs.LeafCall.{whole_left, whole_right}
-use Rattle.cw_loops.proofs.Tables.{keys, same_itself, apart, plain_apart, apart_plain}
+use Rattle.cw_loops.proofs.Tables.{keys}
 use Rattle.cw_loops.proofs.Arguments.{Fresh, keys-append}
 use Rattle.cw_loops.proofs.Fitting.{Good, fit-append}
-use Rattle.cw_loops.proofs.Worlds.{World, Rel, related, source, target, both_true, not_true}
+use Rattle.cw_loops.proofs.Worlds.{World, Rel, related, source, target}
 use Rattle.cw_loops.proofs.Statements.{Out, goes, returns, alike_done}
 use Rattle.cw_loops.proofs.Slices.{differ_distinct}
 use Rattle.cw_loops.proofs.Fresh.{fresh_from}
@@ -30,147 +32,14 @@ use Rattle.std.specs.Prelude.{sum_by}
 use Rattle.std.proofs.lemmas.List.Sums.{sum_by-append, sum_by-cons}
 use Rattle.cw_model.specs.Sizes.{function_size, static_size}
 use Rattle.cw_loops.proofs.Sizes.{size_block}
-use Rattle.cw_loops.proofs.Simulation.{Found, found_left, found_right, block_alike}
+use Rattle.cw_loops.proofs.Simulation.{block_alike}
 
--- functions that are named by these numbers in turn
-abbrev pub Numbered : ℕ → List Function → Type 0
-Numbered k [] = Unit {0}
-Numbered k (f ∷ fs) = (f.name ≡ loop_name k) × Numbered (k + 1) fs
-
-numbered-append : (k : ℕ) (xs ys : List Function) → Numbered k xs → Numbered (k + length xs) ys → Numbered k (xs ++ ys)
-numbered-append k [] ys h g = let z : k + 0 ≡ k = omega arith in subst (λ n. Numbered n ys) z g
-numbered-append k (x ∷ xs) ys h g = let z : k + suc (length xs) ≡ k + 1 + length xs = omega arith in (h.0, numbered-append (k + 1) xs ys h.1 (subst (λ n. Numbered n ys) z g))
-
--- what a statement's loops are made into
-pub record Made (k count : ℕ) (made : List Function) : Type 0 where
-  pub many : length made ≡ count
-  pub numbered : Numbered k made
-
-both_made : (k m n : ℕ) (xs ys : List Function) → Made k m xs → Made (k + m) n ys → Made k (m + n) (xs ++ ys)
-both_made k m n xs ys h g = record {
-  many = length-append xs ys ∙ omega (arith, h.many, g.many);
-  numbered = numbered-append k xs ys h.numbered (subst (λ i. Numbered (k + i) ys) (sym h.many) g.numbered);
-}
-
-none_made : (k : ℕ) → Made k 0 []
-none_made k = record { many = refl; numbered = tt }
-
-mutual
-  made_stmt : (s : Stmt) (line k : ℕ) → Made k (loop_count s) (made_by line k s)
-  made_stmt (If e b) line k = made_block b k
-  made_stmt (IfElse e b c) line k = both_made k (loop_count_in b) (loop_count_in c) (made_in k b) (made_in (k + loop_count_in b) c) (made_block b k) (made_block c (k + loop_count_in b))
-  made_stmt (While e b) line k = made_block b k
-  made_stmt (For x y z from to grain over b) line k = both_made k (loop_count_in b) 1 (made_in k b) _ (made_block b k) (record { many = refl; numbered = (refl, tt) })
-  made_stmt (Scope b) line k = made_block b k
-  made_stmt (Cut a e l r b) line k = made_block b k
-  made_stmt (Region tag b) line k = made_block b k
-  made_stmt (Declare x e) line k = none_made k
-  made_stmt (DeclareArray x e) line k = none_made k
-  made_stmt (Assign x e) line k = none_made k
-  made_stmt (AssignElement x i e) line k = none_made k
-  made_stmt (AddTo x e) line k = none_made k
-  made_stmt (Call kind site t f es) line k = none_made k
-  made_stmt (Start kind f es) line k = none_made k
-  made_stmt (Begin f from to xs over) line k = none_made k
-  made_stmt Sync line k = none_made k
-  made_stmt (Print e) line k = none_made k
-  made_stmt (Return e) line k = none_made k
-
-  made_block : (b : Block) (k : ℕ) → Made k (loop_count_in b) (made_in k b)
-  made_block End k = none_made k
-  made_block (Then line s b) k = both_made k (loop_count s) (loop_count_in b) (made_by line k s) (made_in (k + loop_count s) b) (made_stmt s line k) (made_block b (k + loop_count s))
-
-abbrev pub count_of : List Function → ℕ
-count_of [] = 0
-count_of (f ∷ fs) = loop_count_in f.body + count_of fs
-
-pub made_functions : (fs : List Function) (k : ℕ) → Made k (count_of fs) (made_of k fs)
-made_functions [] k = none_made k
-made_functions (f ∷ fs) k = both_made k (loop_count_in f.body) (count_of fs) (made_in k f.body) (made_of (k + loop_count_in f.body) fs) (made_block f.body k) (made_functions fs (k + loop_count_in f.body))
-
--- none of these functions has the name
-abbrev Skips : Name → List Function → Type 0
-Skips g pre = (rest : List Function) → function_of g (pre ++ rest) ≡ function_of g rest
-
-pub loops_apart : (j k : ℕ) → k < j → same_name (loop_name j) (loop_name k) ≡ false
-loops_apart j k h = apart (loop_name j) (loop_name k) (λ e. let q : j ≡ k = numbers e in omega arith)
-  where
-    numbers : loop_name j ≡ loop_name k → j ≡ k
-    numbers e = cc
-
-found_numbered : (made pre : List Function) (k : ℕ) → Numbered k made → ((j : ℕ) → k ≤ j → Skips (loop_name j) pre) → Found (pre ++ made) made
-found_numbered [] pre k h skips = tt
-found_numbered (f ∷ made) pre k h skips =
-    let here : function_of f.name (f ∷ made) ≡ f = ap (λ b. if b then f else function_of f.name made) (same_itself f.name) in
-    let skip : function_of f.name (pre ++ f ∷ made) ≡ function_of f.name (f ∷ made) = subst (λ n. function_of n (pre ++ f ∷ made) ≡ function_of n (f ∷ made)) (sym h.0) (skips k (omega arith) (f ∷ made)) in (
-      skip ∙ here,
-      subst (λ t. Found t made) (append_assoc pre (f ∷ []) made) (found_numbered made (pre ++ f ∷ []) (k + 1) h.1 (λ j le rest.
-          ap (function_of (loop_name j)) (append_assoc pre (f ∷ []) rest) ∙ skips j (omega arith) (f ∷ rest)
-          ∙ ap (λ b. if b then f else function_of (loop_name j) rest) (ap (λ n. same_name (loop_name j) n) h.0 ∙ loops_apart j k (omega arith)))),
-    )
-
-lowered_plain : (all0 fs : List Function) (k : ℕ) → list_all (can_lower_function all0) fs ≡ true → (j : ℕ) → Skips (loop_name j) (lower_functions k fs)
-lowered_plain all0 [] k h j rest = refl
-lowered_plain all0 (f ∷ fs) k h j rest =
-    let p = both_true (can_lower_function all0 f) (list_all (can_lower_function all0) fs) h in
-    let n = both_true (is_plain f.name) _ p.0 in
-    ap (λ b. if b then lower_function k f else function_of (loop_name j) (lower_functions (k + loop_count_in f.body) fs ++ rest)) (apart_plain f.name (j ∷ []) n.0) ∙ lowered_plain all0 fs (k + loop_count_in f.body) p.1 j rest
-
--- a name of the source among the functions of both
-record Looked (all0 all fs : List Function) (g : Name) : Type 0 where
-  number : ℕ
-  f : Function
-  is : function_of g fs ≡ f
-  is' : function_of g all ≡ lower_function number f
-  can : can_lower_function all0 f ≡ true
-  made : Found all (made_in number f.body)
-
-no_loop : (g : Name) → is_plain g ≡ true → (made : List Function) (k : ℕ) → Numbered k made → function_of g made ≡ no_function
-no_loop g plain [] k h = refl
-no_loop g plain (f ∷ made) k h =
-    ap (λ b. if b then f else function_of g made) (ap (λ n. same_name g n) h.0 ∙ plain_apart g (k ∷ []) plain) ∙ no_loop g plain made (k + 1) h.1
-
-looked_in : (all0 all : List Function) (g : Name) → is_plain g ≡ true → (fs : List Function) (k : ℕ) (rest : List Function) (j : ℕ) → Numbered j rest → list_all (can_lower_function all0) fs ≡ true → Found all (made_of k fs) →
-    function_of g all ≡ function_of g (lower_functions k fs ++ rest) → Looked all0 all fs g
-looked_in all0 all g plain [] k rest j num h found e = record { number = 0; f = no_function; is = refl; is' = e ∙ no_loop g plain rest j num; can = refl; made = tt }
-looked_in all0 all g plain (f ∷ fs) k rest j num h found e =
-    by_name (same_name g f.name) refl (λ q. looked_in all0 all g plain fs (k + loop_count_in f.body) rest j num p.1 (found_right all (made_in k f.body) (made_of (k + loop_count_in f.body) fs) found) q)
-  where
-    p : (can_lower_function all0 f ≡ true) × (list_all (can_lower_function all0) fs ≡ true)
-    p = both_true (can_lower_function all0 f) (list_all (can_lower_function all0) fs) h
-
-    by_name : (b : Bool) → same_name g f.name ≡ b → (function_of g all ≡ function_of g (lower_functions (k + loop_count_in f.body) fs ++ rest) → Looked all0 all fs g) → Looked all0 all (f ∷ fs) g
-    by_name true s more = record {
-      number = k;
-      f = f;
-      is = ap (λ b. if b then f else function_of g fs) s;
-      is' = e ∙ ap (λ b. if b then lower_function k f else function_of g (lower_functions (k + loop_count_in f.body) fs ++ rest)) s;
-      can = p.0;
-      made = found_left all (made_in k f.body) (made_of (k + loop_count_in f.body) fs) found;
-    }
-    by_name false s more =
-        let r = more (e ∙ ap (λ b. if b then lower_function k f else function_of g (lower_functions (k + loop_count_in f.body) fs ++ rest)) s) in
-        record { number = r.number; f = r.f; is = ap (λ b. if b then f else function_of g fs) s ∙ r.is; is' = r.is'; can = r.can; made = r.made }
-
-module _ (fs : List Function) (can : list_all (can_lower_function fs) fs ≡ true) where
-  abbrev fs' : List Function
-  fs' = lower_functions 0 fs ++ made_of 0 fs
-
-  pub all_found : Found fs' (made_of 0 fs)
-  all_found = found_numbered (made_of 0 fs) (lower_functions 0 fs) 0 (made_functions fs 0).numbered (λ j le. lowered_plain fs fs 0 can j)
-
-  looked : (g : Name) → is_plain g ≡ true → Looked fs fs' fs g
-  looked g plain = looked_in fs fs' g plain fs 0 (made_of 0 fs) 0 (made_functions fs 0).numbered can all_found refl
-
-  pub params_same : (g : Name) → is_plain g ≡ true → (function_of g fs').params ≡ (function_of g fs).params
-  params_same g plain = let l = looked g plain in ap (λ (f : Function). f.params) l.is' ∙ sym (ap (λ (f : Function). f.params) l.is)
-
-  params_once : (g : Name) → is_plain g ≡ true → Fresh [] (arrays_of (function_of g fs).params)
-  params_once g plain =
-      let l = looked g plain in
-      let n = both_true (is_plain l.f.name) _ l.can in
-      let d = both_true (differ (arrays_of l.f.params)) _ n.1 in
-      subst (λ (f : Function). Fresh [] (arrays_of f.params)) (sym l.is) (fresh_from (arrays_of l.f.params) [] (differ_distinct (arrays_of l.f.params) d.0) (λ a o. refl))
+params_once : (fs : List Function) → list_all (can_lower_function fs) fs ≡ true → (g : Name) → is_plain g ≡ true → Fresh [] (arrays_of (function_of g fs).params)
+params_once fs can g plain =
+    let l = looked fs can g plain in
+    let n = both_true (is_plain l.f.name) _ l.can in
+    let d = both_true (differ (arrays_of l.f.params)) _ n.1 in
+    subst (λ (f : Function). Fresh [] (arrays_of f.params)) (sym l.is) (fresh_from (arrays_of l.f.params) [] (differ_distinct (arrays_of l.f.params) d.0) (λ a o. refl))
 
 abbrev deep_or : Bool → ℕ → Piece Returned → Piece Returned
 deep_or b line piece = if b then (λ left. Trapped trap.TooDeep line []) else piece

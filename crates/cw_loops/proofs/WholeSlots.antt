@@ -11,16 +11,16 @@ use Rattle.cw_model.specs.Names.{same_name, is_among, differ}
 use Rattle.cw_model.specs.Sizes.{loops_in, loops_in_block, limit_faults, loop_faults, function_limits}
 use Rattle.cw_model.specs.Typing.{is_head, faults_of, type_faults, WithInt, Alone, known_of, IsWellTyped}
 use Rattle.cw_model.specs.Ownership.{KeepsOwnership}
-use Rattle.cw_types.specs.Declares.{declares_in_block}
-use Rattle.cw_types.specs.Resolved.{Lists, Locals, slot_of, resolved_function, resolved_block, resolved, locals_of, lists_of, function_names, reducer_names, tags_of}
-use Rattle.cw_types.specs.Resolved as source
-use Rattle.cw_types.specs.declared.tree.Tree.{Tree}
-use Rattle.cw_types.specs.View.{program_of, resolved_of}
-use Rattle.cw_types.specs.Slots.{is_resolved}
-use Rattle.cw_types.specs.Bounds.{counts_of, fits_function, fits_block}
-use Rattle.cw_types.proofs.Few.{heads_small, small_head, functions_few}
-use Rattle.cw_types.proofs.Fitting.{resolved_fits}
-use Rattle.cw_own.proofs.Showing.{slot_out}
+use Rattle.cw_tree.specs.Declares.{declares_in_block}
+use Rattle.cw_tree.specs.Resolved.{Lists, Locals, slot_of, resolved_function, resolved_block, resolved, locals_of, lists_of, function_names, reducer_names, tags_of}
+use Rattle.cw_tree.specs.Resolved as source
+use Rattle.cw_tree.specs.declared.resolved.Tree.{Tree}
+use Rattle.cw_tree.specs.ResolvedView.{program_of, resolved_of}
+use Rattle.cw_tree.specs.Slots.{is_resolved}
+use Rattle.cw_tree.specs.Bounds.{counts_of, fits_function, fits_block, is_fitting}
+use Rattle.cw_tree.specs.Laws.{ResolvedFits}
+use Rattle.cw_tree.specs.lemmas.Few.{heads_small, small_head, functions_few}
+use Rattle.cw_tree.specs.lemmas.NamedSlots.{slot_out}
 use Rattle.cw_loops.specs.Lowered.{is_plain, loop_name, loop_count, loop_count_in, lower_block, made_in, lower_functions, made_of, lowered}
 use Rattle.cw_loops.specs.Lowerable.{nothing_around, integers_of, arrays_of, can_lower_all, can_lower_function, is_lowerable}
 use Rattle.cw_loops.specs.SourceLike.{is_source_like}
@@ -29,12 +29,12 @@ use Rattle.cw_loops.specs.Slotted as slotted
 use Rattle.cw_loops.specs.Moved.{slot, nothing_moved, Loop, MadeAll, made_body}
 use Rattle.cw_loops.specs.Lowers.{Bodies, arrays_from, made_bodies, made_of_tree}
 use Rattle.cw_loops.specs.Expanded.{loop_texts, with_bodies, expanded, lowered_by_slot}
-use Rattle.cw_loops.proofs.Worlds.{both_true}
-use Rattle.cw_loops.proofs.Naming.{Told, yes_is, no_is, told}
-use Rattle.cw_loops.proofs.Tables.{same_itself, apart_plain}
-use Rattle.cw_loops.proofs.Declaring.{left_none, right_none}
-use Rattle.cw_loops.proofs.Accepting.{int_kind, head_of, heads_kept, owned_can}
-use Rattle.cw_loops.proofs.Whole.{Numbered, Made, count_of, made_functions, loops_apart}
+use Rattle.cw_loops.specs.lemmas.Tests.{both_true, Told, yes_is, no_is, told}
+use Rattle.cw_loops.specs.lemmas.Apart.{same_itself, apart_plain}
+use Rattle.cw_loops.specs.lemmas.Declaring.{left_none, right_none}
+use Rattle.cw_loops.specs.lemmas.Heads.{int_kind, head_of, heads_kept}
+use Rattle.cw_loops.specs.lemmas.Numbering.{Numbered, Made, count_of, made_functions, loops_apart}
+use Rattle.cw_loops.proofs.Accepting.{owned_can}
 use Rattle.cw_loops.proofs.Shifting.{small_slot, slot_stays, slot_past}
 use Rattle.cw_loops.proofs.Entering.{at, two_lists}
 use Rattle.cw_loops.proofs.Tracking.{tracks_outside}
@@ -282,8 +282,8 @@ module _ (program : Program) (can : is_lowerable program ≡ true) (within : lim
   abbrev functions' : List source.Function
   functions' = map (resolved_function (lists_of program)) program.functions
 
-  by_slot : type_faults program ≡ [] → lowered_by_slot (resolved program) ≡ slotted_functions program
-  by_slot types =
+  by_slot : is_fitting (resolved program) ≡ true → type_faults program ≡ [] → lowered_by_slot (resolved program) ≡ slotted_functions program
+  by_slot fitting types =
       ap (λ i. with_bodies functions' (made_bodies (slot i) [] functions').blocks ++ loop_texts i (made_bodies (slot i) [] functions').loops) (length-map program.functions (resolved_function (lists_of program)))
       ∙ ap (λ i. with_bodies functions' (made_bodies i [] functions').blocks ++ loop_texts many (made_bodies i [] functions').loops) (small_slot many (let p = functions_few program within in omega (arith, p)))
       ∙ ap (λ r. r ++ loop_texts many (made_bodies many [] functions').loops) both.0
@@ -293,14 +293,15 @@ module _ (program : Program) (can : is_lowerable program ≡ true) (within : lim
       both : (with_bodies functions' (all_of_them [] program.functions).blocks ≡ map (slotted_function (lowered_lists program)) (lower_functions 0 program.functions))
           × (loop_texts many (all_of_them [] program.functions).loops ≡ loop_texts many [] ++ map (slotted_function (lowered_lists program)) (made_of 0 program.functions))
       both =
-          bodies_are program.functions can (both_true (list_all (fits_function (resolved program)) (resolved program).functions) _ (resolved_fits program within types)).0 (heads_kept program types) (heads_small program within)
+          bodies_are program.functions can (both_true (list_all (fits_function (resolved program)) (resolved program).functions) _ fitting).0 (heads_kept program types) (heads_small program within)
           [] 0 refl (omega arith)
 
-pub lowers_by_slot : (program : Program) → IsWellTyped program → KeepsOwnership program → is_source_like program ≡ true → limit_faults program ≡ [] → loop_faults program ≡ [] → lowered_by_slot (resolved program) ≡ slotted_functions program
-lowers_by_slot program typed owned source_like within loops = by_slot program (owned_can program typed owned source_like) within loops typed
+pub lowers_by_slot : ResolvedFits → (program : Program) → IsWellTyped program → KeepsOwnership program → is_source_like program ≡ true → limit_faults program ≡ [] → loop_faults program ≡ [] → lowered_by_slot (resolved program) ≡ slotted_functions program
+lowers_by_slot fits program typed owned source_like within loops =
+    by_slot program (owned_can program typed owned source_like) within loops (fits program within typed) typed
 
 -- what lowering makes of a tree whose slots are right
-pub tree_is_lowered : (tree : Tree) (made : Bodies) → is_resolved (resolved_of tree) ≡ true → type_faults (program_of tree) ≡ [] → KeepsOwnership (program_of tree) → limit_faults (program_of tree) ≡ [] → loop_faults (program_of tree) ≡ [] →
+pub tree_is_lowered : ResolvedFits → (tree : Tree) (made : Bodies) → is_resolved (resolved_of tree) ≡ true → type_faults (program_of tree) ≡ [] → KeepsOwnership (program_of tree) → limit_faults (program_of tree) ≡ [] → loop_faults (program_of tree) ≡ [] →
     made ≡ made_of_tree (resolved_of tree) → is_source_like (program_of tree) ≡ true → expanded (resolved_of tree) made ≡ slotted_functions (program_of tree)
-tree_is_lowered tree made right typed owned within loops is source_like =
-    ap (expanded (resolved_of tree)) is ∙ ap lowered_by_slot (slotted_is (resolved_of tree) right) ∙ lowers_by_slot (program_of tree) typed owned source_like within loops
+tree_is_lowered fits tree made right typed owned within loops is source_like =
+    ap (expanded (resolved_of tree)) is ∙ ap lowered_by_slot (slotted_is (resolved_of tree) right) ∙ lowers_by_slot fits (program_of tree) typed owned source_like within loops

@@ -17,3 +17,4 @@ pub mod Examples
 pub mod SlotExamples
 pub mod SlotLaws
 pub mod Small
+pub mod lemmas

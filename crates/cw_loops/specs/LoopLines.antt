@@ -2,11 +2,11 @@
 use Rattle.std.specs.Prelude.{ℕ, List, map, flat_map}
 use Rattle.cw_model.specs.Limits.{most_loops}
 use Rattle.cw_model.specs.Sizes.{lines_beyond, loops_in, loops_in_block}
-use Rattle.cw_types.specs.declared.tree.Function.{Function}
-use Rattle.cw_types.specs.declared.tree.Line.{Line}
-use Rattle.cw_types.specs.declared.tree.Stmt.{Stmt}
-use Rattle.cw_types.specs.Resolved.{plain_block, plain_function, plain_stmt}
-use Rattle.cw_types.specs.View.{block_of, function_of, stmt_of}
+use Rattle.cw_tree.specs.declared.resolved.Function.{Function}
+use Rattle.cw_tree.specs.declared.resolved.Line.{Line}
+use Rattle.cw_tree.specs.declared.resolved.Stmt.{Stmt}
+use Rattle.cw_tree.specs.Resolved.{plain_block, plain_function, plain_stmt}
+use Rattle.cw_tree.specs.ResolvedView.{block_of, function_of, stmt_of}
 
 -- the lines of the loops in a block
 abbrev pub lines_in_block : List Line → List ℕ

@@ -1,7 +1,7 @@
 -- What lowering makes of the functions of a resolved tree, and how code is seen as that.
 use Rattle.std.specs.Prelude.{ℕ, ◌+◌, if◌then◌else◌, List, [], ◌∷◌, length, map}
 use Rattle.cw_model.specs.Syntax.{Param}
-use Rattle.cw_types.specs.Resolved as source
+use Rattle.cw_tree.specs.Resolved as source
 use Rattle.cw_loops.specs.declared.tree.Tree.{Tree}
 use Rattle.cw_loops.specs.Slotted.{Block}
 use Rattle.cw_loops.specs.Moved.{Loop, slot, made_body}

@@ -1,16 +1,16 @@
 -- What the code answers where it has lowered a part of a program.
 use Rattle.std.specs.Prelude.{◌≡◌, ℕ, List, map, Option, option_map}
 use Rattle.std.specs.Global.{Vec}
-use Rattle.cw_types.specs.declared.tree.Argument as code_argument
-use Rattle.cw_types.specs.declared.tree.Cut.{Cut}
-use Rattle.cw_types.specs.declared.tree.Expr as code_expr
-use Rattle.cw_types.specs.declared.tree.Function.{Function}
-use Rattle.cw_types.specs.declared.tree.Head.{Head}
-use Rattle.cw_types.specs.declared.tree.Line as code_line
-use Rattle.cw_types.specs.declared.tree.Stmt as code_stmt
-use Rattle.cw_types.specs.declared.tree.Use.{Use}
-use Rattle.cw_types.specs.Resolved as resolved
-use Rattle.cw_types.specs.View as source
+use Rattle.cw_tree.specs.declared.resolved.Argument as code_argument
+use Rattle.cw_tree.specs.declared.resolved.Cut.{Cut}
+use Rattle.cw_tree.specs.declared.resolved.Expr as code_expr
+use Rattle.cw_tree.specs.declared.resolved.Function.{Function}
+use Rattle.cw_tree.specs.declared.resolved.Head.{Head}
+use Rattle.cw_tree.specs.declared.resolved.Line as code_line
+use Rattle.cw_tree.specs.declared.resolved.Stmt as code_stmt
+use Rattle.cw_tree.specs.declared.resolved.Use.{Use}
+use Rattle.cw_tree.specs.Resolved as resolved
+use Rattle.cw_tree.specs.ResolvedView as source
 use Rattle.cw_loops.specs.declared.bodies.Here.{Here}
 use Rattle.cw_loops.specs.declared.moves.Moves.{Moves}
 use Rattle.cw_loops.specs.declared.tree.Argument.{Argument}

@@ -1,8 +1,8 @@
 -- Where locals went, as the code has it.
 use Rattle.std.specs.Prelude.{List, map}
-use Rattle.cw_types.specs.declared.tree.Use as code_use
-use Rattle.cw_types.specs.Resolved as source
-use Rattle.cw_types.specs.View.{use_of}
+use Rattle.cw_tree.specs.declared.resolved.Use as code_use
+use Rattle.cw_tree.specs.Resolved as source
+use Rattle.cw_tree.specs.ResolvedView.{use_of}
 use Rattle.cw_loops.specs.declared.moves.Moves.{Moves}
 use Rattle.cw_loops.specs.Moved as spec
 

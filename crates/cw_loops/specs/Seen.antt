@@ -5,8 +5,8 @@ use Rattle.cw_model.specs.Sizes.{loop_faults}
 use Rattle.cw_model.specs.Syntax.{Program}
 use Rattle.cw_text.specs.declared.fault.Fault.{Fault}
 use Rattle.cw_text.specs.declared.fault.Fault.TheVariants as fault
-use Rattle.cw_types.specs.declared.tree.Tree as source_code
-use Rattle.cw_types.specs.View.{program_of, resolved_of}
+use Rattle.cw_tree.specs.declared.resolved.Tree as source_code
+use Rattle.cw_tree.specs.ResolvedView.{program_of, resolved_of}
 use Rattle.cw_loops.specs.declared.tree.Tree.{Tree}
 use Rattle.cw_loops.specs.SourceLike.{is_source_like}
 use Rattle.cw_loops.specs.Slotted.{Function, slotted_functions}

@@ -2,7 +2,7 @@
 use Rattle.std.specs.Prelude.{◌≡◌, pos}
 use Rattle.cw_model.specs.Syntax.{Number, Program}
 use Rattle.cw_model.specs.ExamplePrograms as example
-use Rattle.cw_types.specs.Resolved.{resolved}
+use Rattle.cw_tree.specs.Resolved.{resolved}
 use Rattle.cw_loops.specs.Slotted.{slotted_functions}
 use Rattle.cw_loops.specs.Expanded.{lowered_by_slot}
 use Rattle.cw_loops.specs.Examples.{nested}

@@ -2,7 +2,7 @@
 use Rattle.std.specs.Prelude.{◌≡◌, []}
 use Rattle.cw_model.specs.Syntax.{Program}
 use Rattle.cw_model.specs.Sizes.{limit_faults, loop_faults}
-use Rattle.cw_types.specs.Resolved.{resolved}
+use Rattle.cw_tree.specs.Resolved.{resolved}
 use Rattle.cw_loops.specs.LoweringLaws.{IsOwnedSource}
 use Rattle.cw_loops.specs.Slotted.{slotted_functions}
 use Rattle.cw_loops.specs.Expanded.{lowered_by_slot}

@@ -2,7 +2,7 @@
 -- is left, and no `cilk_for`.
 --
 -- How a later stage uses this. `slotted_functions` says what a `Core` is seen as, by the law `core_is_lowered`: its
--- source, lowered, with each name looked up as names are in the source (`Resolved` of `cw_types`). The functions
+-- source, lowered, with each name looked up as names are in the source (`Resolved` of `cw_tree`). The functions
 -- of the source come first, at their indices there, and then those of the loops, by number. A loop's function has the
 -- slots 0 and 1 for the two ends of its range, then its captured integers, then its variable or its middle, then what a
 -- turn declares; and of arrays first those of the loop, then what a turn declares, or the two parts of each.
@@ -12,7 +12,7 @@ use Rattle.cw_model.specs.declared.syntax.Operator.{Operator}
 use Rattle.cw_model.specs.Syntax.{Name, Program}
 use Rattle.cw_model.specs.Syntax as model
 use Rattle.cw_model.specs.Names.{is_among}
-use Rattle.cw_types.specs.Resolved.{Lists, Locals, slot_of, with_array, locals_after, locals_of, function_names, reducer_names, tags_of}
+use Rattle.cw_tree.specs.Resolved.{Lists, Locals, slot_of, with_array, locals_after, locals_of, function_names, reducer_names, tags_of}
 use Rattle.cw_loops.specs.Lowered.{lowered}
 
 -- an expression

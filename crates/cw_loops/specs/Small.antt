@@ -1,8 +1,8 @@
 -- How many functions a lowered tree has, and how great the numbers are that a loop's function is written out from.
 use Rattle.std.specs.Prelude.{◌≡◌, ◌≤◌, List, [], ◌∷◌, length}
 use Rattle.cw_model.specs.Limits.{most_functions, most_grain, most_declared, most_loops}
-use Rattle.cw_types.specs.declared.tree.Tree as source_code
-use Rattle.cw_types.specs.View.{resolved_of}
+use Rattle.cw_tree.specs.declared.resolved.Tree as source_code
+use Rattle.cw_tree.specs.ResolvedView.{resolved_of}
 use Rattle.cw_loops.specs.declared.tree.Tree.{Tree}
 use Rattle.cw_loops.specs.Moved.{Loop}
 use Rattle.cw_loops.specs.Lowers.{bodies_of}

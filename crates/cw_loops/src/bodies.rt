@@ -1,7 +1,7 @@
 //! Bodies whose loops are lowered.
 
 ghost use Rattle.std.specs.Prelude.{◌≡◌, IfOk, OnOk};
-ghost use Rattle.cw_types.specs.View as source;
+ghost use Rattle.cw_tree.specs.ResolvedView as source;
 ghost use Rattle.cw_loops.specs.Made.{IsBlock, IsStmt, IsFor, IsCut};
 ghost use Rattle.cw_loops.specs.Made.{LoopsOfBlock, LoopsOfStmt, LoopsOfFor, LoopsOfCut};
 ghost use Rattle.cw_loops.specs.Moved as spec;
@@ -10,7 +10,7 @@ use crate::moves::{Moves, moves_of, slot};
 use crate::parts::{alone, beginning, expression};
 use crate::tree;
 use crate::tree::Loop;
-use cw_types::tree::{Cut, Head, Line, Stmt};
+use cw_tree::resolved::{Cut, Head, Line, Stmt};
 use std::alloc::{AllocError, Global};
 
 /// Where a statement stands: how many functions are in the source, where its locals went, and how many arrays are known.

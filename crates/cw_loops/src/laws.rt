@@ -9,6 +9,7 @@ ghost use Rattle.cw_loops.specs.Same.{SameTreesAreEqual};
 ghost use Rattle.cw_loops.specs.LoweringLaws.{DerivedIsSourceLike, LoweredAnswersAsItsSource, LoweredHasItsCalls, LoweredHasNoLoop, LoweredIsAsLong, LoweringKeepsAnswers, LoweringKeepsDerivedAnswers, LoweringKeepsSize, OwnedIsLowerable};
 
 use crate::program::Core;
+use cw_tree::laws::resolved_is_fitting;
 
 /// Worked examples, lowered: each answer is that of the source.
 pub fn lowered_examples()
@@ -65,12 +66,16 @@ pub fn same_trees_are_equal()
 /// name looked up.
 pub fn lowering_is_by_slot()
     ensures { LoweringIsBySlot }
-{}
+{
+    resolved_is_fitting();
+}
 
 /// Every core is seen as the lowered program of its source, each name looked up, by its type alone.
 pub fn core_is_lowered(core: &Core)
     ensures { IsLowered core.now.source.typed.tree core.now.tree }
-{}
+{
+    resolved_is_fitting();
+}
 
 /// A core has a body for each function of its source, at most 1,024 functions and 4,096 loops; a leaf of a loop has at most
 /// 1,000,000 turns, and a loop takes along at most 256 integers and 256 arrays.

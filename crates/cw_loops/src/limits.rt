@@ -3,12 +3,12 @@
 ghost use Rattle.std.specs.Prelude.{◌≡◌, ◌∷◌, [], None};
 ghost use Rattle.cw_model.specs.Lines.{lowest};
 ghost use Rattle.cw_model.specs.Sizes.{loop_faults};
-ghost use Rattle.cw_types.specs.Noted.{Noted, TakesRoom};
-ghost use Rattle.cw_types.specs.View.{program_of};
+ghost use Rattle.cw_text.specs.Noted.{Noted, TakesRoom};
+ghost use Rattle.cw_tree.specs.ResolvedView.{program_of};
 ghost use Rattle.cw_loops.specs.LoopLines.{lines_in, lines_in_block, loops_past};
 
 use cw_text::LeastLine;
-use cw_types::tree::{Function, Line, Stmt, Tree};
+use cw_tree::resolved::{Function, Line, Stmt, Tree};
 
 /// The most loops of a program.
 const MOST_LOOPS: usize = 4_096;

@@ -1,12 +1,12 @@
 //! Where locals of a function of the source are in the function that its text goes to.
 
 ghost use Rattle.std.specs.Prelude.{◌≡◌, ◌+◌, [], map, length};
-ghost use Rattle.cw_types.specs.Resolved.{is_slot_in};
-ghost use Rattle.cw_types.specs.View.{head_of};
+ghost use Rattle.cw_tree.specs.Resolved.{is_slot_in};
+ghost use Rattle.cw_tree.specs.ResolvedView.{head_of};
 ghost use Rattle.cw_loops.specs.Moved as spec;
 ghost use Rattle.cw_loops.specs.Moving.{moves_view, uses_of};
 
-use cw_types::tree::{Head, Use};
+use cw_tree::resolved::{Head, Use};
 
 /// The greatest slot or index that a tree can tell.
 const MOST_SLOT: usize = 4_294_967_295;

@@ -8,7 +8,7 @@ ghost use Rattle.cw_loops.specs.View as view;
 use crate::moves::Moves;
 use crate::tree;
 use cw_model::syntax::Operator;
-use cw_types::tree::{Argument, Call, Expr, Head, Stmt, Use};
+use cw_tree::resolved::{Argument, Call, Expr, Head, Stmt, Use};
 use std::alloc::{AllocError, Global};
 
 // An index into an array, counted from the lower end of the range where the array is one of the loop.

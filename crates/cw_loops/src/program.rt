@@ -2,7 +2,7 @@
 
 ghost use Rattle.std.specs.Prelude.{◌≡◌, []};
 ghost use Rattle.cw_model.specs.Sizes.{loop_faults};
-ghost use Rattle.cw_types.specs.View.{program_of};
+ghost use Rattle.cw_tree.specs.ResolvedView.{program_of};
 ghost use Rattle.cw_loops.specs.Seen.{IsMadeOf};
 
 use crate::tree::Tree;

@@ -1,7 +1,7 @@
 //! Lowering of a whole program.
 
 ghost use Rattle.std.specs.Prelude.{◌≡◌, map, IfOk, MatchResult};
-ghost use Rattle.cw_types.specs.View.{param_of, program_of};
+ghost use Rattle.cw_tree.specs.ResolvedView.{param_of, program_of};
 ghost use Rattle.cw_loops.specs.Cores.{IsCoreOf};
 ghost use Rattle.cw_loops.specs.Lowers.{arrays_from};
 ghost use Rattle.cw_loops.specs.Made.{AreBodies};
@@ -14,7 +14,8 @@ use crate::program::Core;
 use crate::tree::Tree;
 use cw_own::Owned;
 use cw_text::{Fault, Place};
-use cw_types::tree::{Function, Param};
+use cw_tree::laws::resolved_is_fitting;
+use cw_tree::resolved::{Function, Param};
 use std::alloc::{AllocError, Global};
 
 /// The program with each `cilk_for` lowered to a function that halves its range. The functions that it is seen as are
@@ -32,6 +33,7 @@ pub fn lower(alloc: Global, owned: Owned) -> Result<Core, Fault>
         Some(line) => Err(Fault::Size(Place { line })),
         None => {
             let tree = functions(alloc, &owned.typed.tree.functions)?;
+            resolved_is_fitting();
             Ok(Core {
                 source: owned,
                 tree,

@@ -2,7 +2,7 @@ use Rattle.std.proofs.Common.{◌≡◌, ◌++◌, length, map}
 use Rattle.cw_gen.specs.Emit as spec
 use Rattle.cw_loops.specs.Expanded.{with_bodies}
 use Rattle.cw_loops.specs.View as view
-use Rattle.cw_types.specs.View as source
+use Rattle.cw_tree.specs.ResolvedView as source
 use Rattle.cw_gen.proofs.functions.functions_with.Given as goal
 
 abbrev pub invariant-loop-f : goal.invariant-loop-f

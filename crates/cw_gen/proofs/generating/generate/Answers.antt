@@ -1,8 +1,8 @@
 use Rattle.std.proofs.Common.{◌≡◌, ◌≤◌, ◌<◌, List, length, ap, ◌∙◌, arith}
 use Rattle.std.specs.Prelude.{map}
 use Rattle.cw_model.specs.Limits.{most_call_statements, most_instructions}
-use Rattle.cw_types.specs.declared.tree.Function.{Function}
-use Rattle.cw_types.specs.View.{function_of}
+use Rattle.cw_tree.specs.declared.resolved.Function.{Function}
+use Rattle.cw_tree.specs.ResolvedView.{function_of}
 use Rattle.cw_gen.specs.Emit.{emitted_sites_of}
 use Rattle.cw_gen.proofs.Small.{too_many_sites, too_long, generated}
 use Rattle.cw_gen.proofs.generating.generate.Goals as goal

@@ -2,7 +2,7 @@ use Rattle.std.proofs.Common.{◌≡◌, ◌++◌}
 use Rattle.std.specs.Prelude.{drop, map}
 use Rattle.cw_code.specs.Code as code
 use Rattle.cw_gen.specs.Emit as spec
-use Rattle.cw_types.specs.View as view
+use Rattle.cw_tree.specs.ResolvedView as view
 use Rattle.cw_gen.proofs.sites.+sites.Given as goal
 
 abbrev pub invariant-sites_in-loop-line : goal.invariant-sites_in-loop-line

@@ -1,6 +1,6 @@
 use Rattle.std.proofs.Common.{◌≡◌, ◌≤◌, ◌+◌}
 use Rattle.std.specs.Prelude.{drop, map}
-use Rattle.cw_types.specs.View as source
+use Rattle.cw_tree.specs.ResolvedView as source
 use Rattle.cw_gen.specs.Emit as spec
 use Rattle.cw_gen.proofs.slots.count_arrays.Given as goal
 

@@ -1,6 +1,6 @@
 use Rattle.std.proofs.Common.{◌≡◌, ◌+◌, length, map, ap, ◌∙◌, sym, arith, rules}
 use Rattle.std.proofs.lemmas.List.{length-map}
-use Rattle.cw_types.specs.View.{function_of}
+use Rattle.cw_tree.specs.ResolvedView.{function_of}
 use Rattle.cw_loops.specs.Expanded.{loop_texts}
 use Rattle.cw_loops.specs.View.{block_of, loop_of}
 use Rattle.cw_gen.specs.Emit.{put_lists_of}

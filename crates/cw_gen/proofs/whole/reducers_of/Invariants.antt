@@ -1,7 +1,7 @@
 use Rattle.std.proofs.Common.{◌≡◌, ◌++◌}
 use Rattle.std.specs.Prelude.{drop, map}
-use Rattle.cw_types.specs.Resolved.{reducer_names}
-use Rattle.cw_types.specs.View as view
+use Rattle.cw_tree.specs.Resolved.{reducer_names}
+use Rattle.cw_tree.specs.ResolvedView as view
 use Rattle.cw_gen.proofs.whole.reducers_of.Given as goal
 
 abbrev pub invariant-loop-r : goal.invariant-loop-r

@@ -1,8 +1,8 @@
 use Rattle.std.proofs.Common.{◌≡◌, ◌+◌, drop, map, ap, sym, ◌∙◌, arith}
 use Rattle.std.proofs.lemmas.Grind.{common_steps}
-use Rattle.cw_types.specs.declared.tree.Line.{the_lemmas}
-use Rattle.cw_types.specs.Resolved as resolved
-use Rattle.cw_types.specs.View as source
+use Rattle.cw_tree.specs.declared.resolved.Line.{the_lemmas}
+use Rattle.cw_tree.specs.Resolved as resolved
+use Rattle.cw_tree.specs.ResolvedView as source
 use Rattle.cw_loops.specs.declared.tree.Line.{Line}
 use Rattle.cw_loops.specs.Slotted.{Then}
 use Rattle.cw_loops.specs.Moved.{arrays_after, made_stmt, made_block}

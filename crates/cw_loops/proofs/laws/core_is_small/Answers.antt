@@ -1,4 +1,4 @@
-use Rattle.cw_types.specs.View.{resolved_of}
+use Rattle.cw_tree.specs.ResolvedView.{resolved_of}
 use Rattle.cw_loops.specs.Lowers.{bodies_of, made_of_tree}
 use Rattle.cw_loops.proofs.Equal.{bodies_equal}
 use Rattle.cw_loops.proofs.SmallLoops.{tree_small}

@@ -1,8 +1,8 @@
 use Rattle.std.proofs.Common.{◌≡◌, ℕ, List, ◌++◌, drop}
 use Rattle.cw_model.specs.Lines.{lowest}
 use Rattle.cw_model.specs.Sizes.{loops_in_block}
-use Rattle.cw_types.specs.Resolved.{plain_block}
-use Rattle.cw_types.specs.View.{block_of}
+use Rattle.cw_tree.specs.Resolved.{plain_block}
+use Rattle.cw_tree.specs.ResolvedView.{block_of}
 use Rattle.cw_loops.proofs.limits.+counting.Given as goal
 
 abbrev pub invariant-block_beyond-loop-line : goal.invariant-block_beyond-loop-line

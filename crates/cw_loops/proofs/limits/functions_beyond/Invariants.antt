@@ -1,8 +1,8 @@
 use Rattle.std.proofs.Common.{◌≡◌, drop, map, flat_map}
 use Rattle.cw_model.specs.Lines.{lowest}
 use Rattle.cw_model.specs.Sizes.{loops_in_block}
-use Rattle.cw_types.specs.Resolved.{plain_function}
-use Rattle.cw_types.specs.View.{function_of}
+use Rattle.cw_tree.specs.Resolved.{plain_function}
+use Rattle.cw_tree.specs.ResolvedView.{function_of}
 use Rattle.cw_loops.proofs.limits.functions_beyond.Given as goal
 
 abbrev pub invariant-loop-function : goal.invariant-loop-function

@@ -1,5 +1,5 @@
 use Rattle.std.proofs.Common.{◌≡◌, drop}
-use Rattle.cw_types.specs.Resolved.{is_slot_in}
+use Rattle.cw_tree.specs.Resolved.{is_slot_in}
 use Rattle.cw_loops.specs.Moved.{slots_of}
 use Rattle.cw_loops.specs.Moving.{uses_of}
 use Rattle.cw_loops.proofs.moves.has_slot.Given as goal

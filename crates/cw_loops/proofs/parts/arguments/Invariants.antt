@@ -1,5 +1,5 @@
 use Rattle.std.proofs.Common.{◌≡◌, ◌++◌, map, drop}
-use Rattle.cw_types.specs.View as source
+use Rattle.cw_tree.specs.ResolvedView as source
 use Rattle.cw_loops.specs.Moved.{moved_argument}
 use Rattle.cw_loops.specs.Moving.{moves_view}
 use Rattle.cw_loops.specs.View.{argument_of}

@@ -1,5 +1,5 @@
 use Rattle.std.proofs.Common.{map, ap, sym, ◌∙◌}
-use Rattle.cw_types.specs.View as source
+use Rattle.cw_tree.specs.ResolvedView as source
 use Rattle.cw_loops.specs.Slotted.{Call}
 use Rattle.cw_loops.specs.Moved as spec
 use Rattle.cw_loops.specs.Moving.{moves_view}

@@ -1,5 +1,5 @@
 use Rattle.std.proofs.Common.{◌≡◌, map, drop}
-use Rattle.cw_types.specs.View.{param_of}
+use Rattle.cw_tree.specs.ResolvedView.{param_of}
 use Rattle.cw_loops.specs.Lowers.{arrays_from}
 use Rattle.cw_loops.proofs.stage.arrays_taken.Given as goal
 

@@ -1,5 +1,5 @@
 use Rattle.std.proofs.Common.{◌≡◌, ◌++◌, [], map, drop, length}
-use Rattle.cw_types.specs.View.{function_of}
+use Rattle.cw_tree.specs.ResolvedView.{function_of}
 use Rattle.cw_loops.specs.Lowers.{made_bodies}
 use Rattle.cw_loops.specs.Moved.{slot}
 use Rattle.cw_loops.specs.View.{block_of, loop_of}

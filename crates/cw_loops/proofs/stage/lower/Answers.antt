@@ -1,7 +1,7 @@
 use Rattle.std.proofs.Common.{[], length, map, refl, sym, ◌∙◌, ap}
 use Rattle.cw_model.specs.Sizes.{loop_faults}
-use Rattle.cw_model.proofs.Lowest.{no_lines, least_line}
-use Rattle.cw_types.specs.View.{program_of, resolved_of, function_of}
+use Rattle.cw_model.specs.lemmas.Lowest.{no_lines, least_line}
+use Rattle.cw_tree.specs.ResolvedView.{program_of, resolved_of, function_of}
 use Rattle.cw_loops.specs.Moved.{slot}
 use Rattle.cw_loops.specs.Lowers.{bodies_of, made_bodies, made_of_tree}
 use Rattle.cw_loops.proofs.Sameness.{bodies_itself}
@@ -25,7 +25,7 @@ returns-in_ok-tree-in-None c =
     record {
       same_source = refl;
       functions =
-          tree_is_lowered typed.tree (bodies_of c.in_ok-tree-in-None.tree) typed.resolved typed.typed c.args.owned.owned typed.within
+          tree_is_lowered c.resolved_is_fitting.ensures typed.tree (bodies_of c.in_ok-tree-in-None.tree) typed.resolved typed.typed c.args.owned.owned typed.within
           (no_lines (loop_faults (program_of typed.tree)) (sym c.limits-beyond.ensures ∙ c.in-None.is))
           (c.in_ok-tree-in-None.ensures ∙ ap (λ fs. made_bodies (slot (length (map function_of fs))) [] (map function_of fs)) c.deref.ensures.value);
     }

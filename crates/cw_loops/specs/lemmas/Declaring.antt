@@ -8,9 +8,9 @@ use Rattle.cw_model.specs.Syntax.{Name, Expr, Stmt, Declare, DeclareArray, Assig
 use Rattle.cw_model.specs.Names.{same_name, is_among}
 use Rattle.cw_model.specs.Captured.{declared_in, declared_in_block}
 use Rattle.cw_model.specs.Typing.{Known, is_fine, is_int, is_array, is_new, is_head_of_loop, is_cut, ends_block, surely_returns, faults_in, faults_in_block, declares, Returns, Nowhere}
-use Rattle.cw_loops.proofs.Worlds.{both_true, not_true}
-use Rattle.cw_loops.proofs.Naming.{Placed, at_front, after_it, placed, Side, in_first, in_second, side}
-use Rattle.cw_loops.proofs.Knowing.{Unknown, new_unknown, Adds, an_int, an_array, nothing, adds}
+use Rattle.cw_loops.specs.lemmas.Tests.{both_true, not_true}
+use Rattle.cw_loops.specs.lemmas.Naming.{Placed, at_front, after_it, placed, Side, in_first, in_second, side}
+use Rattle.cw_loops.specs.lemmas.Knowing.{Unknown, new_unknown, Adds, an_int, an_array, nothing, adds}
 
 -- lines of nothing
 

@@ -1,45 +1,18 @@
 -- What types and ownership know of the names where a statement stands, and what the test of what can be lowered knows.
 use Rattle.std.proofs.Common.{◌≡◌, Bool, true, false, List, [], ◌∷◌, ◌++◌, refl, sym, ◌∙◌, ap, append_assoc}
-use Rattle.std.specs.Prelude.{if◌then◌else◌, not, ◌&&◌, ◌||◌, map, Option}
-use Rattle.cw_model.specs.Syntax.{Name, Expr, Number, Variable, Element, Length, Negative, Not, Binary, Stmt, Declare, DeclareArray, Assign, AssignElement, AddTo, Call, Start, Begin, Sync, If, IfElse, While, For, Scope, Cut, Region, Print, Return, Program}
+use Rattle.std.specs.Prelude.{if◌then◌else◌, not, ◌&&◌, ◌||◌, Option}
+use Rattle.cw_model.specs.Syntax.{Name, Expr, Number, Variable, Element, Length, Negative, Not, Binary}
 use Rattle.cw_model.specs.Names.{same_name, is_among}
 use Rattle.cw_model.specs.Captured.{read_by}
-use Rattle.cw_model.specs.Typing.{Known, is_known, is_int, is_array, is_new, globals, Returns, may_return, declares}
-use Rattle.cw_model.specs.Ownership.{Around, NoLoop, InLoop, for_head, is_outer, may_index, keeps_loop, known_after}
+use Rattle.cw_model.specs.Typing.{Known, is_int, is_array, Returns, may_return}
+use Rattle.cw_model.specs.Ownership.{Around, NoLoop, InLoop, for_head, is_outer, may_index, keeps_loop}
 use Rattle.cw_loops.specs.Lowered.{is_plain}
-use Rattle.cw_loops.specs.Lowerable.{Surroundings, can_write, can_read, is_local, is_variable, can_evaluate, new_integers, new_arrays}
+use Rattle.cw_loops.specs.Lowerable.{Surroundings, can_write, can_read, is_local, is_variable, can_evaluate}
 use Rattle.cw_loops.specs.SourceLike.{is_source_expr}
-use Rattle.cw_loops.proofs.Tables.{same_are, same_itself}
-use Rattle.cw_loops.proofs.Worlds.{both_true}
-use Rattle.cw_loops.proofs.Naming.{none_of, turned, all_of, never, refuted, among_join, among_left, among_right, neither_among}
-
--- a name that is not known
-pub record Unknown (known : Known) (x : Name) : Type 0 where
-  pub no_int : is_int known x ≡ false
-  pub no_array : is_array known x ≡ false
-
-pub not_there : (array : Bool) (known : Known) (x : Name) → is_among x (map (λ k. k.0) known) ≡ false → is_known x array known ≡ false
-not_there array [] x h = refl
-not_there array (k ∷ ks) x h = go (same_name x k.0) h (λ g. not_there array ks x g)
-  where
-    go : (b : Bool) → (if b then true else is_among x (map (λ k. k.0) ks)) ≡ false → (is_among x (map (λ k. k.0) ks) ≡ false → is_known x array ks ≡ false) →
-        (if b then (if array then k.1 else not k.1) else is_known x array ks) ≡ false
-    go true g more = absurd cc
-    go false g more = more g
-
-pub new_unknown : (program : Program) (known : Known) (x : Name) → is_new program known x ≡ true → Unknown known x
-new_unknown program known x h =
-    let n = none_of (is_among x (map (λ k. k.0) known)) (is_among x (globals program)) (turned _ h) in
-    record { no_int = not_there false known x n.0; no_array = not_there true known x n.0 }
-
--- a name is an integer or an array, and not both
-pub not_both : (known : Known) (x : Name) → is_int known x ≡ true → is_array known x ≡ false
-not_both [] x h = absurd cc
-not_both (k ∷ ks) x h = go (same_name x k.0) k.1 h (λ g. not_both ks x g)
-  where
-    go : (b array : Bool) → (if b then not array else is_int ks x) ≡ true → (is_int ks x ≡ true → is_array ks x ≡ false) → (if b then array else is_array ks x) ≡ false
-    go true array g more = turned array g
-    go false array g more = more g
+use Rattle.cw_loops.specs.lemmas.Tests.{both_true, none_of, not_true, all_of, never, refuted}
+use Rattle.cw_loops.specs.lemmas.Apart.{same_are, same_itself}
+use Rattle.cw_loops.specs.lemmas.Naming.{among_join, among_left, among_right, neither_among}
+use Rattle.cw_loops.specs.lemmas.Knowing.{Unknown, not_both, known_more, known_array_more}
 
 -- both agree on each name: on its kind, on what stands outside the loop, and on what may be done with it there
 pub record Agree (c : Surroundings) (ints arrays : List Name) (known : Known) (owners : List Name) (around : Around) (returns : Returns) : Type 0 where
@@ -87,7 +60,7 @@ module _ {c : Surroundings} {ints arrays : List Name} {known : Known} {owners : 
     where
       go : (b : Bool) → (b || not (is_among x c.outer)) ≡ true → (b || can_write c x) ≡ true
       go true g = refl
-      go false g = write_from x plain (turned _ g)
+      go false g = write_from x plain (not_true _ g)
 
   pub int_local : (x : Name) → is_int known x ≡ true → is_local c x ≡ true
   int_local x h = local_from x (neither_among x c.arrays arrays (sym (agree.arrays_are x) ∙ not_both known x h)).0
@@ -103,7 +76,7 @@ module _ {c : Surroundings} {ints arrays : List Name} {known : Known} {owners : 
       go : (b : Bool) → is_among a c.over ≡ b → may_index around a e ≡ true → can_evaluate c e ≡ true → (if b then is_variable c e else (is_local c a && can_evaluate c e)) ≡ true
       go true o may more = agree.indexed a e may o
       go false o may more = all_of (is_local c a) (can_evaluate c e) (local_from a (outside a (agree.not_indexed a e may o)).1) more
-  expr_can (Length a) source keeps well = local_from a (outside a (turned (is_outer around a) keeps)).1
+  expr_can (Length a) source keeps well = local_from a (outside a (not_true (is_outer around a) keeps)).1
   expr_can (Negative e) source keeps well = expr_can e source keeps well
   expr_can (Not e) source keeps well = expr_can e source keeps well
   expr_can (Binary operator d e) source keeps well =
@@ -139,32 +112,6 @@ head_keeps (InLoop outer i over) (Binary operator d e) h =
     let k = both_true (keeps_loop (InLoop outer i []) d) (keeps_loop (InLoop outer i []) e) h in
     all_of (keeps_loop (InLoop outer i over) d) (keeps_loop (InLoop outer i over) e) (head_keeps (InLoop outer i over) d k.0) (head_keeps (InLoop outer i over) e k.1)
 
--- what a statement declares for those that follow
-pub data Adds (s : Stmt) : Type 0 where
-  an_int : (x : Name) (e : Expr) → s ≡ Declare x e → Adds s
-  an_array : (a : Name) (e : Expr) → s ≡ DeclareArray a e → Adds s
-  nothing : ((known : Known) → declares s known ≡ known) → new_integers s ≡ [] → new_arrays s ≡ [] → ((owners : List Name) → known_after owners s ≡ owners) → Adds s
-
-pub adds : (s : Stmt) → Adds s
-adds (Declare x e) = an_int x e refl
-adds (DeclareArray a e) = an_array a e refl
-adds (Assign x e) = nothing (λ k. refl) refl refl (λ o. refl)
-adds (AssignElement a i e) = nothing (λ k. refl) refl refl (λ o. refl)
-adds (AddTo s e) = nothing (λ k. refl) refl refl (λ o. refl)
-adds (Call kind site target f es) = nothing (λ k. refl) refl refl (λ o. refl)
-adds (Start kind f es) = nothing (λ k. refl) refl refl (λ o. refl)
-adds (Begin f from to captured over) = nothing (λ k. refl) refl refl (λ o. refl)
-adds Sync = nothing (λ k. refl) refl refl (λ o. refl)
-adds (If e b) = nothing (λ k. refl) refl refl (λ o. refl)
-adds (IfElse e b d) = nothing (λ k. refl) refl refl (λ o. refl)
-adds (While e b) = nothing (λ k. refl) refl refl (λ o. refl)
-adds (For x y z from to grain over b) = nothing (λ k. refl) refl refl (λ o. refl)
-adds (Scope b) = nothing (λ k. refl) refl refl (λ o. refl)
-adds (Cut a e l r b) = nothing (λ k. refl) refl refl (λ o. refl)
-adds (Region tag b) = nothing (λ k. refl) refl refl (λ o. refl)
-adds (Print e) = nothing (λ k. refl) refl refl (λ o. refl)
-adds (Return e) = nothing (λ k. refl) refl refl (λ o. refl)
-
 -- one name more at the end
 pub pushed : (x y : Name) (xs : List Name) (b : Bool) → b ≡ is_among x xs → (if same_name x y then true else b) ≡ is_among x (xs ++ y ∷ [])
 pushed x y xs b h = go (same_name x y) refl (is_among x xs) refl ∙ sym (among_join x xs (y ∷ []))
@@ -182,21 +129,6 @@ passed x y xs b h n = go (same_name x y) refl
     go : (s : Bool) → same_name x y ≡ s → (if s then false else b) ≡ is_among x xs
     go true e = sym (ap (λ z. is_among z xs) (same_are x y e) ∙ n)
     go false e = h
-
--- the newest name is known
-pub known_more : (x y : Name) (owners : List Name) (i a : Bool) → is_among x owners ≡ (i || a) → is_among x (y ∷ owners) ≡ ((if same_name x y then true else i) || (if same_name x y then false else a))
-known_more x y owners i a h = go (same_name x y)
-  where
-    go : (s : Bool) → (if s then true else is_among x owners) ≡ ((if s then true else i) || (if s then false else a))
-    go true = refl
-    go false = h
-
-pub known_array_more : (x y : Name) (owners : List Name) (i a : Bool) → is_among x owners ≡ (i || a) → is_among x (y ∷ owners) ≡ ((if same_name x y then false else i) || (if same_name x y then true else a))
-known_array_more x y owners i a h = go (same_name x y)
-  where
-    go : (s : Bool) → (if s then true else is_among x owners) ≡ ((if s then false else i) || (if s then true else a))
-    go true = refl
-    go false = h
 
 module _ {c : Surroundings} {ints arrays : List Name} {known : Known} {owners : List Name} {around : Around} {returns : Returns} (agree : Agree c ints arrays known owners around returns) where
   pub with_int : (y : Name) → Unknown known y → Agree c (ints ++ y ∷ []) arrays ((y, false) ∷ known) (y ∷ owners) around returns

@@ -1,52 +1,11 @@
 -- Names among others, and those that are new.
 use Rattle.std.proofs.Common.{◌≡◌, Bool, true, false, List, [], ◌∷◌, ◌++◌, refl, sym, ◌∙◌, ap}
-use Rattle.std.specs.Prelude.{if◌then◌else◌, not, ◌&&◌, ◌||◌}
+use Rattle.std.specs.Prelude.{if◌then◌else◌, not, ◌||◌}
 use Rattle.std.specs.List.{list_any, list_all}
 use Rattle.cw_model.specs.Syntax.{Name}
 use Rattle.cw_model.specs.Names.{same_name, is_among, differ, new_names}
-use Rattle.cw_loops.proofs.Tables.{same_are, same_itself, not_later}
-use Rattle.cw_loops.proofs.Worlds.{both_true}
-
--- tests of two
-
-pub none_of : (a b : Bool) → (a || b) ≡ false → (a ≡ false) × (b ≡ false)
-none_of true b h = absurd cc
-none_of false b h = (refl, h)
-
-pub turned : (b : Bool) → not b ≡ true → b ≡ false
-turned true h = cc
-turned false h = refl
-
-pub turned_back : (b : Bool) → b ≡ false → not b ≡ true
-turned_back b h = ap not h
-
-pub all_of : (a b : Bool) → a ≡ true → b ≡ true → (a && b) ≡ true
-all_of a b h g = ap (λ x. x && b) h ∙ g
-
-pub either_left : (a b : Bool) → a ≡ true → (a || b) ≡ true
-either_left a b h = ap (λ x. x || b) h
-
-pub either_right : (a b : Bool) → b ≡ true → (a || b) ≡ true
-either_right true b h = refl
-either_right false b h = h
-
-pub never : {A : Type 0} (b : Bool) → b ≡ true → b ≡ false → A
-never true h g = absurd cc
-never false h g = absurd cc
-
--- which of the two it is
-pub data Told (b : Bool) : Type 0 where
-  yes_is : b ≡ true → Told b
-  no_is : b ≡ false → Told b
-
-pub told : (b : Bool) → Told b
-told true = yes_is refl
-told false = no_is refl
-
--- not so where that would be absurd
-pub refuted : (b : Bool) → (b ≡ true → ⊥) → b ≡ false
-refuted true h = absurd (h refl)
-refuted false h = refl
+use Rattle.cw_loops.specs.lemmas.Tests.{both_true, none_of, all_of, either_left, either_right, never, refuted}
+use Rattle.cw_loops.specs.lemmas.Apart.{same_are, same_itself, not_later}
 
 -- names that are joined
 

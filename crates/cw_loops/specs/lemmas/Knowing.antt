@@ -1,0 +1,78 @@
+-- Names that are known, and those that a statement makes known.
+use Rattle.std.proofs.Common.{◌≡◌, Bool, true, false, List, [], ◌∷◌, refl}
+use Rattle.std.specs.Prelude.{if◌then◌else◌, not, ◌||◌, map}
+use Rattle.cw_model.specs.Syntax.{Name, Expr, Stmt, Declare, DeclareArray, Assign, AssignElement, AddTo, Call, Start, Begin, Sync, If, IfElse, While, For, Scope, Cut, Region, Print, Return, Program}
+use Rattle.cw_model.specs.Names.{same_name, is_among}
+use Rattle.cw_model.specs.Typing.{Known, is_known, is_int, is_array, is_new, globals, declares}
+use Rattle.cw_model.specs.Ownership.{known_after}
+use Rattle.cw_loops.specs.Lowerable.{new_integers, new_arrays}
+use Rattle.cw_loops.specs.lemmas.Tests.{none_of, not_true}
+
+-- a name that is not known
+pub record Unknown (known : Known) (x : Name) : Type 0 where
+  pub no_int : is_int known x ≡ false
+  pub no_array : is_array known x ≡ false
+
+pub not_there : (array : Bool) (known : Known) (x : Name) → is_among x (map (λ k. k.0) known) ≡ false → is_known x array known ≡ false
+not_there array [] x h = refl
+not_there array (k ∷ ks) x h = go (same_name x k.0) h (λ g. not_there array ks x g)
+  where
+    go : (b : Bool) → (if b then true else is_among x (map (λ k. k.0) ks)) ≡ false → (is_among x (map (λ k. k.0) ks) ≡ false → is_known x array ks ≡ false) →
+        (if b then (if array then k.1 else not k.1) else is_known x array ks) ≡ false
+    go true g more = absurd cc
+    go false g more = more g
+
+pub new_unknown : (program : Program) (known : Known) (x : Name) → is_new program known x ≡ true → Unknown known x
+new_unknown program known x h =
+    let n = none_of (is_among x (map (λ k. k.0) known)) (is_among x (globals program)) (not_true _ h) in
+    record { no_int = not_there false known x n.0; no_array = not_there true known x n.0 }
+
+-- a name is an integer or an array, and not both
+pub not_both : (known : Known) (x : Name) → is_int known x ≡ true → is_array known x ≡ false
+not_both [] x h = absurd cc
+not_both (k ∷ ks) x h = go (same_name x k.0) k.1 h (λ g. not_both ks x g)
+  where
+    go : (b array : Bool) → (if b then not array else is_int ks x) ≡ true → (is_int ks x ≡ true → is_array ks x ≡ false) → (if b then array else is_array ks x) ≡ false
+    go true array g more = not_true array g
+    go false array g more = more g
+
+-- what a statement declares for those that follow
+pub data Adds (s : Stmt) : Type 0 where
+  an_int : (x : Name) (e : Expr) → s ≡ Declare x e → Adds s
+  an_array : (a : Name) (e : Expr) → s ≡ DeclareArray a e → Adds s
+  nothing : ((known : Known) → declares s known ≡ known) → new_integers s ≡ [] → new_arrays s ≡ [] → ((owners : List Name) → known_after owners s ≡ owners) → Adds s
+
+pub adds : (s : Stmt) → Adds s
+adds (Declare x e) = an_int x e refl
+adds (DeclareArray a e) = an_array a e refl
+adds (Assign x e) = nothing (λ k. refl) refl refl (λ o. refl)
+adds (AssignElement a i e) = nothing (λ k. refl) refl refl (λ o. refl)
+adds (AddTo s e) = nothing (λ k. refl) refl refl (λ o. refl)
+adds (Call kind site target f es) = nothing (λ k. refl) refl refl (λ o. refl)
+adds (Start kind f es) = nothing (λ k. refl) refl refl (λ o. refl)
+adds (Begin f from to captured over) = nothing (λ k. refl) refl refl (λ o. refl)
+adds Sync = nothing (λ k. refl) refl refl (λ o. refl)
+adds (If e b) = nothing (λ k. refl) refl refl (λ o. refl)
+adds (IfElse e b d) = nothing (λ k. refl) refl refl (λ o. refl)
+adds (While e b) = nothing (λ k. refl) refl refl (λ o. refl)
+adds (For x y z from to grain over b) = nothing (λ k. refl) refl refl (λ o. refl)
+adds (Scope b) = nothing (λ k. refl) refl refl (λ o. refl)
+adds (Cut a e l r b) = nothing (λ k. refl) refl refl (λ o. refl)
+adds (Region tag b) = nothing (λ k. refl) refl refl (λ o. refl)
+adds (Print e) = nothing (λ k. refl) refl refl (λ o. refl)
+adds (Return e) = nothing (λ k. refl) refl refl (λ o. refl)
+
+-- the newest name is known
+pub known_more : (x y : Name) (owners : List Name) (i a : Bool) → is_among x owners ≡ (i || a) → is_among x (y ∷ owners) ≡ ((if same_name x y then true else i) || (if same_name x y then false else a))
+known_more x y owners i a h = go (same_name x y)
+  where
+    go : (s : Bool) → (if s then true else is_among x owners) ≡ ((if s then true else i) || (if s then false else a))
+    go true = refl
+    go false = h
+
+pub known_array_more : (x y : Name) (owners : List Name) (i a : Bool) → is_among x owners ≡ (i || a) → is_among x (y ∷ owners) ≡ ((if same_name x y then false else i) || (if same_name x y then true else a))
+known_array_more x y owners i a h = go (same_name x y)
+  where
+    go : (s : Bool) → (if s then true else is_among x owners) ≡ ((if s then false else i) || (if s then true else a))
+    go true = refl
+    go false = h
