@@ -1,15 +1,15 @@
 -- A strand's weight shows a run so far, and the calls of a run keep it so.
-use Rattle.std.specs.Prelude.{◌≡◌, ℕ, zero, suc, ◌+◌, ◌-◌, ◌<◌, ◌≤◌, ◌^◌, max, Bool, true, false, not, List, [], ◌∷◌, ◌++◌, Option, Some, None, length, take, refl}
+use Rattle.std.specs.Prelude.{◌≡◌, ℕ, zero, suc, ◌+◌, ◌-◌, ◌<◌, ◌≤◌, ◌^◌, max, Bool, true, false, not, List, [], ◌∷◌, ◌++◌, Option, length, take, refl}
 use Rattle.std.proofs.Common.{sym, ◌∙◌, ap, subst, set, get_or, arith}
-use Rattle.cw_model.specs.Trees.{Mark, Tree, Leaf, Seq, Par, Marked, Event, Work, Series, Fork, Join, tree_of, work, burdened_span}
+use Rattle.cw_model.specs.Trees.{Mark, Event, Work, Series, Fork, Join, tree_of, work, burdened_span}
 use Rattle.cw_measure.specs.declared.burdened_path.BurdenedBlock.{BurdenedBlock}
 use Rattle.cw_measure.specs.declared.burdened_path.BurdenedPath.{BurdenedPath}
-use Rattle.cw_measure.specs.OpenParts.{Open, in_series, in_fork, marked, part_of, event_of, closed, spawned_after, has_spawned_from, has_spawned, Since, work_in}
-use Rattle.cw_measure.specs.Outermost.{Meters}
-use Rattle.cw_measure.specs.BlockWeights.{BlockWeight, Straight, Split, now_of, gone_on, child_ended, top_of, after, after_all, enters, block_weight, weight_in, burdened_work, burden_if, burdened_work_in, WorkAndWeightAreMetered}
-use Rattle.cw_measure.specs.StrandWeights.{StrandWeight, reversed, strand_weight, goes_on, begins, begins_again, spawns, ends, joins, saved_of, Fits, StandsOn, RestsOn, Under, ShowsWeight, TellsWeight, FitsRun, SeriesNeedNoCall}
-use Rattle.cw_measure.proofs.BlockWeightLaws.{top-after_all}
-use Rattle.cw_measure.proofs.OpenPartLaws.{KeptBy, kept_since, has_spawned_since, work_since, work_adds, work_more, sum_begun, left_work}
+use Rattle.cw_measure.specs.OpenParts.{Open, in_fork, marked, closed, has_spawned, Since}
+use Rattle.cw_measure.specs.BlockWeights.{BlockWeight, Straight, Split, now_of, gone_on, child_ended, top_of, after, after_all, enters, block_weight, weight_in, burdened_work_in, WorkAndWeightAreMetered}
+use Rattle.cw_measure.specs.StrandWeights.{StrandWeight, reversed, strand_weight, goes_on, begins, begins_again, spawns, ends, joins, saved_of, Fits, StandsOn, RestsOn, Under, ShowsWeight, TellsWeight, FitsRun}
+use Rattle.cw_measure.specs.lemmas.BlockWeights.{top-after_all}
+use Rattle.cw_measure.specs.lemmas.OpenParts.{KeptBy, kept_since, has_spawned_since, work_since, work_adds, work_more, sum_begun, left_work}
+use Rattle.cw_measure.specs.lemmas.StrandWeights.{block_more, is_split, split-block, straight, span_marked, ended_weight, weight_meters, work_meters, ShowsBlock, by_block, stands_gone_on, now_gone_on, stands_straight, span_within, event_work, sum_of_works, works_is}
 
 abbrev pub weighs : ℕ → List BurdenedBlock → StrandWeight
 weighs n bs = record { now = n; blocks = bs }
@@ -23,96 +23,8 @@ same_top n n' l l' s bs e f = ap (λ (x : ℕ). weighs x (block_of l s ∷ bs)) 
 pub fits_top : (w burden : ℕ) (all : List BurdenedBlock) (b : BurdenedBlock) (bs : List BurdenedBlock) → all ≡ b ∷ bs → Fits (weighs w all) burden → (b.saved + w < 2 ^ 128) × (b.saved + burden < 2 ^ 128)
 fits_top w burden all b bs e h = let P : List BurdenedBlock → Type 0 = λ x. Fits (weighs w x) burden in subst P e h
 
--- one event more in the block that runs
-after_all-append : (burden : ℕ) (L : BlockWeight) (es fs : List Event) → after_all burden L (es ++ fs) ≡ after_all burden (after_all burden L es) fs
-after_all-append burden L [] fs = refl
-after_all-append burden L (e ∷ es) fs = after_all-append burden (after burden L e) es fs
-
-block_more : (burden : ℕ) (os : List Open) (es : List Event) (e : Event) → block_weight burden os (es ++ e ∷ []) ≡ after burden (block_weight burden os es) e
-block_more burden [] es e = after_all-append burden (Straight 0) es (e ∷ [])
-block_more burden (o ∷ os) es e = after_all-append burden (enters o.spawned (block_weight burden os o.outer)) es (e ∷ [])
-
--- whether a block is split is told by its events
-abbrev is_split : BlockWeight → Bool
-is_split (Straight n) = false
-is_split (Split l n) = true
-
-split_after : (burden : ℕ) (L : BlockWeight) (e : Event) → is_split (after burden L e) ≡ spawned_after (is_split L) e
-split_after burden (Straight n) (Work k) = refl
-split_after burden (Split l n) (Work k) = refl
-split_after burden (Straight n) (Series t) = refl
-split_after burden (Split l n) (Series t) = refl
-split_after burden (Straight n) (Fork t) = refl
-split_after burden (Split l n) (Fork t) = refl
-split_after burden L Join = refl
-
-split_all : (burden : ℕ) (L : BlockWeight) (es : List Event) → is_split (after_all burden L es) ≡ has_spawned_from (is_split L) es
-split_all burden L [] = refl
-split_all burden L (e ∷ es) = split_all burden (after burden L e) es ∙ ap (λ (b : Bool). has_spawned_from b es) (split_after burden L e)
-
-split_entered : (burden : ℕ) (spawned : Bool) (L : BlockWeight) (es : List Event) → is_split (after_all burden (enters spawned L) es) ≡ has_spawned es
-split_entered burden true L es = split_all burden (Straight 0) es
-split_entered burden false L es = split_all burden (Straight (now_of L)) es
-
-split-block : (burden : ℕ) (os : List Open) (es : List Event) → is_split (block_weight burden os es) ≡ has_spawned es
-split-block burden [] es = split_all burden (Straight 0) es
-split-block burden (o ∷ os) es = split_entered burden o.spawned (block_weight burden os o.outer) es
-
-straight : (L : BlockWeight) → is_split L ≡ false → now_of L ≡ top_of L
-straight (Straight n) e = refl
-straight (Split l n) e = cc
-
-enters_is : (b : Bool) (L : BlockWeight) → enters b L ≡ Straight (now_of (enters b L))
-enters_is true L = refl
-enters_is false L = refl
-
-span_marked : (burden : ℕ) (mark : Option Mark) (t : Tree) → burdened_span burden (marked mark t) ≡ burdened_span burden t
-span_marked burden None t = refl
-span_marked burden (Some m) t = refl
-
--- the path of a part that has ended, after the path that it began with
-ended_weight : (burden : ℕ) (o : Open) (os : List Open) (es : List Event) → has_spawned es ≡ false → weight_in burden (o ∷ os) es ≡ weight_in burden (o ∷ os) [] + burdened_span burden (tree_of es)
-ended_weight burden o os es e =
-    let L = enters o.spawned (block_weight burden os o.outer) in
-    straight (block_weight burden (o ∷ os) es) (split-block burden (o ∷ os) es ∙ e)
-    ∙ ap (λ (x : BlockWeight). top_of (after_all burden x es)) (enters_is o.spawned (block_weight burden os o.outer))
-    ∙ top-after_all burden (now_of L) es
-
-pub weight_meters : (burden : ℕ) → Meters (burdened_span burden) (weight_in burden)
-weight_meters burden = record {
-  in_mark = λ m t. refl;
-  at_begin = λ mark os es. refl;
-  at_end = ended_weight burden;
-}
-
-pub work_meters : Meters work work_in
-work_meters = record {
-  in_mark = λ m t. refl;
-  at_begin = λ mark os es. sum_begun work work_adds (record { spawned = false; mark = mark; outer = es }) os;
-  at_end = λ o os es h. let a = sum_begun work work_adds o os in omega arith;
-}
-
 pub work_and_weight_are_metered : WorkAndWeightAreMetered
 work_and_weight_are_metered = record { work_is = work_meters; weight_is = weight_meters }
-
--- the same with the block as a variable
-record ShowsBlock (below : List BurdenedBlock → Type 0) (L : BlockWeight) (v : StrandWeight) : Type 0 where
-  pub now_is : v.now ≡ now_of L
-  pub blocks_are : StandsOn below L v.blocks
-
-by_block : (burden : ℕ) (os : List Open) (es : List Event) (L : BlockWeight) (v : StrandWeight) → block_weight burden os es ≡ L → ShowsBlock (Under burden os) L v → ShowsWeight burden os es v
-by_block burden os es L v e h =
-    let P : BlockWeight → Type 0 = λ x. ShowsBlock (Under burden os) x v in
-    let s = subst P (sym e) h in record { now_is = s.now_is; blocks_are = s.blocks_are }
-
-stands_gone_on : (below : List BurdenedBlock → Type 0) (k : ℕ) (L : BlockWeight) (bs : List BurdenedBlock) → StandsOn below L bs → StandsOn below (gone_on k L) bs
-stands_gone_on below k (Straight n) bs h = h
-stands_gone_on below k (Split l n) [] h = absurd h
-stands_gone_on below k (Split l n) (b ∷ bs) h = h
-
-now_gone_on : (k : ℕ) (L : BlockWeight) → now_of (gone_on k L) ≡ now_of L + k
-now_gone_on k (Straight n) = refl
-now_gone_on k (Split l n) = refl
 
 shows_work : (burden : ℕ) (os : List Open) (es : List Event) (v : StrandWeight) (k : ℕ) → ShowsWeight burden os es v → ShowsWeight burden os (es ++ Work k ∷ []) (goes_on k v)
 shows_work burden os es v k h =
@@ -161,29 +73,6 @@ shows_unjoined burden os es v e h =
     by_block burden os (es ++ Join ∷ []) (Straight (top_of (block_weight burden os es))) v (block_more burden os es Join)
     (stays_at (Under burden os) (block_weight burden os es) v (split-block burden os es ∙ e) (record { now_is = h.now_is; blocks_are = h.blocks_are }))
 
--- a block that has not spawned stands on what lies below it
-stands_straight : (below : List BurdenedBlock → Type 0) (L : BlockWeight) (bs : List BurdenedBlock) → is_split L ≡ false → StandsOn below L bs → below bs
-stands_straight below (Straight n) bs e h = h
-stands_straight below (Split l n) bs e h = cc
-
-in_series_ends : (burden : ℕ) (mark : Option Mark) (outer : List Event) (os : List Open) (es : List Event) (v : StrandWeight) → has_spawned es ≡ false → ShowsWeight burden (in_series mark outer os) es v → ShowsWeight burden os (closed (record { spawned = false; mark = mark; outer = outer }) es) v
-in_series_ends burden mark outer os es v e h =
-    let o : Open = record { spawned = false; mark = mark; outer = outer } in
-    let t = marked mark (tree_of es) in
-    let L = block_weight burden os outer in
-    let k = burdened_span burden t in
-    let below = stands_straight (StandsOn (Under burden os) L) (block_weight burden (o ∷ os) es) v.blocks (split-block burden (o ∷ os) es ∙ e) h.blocks_are in
-    let same : burdened_span burden (tree_of es) ≡ k = sym (span_marked burden mark (tree_of es)) in
-    by_block burden os (closed o es) (gone_on k L) v (block_more burden os outer (Series t))
-    (record { now_is = h.now_is ∙ ended_weight burden o os es e ∙ ap (λ (x : ℕ). now_of L + x) same ∙ sym (now_gone_on k L); blocks_are = stands_gone_on (Under burden os) k L v.blocks below })
-
-shows_left : (burden : ℕ) (o : Open) (os : List Open) (es : List Event) (v : StrandWeight) → o.spawned ≡ false → has_spawned es ≡ false → ShowsWeight burden (o ∷ os) es v → ShowsWeight burden os (closed o es) v
-shows_left burden o os es v b e h = by_kind o.spawned b h
-  where
-    by_kind : (s : Bool) → s ≡ false → ShowsWeight burden (record { spawned = s; mark = o.mark; outer = o.outer } ∷ os) es v → ShowsWeight burden os (closed (record { spawned = s; mark = o.mark; outer = o.outer }) es) v
-    by_kind false b h = in_series_ends burden o.mark o.outer os es v e h
-    by_kind true b h = cc
-
 ends_blocks : (burden : ℕ) (below : List BurdenedBlock → Type 0) (L : BlockWeight) (c : ℕ) (bs : List BurdenedBlock) → RestsOn below L bs → ShowsBlock below (child_ended burden c L) (ends burden (record { now = c; blocks = bs }))
 ends_blocks burden below L c [] h = absurd h
 ends_blocks burden below (Straight n) c (b ∷ bs) h = let l = h.0 in let s = h.1 in record { now_is = ap (λ (x : ℕ). x + burden) s; blocks_are = (omega arith, h.2) }
@@ -208,19 +97,6 @@ shows_ended burden o os es v b e h = by_kind o.spawned b h
     by_kind true b h = in_fork_ends burden o.mark o.outer os es v e h
     by_kind false b h = cc
 
--- what is kept of a run is within its work with a burden for each spawn
-pub span_within : (burden : ℕ) (t : Tree) → burdened_span burden t ≤ burdened_work burden t
-span_within burden (Leaf k) = omega arith
-span_within burden (Seq a b) = let g = span_within burden a in let h = span_within burden b in omega arith
-span_within burden (Par a b) = let g = span_within burden a in let h = span_within burden b in omega arith
-span_within burden (Marked mark t) = span_within burden t
-
-abbrev event_work : (burden : ℕ) → Event → ℕ
-event_work burden (Work k) = k
-event_work burden (Series t) = burdened_work burden t
-event_work burden (Fork t) = burdened_work burden t + burden
-event_work burden Join = 0
-
 top_within : (burden : ℕ) (L : BlockWeight) (e : Event) → top_of (after burden L e) ≤ top_of L + event_work burden e
 top_within burden (Straight n) (Work k) = omega arith
 top_within burden (Split l n) (Work k) = omega arith
@@ -231,42 +107,9 @@ top_within burden (Split l n) (Fork t) = let s = span_within burden t in omega a
 top_within burden (Straight n) Join = omega arith
 top_within burden (Split l n) Join = omega arith
 
-abbrev sum_of_works : (burden : ℕ) → List Event → ℕ
-sum_of_works burden [] = 0
-sum_of_works burden (e ∷ es) = event_work burden e + sum_of_works burden es
-
 top_all : (burden : ℕ) (L : BlockWeight) (es : List Event) → top_of (after_all burden L es) ≤ top_of L + sum_of_works burden es
 top_all burden L [] = omega arith
 top_all burden L (e ∷ es) = let a = top_within burden L e in let b = top_all burden (after burden L e) es in omega arith
-
-works_is : (burden : ℕ) (es : List Event) → sum_of_works burden es ≡ burdened_work burden (tree_of es)
-works_is burden [] = refl
-works_is burden (Work k ∷ es) = let b = works_is burden es in omega arith
-works_is burden (Series t ∷ es) = let b = works_is burden es in omega arith
-works_is burden (Fork t ∷ es) = let b = works_is burden es in omega arith
-works_is burden (Join ∷ es) = let b = works_is burden es in omega arith
-
-burdened_works_more : (burden : ℕ) (es : List Event) (e : Event) → burdened_work burden (tree_of (es ++ e ∷ [])) ≡ burdened_work burden (tree_of es) + event_work burden e
-burdened_works_more burden es e = sym (works_is burden (es ++ e ∷ [])) ∙ sum_append burden es e ∙ ap (λ (x : ℕ). x + event_work burden e) (works_is burden es)
-  where
-    sum_append : (burden : ℕ) (es : List Event) (e : Event) → sum_of_works burden (es ++ e ∷ []) ≡ sum_of_works burden es + event_work burden e
-    sum_append burden [] e = omega arith
-    sum_append burden (d ∷ es) e = let i = sum_append burden es e in omega arith
-
-burdened_works_in : (burden : ℕ) (os : List Open) (es : List Event) (e : Event) → burdened_work_in burden os (es ++ e ∷ []) ≡ burdened_work_in burden os es + event_work burden e
-burdened_works_in burden [] es e = burdened_works_more burden es e
-burdened_works_in burden (o ∷ os) es e = let a = burdened_works_more burden es e in omega arith
-
-event_work_is : (burden : ℕ) (spawned : Bool) (mark : Option Mark) (t : Tree) → event_work burden (part_of spawned (marked mark t)) ≡ burdened_work burden t + burden_if spawned burden
-event_work_is burden true None t = refl
-event_work_is burden true (Some m) t = refl
-event_work_is burden false None t = omega arith
-event_work_is burden false (Some m) t = omega arith
-
-pub left_burdened_work : (burden : ℕ) (o : Open) (os : List Open) (es : List Event) → burdened_work_in burden os (closed o es) ≡ burdened_work_in burden (o ∷ os) es
-left_burdened_work burden o os es =
-    let a = burdened_works_in burden os o.outer (event_of o es) in
-    let b = event_work_is burden o.spawned o.mark (tree_of es) in omega arith
 
 now_top : (L : BlockWeight) → now_of L ≤ top_of L
 now_top (Straight n) = omega arith
@@ -360,18 +203,6 @@ joined_weight burden os es fs old mid new count since e h f m =
       shows = subst D (sym f) (shows_joined burden os (es ++ fs) (strand_weight mid) n h.shows);
       noted_is = let a = work_more os (es ++ fs) Join in let b = h.noted_is in omega arith;
     }
-
-pub series_need_no_call : (burden : ℕ) (path : BurdenedPath) → SeriesNeedNoCall burden path
-series_need_no_call burden path = record {
-  begins = λ mark os es h. record {
-    shows = record { now_is = h.shows.now_is; blocks_are = h.shows.blocks_are };
-    noted_is = h.noted_is ∙ sym (sum_begun work work_adds (record { spawned = false; mark = mark; outer = es }) os);
-  };
-  ends = λ o os es b e h. record {
-    shows = shows_left burden o os es (strand_weight path) b e h.shows;
-    noted_is = h.noted_is ∙ sym (left_work o os es);
-  };
-}
 
 pub weight_read : (burden : ℕ) (es : List Event) (path : BurdenedPath) → has_spawned es ≡ false → TellsWeight burden [] es path → path.weight ≡ burdened_span burden (tree_of es)
 weight_read burden es path e h =

@@ -9,3 +9,4 @@ pub mod Outermost
 pub mod PathCalls
 pub mod BlockWeights
 pub mod StrandWeights
+pub mod lemmas

@@ -1,7 +1,11 @@
 -- What a call on a burdened path does to the weight of its strand.
-use Rattle.std.specs.Prelude.{◌≡◌, ℕ}
+use Rattle.std.specs.Prelude.{◌≡◌, ℕ, Bool}
 use Rattle.cw_measure.specs.declared.burdened_path.BurdenedPath.{BurdenedPath}
-use Rattle.cw_measure.specs.StrandWeights.{ends, strand_weight, Fits}
+use Rattle.cw_measure.specs.StrandWeights.{ends, spawns, strand_weight, Fits}
+
+-- a spawned child begins; `first` says that its block has not spawned since its last join
+abbrev pub BeginsChild : BurdenedPath → BurdenedPath → (first : Bool) → Type 0
+BeginsChild old new first = strand_weight new ≡ spawns first (strand_weight old)
 
 -- the spawned child that ran has ended, where the weights fit
 abbrev pub EndsWithin : BurdenedPath → BurdenedPath → (burden : ℕ) → Type 0

@@ -1,5 +1,5 @@
 -- The heaviest path of a strand with the blocks round it that have spawned, and which run so far it shows.
-use Rattle.std.specs.Prelude.{◌≡◌, ℕ, ◌+◌, ◌^◌, ◌<◌, max, Bool, true, false, not, List, [], ◌∷◌, ◌++◌, Option}
+use Rattle.std.specs.Prelude.{◌≡◌, ℕ, ◌+◌, ◌-◌, ◌^◌, ◌<◌, ◌≤◌, max, Bool, true, false, not, List, [], ◌∷◌, ◌++◌, Option}
 use Rattle.cw_model.specs.Trees.{Mark, Event, Join, tree_of, burdened_span}
 use Rattle.cw_measure.specs.declared.burdened_path.BurdenedBlock.{BurdenedBlock}
 use Rattle.cw_measure.specs.declared.burdened_path.BurdenedPath.{BurdenedPath}
@@ -22,8 +22,10 @@ strand_weight path = record { now = path.weight; blocks = reversed path.blocks.i
 abbrev pub goes_on : ℕ → StrandWeight → StrandWeight
 goes_on k v = record { now = v.now + k; blocks = v.blocks }
 
-abbrev pub HasGoneOn : BurdenedPath → BurdenedPath → ℕ → Type 0
-HasGoneOn old new k = old.weight + k < 2 ^ 128 → strand_weight new ≡ goes_on k (strand_weight old)
+-- the path has gone on by the instructions since the count that was noted, where its weight fits
+abbrev pub HasGoneOn : BurdenedPath → BurdenedPath → (count : ℕ) → Type 0
+HasGoneOn old new count =
+    old.noted ≤ count → old.weight + (count - old.noted) < 2 ^ 128 → strand_weight new ≡ goes_on (count - old.noted) (strand_weight old)
 
 -- a block's first spawn since its last join, and a further one
 abbrev pub begins : StrandWeight → StrandWeight

@@ -1,8 +1,8 @@
 //! The weight of a heaviest path, with a burden for each spawn, as a strand keeps it: only a spawn pushes a block.
 
-ghost use Rattle.std.specs.Prelude.{◌≡◌, ◌≤◌, ◌-◌, ℕ, [], OnOk};
-ghost use Rattle.cw_measure.specs.PathCalls.{EndsWithin};
-ghost use Rattle.cw_measure.specs.StrandWeights.{begins, begins_again, joins, spawns, strand_weight};
+ghost use Rattle.std.specs.Prelude.{◌≡◌, ℕ, [], OnOk};
+ghost use Rattle.cw_measure.specs.PathCalls.{BeginsChild, EndsWithin};
+ghost use Rattle.cw_measure.specs.StrandWeights.{begins, begins_again, joins, strand_weight};
 ghost use Rattle.cw_measure.specs.StrandWeights.{EndsChildWeight, JoinsWeight, HasGoneOn, NotesWeight, ReadsWeight, SpawnsWeight, TellsWeight};
 
 use std::alloc::{AllocError, Global};
@@ -46,7 +46,7 @@ impl BurdenedPath {
     #[inline(always)]
     pub fn note(&mut self, count: u64)
         ensures tells { NotesWeight self.old self.new count }
-        ensures weight { self.old.noted ≤ count → HasGoneOn self.old self.new (count - self.old.noted) }
+        ensures weight { HasGoneOn self.old self.new count }
         ensures noted { self.new.noted ≡ count }
     {
         let since = count.wrapping_sub(self.noted);
@@ -93,7 +93,7 @@ impl BurdenedPath {
 
     #[inline(always)]
     fn begin(&mut self, first: bool) -> Result<(), AllocError>
-        ensures weight { OnOk result (strand_weight self.new ≡ spawns first (strand_weight self.old)) }
+        ensures weight { OnOk result (BeginsChild self.old self.new first) }
         ensures noted { OnOk result (self.new.noted ≡ self.old.noted) }
     {
         if first {

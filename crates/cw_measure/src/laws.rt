@@ -22,13 +22,13 @@ pub fn measures_read_trees()
 {}
 
 /// What a strand keeps of a block adds the burdened span of the block's tree to what came before.
-#[tactic(auto, using(crate::proofs::BlockWeightLaws::blocks_weigh_their_spans))]
+#[tactic(auto, using(crate::specs::lemmas::BlockWeights::blocks_weigh_their_spans))]
 pub fn blocks_weigh_their_spans()
     ensures { BlocksWeighTheirSpans }
 {}
 
 /// Parts in series begin and end without a call on the burdened path, once the instructions so far are noted.
-#[tactic(auto, using(crate::proofs::StrandWeightLaws::series_need_no_call))]
+#[tactic(auto, using(crate::specs::lemmas::StrandWeights::series_need_no_call))]
 pub fn series_need_no_call()
     ensures { (burden : ℕ) (path : BurdenedPath) → SeriesNeedNoCall burden path }
 {}
@@ -42,13 +42,13 @@ pub fn work_and_weight_are_metered()
 
 /// One theory for call sites and for region tags: whatever is metered and whichever marks are counted, a tally that
 /// is told where counted parts begin and end sums what is measured of those that lie in no other one.
-#[tactic(auto, using(crate::proofs::OutermostLaws::tallies_keep))]
+#[tactic(auto, using(crate::specs::lemmas::Outermost::tallies_keep))]
 pub fn tallies_sum_outermost_parts()
     ensures { AllTalliesKeep }
 {}
 
 /// Sums of pieces that ran apart add, whatever is measured and whichever marks are counted.
-#[tactic(auto, using(crate::proofs::OutermostLaws::pieces_tally))]
+#[tactic(auto, using(crate::specs::lemmas::Outermost::pieces_tally))]
 pub fn tallies_of_pieces_add()
     ensures { AllPiecesTally }
 {}

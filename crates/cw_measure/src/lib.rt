@@ -23,8 +23,6 @@ mod burdened_path;
 pub mod laws;
 mod measure;
 mod plain;
-#[cfg(test)]
-mod tests;
 
 pub use burdened_path::{BurdenedBlock, BurdenedPath};
 pub use measure::Measure;

@@ -4,7 +4,7 @@ use Rattle.std.proofs.Common.{sym, ◌∙◌, ap, subst}
 use Rattle.cw_model.specs.Trees.{Mark, Tree, Leaf, Event, Work, Series, Fork, Join, parts_of, tree_of}
 use Rattle.cw_model.specs.TreeLaws.{Regrouped, same, back, further, nothing_before, in_series, in_fork, in_mark}
 use Rattle.cw_measure.specs.OpenParts.{Open, marked, part_of, closed, spawned_after, has_spawned, has_spawned_from}
-use Rattle.cw_measure.proofs.OpenPartLaws.{append_none, spawned_append}
+use Rattle.cw_measure.specs.lemmas.OpenParts.{append_none, spawned_append}
 use Rattle.cw_meter.specs.Alike.{AreAlike}
 
 pub append_twice : (a b c : List Event) → (a ++ b) ++ c ≡ a ++ (b ++ c)

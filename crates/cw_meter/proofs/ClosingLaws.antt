@@ -6,12 +6,12 @@ use Rattle.cw_model.specs.Trees.{Mark, Invocation, Execution, Event, Series, For
 use Rattle.cw_measure.specs.declared.burdened_path.BurdenedPath.{BurdenedPath}
 use Rattle.cw_measure.specs.OpenParts.{Open, marked, closed, has_spawned}
 use Rattle.cw_measure.specs.StrandWeights.{TellsWeight, NotesWeight, EndsChildWeight}
-use Rattle.cw_measure.proofs.OpenPartLaws.{spawned_append}
-use Rattle.cw_measure.proofs.StrandWeightLaws.{series_need_no_call}
+use Rattle.cw_measure.specs.lemmas.OpenParts.{spawned_append}
+use Rattle.cw_measure.specs.lemmas.StrandWeights.{series_need_no_call}
 use Rattle.cw_sites.specs.declared.table.SiteTable.{SiteTable}
 use Rattle.cw_sites.specs.Tables.{Leaves, EndsChild, EndsHalf, ReadsPath}
 use Rattle.cw_sites.specs.Tables as sites
-use Rattle.cw_sites.proofs.TableLaws.{quiet_parts}
+use Rattle.cw_sites.specs.lemmas.Tables.{quiet_parts}
 use Rattle.cw_regions.specs.declared.table.RegionTable.{RegionTable}
 use Rattle.cw_regions.specs.Regions.{Tags}
 use Rattle.cw_regions.specs.Regions as regions

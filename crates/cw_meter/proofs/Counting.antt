@@ -10,10 +10,10 @@ use Rattle.cw_measure.specs.OpenParts.{Open, closed}
 use Rattle.cw_measure.specs.Outermost.{is_counted, one_if, active_in}
 use Rattle.cw_measure.specs.BlockWeights.{burdened_work, burden_if, burdened_work_in}
 use Rattle.cw_measure.specs.StrandWeights.{FitsRun}
-use Rattle.cw_measure.proofs.OpenPartLaws.{work_more, left_work}
-use Rattle.cw_measure.proofs.StrandWeightLaws.{left_burdened_work}
+use Rattle.cw_measure.specs.lemmas.OpenParts.{work_more, left_work}
+use Rattle.cw_measure.specs.lemmas.StrandWeights.{left_burdened_work}
 use Rattle.cw_sites.specs.Tables.{Small}
-use Rattle.cw_sites.proofs.SiteRowLaws.{calls_more, left_calls}
+use Rattle.cw_sites.specs.lemmas.SiteRows.{calls_more, left_calls}
 use Rattle.cw_regions.specs.Regions.{Tags, SmallRegions}
 use Rattle.cw_meter.specs.Meters.{IsCounted, nothing_open, ticked}
 use Rattle.cw_meter.specs.Tables.{opened}

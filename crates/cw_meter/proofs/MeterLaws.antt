@@ -10,13 +10,13 @@ use Rattle.cw_measure.specs.OpenParts.{Open, closed}
 use Rattle.cw_measure.specs.Outermost.{is_counted}
 use Rattle.cw_measure.specs.BlockWeights.{weight_in}
 use Rattle.cw_measure.specs.StrandWeights.{TellsWeight}
-use Rattle.cw_measure.proofs.OpenPartLaws.{has_spawned-work}
-use Rattle.cw_measure.proofs.StrandWeightLaws.{series_need_no_call, weight_meters}
+use Rattle.cw_measure.specs.lemmas.OpenParts.{has_spawned-work}
+use Rattle.cw_measure.specs.lemmas.StrandWeights.{series_need_no_call, weight_meters}
 use Rattle.cw_sites.specs.declared.table.SiteTable.{SiteTable}
 use Rattle.cw_sites.specs.OpenPaths.{path_in}
 use Rattle.cw_sites.specs.Tables.{Enters}
 use Rattle.cw_sites.specs.Tables as sites
-use Rattle.cw_sites.proofs.SiteRowLaws.{path_meters}
+use Rattle.cw_sites.specs.lemmas.SiteRows.{path_meters}
 use Rattle.cw_regions.specs.declared.table.RegionTable.{RegionTable}
 use Rattle.cw_regions.specs.Regions.{Readings, Tags, StartsRegions}
 use Rattle.cw_meter.specs.declared.meter.Meter.{Meter}

@@ -7,7 +7,7 @@ use Rattle.cw_model.specs.Syntax.{Name}
 use Rattle.cw_model.specs.Trees.{Tree, Leaf, Seq, Marked, Invocation, Event, Series, normal, tree_of, span}
 use Rattle.cw_model.specs.TreeLaws.{Regrouped, back, further, nothing_after, ReadSame}
 use Rattle.cw_model.specs.Rows as model
-use Rattle.cw_model.proofs.Regrouping.{normal_is_regrouped, same_readings}
+use Rattle.cw_model.specs.lemmas.Regrouping.{normal_is_regrouped, same_readings}
 use Rattle.cw_measure.specs.OpenParts.{Open, has_spawned}
 use Rattle.cw_measure.specs.StrandWeights.{ReadsWeight}
 use Rattle.cw_sites.specs.declared.table.SiteTable.{SiteTable}
@@ -17,8 +17,8 @@ use Rattle.cw_sites.specs.OpenPaths.{path_in}
 use Rattle.cw_sites.specs.StepLists.{strand_path}
 use Rattle.cw_sites.specs.Tables.{ReadsPath}
 use Rattle.cw_sites.specs.Tables as sites
-use Rattle.cw_sites.proofs.ChosenPathLaws.{chosen-weight}
-use Rattle.cw_sites.proofs.TableLaws.{all_runs_are_shown}
+use Rattle.cw_sites.specs.lemmas.ChosenPaths.{chosen-weight}
+use Rattle.cw_sites.specs.lemmas.Tables.{all_runs_are_shown}
 use Rattle.cw_regions.specs.declared.table.RegionRow as region
 use Rattle.cw_regions.specs.Regions.{Tags}
 use Rattle.cw_regions.specs.Regions as regions

@@ -6,16 +6,16 @@ use Rattle.cw_model.specs.Trees.{Mark, Invocation, Execution, Event, Work, Serie
 use Rattle.cw_measure.specs.declared.burdened_path.BurdenedPath.{BurdenedPath}
 use Rattle.cw_measure.specs.OpenParts.{Open, closed, has_spawned, IsSince, Since, work_in}
 use Rattle.cw_measure.specs.StrandWeights.{TellsWeight, FitsRun, NotesWeight, SpawnsWeight, JoinsWeight}
-use Rattle.cw_measure.proofs.OpenPartLaws.{append_none, spawned_append, has_spawned-work, has_spawned_since}
-use Rattle.cw_measure.proofs.StrandWeightLaws.{series_need_no_call}
+use Rattle.cw_measure.specs.lemmas.OpenParts.{append_none, spawned_append, has_spawned-work, has_spawned_since}
+use Rattle.cw_measure.specs.lemmas.StrandWeights.{series_need_no_call}
 use Rattle.cw_sites.specs.declared.table.SiteTable.{SiteTable}
 use Rattle.cw_sites.specs.Tables.{Small, Notes, Enters, Spawns, SpawnsHalf, Leaves, EndsChild, EndsHalf, Joins, ReadsPath}
 use Rattle.cw_sites.specs.Tables as sites
-use Rattle.cw_sites.proofs.TableLaws.{quiet_parts}
+use Rattle.cw_sites.specs.lemmas.Tables.{quiet_parts}
 use Rattle.cw_regions.specs.declared.table.RegionTable.{RegionTable}
 use Rattle.cw_regions.specs.Regions.{Readings, Tags, TellsRegions, StartsRegions, IsNoExecution, SmallRegions}
 use Rattle.cw_regions.specs.Regions as regions
-use Rattle.cw_regions.proofs.RegionLaws.{regions_need_no_call}
+use Rattle.cw_regions.specs.lemmas.Regions.{regions_need_no_call}
 use Rattle.cw_meter.specs.declared.tables.Tables.{Tables}
 use Rattle.cw_meter.specs.Meters.{AreTold, TablesTell, TellsTags, nothing_open, ticked}
 use Rattle.cw_meter.specs.Tables.{JoinsSpawned, Opens, OpensRegion, Settles, opened}

@@ -27,7 +27,5 @@ pub mod laws;
 mod meter;
 mod parts;
 mod tables;
-#[cfg(test)]
-mod tests;
 
 pub use meter::{Measures, Meter, Readings};

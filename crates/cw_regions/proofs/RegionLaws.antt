@@ -1,52 +1,24 @@
 -- A table tells of a run so far, and its calls keep it so.
-use Rattle.std.specs.Prelude.{◌≡◌, ℕ, zero, suc, ◌+◌, ◌==◌, ◌≤◌, ◌<◌, ◌^◌, if◌then◌else◌, Bool, true, false, List, [], ◌∷◌, ◌++◌, Option, Some, None, refl}
+use Rattle.std.specs.Prelude.{◌≡◌, ℕ, zero, suc, ◌+◌, ◌==◌, ◌≤◌, ◌<◌, ◌^◌, if◌then◌else◌, Bool, true, false, List, [], ◌∷◌, ◌++◌, Some, refl}
 use Rattle.std.proofs.Common.{sym, ◌∙◌, ap, subst, true≢false, arith}
 use Rattle.std.proofs.lemmas.Slice.Eq.{bytes_eq-Decides}
 use Rattle.std.proofs.lemmas.Bool.Decides.{nat_tests}
 use borrow.Author.Tests.{eqb-true}
 use Rattle.cw_model.specs.Syntax.{Name}
 use Rattle.cw_model.specs.Names.{same_name}
-use Rattle.cw_model.specs.Trees.{Mark, Invocation, Execution, Tree, Leaf, Seq, Par, Marked, Event, Work, Series, Fork, Join, tree_of, work, span, burdened_span}
+use Rattle.cw_model.specs.Trees.{Mark, Execution, Tree, Leaf, Seq, Par, Marked, Event, Series, Fork, tree_of, work, span, burdened_span}
 use Rattle.cw_model.specs.Rows.{is_tag, region_row}
 use Rattle.cw_measure.specs.OpenParts.{Open, closed, has_spawned, sum_in, work_in}
 use Rattle.cw_measure.specs.Outermost.{is_counted, active_in, outer_sum, Tally, begun_at, begun, ended_at, ended, Counts}
 use Rattle.cw_measure.specs.BlockWeights.{burdened_work, burdened_work_in}
-use Rattle.cw_measure.proofs.OpenPartLaws.{left_work, sum_begun, work_adds}
-use Rattle.cw_measure.proofs.OutermostLaws.{Bounds, outer_in_within, counts_work, counts_join, counts_other, counts_other_left, counts_begun, counts_ended, counts_read, counts_further, counts_spawned}
-use Rattle.cw_measure.proofs.StrandWeightLaws.{span_within, left_burdened_work, work_meters}
+use Rattle.cw_measure.specs.lemmas.OpenParts.{left_work, sum_begun, work_adds}
+use Rattle.cw_measure.specs.lemmas.Outermost.{Bounds, outer_in_within, counts_begun, counts_ended, counts_read, counts_alike, counts_further, counts_spawned}
+use Rattle.cw_measure.specs.lemmas.StrandWeights.{span_within, left_burdened_work, work_meters}
 use Rattle.cw_regions.specs.declared.rows.Row.{Row}
 use Rattle.cw_regions.specs.declared.table.RegionTable.{RegionTable}
-use Rattle.cw_regions.specs.RegionRows.{row_of, zero_row, entered_at, entered, left_at, left, work_tally, span_tally, burdened_tally, summed, FitsRow, JoinsRows}
-use Rattle.cw_regions.specs.Regions.{Readings, Tags, CountsTag, TellsRegions, SmallRegions, executed, IsNoExecution, RegionsNeedNoCall, RegionsKeep, JoinsRegions, one_more, StandsInRegion}
-
--- a row for each of its tallies
-row_work : (burden : ℕ) (along : Readings burden) (tag : Name) (busy : ℕ) (os : List Open) (es : List Event) (r : Row) (k : ℕ) → CountsTag burden along tag busy os es r → CountsTag burden along tag busy os (es ++ Work k ∷ []) r
-row_work burden along tag busy os es r k h = record {
-  work_is = counts_work work work_in (is_tag tag) busy os es (work_tally r) k h.work_is;
-  span_is = counts_work span along.path (is_tag tag) busy os es (span_tally r) k h.span_is;
-  burdened_is = counts_work (burdened_span burden) along.burdened (is_tag tag) busy os es (burdened_tally r) k h.burdened_is;
-}
-
-row_join : (burden : ℕ) (along : Readings burden) (tag : Name) (busy : ℕ) (os : List Open) (es : List Event) (r : Row) → CountsTag burden along tag busy os es r → CountsTag burden along tag busy os (es ++ Join ∷ []) r
-row_join burden along tag busy os es r h = record {
-  work_is = counts_join work work_in (is_tag tag) busy os es (work_tally r) h.work_is;
-  span_is = counts_join span along.path (is_tag tag) busy os es (span_tally r) h.span_is;
-  burdened_is = counts_join (burdened_span burden) along.burdened (is_tag tag) busy os es (burdened_tally r) h.burdened_is;
-}
-
-row_other : (burden : ℕ) (along : Readings burden) (tag : Name) (busy : ℕ) (o : Open) (os : List Open) (r : Row) → is_counted (is_tag tag) o.mark ≡ false → CountsTag burden along tag busy os o.outer r → CountsTag burden along tag busy (o ∷ os) [] r
-row_other burden along tag busy o os r e h = record {
-  work_is = counts_other work work_in (is_tag tag) busy o os (work_tally r) e h.work_is;
-  span_is = counts_other span along.path (is_tag tag) busy o os (span_tally r) e h.span_is;
-  burdened_is = counts_other (burdened_span burden) along.burdened (is_tag tag) busy o os (burdened_tally r) e h.burdened_is;
-}
-
-row_other_left : (burden : ℕ) (along : Readings burden) (tag : Name) (busy : ℕ) (o : Open) (os : List Open) (es : List Event) (r : Row) → is_counted (is_tag tag) o.mark ≡ false → CountsTag burden along tag busy (o ∷ os) es r → CountsTag burden along tag busy os (closed o es) r
-row_other_left burden along tag busy o os es r e h = record {
-  work_is = counts_other_left work work_in (is_tag tag) busy o os es (work_tally r) e h.work_is;
-  span_is = counts_other_left span along.path (is_tag tag) busy o os es (span_tally r) e h.span_is;
-  burdened_is = counts_other_left (burdened_span burden) along.burdened (is_tag tag) busy o os es (burdened_tally r) e h.burdened_is;
-}
+use Rattle.cw_regions.specs.RegionRows.{row_of, zero_row, entered_at, entered, left_at, left, work_tally, span_tally, burdened_tally, summed, FitsRow, IsReadAs, JoinsRows}
+use Rattle.cw_regions.specs.Regions.{Readings, Tags, CountsTag, TellsRegions, SmallRegions, executed, RegionsKeep, JoinsRegions, one_more, StandsInRegion}
+use Rattle.cw_regions.specs.lemmas.Regions.{row_other, row_other_left, regions_need_no_call}
 
 -- the tallies of a row that an execution begins or ends
 begun_work : (first : Bool) (count path heavy : ℕ) (r : Row) → begun_at first count (work_tally r) ≡ work_tally (entered_at first count path heavy r)
@@ -209,20 +181,6 @@ region_read burden along tags busy es table tag known idle h =
       burdened_is = counts_read (burdened_span burden) along.burdened picks (busy tag) es (burdened_tally (row_of table.rows tag)) idle r.burdened_is;
     }
 
--- parts that are no execution
-no_execution : (mark : Option Mark) (tag : Name) → IsNoExecution mark → is_counted (is_tag tag) mark ≡ false
-no_execution None tag h = refl
-no_execution (Some (Invocation site)) tag h = refl
-no_execution (Some (Execution other)) tag h = absurd h
-
-pub regions_need_no_call : (burden : ℕ) (along : Readings burden) (tags : Tags) (busy : ℕ → ℕ) (os : List Open) (table : RegionTable) → RegionsNeedNoCall burden along tags busy os table
-regions_need_no_call burden along tags busy os table = record {
-  work = λ es k h q less. row_work burden along (tags.name q) (busy q) os es (row_of table.rows q) k (h q less);
-  join = λ es h q less. row_join burden along (tags.name q) (busy q) os es (row_of table.rows q) (h q less);
-  begins = λ o quiet h q less. row_other burden along (tags.name q) (busy q) o os (row_of table.rows q) (no_execution o.mark (tags.name q) quiet) (h q less);
-  ends = λ o es quiet h q less. row_other_left burden along (tags.name q) (busy q) o os es (row_of table.rows q) (no_execution o.mark (tags.name q) quiet) (h q less);
-}
-
 pub regions_keep : RegionsKeep
 regions_keep = regions_need_no_call
 
@@ -241,16 +199,28 @@ row_spawned burden along there tag busy os es child r s h g = record {
   burdened_is = counts_spawned (burdened_span burden) along.burdened there.burdened (is_tag tag) busy os es child (burdened_tally r) (burdened_tally s) h.burdened_is g.burdened_is;
 }
 
+-- a row that is read alike counts the same run
+row_alike : (burden : ℕ) (along : Readings burden) (tag : Name) (busy : ℕ) (os : List Open) (es : List Event) (r s : Row) → IsReadAs s r → CountsTag burden along tag busy os es r → CountsTag burden along tag busy os es s
+row_alike burden along tag busy os es r s a h = record {
+  work_is = counts_alike work work_in (is_tag tag) busy os es (work_tally r) (work_tally s) a.work a.active a.at_work h.work_is;
+  span_is = counts_alike span along.path (is_tag tag) busy os es (span_tally r) (span_tally s) a.span a.active a.at_path h.span_is;
+  burdened_is = counts_alike (burdened_span burden) along.burdened (is_tag tag) busy os es (burdened_tally r) (burdened_tally s) a.burdened a.active a.at_burdened h.burdened_is;
+}
+
+-- as many are open round a piece as it was told
+as_many : (burden : ℕ) (along there : Readings burden) (tag : Name) (busy : ℕ) (os : List Open) (es fs : List Event) (r s : Row) → CountsTag burden along tag busy os es r → CountsTag burden there tag (active_in (is_tag tag) busy os) [] fs s → s.active ≡ r.active
+as_many burden along there tag busy os es fs r s h g = g.work_is.active_is ∙ sym h.work_is.active_is
+
 pub regions_join : (old right new : RegionTable) → JoinsRows old.rows right.rows new.rows → JoinsRegions old right new
 regions_join old right new j = record {
   further = λ burden along there tags busy os es fs small h g k less.
       let row = row_further burden along there (tags.name k) (busy k) os es fs (row_of old.rows k) (row_of right.rows k) (h k less) (g k less) in
-      let D : Row → Type 0 = λ r. CountsTag burden along (tags.name k) (busy k) os (es ++ fs) r in
-      subst D (sym (j k (fits_row burden along tags busy os (es ++ fs) k (summed (row_of old.rows k) (row_of right.rows k)) small row))) row;
+      let sum = summed (row_of old.rows k) (row_of right.rows k) in
+      row_alike burden along (tags.name k) (busy k) os (es ++ fs) sum (row_of new.rows k) (j k (fits_row burden along tags busy os (es ++ fs) k sum small row) (as_many burden along there (tags.name k) (busy k) os es fs (row_of old.rows k) (row_of right.rows k) (h k less) (g k less))) row;
   spawned = λ burden along there tags busy os es child small h g k less.
       let row = row_spawned burden along there (tags.name k) (busy k) os es child (row_of old.rows k) (row_of right.rows k) (h k less) (g k less) in
-      let D : Row → Type 0 = λ r. CountsTag burden along (tags.name k) (busy k) os (es ++ Fork child ∷ []) r in
-      subst D (sym (j k (fits_row burden along tags busy os (es ++ Fork child ∷ []) k (summed (row_of old.rows k) (row_of right.rows k)) small row))) row;
+      let sum = summed (row_of old.rows k) (row_of right.rows k) in
+      row_alike burden along (tags.name k) (busy k) os (es ++ Fork child ∷ []) sum (row_of new.rows k) (j k (fits_row burden along tags busy os (es ++ Fork child ∷ []) k sum small row) (as_many burden along there (tags.name k) (busy k) os es (Series child ∷ []) (row_of old.rows k) (row_of right.rows k) (h k less) (g k less))) row;
 }
 
 -- a row of a run that begins, as its tallies are

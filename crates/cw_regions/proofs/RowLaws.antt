@@ -1,46 +1,91 @@
--- Rows by the tag's number.
-use Rattle.std.proofs.Common.{◌≡◌, ℕ, ◌+◌, ◌==◌, Bool, true, false, if◌then◌else◌, refl, sym, ap, subst, ◌∙◌, arith}
+-- Rows by tag number: those of two pieces, joined.
+use Rattle.std.proofs.Common.{◌≡◌, ℕ, ◌+◌, ◌<◌, ◌≤◌, ◌==◌, Bool, true, false, if◌then◌else◌, length, refl, sym, ap, subst, ◌∙◌, inl, inr, arith}
+use Rattle.std.proofs.lemmas.Bool.{cases_lt}
 use Rattle.std.proofs.lemmas.Bool.Decides.{nat_tests}
+use Rattle.std.proofs.lemmas.List.{get_or_past}
 use borrow.Author.Tests.{eqb-true}
 use Rattle.cw_regions.specs.declared.rows.Rows.{Rows}
 use Rattle.cw_regions.specs.declared.rows.Row.{Row}
-use Rattle.cw_regions.specs.RegionRows.{row_of, zero_row, summed, FitsRow, Took, JoinsRows}
+use Rattle.cw_regions.specs.RegionRows.{row_of, zero_row, summed, under, FitsRow, IsGiven, IsReadAs, AddsEach, JoinsRows}
 
--- rows that are taken out one after another
-pub self_equal : (n : ℕ) → (n == n) ≡ true
-self_equal n = grind (arith, nat_tests)
+same_number : (n : ℕ) → (n == n) ≡ true
+same_number n = grind (arith, nat_tests)
+
+other_number : (n q : ℕ) → n < q → (n == q) ≡ false
+other_number n q h = grind (arith, nat_tests)
+
+below_other : (n q : ℕ) → q < n + 1 → (n == q) ≡ false → q < n
+below_other n q h e = grind (arith, nat_tests)
+
+-- the rows below a place have been added, and the others not yet
+pub record Added (add : Row → Row → Row) (old shorter now : Rows) (place : ℕ) : Type 0 where
+  pub as_long : length now.by_tag.items ≡ length old.by_tag.items
+  pub below : (q : ℕ) → q < place → FitsRow (add (row_of old q) (row_of shorter q)) → row_of now q ≡ add (row_of old q) (row_of shorter q)
+  pub beyond : (q : ℕ) → place ≤ q → row_of now q ≡ row_of old q
+
+pub none_added : (add : Row → Row → Row) (old shorter : Rows) → Added add old shorter old 0
+none_added add old shorter = record { as_long = refl; below = λ q h fits. absurd (omega arith); beyond = λ q h. refl }
+
+given_here : (now new : Rows) (place : ℕ) (sum : Row) → IsGiven now new place sum → row_of new place ≡ sum
+given_here now new place sum g = g place ∙ ap (λ (b : Bool). if b then sum else row_of now place) (same_number place)
+
+given_other : (now new : Rows) (place q : ℕ) (sum : Row) → IsGiven now new place sum → (place == q) ≡ false → row_of new q ≡ row_of now q
+given_other now new place q sum g e = g q ∙ ap (λ (b : Bool). if b then sum else row_of now q) e
+
+pub one_added : (add : Row → Row → Row) (old shorter now new : Rows) (place : ℕ) (current row sum : Row) → current ≡ row_of now place → row ≡ row_of shorter place → (FitsRow (add current row) → sum ≡ add current row) → IsGiven now new place sum → length new.by_tag.items ≡ length now.by_tag.items → Added add old shorter now place → Added add old shorter new (place + 1)
+one_added add old shorter now new place current row sum c r s g l h = record {
+  as_long = l ∙ h.as_long;
+  below = λ q less fits. by_place q less fits (place == q) refl;
+  beyond = λ q more. given_other now new place q sum g (other_number place q (omega arith)) ∙ h.beyond q (omega arith);
+}
+  where
+    by_place : (q : ℕ) → q < place + 1 → FitsRow (add (row_of old q) (row_of shorter q)) → (b : Bool) → (place == q) ≡ b → row_of new q ≡ add (row_of old q) (row_of shorter q)
+    by_place q less fits true e =
+        let same : place ≡ q = eqb-true place q e in
+        let N : ℕ → Type 0 = λ x. row_of new x ≡ sum in
+        let here : current ≡ row_of old q = c ∙ ap (row_of now) same ∙ h.beyond q (omega arith) in
+        let there : row ≡ row_of shorter q = r ∙ ap (row_of shorter) same in
+        let C : Row → Type 0 = λ x. FitsRow (add x row) → sum ≡ add x row in
+        let S : Row → Type 0 = λ x. FitsRow (add (row_of old q) x) → sum ≡ add (row_of old q) x in
+        subst N same (given_here now new place sum g) ∙ (subst S there (subst C here s)) fits
+    by_place q less fits false e = given_other now new place q sum g e ∙ h.below q (below_other place q less e) fits
+
+pub each_added : (add : Row → Row → Row) (old shorter now : Rows) (place : ℕ) → place ≡ length shorter.by_tag.items → Added add old shorter now place → AddsEach add old shorter now
+each_added add old shorter now place e h = record {
+  within = λ q less fits. h.below q (omega arith) fits;
+  beyond = λ q more. h.beyond q (omega arith);
+}
+
+-- rows that are the same are read alike
+read_same : (r s : Row) → r ≡ s → IsReadAs r s
+read_same r s e = record { work = ap (λ (x : Row). x.work) e; span = ap (λ (x : Row). x.span) e; burdened = ap (λ (x : Row). x.burdened) e; active = ap (λ (x : Row). x.active) e; at_work = λ h. ap (λ (x : Row). x.at_work) e; at_path = λ h. ap (λ (x : Row). x.at_path) e; at_burdened = λ h. ap (λ (x : Row). x.at_burdened) e }
+
+-- a row of the piece alone
+read_alone : (ours piece row : Row) → ours ≡ zero_row → row ≡ piece → piece.active ≡ ours.active → IsReadAs row (summed ours piece)
+read_alone ours piece row none e alike = record {
+  work = let z = ap (λ (x : Row). x.work) none in let n = ap (λ (x : Row). x.work) e in omega arith;
+  span = let z = ap (λ (x : Row). x.span) none in let n = ap (λ (x : Row). x.span) e in omega arith;
+  burdened = let z = ap (λ (x : Row). x.burdened) none in let n = ap (λ (x : Row). x.burdened) e in omega arith;
+  active = ap (λ (x : Row). x.active) e ∙ alike;
+  at_work = λ h. let z = ap (λ (x : Row). x.active) none in absurd (omega arith);
+  at_path = λ h. let z = ap (λ (x : Row). x.active) none in absurd (omega arith);
+  at_burdened = λ h. let z = ap (λ (x : Row). x.active) none in absurd (omega arith);
+}
 
 summed_none : (r : Row) → summed r zero_row ≡ r
 summed_none r = let a : r.work + 0 ≡ r.work = omega arith in let b : r.span + 0 ≡ r.span = omega arith in let c : r.burdened + 0 ≡ r.burdened = omega arith in simp (a, b, c)
 
--- what is left of a piece's rows, with what was added already, is what both were
-pub record Remains (old right now rest : Rows) : Type 0 where
-  pub each : (q : ℕ) → FitsRow (summed (row_of old q) (row_of right q)) → summed (row_of now q) (row_of rest q) ≡ summed (row_of old q) (row_of right q)
+-- where ours are no fewer, and where they are fewer
+pub joined_into_ours : (old piece new : Rows) → AddsEach summed old piece new → JoinsRows old piece new
+joined_into_ours old piece new a = λ q fits alike.
+    elim (cases_lt q (length piece.by_tag.items)) [
+      | inl h ↦ read_same (row_of new q) (summed (row_of old q) (row_of piece q)) (a.within q h fits)
+      | inr h ↦ read_same (row_of new q) (summed (row_of old q) (row_of piece q)) (a.beyond q h ∙ sym (summed_none (row_of old q)) ∙ ap (summed (row_of old q)) (sym (get_or_past piece.by_tag.items q zero_row h)))
+    ]
 
-pub remains_all : (old right : Rows) → Remains old right old right
-remains_all old right = record { each = λ q fits. refl }
-
-pub remains_less : (old right now rest now' rest' : Rows) (tag : ℕ) (row sum : Row) → Took rest rest' tag row → (FitsRow (summed (row_of now tag) row) → sum ≡ summed (row_of now tag) row) → ((q : ℕ) → row_of now' q ≡ (if tag == q then sum else row_of now q)) → Remains old right now rest → Remains old right now' rest'
-remains_less old right now rest now' rest' tag row sum took s put h = record { each = λ q fits. by_tag q fits (tag == q) refl }
-  where
-    by_tag : (q : ℕ) → FitsRow (summed (row_of old q) (row_of right q)) → (b : Bool) → (tag == q) ≡ b → summed (row_of now' q) (row_of rest' q) ≡ summed (row_of old q) (row_of right q)
-    by_tag q fits true e =
-        let same : tag ≡ q = eqb-true tag q e in
-        let P : ℕ → Type 0 = λ x. FitsRow (summed (row_of old x) (row_of right x)) in
-        let here = h.each tag (subst P (sym same) fits) in
-        let both : summed (row_of now tag) row ≡ summed (row_of old tag) (row_of right tag) = ap (summed (row_of now tag)) (sym took.row_is) ∙ here in
-        let F : Row → Type 0 = FitsRow in
-        let small = subst F (sym both) (subst P (sym same) fits) in
-        let Q : ℕ → Type 0 = λ x. summed (row_of now' x) (row_of rest' x) ≡ summed (row_of old x) (row_of right x) in
-        subst Q same
-        (ap (summed (row_of now' tag)) took.gone
-        ∙ summed_none (row_of now' tag)
-        ∙ put tag ∙ ap (λ (b : Bool). if b then sum else row_of now tag) (self_equal tag)
-        ∙ s small ∙ both)
-    by_tag q fits false e =
-        ap (summed (row_of now' q)) (took.others q e)
-        ∙ ap (λ (r : Row). summed r (row_of rest q)) (put q ∙ ap (λ (b : Bool). if b then sum else row_of now q) e)
-        ∙ h.each q fits
-
-pub remains_none : (old right now rest : Rows) → ((q : ℕ) → row_of rest q ≡ zero_row) → Remains old right now rest → JoinsRows old right now
-remains_none old right now rest none h = λ q fits. sym (summed_none (row_of now q)) ∙ ap (summed (row_of now q)) (sym (none q)) ∙ h.each q fits
+pub joined_into_piece : (old piece new : Rows) → AddsEach under piece old new → JoinsRows old piece new
+joined_into_piece old piece new a = λ q fits alike.
+    elim (cases_lt q (length old.by_tag.items)) [
+      | inl h ↦ read_same (row_of new q) (summed (row_of old q) (row_of piece q)) (a.within q h fits)
+      | inr h ↦ read_alone (row_of old q) (row_of piece q) (row_of new q) (get_or_past old.by_tag.items q zero_row h) (a.beyond q h) alike
+    ]

@@ -1,2 +1,3 @@
 pub mod RegionRows
 pub mod Regions
+pub mod lemmas

@@ -1,5 +1,5 @@
 -- What is counted of a region tag over a run so far.
-use Rattle.std.specs.Prelude.{◌≡◌, ℕ, ◌+◌, ◌-◌, ◌^◌, ◌<◌, ◌==◌, Bool, true, false, length, if◌then◌else◌, slice_index_or}
+use Rattle.std.specs.Prelude.{◌≡◌, ℕ, ◌+◌, ◌-◌, ◌^◌, ◌<◌, ◌≤◌, ◌==◌, Bool, true, false, length, if◌then◌else◌, slice_index_or}
 use Rattle.cw_regions.specs.declared.rows.Row.{Row}
 use Rattle.cw_regions.specs.declared.rows.Rows.{Rows}
 use Rattle.cw_measure.specs.Outermost.{Tally}
@@ -52,15 +52,30 @@ IsWhereItFits wanted row = FitsRow wanted → row ≡ wanted
 abbrev pub summed : Row → Row → Row
 summed a b = record { work = a.work + b.work; span = a.span + b.span; burdened = a.burdened + b.burdened; active = a.active; at_work = a.at_work; at_path = a.at_path; at_burdened = a.at_burdened }
 
--- the row of a tag was taken out
-pub record Took (old new : Rows) (tag : ℕ) (row : Row) : Type 0 where
-  pub row_is : row_of old tag ≡ row
-  pub gone : row_of new tag ≡ zero_row
-  pub others : (q : ℕ) → (tag == q) ≡ false → row_of new q ≡ row_of old q
+-- the same, the piece's row first
+abbrev pub under : Row → Row → Row
+under piece ours = summed ours piece
 
--- each row whose sums fit has those of the piece
-abbrev pub JoinsRows : Rows → Rows → Rows → Type 0
-JoinsRows old right new = (q : ℕ) → FitsRow (summed (row_of old q) (row_of right q)) → row_of new q ≡ summed (row_of old q) (row_of right q)
+-- each of the shorter rows is added so to the longer ones, and the further ones stay
+pub record AddsEach (add : Row → Row → Row) (longer shorter new : Rows) : Type 0 where
+  pub within : (q : ℕ) → q < length shorter.by_tag.items → FitsRow (add (row_of longer q) (row_of shorter q)) → row_of new q ≡ add (row_of longer q) (row_of shorter q)
+  pub beyond : (q : ℕ) → length shorter.by_tag.items ≤ q → row_of new q ≡ row_of longer q
+
+-- a row is read as another: the same sums, as many open and, where one is open, begun at the same readings
+pub record IsReadAs (row other : Row) : Type 0 where
+  pub work : row.work ≡ other.work
+  pub span : row.span ≡ other.span
+  pub burdened : row.burdened ≡ other.burdened
+  pub active : row.active ≡ other.active
+  pub at_work : 0 < other.active → row.at_work ≡ other.at_work
+  pub at_path : 0 < other.active → row.at_path ≡ other.at_path
+  pub at_burdened : 0 < other.active → row.at_burdened ≡ other.at_burdened
+
+-- each row whose sums fit is read as ours with the piece's sums, where as many executions are open in both
+abbrev pub JoinsRows : Rows → (piece : Rows) → Rows → Type 0
+JoinsRows old piece new =
+    (q : ℕ) → FitsRow (summed (row_of old q) (row_of piece q)) → (row_of piece q).active ≡ (row_of old q).active
+    → IsReadAs (row_of new q) (summed (row_of old q) (row_of piece q))
 
 -- the row of one tag becomes this, where its sums fit, and the rows of the others stay
 abbrev pub Becomes : (Row → Row) → Rows → Rows → (tag : ℕ) → Type 0
@@ -69,13 +84,16 @@ Becomes f old new tag = FitsRow (f (row_of old tag)) → row_of new tag ≡ f (r
 abbrev pub OthersStay : Rows → Rows → (tag : ℕ) → Type 0
 OthersStay old new tag = (q : ℕ) → (tag == q) ≡ false → row_of new q ≡ row_of old q
 
+-- an execution of a tag begins, and ends, at this work and on a path of this weight
+abbrev pub TagBegins : Rows → Rows → (tag count span burdened : ℕ) → Type 0
+TagBegins old new tag count span burdened = Becomes (entered count span burdened) old new tag
+
+abbrev pub TagEnds : Rows → Rows → (tag count span burdened : ℕ) → Type 0
+TagEnds old new tag count span burdened = Becomes (left count span burdened) old new tag
+
 abbrev pub IsGiven : Rows → Rows → (tag : ℕ) → Row → Type 0
 IsGiven old new tag row = (q : ℕ) → row_of new q ≡ (if tag == q then row else row_of old q)
 
 -- each tag has the row that it had
 abbrev pub SayTheSame : Rows → Rows → Type 0
 SayTheSame old new = (q : ℕ) → row_of new q ≡ row_of old q
-
--- there are fewer rows
-abbrev pub HasFewer : Rows → Rows → Type 0
-HasFewer old new = length new.by_tag.items < length old.by_tag.items

@@ -24,8 +24,6 @@
 pub mod laws;
 mod rows;
 mod table;
-#[cfg(test)]
-mod tests;
 
 pub use rows::{Row, Rows};
 pub use table::{RegionRow, RegionTable};

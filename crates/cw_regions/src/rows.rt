@@ -1,10 +1,11 @@
 //! What is counted of each region tag, kept by the tag's number, in the order of the source.
 
-ghost use Rattle.std.specs.Prelude.{◌≡◌, ℕ, ◌==◌, ◌<◌, false, None, length, IfSome, OnOk, if◌then◌else◌};
+ghost use Rattle.std.specs.Prelude.{◌≡◌, ℕ, ◌==◌, ◌<◌, ◌≤◌, false, length, OnOk, if◌then◌else◌};
 ghost use Rattle.cw_regions.specs.RegionRows as rows;
-ghost use Rattle.cw_regions.specs.RegionRows.{row_of, zero_row, IsWhereItFits, JoinsRows, Took, Becomes, HasFewer, IsGiven, OthersStay, SayTheSame};
+ghost use Rattle.cw_regions.specs.RegionRows.{row_of, zero_row, AddsEach, IsWhereItFits, JoinsRows, IsGiven, OthersStay, SayTheSame, TagBegins, TagEnds};
 
 use std::alloc::{AllocError, Global};
+use std::mem;
 
 /// What is counted of a tag so far.
 #[derive(Clone, Copy, Debug)]
@@ -96,7 +97,7 @@ impl Rows {
         span: u64,
         burdened: u128,
     ) -> Result<(), AllocError>
-        ensures own { OnOk result (Becomes (rows.entered count span burdened) self.old self.new tag) }
+        ensures own { OnOk result (TagBegins self.old self.new tag count span burdened) }
         ensures others { OnOk result (OthersStay self.old self.new tag) }
     {
         let place = tag as usize;
@@ -110,7 +111,7 @@ impl Rows {
     /// An execution of a tag ends, its body's block joined.
     #[inline(always)]
     pub fn end(&mut self, tag: u32, count: u64, span: u64, burdened: u128) -> Result<(), AllocError>
-        ensures own { OnOk result (Becomes (rows.left count span burdened) self.old self.new tag) }
+        ensures own { OnOk result (TagEnds self.old self.new tag count span burdened) }
         ensures others { OnOk result (OthersStay self.old self.new tag) }
     {
         let place = tag as usize;
@@ -121,37 +122,49 @@ impl Rows {
         Ok(())
     }
 
-    /// Adds, for each tag, the sums of a piece that ran apart and of which no execution is open: one step for each row
-    /// of the piece.
-    pub fn join(&mut self, right: Rows) -> Result<(), AllocError>
-        ensures { OnOk result (JoinsRows self.old right self.new) }
+    /// Adds the sums of a piece that ran apart, inside of as many open executions of each tag as are open here.
+    /// Takes one step for each row of the shorter of the two, which are added to those of the longer one, and no memory.
+    pub fn join(&mut self, piece: Rows)
+        ensures { JoinsRows self.old piece self.new }
     {
-        let mut rest = right;
-        while let Some((tag, row)) = rest.take_last() {
-            let current = self.row_at(tag);
-            let sum = summed(current, row);
-            self.set(tag, sum)?;
+        if piece.by_tag.len() <= self.by_tag.len() {
+            self.add(&piece);
+        } else {
+            let ours = mem::replace(self, piece);
+            self.add_under(&ours);
         }
-        Ok(())
     }
 
-    // Takes the last row out, where there is one.
-    fn take_last(&mut self) -> Option<(usize, Row)>
-        ensures took { IfSome result (λ p. Took self.old self.new p.0 p.1) }
-        ensures none { result ≡ None → (q : ℕ) → row_of self.old q ≡ zero_row }
-        ensures fewer { IfSome result (λ p. HasFewer self.old self.new) }
+    // Adds the sums of a piece whose rows are no more than ours.
+    fn add(&mut self, piece: &Rows)
+        requires { length piece.now.by_tag.items ≤ length self.old.by_tag.items }
+        ensures { AddsEach rows.summed self.old piece.now self.new }
     {
-        let row = self.by_tag.pop()?;
-        Some((self.by_tag.len(), row))
+        for place in 0..piece.by_tag.len() {
+            let sum = summed(self.row_at(place), piece.row_at(place));
+            self.put(place, sum);
+        }
     }
 
-    // Gives a tag its row.
-    fn set(&mut self, place: usize, row: Row) -> Result<(), AllocError>
-        ensures { OnOk result (IsGiven self.old self.new place row) }
+    // These are a piece's rows, and ours are no more: adds ours to them, of which what is open stays open.
+    fn add_under(&mut self, ours: &Rows)
+        requires { length ours.now.by_tag.items ≤ length self.old.by_tag.items }
+        ensures { AddsEach rows.under self.old ours.now self.new }
     {
-        self.reach(place)?;
+        for place in 0..ours.by_tag.len() {
+            let sum = summed(ours.row_at(place), self.row_at(place));
+            self.put(place, sum);
+        }
+    }
+
+    // Gives a tag within the rows its row.
+    #[inline(always)]
+    fn put(&mut self, place: usize, row: Row)
+        requires { place < length self.old.by_tag.items }
+        ensures given { IsGiven self.old self.new place row }
+        ensures as_long { length self.new.by_tag.items ≡ length self.old.by_tag.items }
+    {
         self.by_tag[place] = row;
-        Ok(())
     }
 }
 

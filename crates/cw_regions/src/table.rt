@@ -61,11 +61,10 @@ impl RegionTable {
 
     /// Joins the table of a piece that ran apart inside of what is open, and of which nothing is open itself: the next
     /// piece of the block that runs, or a spawned part of it.
-    pub fn join(&mut self, right: RegionTable) -> Result<(), AllocError>
-        ensures { OnOk result (JoinsRegions self.old right self.new) }
+    pub fn join(&mut self, right: RegionTable)
+        ensures { JoinsRegions self.old right self.new }
     {
-        self.rows.join(right.rows)?;
-        Ok(())
+        self.rows.join(right.rows);
     }
 
     /// What is counted of a tag, once no part is open.

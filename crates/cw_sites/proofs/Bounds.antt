@@ -6,15 +6,15 @@ use Rattle.cw_model.specs.Trees.{Tree, Leaf, Seq, Par, Marked, Event, Work, Seri
 use Rattle.cw_model.specs.Rows.{site_inside, is_site, leaves}
 use Rattle.cw_measure.specs.OpenParts.{Open, work_in}
 use Rattle.cw_measure.specs.Outermost.{outer_in}
-use Rattle.cw_measure.proofs.OpenPartLaws.{tree_in, adds_first, work_adds}
-use Rattle.cw_measure.proofs.OutermostLaws.{Bounds, outer_in_within}
+use Rattle.cw_measure.specs.lemmas.OpenParts.{tree_in, adds_first, work_adds}
+use Rattle.cw_measure.specs.lemmas.Outermost.{Bounds, outer_in_within}
 use Rattle.cw_sites.specs.ChosenPaths.{Path, nowhere, plus, heavier, best, steps_of, chosen}
 use Rattle.cw_sites.specs.BlockPaths.{BlockPath, Straight, Split, now_of, extended, longest_of, child_ended, finished, after, after_all}
 use Rattle.cw_sites.specs.StrandPaths.{SeenBlock, StrandPath, longest_path, sum_of, whole}
 use Rattle.cw_sites.specs.OpenPaths.{here_in, enters, block_path, StandsOn, RestsOn, LiesUnder, Under, Shows}
 use Rattle.cw_sites.specs.SiteRows.{own_tree, own_in}
-use Rattle.cw_sites.proofs.ChosenPathLaws.{takes_first, takes_second}
-use Rattle.cw_sites.proofs.SiteRowLaws.{weight-append, own_leaf}
+use Rattle.cw_sites.specs.lemmas.ChosenPaths.{takes_first, takes_second}
+use Rattle.cw_sites.specs.lemmas.SiteRows.{weight-append, own_leaf}
 
 -- a path is at most another and so much
 abbrev pub Within : (a b : Path) → ℕ → Type 0

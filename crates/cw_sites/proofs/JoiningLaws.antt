@@ -7,8 +7,8 @@ use Rattle.cw_model.specs.Trees.{Mark, Tree, Event, Work, Series, Fork, Join, tr
 use Rattle.cw_model.specs.Rows.{is_site, calls_of}
 use Rattle.cw_measure.specs.OpenParts.{Open, has_spawned_from, has_spawned, work_in}
 use Rattle.cw_measure.specs.Outermost.{active_in, outer_sum}
-use Rattle.cw_measure.proofs.OpenPartLaws.{Adds, adds_none, adds_first, adds_append, work_adds, work_more, spawned_append}
-use Rattle.cw_measure.proofs.OutermostLaws.{counts_further, counts_spawned}
+use Rattle.cw_measure.specs.lemmas.OpenParts.{Adds, adds_none, adds_first, adds_append, work_adds, work_more, spawned_append}
+use Rattle.cw_measure.specs.lemmas.Outermost.{counts_alike, counts_further, counts_spawned}
 use Rattle.cw_sites.specs.declared.rows.Row.{Row}
 use Rattle.cw_sites.specs.declared.paths.Paths.{Paths}
 use Rattle.cw_sites.specs.declared.table.SiteTable.{SiteTable}
@@ -20,10 +20,11 @@ use Rattle.cw_sites.specs.StepSums.{Fits}
 use Rattle.cw_sites.specs.StepLists.{seen, seen_blocks, strand_path, Laid, Appends, AppendsChild}
 use Rattle.cw_sites.specs.StrandPaths.{SeenBlock, StrandPath, whole}
 use Rattle.cw_sites.specs.OpenPaths.{here_in, block_path, path_in, StandsOn, Shows, is_split}
-use Rattle.cw_sites.specs.SiteRows.{row_of, calls_in, own_tree, own_in, work_tally, span_tally, stood_in, summed, CountsSite, FitsRow, JoinsRows}
+use Rattle.cw_sites.specs.SiteRows.{row_of, calls_in, own_tree, own_in, work_tally, span_tally, stood_in, summed, CountsSite, FitsRow, IsReadAs, JoinsRows}
 use Rattle.cw_sites.specs.Tables.{Small, Tells, busy_in, JoinsPiece, JoinsChild, JoinsHere, JoinsAcross, ReadsSpawned, one_more, StandsInSite}
-use Rattle.cw_sites.proofs.SiteRowLaws.{calls_adds, own_adds, row_join}
-use Rattle.cw_sites.proofs.OpenPathLaws.{split-block_path, shows_unjoined}
+use Rattle.cw_sites.specs.lemmas.SiteRows.{calls_adds, own_adds}
+use Rattle.cw_sites.proofs.SiteRowLaws.{row_join}
+use Rattle.cw_sites.specs.lemmas.OpenPaths.{split-block_path, shows_unjoined}
 use Rattle.cw_sites.proofs.Bounds.{whole_within}
 use Rattle.cw_sites.proofs.PieceShowLaws.{shows_piece, shows_child}
 use Rattle.cw_sites.proofs.TableLaws.{fits_row}
@@ -61,6 +62,19 @@ row_spawned site base busy os es child r s h g = record {
   span_is = counts_spawned span (path_in site base) (path_in site (here_in base os)) (is_site site) busy os es child (span_tally r) (span_tally s) h.span_is g.span_is;
 }
 
+-- a row that is read alike counts the same run
+row_alike : (site base busy : ℕ) (os : List Open) (es : List Event) (r s : Row) → IsReadAs s r → CountsSite site base busy os es r → CountsSite site base busy os es s
+row_alike site base busy os es r s a h = record {
+  calls_is = a.calls ∙ h.calls_is;
+  own_is = a.own ∙ h.own_is;
+  work_is = counts_alike work work_in (is_site site) busy os es (work_tally r) (work_tally s) a.work a.active a.at_work h.work_is;
+  span_is = counts_alike span (path_in site base) (is_site site) busy os es (span_tally r) (span_tally s) a.span a.active a.at_path h.span_is;
+}
+
+-- as many are open round a piece as it was told
+as_many : (site base busy : ℕ) (os : List Open) (es fs : List Event) (r s : Row) → CountsSite site base busy os es r → CountsSite site (here_in base os) (active_in (is_site site) busy os) [] fs s → s.active ≡ r.active
+as_many site base busy os es fs r s h g = g.work_is.active_is ∙ sym h.work_is.active_is
+
 -- the paths of both fit
 fits_both : (q base : ℕ) (busy : ℕ → ℕ) (os : List Open) (es fs : List Event) (n : ℕ) (t u : StrandPath) → work_in os es + work (tree_of fs) ≡ n → n < 2 ^ 64 → Shows q base os es t → Shows q (here_in base os) [] fs u → Fits (plus (whole t) (whole u))
 fits_both q base busy os es fs n t u e small h g =
@@ -78,8 +92,9 @@ table_piece old piece new first rows laid paths noted here = λ base busy os es 
     record {
       rows = λ q.
           let row = row_further q base (busy q) os es fs (row_of old.rows q) (row_of piece.rows q) (h.rows q) (g.rows q) in
-          let D : Row → Type 0 = λ r. CountsSite q base (busy q) os (es ++ fs) r in
-          subst D (sym (rows q (fits_row q base busy os (es ++ fs) (summed (row_of old.rows q) (row_of piece.rows q)) small row))) row;
+          let sum = summed (row_of old.rows q) (row_of piece.rows q) in
+          let many = as_many q base (busy q) os es fs (row_of old.rows q) (row_of piece.rows q) (h.rows q) (g.rows q) in
+          row_alike q base (busy q) os (es ++ fs) sum (row_of new.rows q) (rows q (fits_row q base busy os (es ++ fs) sum small row) many) row;
       paths = λ q.
           let t = strand_path q old.paths in
           let u = strand_path q piece.paths in
@@ -99,8 +114,9 @@ table_child old child new first rows laid paths noted here = λ base busy os es 
     record {
       rows = λ q.
           let row = row_spawned q base (busy q) os es tree (row_of old.rows q) (row_of child.rows q) (h.rows q) (g.rows q) in
-          let D : Row → Type 0 = λ r. CountsSite q base (busy q) os (es ++ Fork tree ∷ []) r in
-          subst D (sym (rows q (fits_row q base busy os (es ++ Fork tree ∷ []) (summed (row_of old.rows q) (row_of child.rows q)) small row))) row;
+          let sum = summed (row_of old.rows q) (row_of child.rows q) in
+          let many = as_many q base (busy q) os es (Series tree ∷ []) (row_of old.rows q) (row_of child.rows q) (h.rows q) (g.rows q) in
+          row_alike q base (busy q) os (es ++ Fork tree ∷ []) sum (row_of new.rows q) (rows q (fits_row q base busy os (es ++ Fork tree ∷ []) sum small row) many) row;
       paths = λ q.
           let t = strand_path q old.paths in
           let u = strand_path q child.paths in

@@ -3,7 +3,6 @@ pub mod BlockPathLaws
 pub mod StepSumLaws
 pub mod CompactingLaws
 pub mod PieceLaws
-pub mod OpenPathLaws
 pub mod RowLaws
 pub mod SiteRowLaws
 pub mod Bounds

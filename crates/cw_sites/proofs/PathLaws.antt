@@ -9,7 +9,7 @@ use Rattle.cw_sites.specs.ChosenPaths.{Path, nowhere, plus, best, steps_of}
 use Rattle.cw_sites.specs.StepSums.{upto, whole, if_site, Fits, AsBelow, AddsUp}
 use Rattle.cw_sites.specs.StepLists.{part, seen, seen_blocks, strand_path, InOrder, LaidFrom, Laid, LaidWith, SaysTheSame, Extends}
 use Rattle.cw_sites.specs.StrandPaths.{SeenBlock, StrandPath, goes_on, is_longer, begins, again, takes, chooses, ends_at, ends, whole as all_of}
-use Rattle.cw_sites.proofs.ChosenPathLaws.{takes_first, takes_second}
+use Rattle.cw_sites.specs.lemmas.ChosenPaths.{takes_first, takes_second}
 use Rattle.cw_sites.proofs.StepSumLaws.{upto-mono, upto-take, upto-cut, upto_below-cut, length-cut}
 
 abbrev pub path_with : ℕ → ℕ → Path

@@ -6,10 +6,10 @@ use Rattle.cw_model.specs.Trees.{Event, Work, Series, Fork, Join}
 use Rattle.cw_sites.specs.ChosenPaths.{Path, nowhere, plus, heavier, steps_of, chosen}
 use Rattle.cw_sites.specs.BlockPaths.{BlockPath, Straight, Split, extended, child_ended, joins as joined, after, after_all, joined_on, no_joins}
 use Rattle.cw_sites.specs.OpenPaths.{is_split}
-use Rattle.cw_sites.proofs.ChosenPathLaws.{plus-assoc, plus-nowhere_first, plus-nowhere_last}
-use Rattle.cw_sites.proofs.BlockPathLaws.{takes_later, keeps_longest}
+use Rattle.cw_sites.specs.lemmas.ChosenPaths.{plus-assoc, plus-nowhere_first, plus-nowhere_last}
+use Rattle.cw_sites.specs.lemmas.BlockPaths.{takes_later, keeps_longest}
 use Rattle.cw_sites.specs.Laws.{PiecesAreOne}
-use Rattle.cw_sites.proofs.OpenPathLaws.{after_all-append, split_all}
+use Rattle.cw_sites.specs.lemmas.OpenPaths.{after_all-append, split_all}
 
 -- a block goes on by two paths, and by nothing
 pub extended_twice : (p c : Path) (L : BlockPath) → extended (plus p c) L ≡ extended c (extended p L)

@@ -7,9 +7,9 @@ use Rattle.cw_sites.specs.ChosenPaths.{Path, nowhere, chosen}
 use Rattle.cw_sites.specs.BlockPaths.{BlockPath, Straight, Split, now_of, extended, child_ended, after_all, joined_on, no_joins}
 use Rattle.cw_sites.specs.StrandPaths.{SeenBlock, StrandPath, begins, ends, extends_by, forks, appends_block, appends_at, appends}
 use Rattle.cw_sites.specs.OpenPaths.{here_in, enters, block_path, StandsOn, Under, Shows, is_split}
-use Rattle.cw_sites.proofs.ChosenPathLaws.{plus-nowhere_first}
+use Rattle.cw_sites.specs.lemmas.ChosenPaths.{plus-nowhere_first}
 use Rattle.cw_sites.proofs.PieceLaws.{extended_twice, piece_joined}
-use Rattle.cw_sites.proofs.OpenPathLaws.{ShowsLocal, after_all-append, block_more, split-block_path, extends, begins_split, again_at, ends_places}
+use Rattle.cw_sites.specs.lemmas.OpenPaths.{ShowsLocal, after_all-append, block_more, split-block_path, extends, begins_split, again_at, ends_places}
 
 split_extended : (p : Path) (L : BlockPath) → is_split (extended p L) ≡ is_split L
 split_extended p (Straight n) = refl

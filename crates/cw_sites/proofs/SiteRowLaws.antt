@@ -1,83 +1,18 @@
 -- A row counts a run so far, and the calls of a run keep it so.
-use Rattle.std.specs.Prelude.{◌≡◌, ℕ, zero, ◌+◌, ◌==◌, Bool, true, false, if◌then◌else◌, List, [], ◌∷◌, ◌++◌, Option, Some, None, sum_by, filter, refl}
+use Rattle.std.specs.Prelude.{◌≡◌, ℕ, ◌+◌, ◌==◌, Bool, true, false, List, [], ◌∷◌, ◌++◌, refl}
 use Rattle.std.proofs.Common.{sym, ◌∙◌, ap, subst, arith}
-use Rattle.std.proofs.lemmas.List.Sums.{sum_by-append}
-use Rattle.std.proofs.lemmas.List.Elements.{filter-append}
-use Rattle.cw_model.specs.Trees.{Mark, Tree, Leaf, Event, Work, Join, tree_of, work, span}
-use Rattle.cw_model.specs.Rows.{is_site, leaves, weight_of_site, calls_of}
-use Rattle.cw_measure.specs.OpenParts.{Open, marked, event_of, closed, has_spawned, work_in}
-use Rattle.cw_measure.specs.Outermost.{is_counted, one_if, Meters, Tally, begun_at, begun, ended_at, ended, Counts}
-use Rattle.cw_measure.proofs.OpenPartLaws.{Adds, tree_in, adds_none, adds_more, tree_in-part_of}
-use Rattle.cw_measure.proofs.OutermostLaws.{counts_work, counts_join, counts_other, counts_other_left, counts_begun, counts_ended}
-use Rattle.cw_measure.proofs.StrandWeightLaws.{work_meters}
+use Rattle.cw_model.specs.Trees.{Event, Work, Join, work, span}
+use Rattle.cw_model.specs.Rows.{is_site, calls_of}
+use Rattle.cw_measure.specs.OpenParts.{Open, closed, has_spawned, work_in}
+use Rattle.cw_measure.specs.Outermost.{is_counted, one_if, Tally, begun_at, begun, ended_at, ended, Counts}
+use Rattle.cw_measure.specs.lemmas.OpenParts.{adds_none}
+use Rattle.cw_measure.specs.lemmas.Outermost.{counts_work, counts_join, counts_begun, counts_ended}
+use Rattle.cw_measure.specs.lemmas.StrandWeights.{work_meters}
 use Rattle.cw_sites.specs.declared.rows.Row.{Row}
 use Rattle.cw_sites.specs.ChosenPaths.{steps_of}
-use Rattle.cw_sites.specs.BlockPaths.{BlockPath, Straight, now_of}
-use Rattle.cw_sites.specs.OpenPaths.{inside, here_in, enters, block_path, path_in}
-use Rattle.cw_sites.specs.SiteRows.{worked, entered_at, entered, left_at, left, calls_in, own_tree, own_in, work_tally, span_tally, CountsSite}
-use Rattle.cw_sites.proofs.ChosenPathLaws.{chosen-weight}
-use Rattle.cw_sites.proofs.OpenPathLaws.{ended_path}
-
--- the weight of the path grows along a part by the part's span
-enters_is : (b : Bool) (L : BlockPath) → enters b L ≡ Straight (now_of (enters b L))
-enters_is true L = refl
-enters_is false L = refl
-
-span_marked : (mark : Option Mark) (t : Tree) → span (marked mark t) ≡ span t
-span_marked None t = refl
-span_marked (Some m) t = refl
-
-ended_weight : (site base : ℕ) (o : Open) (os : List Open) (es : List Event) → has_spawned es ≡ false → path_in site base (o ∷ os) es ≡ path_in site base (o ∷ os) [] + span (tree_of es)
-ended_weight site base o os es f =
-    let before = now_of (enters o.spawned (block_path site base os o.outer)) in
-    let p = ap (λ (L : BlockPath). (now_of L).weight) (ended_path site base o os es before (enters_is o.spawned (block_path site base os o.outer)) f) in
-    let w = chosen-weight site (here_in base os) (marked o.mark (tree_of es)) in
-    let s = span_marked o.mark (tree_of es) in omega arith
-
-pub path_meters : (site base : ℕ) → Meters span (path_in site base)
-path_meters site base = record {
-  in_mark = λ m t. refl;
-  at_begin = λ mark os es. refl;
-  at_end = ended_weight site base;
-}
-
--- the sums that rows keep
-pub calls_adds : (site : ℕ) → Adds (calls_of site)
-calls_adds site = record { nothing = refl; series = λ a b. refl; fork = λ a b. refl }
-
-pub weight-append : (site : ℕ) (a b : List (ℕ × ℕ)) → weight_of_site site (a ++ b) ≡ weight_of_site site a + weight_of_site site b
-weight-append site a b =
-    ap (sum_by (λ (leaf : ℕ × ℕ). leaf.1)) (filter-append (λ (leaf : ℕ × ℕ). leaf.0 == site) a b)
-    ∙ sum_by-append (λ (leaf : ℕ × ℕ). leaf.1) (filter (λ (leaf : ℕ × ℕ). leaf.0 == site) a) (filter (λ (leaf : ℕ × ℕ). leaf.0 == site) b)
-
-abbrev pub steps_if : Bool → ℕ → ℕ
-steps_if b k = if b then k else 0
-
-pub own_leaf : (site here k : ℕ) → own_tree site here (Leaf k) ≡ (steps_of site here k).own
-own_leaf site here k = grind arith
-
-none_either : (b : Bool) → (steps_if b 0) ≡ zero
-none_either true = refl
-none_either false = refl
-
-own_nothing : (site here : ℕ) → own_tree site here (Leaf 0) ≡ 0
-own_nothing site here = own_leaf site here 0 ∙ none_either (here == site)
-
-pub own_adds : (site here : ℕ) → Adds (own_tree site here)
-own_adds site here = record {
-  nothing = own_nothing site here;
-  series = λ a b. weight-append site (leaves here a) (leaves here b);
-  fork = λ a b. weight-append site (leaves here a) (leaves here b);
-}
-
--- one event more in the block that runs
-pub calls_more : (site : ℕ) (os : List Open) (es : List Event) (e : Event) → calls_in site os (es ++ e ∷ []) ≡ calls_in site os es + calls_of site (tree_in e)
-calls_more site [] es e = adds_more (calls_of site) (calls_adds site) es e
-calls_more site (o ∷ os) es e = let a = adds_more (calls_of site) (calls_adds site) es e in omega arith
-
-own_more : (site base : ℕ) (os : List Open) (es : List Event) (e : Event) → own_in site base os (es ++ e ∷ []) ≡ own_in site base os es + own_tree site (here_in base os) (tree_in e)
-own_more site base [] es e = adds_more (own_tree site base) (own_adds site base) es e
-own_more site base (o ∷ os) es e = let a = adds_more (own_tree site (here_in base (o ∷ os))) (own_adds site (here_in base (o ∷ os))) es e in omega arith
+use Rattle.cw_sites.specs.OpenPaths.{here_in, path_in}
+use Rattle.cw_sites.specs.SiteRows.{worked, entered_at, entered, left_at, left, own_tree, work_tally, span_tally, CountsSite}
+use Rattle.cw_sites.specs.lemmas.SiteRows.{path_meters, calls_adds, own_leaf, own_nothing, own_adds, calls_more, own_more, left_calls, left_own}
 
 -- the block that runs goes on by so many instructions
 pub row_work : (site base busy : ℕ) (os : List Open) (es : List Event) (r : Row) (k : ℕ) → CountsSite site base busy os es r → CountsSite site base busy os (es ++ Work k ∷ []) (worked (steps_of site (here_in base os) k).own r)
@@ -95,17 +30,6 @@ row_join site base busy os es r h = record {
   work_is = counts_join work work_in (is_site site) busy os es (work_tally r) h.work_is;
   span_is = counts_join span (path_in site base) (is_site site) busy os es (span_tally r) h.span_is;
 }
-
--- a part that is no invocation of the site begins
-pub row_other : (site base busy : ℕ) (o : Open) (os : List Open) (r : Row) → is_counted (is_site site) o.mark ≡ false → CountsSite site base busy os o.outer r → CountsSite site base busy (o ∷ os) [] r
-row_other site base busy o os r e h =
-    let n : one_if (is_counted (is_site site) o.mark) ≡ 0 = ap one_if e in
-    record {
-      calls_is = let b = h.calls_is in let a = adds_none (calls_of site) (calls_adds site) in omega arith;
-      own_is = let b = h.own_is in let a = adds_none (own_tree site (here_in base (o ∷ os))) (own_adds site (here_in base (o ∷ os))) in omega arith;
-      work_is = counts_other work work_in (is_site site) busy o os (work_tally r) e h.work_is;
-      span_is = counts_other span (path_in site base) (is_site site) busy o os (span_tally r) e h.span_is;
-    }
 
 -- the tallies of a row that an invocation begins or ends
 begun_work : (first : Bool) (count path : ℕ) (r : Row) → begun_at first count (work_tally r) ≡ work_tally (entered_at first count path r)
@@ -148,43 +72,6 @@ row_entered site base busy o os r count path e c p h =
       work_is = subst W (ap (λ (x : ℕ). begun x (work_tally r)) (sym c) ∙ begun_work first count path r) (counts_begun work work_in (is_site site) busy o os (work_tally r) e h.work_is);
       span_is = subst S (ap (λ (x : ℕ). begun x (span_tally r)) (sym p) ∙ begun_span first count path r) (counts_begun span (path_in site base) (is_site site) busy o os (span_tally r) e h.span_is);
     }
-
-abbrev one_given : Bool → ℕ
-one_given b = if b then 1 else 0
-
--- what a part that has ended adds
-calls_marked : (site : ℕ) (mark : Option Mark) (t : Tree) → calls_of site (marked mark t) ≡ one_if (is_counted (is_site site) mark) + calls_of site t
-calls_marked site None t = omega arith
-calls_marked site (Some m) t = ap (λ (n : ℕ). n + calls_of site t) (one (is_site site m))
-  where
-    one : (b : Bool) → one_given b ≡ one_if b
-    one true = refl
-    one false = refl
-
-own_marked : (site here : ℕ) (mark : Option Mark) (t : Tree) → own_tree site here (marked mark t) ≡ own_tree site (inside mark here) t
-own_marked site here None t = refl
-own_marked site here (Some m) t = refl
-
-pub left_calls : (site : ℕ) (o : Open) (os : List Open) (es : List Event) → calls_in site os (closed o es) ≡ calls_in site (o ∷ os) es
-left_calls site o os es =
-    let a = calls_more site os o.outer (event_of o es) in
-    let b = ap (calls_of site) (tree_in-part_of o.spawned (marked o.mark (tree_of es))) in
-    let c = calls_marked site o.mark (tree_of es) in omega arith
-
-left_own : (site base : ℕ) (o : Open) (os : List Open) (es : List Event) → own_in site base os (closed o es) ≡ own_in site base (o ∷ os) es
-left_own site base o os es =
-    let a = own_more site base os o.outer (event_of o es) in
-    let b = ap (own_tree site (here_in base os)) (tree_in-part_of o.spawned (marked o.mark (tree_of es))) in
-    let c = own_marked site (here_in base os) o.mark (tree_of es) in omega arith
-
--- a part that is no invocation of the site ends
-pub row_other_left : (site base busy : ℕ) (o : Open) (os : List Open) (es : List Event) (r : Row) → is_counted (is_site site) o.mark ≡ false → CountsSite site base busy (o ∷ os) es r → CountsSite site base busy os (closed o es) r
-row_other_left site base busy o os es r e h = record {
-  calls_is = h.calls_is ∙ sym (left_calls site o os es);
-  own_is = h.own_is ∙ sym (left_own site base o os es);
-  work_is = counts_other_left work work_in (is_site site) busy o os es (work_tally r) e h.work_is;
-  span_is = counts_other_left span (path_in site base) (is_site site) busy o os es (span_tally r) e h.span_is;
-}
 
 -- an invocation of the site ends
 pub row_left : (site base busy : ℕ) (o : Open) (os : List Open) (es : List Event) (r : Row) (count path : ℕ) → is_counted (is_site site) o.mark ≡ true → has_spawned es ≡ false → count ≡ work_in (o ∷ os) es → path ≡ path_in site base (o ∷ os) es → CountsSite site base busy (o ∷ os) es r → CountsSite site base busy os (closed o es) (left count path r)

@@ -1,13 +1,12 @@
 -- A table tells of a run so far, and its calls keep it so.
-use Rattle.std.specs.Prelude.{◌≡◌, ℕ, ◌+◌, ◌-◌, ◌^◌, ◌==◌, ◌<◌, Bool, true, false, not, List, [], ◌∷◌, ◌++◌, Option, Some, None, refl}
+use Rattle.std.specs.Prelude.{◌≡◌, ℕ, ◌+◌, ◌-◌, ◌^◌, ◌==◌, ◌<◌, Bool, true, false, not, List, [], ◌∷◌, ◌++◌, Option, Some, refl}
 use Rattle.std.proofs.Common.{sym, ◌∙◌, ap, subst, arith}
 use borrow.Author.Tests.{eqb-true}
-use Rattle.cw_model.specs.Trees.{Mark, Invocation, Execution, Event, Work, Join, tree_of, work, span}
+use Rattle.cw_model.specs.Trees.{Mark, Invocation, Event, Work, Join, tree_of, work, span}
 use Rattle.cw_model.specs.Rows.{SiteRow, site_row, is_site}
 use Rattle.cw_measure.specs.OpenParts.{Open, in_fork, closed, has_spawned, IsSince, Since, work_in}
-use Rattle.cw_measure.specs.Outermost.{is_counted}
-use Rattle.cw_measure.proofs.OpenPartLaws.{adds_none, work_adds, work_more, sum_begun, left_work, kept_since, has_spawned_since, work_since}
-use Rattle.cw_measure.proofs.OutermostLaws.{counts_read}
+use Rattle.cw_measure.specs.lemmas.OpenParts.{adds_none, work_adds, work_more, sum_begun, left_work, kept_since, has_spawned_since, work_since}
+use Rattle.cw_measure.specs.lemmas.Outermost.{counts_read}
 use Rattle.cw_sites.specs.declared.rows.Row.{Row}
 use Rattle.cw_sites.specs.declared.paths.Paths.{Paths}
 use Rattle.cw_sites.specs.declared.table.SiteTable.{SiteTable}
@@ -16,15 +15,18 @@ use Rattle.cw_sites.specs.StepSums.{Fits}
 use Rattle.cw_sites.specs.BlockPaths.{now_of}
 use Rattle.cw_sites.specs.StepLists.{strand_path, IsBounded, Laid}
 use Rattle.cw_sites.specs.StrandPaths.{StrandPath, whole, spawns, ends, joins}
-use Rattle.cw_sites.specs.OpenPaths.{inside, here_in, block_path, path_in, Shows}
+use Rattle.cw_sites.specs.OpenPaths.{here_in, block_path, path_in, Shows}
 use Rattle.cw_sites.specs.SiteRows.{row_of, worked, entered, left, work_tally, span_tally, CountsSite, FitsRow}
-use Rattle.cw_sites.specs.Laws.{AllRunsAreShown, BlocksReadChosenPaths, PiecesJoin}
-use Rattle.cw_sites.specs.Tables.{IsBoundedTable, IsQuiet, QuietParts, Small, Tells, called, spawned, Flushed, RowBegun, RowLeft}
+use Rattle.cw_sites.specs.Laws.{BlocksReadChosenPaths, PiecesJoin}
+use Rattle.cw_sites.specs.Tables.{IsBoundedTable, IsQuiet, Small, Tells, called, spawned, Flushed, RowBegun, RowLeft}
 use Rattle.cw_sites.proofs.ChosenPathLaws.{path_of-chosen_leaves}
-use Rattle.cw_sites.proofs.BlockPathLaws.{finished-after_all, pieces-finished}
-use Rattle.cw_sites.proofs.OpenPathLaws.{shows_work, shows_entered, shows_spawned, shows_spawned_again, shows_joined, shows_unjoined, shows_left, shows_ended, shows_all}
-use Rattle.cw_sites.proofs.SiteRowLaws.{steps_if, calls_more, row_work, row_join, row_other, row_entered, row_other_left, row_left, left_calls}
+use Rattle.cw_sites.specs.lemmas.BlockPaths.{finished-after_all}
+use Rattle.cw_sites.proofs.BlockPathLaws.{pieces-finished}
+use Rattle.cw_sites.specs.lemmas.OpenPaths.{shows_work, shows_entered, shows_spawned, shows_spawned_again, shows_joined, shows_unjoined, shows_left, shows_ended, shows_all}
+use Rattle.cw_sites.specs.lemmas.SiteRows.{steps_if, calls_more, row_other, row_other_left, left_calls}
+use Rattle.cw_sites.proofs.SiteRowLaws.{row_work, row_join, row_entered, row_left}
 use Rattle.cw_sites.proofs.Bounds.{whole_within, own_in_within, works_within, spans_within}
+use Rattle.cw_sites.specs.lemmas.Tables.{quiet_calls, quiet_inside}
 
 pub fits_row : (q base : ℕ) (busy : ℕ → ℕ) (os : List Open) (es : List Event) (r : Row) → Small busy os es → CountsSite q base (busy q) os es r → FitsRow r
 fits_row q base busy os es r small h =
@@ -307,35 +309,6 @@ row_read site busy es table idle n small h own o =
       span = counts_read span (path_in site 0) (is_site site) (busy site) es (span_tally (row_of table.rows site)) idle r.span_is;
     }
 
--- parts that are no invocation
-quiet_calls : (mark : Option Mark) (q : ℕ) → IsQuiet mark → is_counted (is_site q) mark ≡ false
-quiet_calls None q h = refl
-quiet_calls (Some (Invocation site)) q h = absurd h
-quiet_calls (Some (Execution tag)) q h = refl
-
-quiet_inside : (mark : Option Mark) (here : ℕ) → IsQuiet mark → inside mark here ≡ here
-quiet_inside None here h = refl
-quiet_inside (Some (Invocation site)) here h = absurd h
-quiet_inside (Some (Execution tag)) here h = refl
-
-pub quiet_parts : (base : ℕ) (busy : ℕ → ℕ) (os : List Open) (table : SiteTable) → QuietParts base busy os table
-quiet_parts base busy os table = record {
-  begins = λ mark es quiet h. record {
-    rows = λ q. row_other q base (busy q) (record { spawned = false; mark = mark; outer = es }) os (row_of table.rows q) (quiet_calls mark q quiet) (h.rows q);
-    paths = λ q. shows_entered q base os es (strand_path q table.paths) mark (h.paths q);
-    laid = h.laid;
-    noted_is = let a = h.noted_is in let d = adds_none work work_adds in omega arith;
-    here_is = h.here_is ∙ sym (quiet_inside mark (here_in base os) quiet);
-  };
-  ends = λ mark outer es quiet n h. record {
-    rows = λ q. row_other_left q base (busy q) (record { spawned = false; mark = mark; outer = outer }) os es (row_of table.rows q) (quiet_calls mark q quiet) (h.rows q);
-    paths = λ q. shows_left q base mark outer os es (strand_path q table.paths) n (h.paths q);
-    laid = h.laid;
-    noted_is = let a = h.noted_is in let d = left_work (record { spawned = false; mark = mark; outer = outer }) os es in omega arith;
-    here_is = h.here_is ∙ quiet_inside mark (here_in base os) quiet;
-  };
-}
-
 -- half of a loop begins and ends
 abbrev with_paths : SiteTable → Paths → SiteTable
 with_paths t p = record { rows = t.rows; paths = p; noted = t.noted; here = t.here }
@@ -373,20 +346,6 @@ half_ends base busy mark os before es fs old mid paths count quiet since n small
 -- a table whose paths are another's is bounded with it
 pub bounded_by : (most : ℕ) (old new : SiteTable) (site : ℕ) → new.paths ≡ old.paths → new.here ≡ site → site < most → IsBoundedTable most old → IsBoundedTable most new
 bounded_by most old new site p e less h = let P : Paths → Type 0 = IsBounded most in record { paths = subst P (sym p) h.paths; here = omega arith }
-
--- the laws
-pub all_runs_are_shown : AllRunsAreShown
-all_runs_are_shown = λ site base. record {
-  work = shows_work site base;
-  enter = shows_entered site base;
-  spawn = shows_spawned site base;
-  spawn_again = shows_spawned_again site base;
-  join = shows_joined site base;
-  no_join = shows_unjoined site base;
-  leave = shows_left site base;
-  child_end = shows_ended site base;
-  end = shows_all site base;
-}
 
 pub blocks_read_chosen_paths : BlocksReadChosenPaths
 blocks_read_chosen_paths = record { blocks = finished-after_all; leaves = path_of-chosen_leaves }

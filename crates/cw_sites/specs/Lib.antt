@@ -9,3 +9,4 @@ pub mod SiteRows
 pub mod StepLists
 pub mod Tables
 pub mod Laws
+pub mod lemmas

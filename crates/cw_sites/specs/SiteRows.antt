@@ -1,5 +1,5 @@
 -- What is counted of a site over a run so far.
-use Rattle.std.specs.Prelude.{◌≡◌, ℕ, ◌+◌, ◌-◌, ◌^◌, ◌<◌, ◌==◌, Bool, true, false, List, [], ◌∷◌, length, if◌then◌else◌, slice_index_or}
+use Rattle.std.specs.Prelude.{◌≡◌, ℕ, ◌+◌, ◌-◌, ◌^◌, ◌<◌, ◌≤◌, ◌==◌, Bool, true, false, List, [], ◌∷◌, length, if◌then◌else◌, slice_index_or}
 use Rattle.cw_model.specs.Trees.{Tree, Event, tree_of, work, span}
 use Rattle.cw_model.specs.Rows.{is_site, leaves, weight_of_site, calls_of}
 use Rattle.cw_measure.specs.OpenParts.{Open, work_in}
@@ -69,6 +69,10 @@ pub record FitsRow (r : Row) : Type 0 where
   pub span : r.span < 2 ^ 64
   pub active : r.active < 2 ^ 64
 
+-- a row is this one, where its sums fit
+abbrev pub IsWhereItFits : (wanted row : Row) → Type 0
+IsWhereItFits wanted row = FitsRow wanted → row ≡ wanted
+
 -- the row of one site becomes this, where its sums fit, and the rows of the others stay
 abbrev pub Becomes : (Row → Row) → Rows → Rows → (site : ℕ) → Type 0
 Becomes f old new site = FitsRow (f (row_of old site)) → row_of new site ≡ f (row_of old site)
@@ -91,16 +95,27 @@ stood_in r = record { calls = r.calls; own = r.own; work = r.work; span = r.span
 abbrev pub summed : Row → Row → Row
 summed a b = record { calls = a.calls + b.calls; own = a.own + b.own; work = a.work + b.work; span = a.span + b.span; active = a.active; at_work = a.at_work; at_path = a.at_path }
 
--- the row of a site was taken out
-pub record Took (old new : Rows) (site : ℕ) (row : Row) : Type 0 where
-  pub row_is : row_of old site ≡ row
-  pub gone : row_of new site ≡ zero_row
-  pub others : (q : ℕ) → (site == q) ≡ false → row_of new q ≡ row_of old q
+-- the same, the piece's row first
+abbrev pub under : Row → Row → Row
+under piece ours = summed ours piece
 
--- there are fewer rows
-abbrev pub HasFewer : Rows → Rows → Type 0
-HasFewer old new = length new.by_site.items < length old.by_site.items
+-- each of the shorter rows is added so to the longer ones, and the further ones stay
+pub record AddsEach (add : Row → Row → Row) (longer shorter new : Rows) : Type 0 where
+  pub within : (q : ℕ) → q < length shorter.by_site.items → FitsRow (add (row_of longer q) (row_of shorter q)) → row_of new q ≡ add (row_of longer q) (row_of shorter q)
+  pub beyond : (q : ℕ) → length shorter.by_site.items ≤ q → row_of new q ≡ row_of longer q
 
--- each row whose sums fit has those of the piece
-abbrev pub JoinsRows : Rows → Rows → Rows → Type 0
-JoinsRows old right new = (q : ℕ) → FitsRow (summed (row_of old q) (row_of right q)) → row_of new q ≡ summed (row_of old q) (row_of right q)
+-- a row is read as another: the same sums, as many open and, where one is open, begun at the same readings
+pub record IsReadAs (row other : Row) : Type 0 where
+  pub calls : row.calls ≡ other.calls
+  pub own : row.own ≡ other.own
+  pub work : row.work ≡ other.work
+  pub span : row.span ≡ other.span
+  pub active : row.active ≡ other.active
+  pub at_work : 0 < other.active → row.at_work ≡ other.at_work
+  pub at_path : 0 < other.active → row.at_path ≡ other.at_path
+
+-- each row whose sums fit is read as ours with the piece's sums, where as many invocations are open in both
+abbrev pub JoinsRows : Rows → (piece : Rows) → Rows → Type 0
+JoinsRows old piece new =
+    (q : ℕ) → FitsRow (summed (row_of old q) (row_of piece q)) → (row_of piece q).active ≡ (row_of old q).active
+    → IsReadAs (row_of new q) (summed (row_of old q) (row_of piece q))

@@ -53,6 +53,14 @@ StaysBounded old new = (most : ℕ) → IsBounded most old → IsBounded most ne
 abbrev pub IsShort : Paths → Type 0
 IsShort paths = length paths.steps.items ≤ paths.start + paths.limit + 1
 
+-- it has no more steps than its limit
+abbrev pub IsWithinLimit : Paths → Type 0
+IsWithinLimit paths = length paths.steps.items ≤ paths.start + paths.limit
+
+-- at most one step is new
+abbrev pub GrowsByOne : Paths → Paths → Type 0
+GrowsByOne old new = length new.steps.items ≤ length old.steps.items + 1
+
 -- the same is said of each site whose steps fit 64 bits
 abbrev pub SaysTheSame : Paths → Paths → Type 0
 SaysTheSame old new = Laid old → (q : ℕ) → (strand_path q old).now.own < 2 ^ 64 → strand_path q new ≡ strand_path q old
@@ -102,8 +110,8 @@ ExtendsBy old new steps from to weight =
     → strand_path q new ≡ extends_by (part q steps from to weight) (strand_path q old)
 
 -- a child that ran apart, whose steps these are
-abbrev pub ForksBy : Paths → Paths → (first : Bool) → List Steps → (from to weight : ℕ) → Type 0
-ForksBy old new first steps from to weight =
+abbrev pub Forks : Paths → Paths → (first : Bool) → List Steps → (from to weight : ℕ) → Type 0
+Forks old new first steps from to weight =
     from ≤ to → to ≤ length steps → Laid old → (q : ℕ) → Fits (plus (all_of (strand_path q old)) (part q steps from to weight))
     → strand_path q new ≡ forks first (part q steps from to weight) (strand_path q old)
 

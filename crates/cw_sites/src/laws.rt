@@ -9,21 +9,21 @@ pub fn blocks_read_chosen_paths()
 {}
 
 /// The calls of a run keep a path that shows it, for each site; at its end it is the chosen path.
-#[tactic(auto, using(crate::proofs::TableLaws::all_runs_are_shown))]
+#[tactic(auto, using(crate::specs::lemmas::Tables::all_runs_are_shown))]
 pub fn runs_are_shown()
     ensures { AllRunsAreShown }
 {}
 
 /// A scope, a cut, a loop's turn and a region begin and end without a call of the table, once the instructions so far
 /// are noted.
-#[tactic(auto, using(crate::proofs::TableLaws::quiet_parts))]
+#[tactic(auto, using(crate::specs::lemmas::Tables::quiet_parts))]
 pub fn quiet_parts_need_no_call()
     ensures { QuietPartsNeedNoCall }
 {}
 
 /// The weight of the path that runs grows along each part, whose block has joined, by the part's span: so it can be
 /// told to a region table.
-#[tactic(auto, using(crate::proofs::SiteRowLaws::path_meters))]
+#[tactic(auto, using(crate::specs::lemmas::SiteRows::path_meters))]
 pub fn paths_are_metered()
     ensures { PathsAreMetered }
 {}

@@ -53,5 +53,3 @@ pub mod paths;
 pub mod rows;
 pub mod steps;
 pub mod table;
-#[cfg(test)]
-mod tests;

@@ -3,7 +3,7 @@
 ghost use Rattle.std.specs.Prelude.{◌≡◌, ℕ, ◌+◌, ◌-◌, ◌^◌, ◌<◌, ◌==◌, ◌≤◌, length, min, if◌then◌else◌, IfOk, OnOk};
 ghost use Rattle.cw_sites.specs.StepLists.{strand_path, Extends, IsBounded, IsShort, Laid, LaidWith, SaysTheSame, StaysBounded, Comes, ComesWithin, TakesChild, LetsChildGo, JoinsBlock, ClosesBlock};
 ghost use Rattle.cw_sites.specs.PathCalls.{ReadsOwn, ReadsOwnBySite, StaysBoundedAt};
-ghost use Rattle.cw_sites.specs.StepLists.{AddsStep, Appends, AppendsBlock, AppendsChild, ExtendsBy, ForksBy, StaysBoundedWith};
+ghost use Rattle.cw_sites.specs.StepLists.{AddsStep, Appends, AppendsBlock, AppendsChild, ExtendsBy, Forks, GrowsByOne, IsWithinLimit, StaysBoundedWith};
 ghost use Rattle.cw_sites.specs.StrandPaths.{nothing_run, begins, again, spawns, is_longer, ends, joins};
 
 use crate::compacting::{add_up, sum_up};
@@ -84,7 +84,7 @@ impl Paths {
     fn add(&mut self, site: u32, count: u64) -> Result<(), AllocError>
         ensures laid { OnOk result (Laid self.old → Laid self.new) }
         ensures strand_path { OnOk result (Extends self.old self.new site count) }
-        ensures short { OnOk result (length self.new.steps.items ≤ length self.old.steps.items + 1) }
+        ensures short { OnOk result (GrowsByOne self.old self.new) }
         ensures limit { OnOk result (self.new.limit ≡ self.old.limit) }
         ensures start { OnOk result (self.new.start ≡ self.old.start) }
         ensures bounded { OnOk result (StaysBoundedAt site self.old self.new) }
@@ -100,7 +100,7 @@ impl Paths {
     fn compact(&mut self) -> Result<(), AllocError>
         ensures laid { OnOk result (Laid self.old → Laid self.new) }
         ensures same { OnOk result (SaysTheSame self.old self.new) }
-        ensures short { OnOk result (length self.new.steps.items ≤ self.new.start + self.new.limit) }
+        ensures short { OnOk result (IsWithinLimit self.new) }
         ensures bounded { OnOk result (StaysBounded self.old self.new) }
     {
         add_up(&mut self.steps, self.start, &mut self.sums)?;
@@ -373,7 +373,7 @@ impl Paths {
     ) -> Result<(), AllocError>
         ensures laid { OnOk result (Laid self.old → Laid self.new) }
         ensures bounded { OnOk result (StaysBoundedWith steps.now.items self.old self.new) }
-        ensures strand_path { OnOk result (ForksBy self.old self.new first steps.now.items from to weight) }
+        ensures path { OnOk result (Forks self.old self.new first steps.now.items from to weight) }
     {
         self.spawn(first)?;
         self.extend_by(steps, from, to, weight)?;
@@ -391,7 +391,7 @@ impl Paths {
     ) -> Result<(), AllocError>
         ensures laid { OnOk result (Laid self.old → Laid self.new) }
         ensures bounded { OnOk result (StaysBoundedWith steps.now.items self.old self.new) }
-        ensures strand_path { OnOk result (ExtendsBy self.old self.new steps.now.items from to weight) }
+        ensures path { OnOk result (ExtendsBy self.old self.new steps.now.items from to weight) }
     {
         let end = to.min(steps.len());
         for i in from..end {

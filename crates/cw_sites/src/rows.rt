@@ -1,10 +1,11 @@
 //! What is counted of each site, kept by site number.
 
-ghost use Rattle.std.specs.Prelude.{◌≡◌, ℕ, ◌==◌, ◌<◌, true, false, Some, None, length, IfSome, OnOk, if◌then◌else◌};
+ghost use Rattle.std.specs.Prelude.{◌≡◌, ℕ, ◌==◌, ◌<◌, ◌≤◌, true, false, length, OnOk, if◌then◌else◌};
 ghost use Rattle.cw_sites.specs.SiteRows as tallies;
-ghost use Rattle.cw_sites.specs.SiteRows.{row_of, zero_row, FitsRow, Becomes, HasFewer, IsGiven, JoinsRows, OthersStay, SayTheSame, Took};
+ghost use Rattle.cw_sites.specs.SiteRows.{row_of, zero_row, AddsEach, Becomes, IsGiven, IsWhereItFits, JoinsRows, OthersStay, SayTheSame};
 
 use std::alloc::{AllocError, Global};
+use std::mem;
 
 /// What is counted of a site so far.
 #[derive(Clone, Copy, Debug)]
@@ -149,28 +150,49 @@ impl Rows {
         Ok(())
     }
 
-    /// Adds, for each site, the sums of a piece that ran apart and of which no invocation is open: one step for each row
-    /// of the piece.
-    pub fn join(&mut self, right: Rows) -> Result<(), AllocError>
-        ensures { OnOk result (JoinsRows self.old right self.new) }
+    /// Adds the sums of a piece that ran apart, inside of as many open invocations of each site as are open here.
+    /// Takes one step for each row of the shorter of the two, which are added to those of the longer one, and no memory.
+    pub fn join(&mut self, piece: Rows)
+        ensures { JoinsRows self.old piece self.new }
     {
-        let mut rest = right;
-        while let Some((site, row)) = rest.take_last() {
-            let current = self.row_at(site);
-            let sum = summed(current, row);
-            self.set(site, sum)?;
+        if piece.by_site.len() <= self.by_site.len() {
+            self.add(&piece);
+        } else {
+            let ours = mem::replace(self, piece);
+            self.add_under(&ours);
         }
-        Ok(())
     }
 
-    // Takes the last row out, where there is one.
-    fn take_last(&mut self) -> Option<(usize, Row)>
-        ensures took { IfSome result (λ p. Took self.old self.new p.0 p.1) }
-        ensures none { result ≡ None → (q : ℕ) → row_of self.old q ≡ zero_row }
-        ensures fewer { IfSome result (λ p. HasFewer self.old self.new) }
+    // Adds the sums of a piece whose rows are no more than ours.
+    fn add(&mut self, piece: &Rows)
+        requires { length piece.now.by_site.items ≤ length self.old.by_site.items }
+        ensures { AddsEach tallies.summed self.old piece.now self.new }
     {
-        let row = self.by_site.pop()?;
-        Some((self.by_site.len(), row))
+        for place in 0..piece.by_site.len() {
+            let sum = summed(self.row_at(place), piece.row_at(place));
+            self.put(place, sum);
+        }
+    }
+
+    // These are a piece's rows, and ours are no more: adds ours to them, of which what is open stays open.
+    fn add_under(&mut self, ours: &Rows)
+        requires { length ours.now.by_site.items ≤ length self.old.by_site.items }
+        ensures { AddsEach tallies.under self.old ours.now self.new }
+    {
+        for place in 0..ours.by_site.len() {
+            let sum = summed(ours.row_at(place), self.row_at(place));
+            self.put(place, sum);
+        }
+    }
+
+    // Gives a site within the rows its row.
+    #[inline(always)]
+    fn put(&mut self, place: usize, row: Row)
+        requires { place < length self.old.by_site.items }
+        ensures given { IsGiven self.old self.new place row }
+        ensures as_long { length self.new.by_site.items ≡ length self.old.by_site.items }
+    {
+        self.by_site[place] = row;
     }
 
     // Gives a site its row.
@@ -178,7 +200,7 @@ impl Rows {
         ensures { OnOk result (IsGiven self.old self.new place row) }
     {
         self.reach(place)?;
-        self.by_site[place] = row;
+        self.put(place, row);
         Ok(())
     }
 }
@@ -186,7 +208,7 @@ impl Rows {
 /// The row after so many instructions of its site.
 #[inline(always)]
 pub fn worked(row: Row, count: u64) -> Row
-    ensures { FitsRow (tallies.worked count row) → result ≡ tallies.worked count row }
+    ensures { IsWhereItFits (tallies.worked count row) result }
 {
     let mut row = row;
     row.own = row.own.wrapping_add(count);
@@ -196,7 +218,7 @@ pub fn worked(row: Row, count: u64) -> Row
 /// The row after an invocation of its site began that lies in no other one, at this work and on a path of this weight.
 #[inline(always)]
 pub fn entered_first(row: Row, count: u64, path: u64) -> Row
-    ensures { FitsRow (tallies.entered_at true count path row) → result ≡ tallies.entered_at true count path row }
+    ensures { IsWhereItFits (tallies.entered_at true count path row) result }
 {
     let mut row = row;
     row.calls = row.calls.wrapping_add(1);
@@ -209,7 +231,7 @@ pub fn entered_first(row: Row, count: u64, path: u64) -> Row
 /// The row after an invocation of its site began that lies in another one.
 #[inline(always)]
 pub fn entered_again(row: Row) -> Row
-    ensures { FitsRow (tallies.entered_at false 0 0 row) → result ≡ tallies.entered_at false 0 0 row }
+    ensures { IsWhereItFits (tallies.entered_at false 0 0 row) result }
 {
     let mut row = row;
     row.calls = row.calls.wrapping_add(1);
@@ -220,7 +242,7 @@ pub fn entered_again(row: Row) -> Row
 /// The row after an invocation of its site ended that lies in no other one, and is summed.
 #[inline(always)]
 pub fn left_last(row: Row, count: u64, path: u64) -> Row
-    ensures { FitsRow (tallies.left_at true count path row) → result ≡ tallies.left_at true count path row }
+    ensures { IsWhereItFits (tallies.left_at true count path row) result }
 {
     let mut row = row;
     row.work = row.work.wrapping_add(count.saturating_sub(row.at_work));
@@ -241,7 +263,7 @@ pub fn left_inner(row: Row) -> Row
 
 /// The row where one more invocation of its site is open round a piece that begins.
 pub fn stood_in(row: Row) -> Row
-    ensures { FitsRow (tallies.stood_in row) → result ≡ tallies.stood_in row }
+    ensures { IsWhereItFits (tallies.stood_in row) result }
 {
     let mut row = row;
     row.active = row.active.saturating_add(1);
@@ -250,7 +272,7 @@ pub fn stood_in(row: Row) -> Row
 
 /// The row with the sums of a piece's row.
 pub fn summed(row: Row, piece: Row) -> Row
-    ensures { FitsRow (tallies.summed row piece) → result ≡ tallies.summed row piece }
+    ensures { IsWhereItFits (tallies.summed row piece) result }
 {
     let mut row = row;
     row.calls = row.calls.saturating_add(piece.calls);

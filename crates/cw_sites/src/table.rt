@@ -182,7 +182,7 @@ impl SiteTable {
         ensures told { OnOk result (JoinsPiece self.old piece self.new first) }
         ensures bounded { OnOk result (StaysBoundedBeside piece self.old self.new) }
     {
-        self.rows.join(piece.rows)?;
+        self.rows.join(piece.rows);
         self.paths.append(piece.paths, first)?;
         self.noted = self.noted.saturating_add(piece.noted);
         Ok(())
@@ -230,7 +230,7 @@ impl SiteTable {
         ensures told { OnOk result (JoinsChild self.old child self.new first) }
         ensures bounded { OnOk result (StaysBoundedBeside child self.old self.new) }
     {
-        self.rows.join(child.rows)?;
+        self.rows.join(child.rows);
         self.paths.append_child(child.paths, first)?;
         self.noted = self.noted.saturating_add(child.noted);
         Ok(())

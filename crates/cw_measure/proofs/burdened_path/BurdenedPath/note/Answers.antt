@@ -1,7 +1,6 @@
-use Rattle.std.proofs.Common.{ℕ, ◌≡◌, ◌+◌, ◌-◌, ◌%◌, ◌^◌, [], ap, ◌∙◌, arith}
+use Rattle.std.proofs.Common.{ℕ, [], ap, arith}
 use Rattle.cw_measure.specs.StrandWeights.{reversed}
 use Rattle.cw_measure.proofs.StrandWeightLaws.{noted_weight, weighs}
-use Rattle.std.proofs.Math.Nat.{mod-eq_of_lt}
 use Rattle.cw_measure.proofs.burdened_path.BurdenedPath.note.Goals as goal
 
 pub returns-clause-tells : goal.returns-clause-tells

@@ -5,4 +5,4 @@ use Rattle.cw_regions.proofs.table.RegionTable.join.Goals as goal
 pub returns : goal.returns
 returns c =
     let new : RegionTable = record { rows = c.join.new.self } in
-    regions_join c.args.self.now c.args.right new c.in_ok-join.ensures
+    regions_join c.args.self.now c.args.right new c.join.ensures

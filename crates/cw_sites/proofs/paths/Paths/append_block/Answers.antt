@@ -38,16 +38,16 @@ returns-clause-strand_path c = λ laid pl q fits.
     let t = strand_path q c.args.self.now in
     let t1 = strand_path q c.extend_by.new.self in
     let t3 = strand_path q c.extend_by-2.new.self in
-    let first_step = c.in_ok-extend_by.ensures.strand_path o0 (omega arith) laid q in
+    let first_step = c.in_ok-extend_by.ensures.path o0 (omega arith) laid q in
     let Last : Paths → Type 0 = λ r. Laid r → Fits (plus (strand_path q r).now now) → t3 ≡ extends_by now (strand_path q r) in
     let Q : ℕ → Type 0 = λ n. Fits (plus (strand_path q c.match-f.self).now (part q steps c.args.piece.now.start n c.args.piece.now.weight)) → t3 ≡ extends_by (part q steps c.args.piece.now.start n c.args.piece.now.weight) (strand_path q c.match-f.self) in
-    let last : Last c.match-f.self = λ l. subst Q e (c.in_ok-extend_by-2.ensures.strand_path (omega arith) (omega arith) l q) in
+    let last : Last c.match-f.self = λ l. subst Q e (c.in_ok-extend_by-2.ensures.path (omega arith) (omega arith) l q) in
     elim c.match-f.branch as (λ w. t3 ≡ appends_block c.args.first base (option_map (part q steps f.mid f.end) f.longest) now t) [
       | in-Some+in_ok-fork_by w ↦
           let l2 = w.in_ok-fork_by.ensures.laid l1 in
           let child = part q steps f.mid f.end w.in-Some.child in
           appends_some c.args.first base now (part q steps f.at f.child f.rest) child (option_map (part q steps f.mid f.end) f.longest) t t1 (strand_path q w.fork_by.new.self) t3
-          (ap (option_map (part q steps f.mid f.end)) w.in-Some.is) first_step (w.in_ok-fork_by.ensures.strand_path o1 (omega arith) l1 q) (subst Last w.self-is last l2) fits
+          (ap (option_map (part q steps f.mid f.end)) w.in-Some.is) first_step (w.in_ok-fork_by.ensures.path o1 (omega arith) l1 q) (subst Last w.self-is last l2) fits
       | in_default w ↦
           appends_none c.args.first base now (part q steps f.at f.child f.rest) (option_map (part q steps f.mid f.end) f.longest) t t1 t3
           (ap (option_map (part q steps f.mid f.end)) w.in_default.is) first_step (subst Last w.self-is last l1) fits

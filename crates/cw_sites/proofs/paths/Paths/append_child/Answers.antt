@@ -12,4 +12,4 @@ returns-clause-strand_path c = λ laid cl q fits.
     let t = strand_path q c.args.self.now in
     let e : c.len-end.result ≡ length child.steps.items = search rules in
     let P : ℕ → Type 0 = λ n. Fits (plus (whole t) (part q child.steps.items child.start n child.weight)) → strand_path q c.fork_by.new.self ≡ forks c.args.first (part q child.steps.items child.start n child.weight) t in
-    (subst P e (c.in_ok-fork_by.ensures.strand_path (omega arith) (omega arith) laid q)) fits
+    (subst P e (c.in_ok-fork_by.ensures.path (omega arith) (omega arith) laid q)) fits

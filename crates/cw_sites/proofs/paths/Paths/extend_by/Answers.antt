@@ -9,8 +9,8 @@ pub loop-i-preserved : goal.loop-i-preserved
 loop-i-preserved c =
     one_stepped c.args.self.now c.loop-i.self c.step.new.self c.args.steps.now.items c.args.from c.loop-i.i c.index-one.result.now (omega arith) (omega arith) c.index-one.ensures c.in_ok-step.ensures.laid c.in_ok-step.ensures.strand_path c.in_ok-step.ensures.bounded c.loop-i.invariant
 
-pub returns-clause-strand_path : goal.returns-clause-strand_path
-returns-clause-strand_path c = λ order within laid q fits.
+pub returns-clause-path : goal.returns-clause-path
+returns-clause-path c = λ order within laid q fits.
     all_stepped c.args.self.now c.loop-i.self c.args.steps.now.items c.args.from c.args.to c.loop-i.i c.args.weight c.saturating_add-self.result (λ o w. omega arith) (λ h. omega arith) c.loop-i.invariant order within laid q fits
 
 pub returns-clause-bounded : goal.returns-clause-bounded

@@ -1,7 +1,7 @@
 use Rattle.std.proofs.Common.{refl, ◌∙◌, ◌++◌}
 use Rattle.cw_sites.specs.declared.table.SiteTable.{SiteTable}
 use Rattle.cw_sites.proofs.TableLaws.{table_flushed, table_joined}
-use Rattle.cw_measure.proofs.OpenPartLaws.{has_spawned_since}
+use Rattle.cw_measure.specs.lemmas.OpenParts.{has_spawned_since}
 use Rattle.cw_sites.proofs.table.SiteTable.join.Goals as goal
 
 pub returns-clause-told : goal.returns-clause-told

@@ -7,7 +7,7 @@ pub returns-clause-told : goal.returns-clause-told
 returns-clause-told c =
     let old = c.args.self.now in
     let new : SiteTable = record { rows = c.join.new.self; paths = c.append_child.new.self; noted = c.saturating_add-self.result; here = old.here } in
-    table_child old c.args.child new c.args.first c.in_ok-join.ensures c.in_ok-append_child.ensures.laid c.in_ok-append_child.ensures.strand_path (λ h. omega arith) refl
+    table_child old c.args.child new c.args.first c.join.ensures c.in_ok-append_child.ensures.laid c.in_ok-append_child.ensures.strand_path (λ h. omega arith) refl
 
 pub returns-clause-bounded : goal.returns-clause-bounded
 returns-clause-bounded c = λ most a b. record { paths = c.in_ok-append_child.ensures.bounded most a.paths.sites b.paths; here = b.here }

@@ -1,4 +1,4 @@
--- The calls of a run keep the sums over its outermost parts, whatever is measured and whichever marks are counted.
+-- Lemmas of tallies: the calls of a run keep the sums over its outermost parts.
 use Rattle.std.specs.Prelude.{◌≡◌, ℕ, zero, suc, ◌+◌, ◌==◌, ◌≤◌, ◌<◌, Bool, true, false, if◌then◌else◌, List, [], ◌∷◌, ◌++◌, Option, Some, None, sum_by, refl}
 use Rattle.std.proofs.Common.{sym, ◌∙◌, ap, subst, true≢false, arith}
 use borrow.Author.Tests.{eqb-true}
@@ -7,7 +7,7 @@ use Rattle.cw_model.specs.Trees.{Mark, Tree, Leaf, Seq, Par, Marked, Event, Work
 use Rattle.cw_model.specs.Rows.{outermost}
 use Rattle.cw_measure.specs.OpenParts.{Open, marked, event_of, closed, has_spawned, sum_in}
 use Rattle.cw_measure.specs.Outermost.{is_counted, one_if, active_in, outer_sum, outer_in, Reading, Meters, BeganAt, Began, Tally, begun_at, begun, ended_at, ended, Counts, TalliesKeep, joined_tally, PiecesTally}
-use Rattle.cw_measure.proofs.OpenPartLaws.{Adds, tree_in, adds_none, adds_first, adds_more, adds_append, tree_in-part_of}
+use Rattle.cw_measure.specs.lemmas.OpenParts.{Adds, tree_in, adds_none, adds_first, adds_more, adds_append, tree_in-part_of}
 
 outer_adds : (f : Tree → ℕ) (picks : Mark → Bool) (n : ℕ) → Adds (outer_sum f picks n)
 outer_adds f picks zero = record {
@@ -92,6 +92,18 @@ some_active (suc n) e = omega arith
 some_more : (a n : ℕ) → (a == 1) ≡ false → a ≡ 1 + n → 0 < n
 some_more a zero e h = absurd (true≢false (sym (ap (λ (x : ℕ). x == 1) h) ∙ e))
 some_more a (suc n) e h = omega arith
+
+-- a tally that is read alike counts the same run
+began_alike : (read : Reading) (picks : Mark → Bool) (busy : ℕ) (os : List Open) (n began began' : ℕ) → active_in picks busy os ≡ n → (0 < n → began' ≡ began) → Began read picks busy os began → Began read picks busy os began'
+began_alike read picks busy os zero began began' e b h = nothing_began read picks busy os began' e
+began_alike read picks busy os (suc n) began began' e b h = let P : ℕ → Type 0 = λ x. Began read picks busy os x in subst P (sym (b (omega arith))) h
+
+pub counts_alike : (f : Tree → ℕ) (read : Reading) (picks : Mark → Bool) (busy : ℕ) (os : List Open) (es : List Event) (t u : Tally) → u.sum ≡ t.sum → u.active ≡ t.active → (0 < t.active → u.began ≡ t.began) → Counts f read picks busy os es t → Counts f read picks busy os es u
+counts_alike f read picks busy os es t u s a b h = record {
+  sum_is = s ∙ h.sum_is;
+  active_is = a ∙ h.active_is;
+  began_is = began_alike read picks busy os t.active t.began u.began (sym h.active_is) b h.began_is;
+}
 
 -- the block that runs goes on
 pub counts_work : (f : Tree → ℕ) (read : Reading) (picks : Mark → Bool) (busy : ℕ) (os : List Open) (es : List Event) (t : Tally) (k : ℕ) → Counts f read picks busy os es t → Counts f read picks busy os (es ++ Work k ∷ []) t

@@ -1,4 +1,4 @@
--- A strand_path shows a run so far, and the calls of a run keep it so.
+-- Lemmas of the path of a run so far.
 use Rattle.std.specs.Prelude.{◌≡◌, ℕ, ◌+◌, nat_lt, Bool, true, false, List, [], ◌∷◌, ◌++◌, Option, Some, None, refl}
 use Rattle.std.proofs.Common.{sym, ◌∙◌, ap, subst}
 use Rattle.cw_model.specs.Trees.{Mark, Tree, Event, Work, Series, Fork, Join, tree_of}
@@ -7,8 +7,8 @@ use Rattle.cw_sites.specs.ChosenPaths.{Path, nowhere, plus, best, steps_of, chos
 use Rattle.cw_sites.specs.BlockPaths.{BlockPath, Straight, Split, now_of, extended, longest_of, child_ended, finished, joins as joined, after, after_all}
 use Rattle.cw_sites.specs.StrandPaths.{SeenBlock, StrandPath, begins, again, chooses, ends_at, ends, joins}
 use Rattle.cw_sites.specs.OpenPaths.{inside, here_in, enters, block_path, StandsOn, RestsOn, Under, Shows, is_split}
-use Rattle.cw_sites.proofs.ChosenPathLaws.{plus-nowhere_first, plus-nowhere_last}
-use Rattle.cw_sites.proofs.BlockPathLaws.{finished-after_all}
+use Rattle.cw_sites.specs.lemmas.ChosenPaths.{plus-nowhere_first, plus-nowhere_last}
+use Rattle.cw_sites.specs.lemmas.BlockPaths.{finished-after_all}
 
 pub after_all-append : (site here : ℕ) (L : BlockPath) (es fs : List Event) → after_all site here L (es ++ fs) ≡ after_all site here (after_all site here L es) fs
 after_all-append site here L [] fs = refl

@@ -1,4 +1,4 @@
--- What a strand keeps of a block adds the burdened span of the tree of its events.
+-- Lemmas of blocks: what a strand keeps of one adds the burdened span of the tree of its events.
 use Rattle.std.specs.Prelude.{◌≡◌, ℕ, zero, suc, ◌+◌, max, List, [], ◌∷◌}
 use Rattle.std.proofs.Common.{sym, ◌∙◌, ap, subst, arith}
 use Rattle.cw_model.specs.Trees.{Event, Work, Series, Fork, Join, burdened_span, tree_of}

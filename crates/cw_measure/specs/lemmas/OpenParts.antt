@@ -1,4 +1,4 @@
--- Sums over the parts of a tree, and over a run so far.
+-- Lemmas of runs so far: sums over the parts of a tree, and whether a block has spawned.
 use Rattle.std.specs.Prelude.{◌≡◌, ℕ, ◌+◌, ◌-◌, Bool, true, false, List, [], ◌∷◌, ◌++◌, Option, Some, None, refl}
 use Rattle.std.proofs.Common.{sym, ◌∙◌, ap, subst, arith}
 use Rattle.cw_model.specs.Trees.{Mark, Tree, Leaf, Seq, Par, Event, Work, Series, Fork, Join, tree_of, parts_of, work}
