@@ -4,3 +4,7 @@ pub mod ModelLaws
 pub mod TellingLaws
 pub mod StandingLaws
 pub mod ReadingLaws
+pub mod PieceTellingLaws
+pub mod PieceRunLaws
+pub mod BoundLaws
+pub mod ElisionLaws

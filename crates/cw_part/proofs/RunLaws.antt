@@ -173,7 +173,7 @@ serial_is (Inside spawned mark inner rest) left =
     ap (λ (y : Came Trace). goes_on (seen (as_event spawned mark) y) (λ t. serial (left - cost t) rest)) (serial_is inner left)
     ∙ inside_tested left (as_event spawned mark) (meaning inner) (meaning rest) (λ n. serial n rest) (cost_inside spawned mark) (serial_is rest) (none_meant inner) (none_meant rest)
 
-meaning_both : (a b : Run) → meaning (then_run a b) ≡ followed traces (meaning a) (meaning b)
+pub meaning_both : (a b : Run) → meaning (then_run a b) ≡ followed traces (meaning a) (meaning b)
 meaning_both Ends b = sym (none_followed traces traces_are_lawful (meaning b))
 meaning_both (Shows t rest) b =
     ap (followed traces (Ran t)) (meaning_both rest b) ∙ sym (followed-assoc traces traces_are_lawful (Ran t) (meaning rest) (meaning b))

@@ -12,3 +12,6 @@ pub mod Pieces
 pub mod Runs
 pub mod ModelRuns
 pub mod RunsHaveParts
+pub mod PieceRuns
+pub mod Elision
+pub mod ElisionExamples

@@ -1,11 +1,16 @@
 //! The laws of parts: each function has one as its contract, and does nothing.
 
+ghost use Rattle.cw_part.specs.Elision.{AdditionsAreSums, ElisionIsARun, PiecesAreTheElision, RunGivesTheAnswers};
+ghost use Rattle.cw_part.specs.ElisionExamples.{ElisionExamples};
 ghost use Rattle.cw_part.specs.ModelRuns.{RunsAreTheModels};
+ghost use Rattle.cw_part.specs.PieceRuns.{CallsAreRuns, RunsTellOfPieces};
 ghost use Rattle.cw_part.specs.Read.{PartsOfRunsJoin};
 ghost use Rattle.cw_part.specs.Runs.{PiecesAreTheRun};
 ghost use Rattle.cw_part.specs.RunsHaveParts.{RunsHaveParts};
 
 use cw_measure::laws::measures_read_trees;
+use cw_model::laws::normal_form_reads_the_same;
+use cw_reduce::laws::sums_hold_integers;
 
 /// Parts of runs, with their views and their measure, make a monoid: what follows a trap or an end at the limit is
 /// dropped, work above the limit is over, and memory that was refused on either side is so for both.
@@ -34,4 +39,33 @@ pub fn runs_are_the_models()
 #[tactic(auto, using(crate::proofs::ReadingLaws::runs_have_parts))]
 pub fn runs_have_parts()
     ensures { RunsHaveParts }
+{}
+
+/// Each call of the model, and so the serial elision of a program on any arguments, is a run of a frame within each limit:
+/// its instructions one by one, its traps, and each call, scope, region and spawned child as a part inside. A piece that
+/// is such a run comes to what the run does, serially, within each budget up to the limit: the value, the trace, the trap
+/// and its line.
+#[tactic(auto, using(crate::proofs::PieceRunLaws::calls_are_runs, crate::proofs::ElisionLaws::elision_is_a_run, crate::proofs::ElisionLaws::run_gives_the_answers, crate::proofs::PieceTellingLaws::runs_tell_of_pieces))]
+pub fn elision_is_a_run()
+    ensures calls { CallsAreRuns }
+    ensures elision { ElisionIsARun }
+    ensures told { RunsTellOfPieces }
+    ensures answers { RunGivesTheAnswers }
+{}
+
+/// However the elision's run is cut at its spawns, and in whatever grouping its pieces are joined: the joined part tells
+/// the serial answer within the limit, or memory was refused. At an end it tells the lines, the sums and the readings of
+/// the tree; at a trap the line, the lines before it and its cost.
+pub fn pieces_are_the_elision()
+    ensures answer { PiecesAreTheElision }
+    ensures sums { AdditionsAreSums }
+{
+    measures_read_trees();
+    normal_form_reads_the_same();
+    sums_hold_integers();
+}
+
+/// The runs of small programs: a spawn, a trap in a spawned child, and a limit that a child passes.
+pub fn runs_of_small_programs()
+    ensures { ElisionExamples }
 {}

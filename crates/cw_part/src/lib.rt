@@ -10,7 +10,8 @@
 //! A part inside of a block is made a piece of that block before it is joined, a spawned child by `into_child` and a call
 //! by `into_call`; the next piece of the same block is joined as it is. `laws::pieces_are_the_run` says what comes of it:
 //! however the run of a frame is cut, and wherever its pieces stopped, the joined part tells of the serial run within the
-//! limit, or memory was refused.
+//! limit, or memory was refused. `laws::elision_is_a_run` finds such a run in the meaning of each program, and
+//! `laws::pieces_are_the_elision` says that its joined pieces tell the serial answer.
 #![tactic(auto)]
 
 pub mod laws;
@@ -19,8 +20,6 @@ mod part;
 mod piece;
 mod read;
 mod tables;
-#[cfg(test)]
-mod tests;
 
 pub use outcome::Outcome;
 pub use part::{GREATEST_LIMIT, Part};

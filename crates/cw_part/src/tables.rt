@@ -53,7 +53,7 @@ impl Tables {
         ensures bounded { OnOk result (BoundedBeside piece self.old self.new) }
     {
         self.sites.join_piece(piece.sites, first)?;
-        self.regions.join(piece.regions)?;
+        self.regions.join(piece.regions);
         Ok(())
     }
 
@@ -70,8 +70,8 @@ impl Tables {
     {
         regions_need_no_call();
         self.sites.join_across(before.sites, after.sites, first)?;
-        self.regions.join(before.regions)?;
-        self.regions.join(after.regions)?;
+        self.regions.join(before.regions);
+        self.regions.join(after.regions);
         Ok(())
     }
 
@@ -82,7 +82,7 @@ impl Tables {
         ensures bounded { OnOk result (BoundedBeside child self.old self.new) }
     {
         self.sites.join_child(child.sites, first)?;
-        self.regions.join(child.regions)?;
+        self.regions.join(child.regions);
         Ok(())
     }
 }

@@ -1,0 +1,141 @@
+-- The joined part of pieces of the elision's run tells the serial answer.
+use Rattle.std.specs.Prelude.{◌≡◌, ℕ, suc, ℤ, ◌≤◌, nat_lt, min, pos, ◌+ℤ◌, if◌then◌else◌, Bool, true, false, List, [], ◌∷◌, map, ◌-◌, refl}
+use Rattle.std.proofs.Common.{sym, ◌∙◌, ap, subst, inl, inr, ⊎_elim, arith}
+use Rattle.std.specs.Int.{int_wrap, w128}
+use Rattle.std.specs.Int.RustNames.{FitsSigned}
+use Rattle.std.proofs.lemmas.Int.{int_wrap_fits, int_wrap-add_right, SFits-int_wrap}
+use Rattle.cw_model.specs.declared.trap.Trap.{Trap}
+use Rattle.cw_model.specs.Syntax.{Name, Reducer, Program}
+use Rattle.cw_model.specs.Trees.{Tree, Invocation, Marked, tree_of, normal}
+use Rattle.cw_model.specs.TreeLaws.{ReadSame}
+use Rattle.cw_model.specs.Names.{same_name}
+use Rattle.cw_model.specs.Outcome.{Trace, Outcome, Done, Piece}
+use Rattle.cw_model.specs.Outcome as model
+use Rattle.cw_model.specs.Meaning.{Returned, Deeper}
+use Rattle.cw_model.specs.Answers.{Answer, OverLimit, TrappedAt, answer_of, sum_to, int_given, serial_answer}
+use Rattle.cw_measure.specs.Measured.{most, most_burdened, Measured, MeasuresReadTrees, ReadsTree}
+use Rattle.cw_reduce.specs.Words.{plus, word_of}
+use Rattle.cw_reduce.specs.SumsOfIntegers.{SumsHoldIntegers}
+use Rattle.cw_part.specs.declared.read.Read.{Read}
+use Rattle.cw_part.specs.Parts.{Came, Ran, Trapped, Over, over_if, within}
+use Rattle.cw_part.specs.PartLaws.{below}
+use Rattle.cw_part.specs.Runs.{Run, cost, traces, serial, added, TellsTrace, TellsCame, RanAlike, TrappedAlike, OverAlike}
+use Rattle.cw_part.specs.PieceRuns.{OfCall, Way, IsRunOf}
+use Rattle.cw_part.specs.Elision.{elision, TellsAnswer, EndedSo, TrappedSo, OverSo, ElisionIsARun, RunGivesTheAnswers, PiecesAreTheElision, AdditionsAreSums}
+use Rattle.cw_part.proofs.RunLaws.{serial_is}
+use Rattle.cw_part.proofs.StandingLaws as cut
+use Rattle.cw_part.proofs.PieceTellingLaws.{tested, Comes, Ending, Trapping, Passing, run_comes, runs_tell_of_pieces}
+use Rattle.cw_part.proofs.PieceRunLaws.{calls_are_runs}
+use Rattle.cw_part.proofs.BoundLaws.{bounds_agree}
+
+pub elision_is_a_run : ElisionIsARun
+elision_is_a_run program args limit = calls_are_runs _ _ _ _ _ _ _ limit
+
+-- trees that read the same have the same measure
+abbrev NormalsReadTheSame : Type 0
+NormalsReadTheSame = (t : Tree) → ReadSame (normal t) t
+
+reads_normal : NormalsReadTheSame → (burden : ℕ) (m : Measured) (site : ℕ) (t : Tree) → ReadsTree burden m t → ReadsTree burden m (normal (Marked (Invocation site) t))
+reads_normal same burden m site t r =
+    let s = same (Marked (Invocation site) t) in
+    record {
+      work_is = r.work_is ∙ ap (min most) (sym s.same_work);
+      span_is = r.span_is ∙ ap (min most) (sym (s.same_span 0));
+      burdened_is = r.burdened_is ∙ ap (min most_burdened) (sym (s.same_span burden));
+    }
+
+reads_events : MeasuresReadTrees → NormalsReadTheSame → (burden : ℕ) (number : Name → ℕ) (t : Trace) (a : Read) → TellsTrace burden number t a → ReadsTree burden a.measure (normal (Marked (Invocation 0) (tree_of t.events)))
+reads_events law same burden number t a h =
+    let P : Measured → Type 0 = λ m. ReadsTree burden m (tree_of t.events) in
+    reads_normal same burden a.measure 0 (tree_of t.events) (subst P (sym h.measure) (law.reads burden t.events))
+
+-- the answer within a lesser limit
+answer_within : (program : Program) (args : List ℤ) (limit left : ℕ) → left ≤ limit → serial_answer program args left ≡ answer_of program.reducers (elision program args limit left)
+unfolding serial_answer
+answer_within program args limit left l = ap (answer_of program.reducers) (bounds_agree (suc left) (suc limit) 0 program.functions Deeper _ _ _ left (omega arith) (omega arith))
+
+pub run_gives_the_answers : RunGivesTheAnswers
+run_gives_the_answers program args limit left run way d l =
+    answer_within program args limit left l
+    ∙ ap (answer_of program.reducers) (runs_tell_of_pieces OfCall limit left (elision program args limit) run way d l)
+
+trap_answered : (reducers : List Reducer) (b : Bool) (trap : Trap) (line : ℕ) (lines : List ℤ) → answer_of reducers (if b then model.Over else model.Trapped trap line lines) ≡ (if b then OverLimit else TrappedAt trap line lines)
+trap_answered reducers true trap line lines = refl
+trap_answered reducers false trap line lines = refl
+
+module _ (law : MeasuresReadTrees) (same : NormalsReadTheSame) (burden : ℕ) (number : Name → ℕ) (program : Program) (args : List ℤ) (limit : ℕ) where
+  abbrev Tells : Outcome Returned → Came Read → Type 0
+  Tells o c = TellsAnswer burden number program args limit (answer_of program.reducers o) c
+
+  abbrev piece : Piece Returned
+  piece = elision program args limit
+
+  ended_so : (returned : Returned) (left : ℕ) {t : Trace} {c : Came Read} → piece limit ≡ Done returned left t → TellsCame burden number (Ran t) c → Tells (Done returned left t) c
+  ended_so returned left e (RanAlike t a h) =
+      EndedSo (int_given returned.0) t.lines (map (λ r. sum_to r.name t.additions) program.reducers) (normal (Marked (Invocation 0) (tree_of t.events))) a
+      (record { returned = returned; left = left; trace = t; ends = e; printed = h.lines; summed = refl; kept = h.sums; measured = reads_events law same burden number t a h })
+
+  over_so : {c : Came Read} → TellsCame burden number Over c → Tells model.Over c
+  over_so OverAlike = OverSo
+
+  trapped_so : {trap : Trap} {line : ℕ} {t : Trace} {c : Came Read} → ((n : ℕ) → n ≤ limit → piece n ≡ tested n (cost t) (λ k. model.Trapped trap line t.lines))
+      → TellsCame burden number (Trapped trap line t) c → Tells (model.Trapped trap line t.lines) c
+  trapped_so f (TrappedAlike trap line t a h) =
+      TrappedSo trap line t.lines a (record {
+        printed = h.lines;
+        cost = cost t;
+        measured = h.work;
+        comes = λ n l.
+            answer_within program args limit n l ∙ ap (answer_of program.reducers) (f n l)
+            ∙ trap_answered program.reducers (nat_lt n (cost t)) trap line t.lines;
+      })
+
+  -- how the elision came out within the limit
+  tells : {way : Way OfCall} {x : Came Trace} (c : Came Read) → Comes OfCall limit piece way x → TellsCame burden number (within traces limit x) c → Tells (piece limit) c
+  tells c (Ending a left t e f) h =
+      let g = f limit (omega arith) in
+      subst (λ o. Tells o c) (sym g) (by_test (nat_lt limit (cost t)) g h)
+    where
+      by_test : (b : Bool) → piece limit ≡ (if b then model.Over else Done a (limit - cost t) t) → TellsCame burden number (over_if b (Ran t)) c → Tells (if b then model.Over else Done a (limit - cost t) t) c
+      by_test true g k = over_so k
+      by_test false g k = ended_so a (limit - cost t) g k
+  tells c (Trapping trap line t f) h =
+      subst (λ o. Tells o c) (sym (f limit (omega arith))) (by_test (nat_lt limit (cost t)) h)
+    where
+      by_test : (b : Bool) → TellsCame burden number (over_if b (Trapped trap line t)) c → Tells (if b then model.Over else model.Trapped trap line t.lines) c
+      by_test true k = over_so k
+      by_test false k = trapped_so f k
+  tells c (Passing t d f) h =
+      let Q : Bool → Type 0 = λ b. TellsCame burden number (over_if b (Ran t)) c in
+      subst (λ o. Tells o c) (sym (f limit (omega arith))) (over_so (subst Q (below limit (cost t) d) h))
+
+  tells_serial : (run : Run) (way : Way OfCall) (c : Came Read) → IsRunOf OfCall limit piece run way → TellsCame burden number (serial limit run) c
+      → TellsAnswer burden number program args limit (serial_answer program args limit) c
+  tells_serial run way c d h =
+      let P : Came Trace → Type 0 = λ z. TellsCame burden number z c in
+      let Q : Answer → Type 0 = λ z. TellsAnswer burden number program args limit z c in
+      subst Q (sym (answer_within program args limit limit (omega arith))) (tells c (run_comes d) (subst P (serial_is run limit) h))
+
+pub pieces_are_the_elision : MeasuresReadTrees → NormalsReadTheSame → PiecesAreTheElision
+pieces_are_the_elision law same burden number program args limit run way p b d j =
+    let r = cut.pieces_are_the_run law burden number limit run p b j in
+    (r.0, ⊎_elim (λ refused. inl refused) (λ told. inr (tells_serial law same burden number program args limit run way p.came d told)) r.1)
+
+-- what is added to a reducer
+zero_fits : FitsSigned w128 (pos 0)
+zero_fits = record { sfits = omega arith }
+
+pub additions_are_sums : SumsHoldIntegers → AdditionsAreSums
+additions_are_sums law number reducer [] e h = ap word_of (sym (int_wrap_fits w128 (pos 0) zero_fits))
+additions_are_sums law number reducer (x ∷ more) e h =
+    ap (λ (b : Bool). if b then plus (word_of x.1) (added number (number reducer) more) else added number (number reducer) more) (e x.0)
+    ∙ by_test (same_name reducer x.0) (additions_are_sums law number reducer more e h.1)
+  where
+    by_test : (b : Bool) → added number (number reducer) more ≡ word_of (int_wrap w128 (sum_to reducer more))
+        → (if b then plus (word_of x.1) (added number (number reducer) more) else added number (number reducer) more)
+        ≡ word_of (int_wrap w128 (if b then x.1 +ℤ sum_to reducer more else sum_to reducer more))
+    by_test false i = i
+    by_test true i =
+        ap (plus (word_of x.1)) i
+        ∙ law.adds x.1 (int_wrap w128 (sum_to reducer more)) h.0 (SFits-int_wrap w128 (sum_to reducer more))
+        ∙ ap word_of (int_wrap-add_right w128 x.1 (sum_to reducer more))
