@@ -9,8 +9,8 @@ use Rattle.cw_text.specs.declared.fault.Fault.{Fault}
 use Rattle.cw_text.specs.declared.fault.Fault.TheVariants as fault
 use Rattle.cw_parse.specs.Parsed.{IsParsed, IsUnparsed}
 use Rattle.cw_types.specs.Faults.{IsTyped, IsIllTyped}
-use Rattle.cw_types.specs.View.{program_of}
-use Rattle.cw_types.specs.declared.tree.Tree.{Tree}
+use Rattle.cw_tree.specs.ResolvedView.{program_of}
+use Rattle.cw_tree.specs.declared.resolved.Tree.{Tree}
 use Rattle.cw_own.specs.Faults.{BreaksOwnership}
 use Rattle.cw_gen.specs.Generates as gen
 use Rattle.cw_code.specs.Code.{Code, code_view}

@@ -25,7 +25,7 @@ use Rattle.cw_report.specs.Sinks.{Writes, WritesAll, WritesPart}
 use Rattle.cw_report.specs.Answers.{AnswersLess}
 use Rattle.cw_report.specs.Texts.{sums_text, handed_text}
 use Rattle.cw_gen.specs.Generates.{Generates}
-use Rattle.cw_types.specs.Resolved.{reducer_names}
+use Rattle.cw_tree.specs.Resolved.{reducer_names}
 use Rattle.cw_cli.specs.Compiled.{IsCompiled}
 use Rattle.cw_cli.specs.Sources.{IsRefused}
 use Rattle.cw_cli.specs.Analyses as analyses

@@ -9,7 +9,7 @@ use Rattle.cw_model.specs.Tokens.{IsTokenCut, HasLexicalFault, HasNameFault}
 use Rattle.cw_model.specs.Syntax.{Program}
 use Rattle.cw_model.specs.Ownership.{ownership_faults}
 use Rattle.cw_model.specs.Sizes.{token_faults, limit_faults, loop_faults, program_faults}
-use Rattle.cw_model.proofs.Lowest.{no_least, one_least}
+use Rattle.cw_model.specs.lemmas.Lowest.{no_least, one_least}
 use Rattle.cw_lex.specs.Laws.{HasOneCut, FaultsExcludeCuts, FaultsExcludeOneAnother, LexicalFaultHasOneLine, NameFaultHasOneLine}
 use Rattle.cw_model.specs.Grammar.{Derives, HasSyntaxFault}
 use Rattle.cw_model.specs.Typing.{type_faults}

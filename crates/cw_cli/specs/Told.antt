@@ -1,7 +1,8 @@
 -- What is written of what is counted of a run of code, in each mode.
 use Rattle.std.specs.Prelude.{ℕ, List, [], Result}
 use Rattle.cw_text.specs.declared.fault.Fault.{Fault}
-use Rattle.cw_code.specs.Code.{Code}
+use Rattle.cw_code.specs.Code.{Code, code_view}
+use Rattle.cw_verify.specs.declared.verified.Verified.{Verified}
 use Rattle.cw_machine.specs.declared.alone.Ended.{Ended}
 use Rattle.cw_report.specs.Texts.{scale_of, sites_of}
 use Rattle.cw_cli.specs.declared.asked.Mode.{Mode}
@@ -13,3 +14,7 @@ told_of mode.Check code ended = []
 told_of mode.Run code ended = []
 told_of mode.Scale code ended = scale_of code ended
 told_of mode.Sites code ended = sites_of code ended
+
+-- the same of verified code
+abbrev pub told_in : Mode → Verified → Result Ended Fault → List ℕ
+told_in m verified ended = told_of m (code_view verified.code) ended

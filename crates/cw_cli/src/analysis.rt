@@ -6,7 +6,7 @@ ghost use Rattle.cw_code.specs.Code.{code_view};
 ghost use Rattle.cw_cli.specs.declared.asked.Mode.TheVariants as mode;
 ghost use Rattle.cw_cli.specs.Compiled.{IsCompiled};
 ghost use Rattle.cw_cli.specs.Analyses.{IsAnalysed, IsRun};
-ghost use Rattle.cw_cli.specs.Told.{told_of};
+ghost use Rattle.cw_cli.specs.Told.{told_in};
 ghost use Rattle.cw_model.specs.Ints.{fits};
 ghost use Rattle.cw_report.specs.Answers.{AnswersText};
 
@@ -117,8 +117,8 @@ fn report<W: Sink>(
     out: &mut W,
 ) -> Result<(), Fault>
     requires { (W.seen out.old).failures < 2 ^ 64 - 1 }
-    ensures idle { told_of mode (code_view code.now.code) ended.now ≡ [] → out.new ≡ out.old }
-    ensures answers { AnswersText W.seen out.old out.new (told_of mode (code_view code.now.code) ended.now) result }
+    ensures idle { told_in mode code.now ended.now ≡ [] → out.new ≡ out.old }
+    ensures answers { AnswersText W.seen out.old out.new (told_in mode code.now ended.now) result }
 {
     match mode {
         Mode::Check => Ok(()),

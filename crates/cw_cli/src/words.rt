@@ -63,11 +63,11 @@ pub fn request(alloc: Global, words: &[String]) -> Result<Request, Said>
 }
 
 // The command that is given, with the matches of its words.
-fn command_given<'a, 'b>(matches: &'b ArgMatches<'a>) -> Option<(Mode, &'b ArgMatches<'a>)>
-    ensures { MatchOption result (NamesNoCommand (subcommand_rows_of matches.now))
-        (λ p. subcommand_rows_of matches.now ≡ Some (command_name p.0, rows_of (found_of p.1.now))) }
+fn command_given<'a, 'b>(words: &'b ArgMatches<'a>) -> Option<(Mode, &'b ArgMatches<'a>)>
+    ensures { MatchOption result (NamesNoCommand (subcommand_rows_of words.now))
+        (λ p. subcommand_rows_of words.now ≡ Some (command_name p.0, rows_of (found_of p.1.now))) }
 {
-    let (name, given) = matches.subcommand()?;
+    let (name, given) = words.subcommand()?;
     let mode = mode_named(name)?;
     Some((mode, given))
 }

@@ -3,7 +3,7 @@
 ghost use Rattle.std.specs.Prelude.{◌≡◌, ◌+◌, ◌<◌, ◌^◌, [], length, Some, slice_set, slice_index_or};
 ghost use Rattle.cw_verify.specs.declared.op.Op.TheVariants as op;
 ghost use Rattle.cw_machine.specs.Arrays as arrays;
-ghost use Rattle.cw_machine.specs.Shows.{blocks_of, StaysBut, IsAt, Does};
+ghost use Rattle.cw_machine.specs.Shows.{blocks_of, HasReviewed, StaysBut, IsAt, Does};
 
 use crate::machine::{Machine, Moved, View};
 use cw_code::code::Halves;
@@ -86,7 +86,7 @@ impl Machine {
     #[inline(always)]
     fn set_view(&mut self, cell: usize, block: usize, from: usize, len: usize)
         requires { cell < length self.old.views.items }
-        ensures views { self.new.views.items ≡ arrays.reviewed self.old.views.items cell block from len }
+        ensures views { HasReviewed self.old cell block from len self.new }
         ensures blocks { self.new.blocks.items ≡ self.old.blocks.items }
         ensures rest { StaysBut self.old self.new }
     {

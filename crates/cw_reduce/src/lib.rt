@@ -6,8 +6,6 @@
 pub mod laws;
 mod lines;
 mod sum;
-#[cfg(test)]
-mod tests;
 mod views;
 
 pub use lines::Lines;

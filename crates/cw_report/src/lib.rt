@@ -7,11 +7,7 @@ mod counted;
 mod fields;
 mod input;
 mod sink;
-#[cfg(test)]
-mod table_tests;
 mod tables;
-#[cfg(test)]
-mod tests;
 mod text;
 mod writing;
 

@@ -11,8 +11,9 @@ use Rattle.cw_code.specs.Run.{Slots, Results, Opened, Around, Caller, Block, Sta
 use Rattle.cw_strands.specs.Jobs.{Extent, WholeCall, ToJoin, has_come, Came, Arrives, Returns, Falls, Beyond, Lost, moved, travel, job_start, Effect, Ended, Joined, TrapIn, OverLimit, Memory}
 use Rattle.cw_strands.specs.Promises.{StandsFor}
 use Rattle.cw_strands.specs.Costs.{CostIsWork, CostsAreWork}
-use Rattle.cw_strands.proofs.Acts.{acts_by}
-use Rattle.cw_strands.proofs.Budgets.{meaning_stands, come_at, none_left, go_one}
+use Rattle.cw_strands.specs.lemmas.Acts.{acts_by}
+use Rattle.cw_strands.specs.lemmas.Budgets.{come_at, none_left, go_one}
+use Rattle.cw_strands.proofs.Budgets.{meaning_stands}
 
 abbrev work_in : List Event → ℕ
 work_in [] = 0

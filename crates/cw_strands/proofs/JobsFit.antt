@@ -12,9 +12,9 @@ use Rattle.cw_code.specs.Good.{slots_in, Seat, Good, IsGiven, AllResume, GoodSta
 use Rattle.cw_strands.specs.Jobs.{Extent, WholeCall, ToJoin, joins, is_first, has_come, Standing, standing, Came, Arrives, Returns, Falls, Beyond, Lost, moved, travel, Job, job_start}
 use Rattle.cw_strands.specs.Strands.{spawn_job, resumed}
 use Rattle.cw_strands.specs.Over.{beneath, results_under, arrived_under, under, went_under}
-use Rattle.cw_strands.proofs.Under.{act_under}
+use Rattle.cw_strands.specs.lemmas.Under.{act_under}
+use Rattle.cw_strands.specs.lemmas.Budgets.{come_at, none_left, go_one}
 use Rattle.cw_strands.proofs.Travels.{settled_append}
-use Rattle.cw_strands.proofs.Budgets.{come_at, none_left, go_one}
 
 -- what a run of an extent stands upon: a whole call upon nothing, a rest upon the state in which its block would go on
 pub data Base : Extent → Type 0 where

@@ -1,6 +1,3 @@
-pub mod Tests
-pub mod Acts
-pub mod Under
 pub mod Travels
 pub mod Budgets
 pub mod StrandLaws

@@ -11,8 +11,7 @@ use Rattle.cw_strands.specs.Jobs.{Extent, WholeCall, Came, Arrives, Returns, Fal
 use Rattle.cw_strands.specs.Strands.{Strand, Going, Waits, Halted, outs_of, Reached, Started, Ran as Instruction, Fell, TooMuch, NoMemory, Given, GivenTooMuch, GivenStop, Skipped, Dropped, Makes, Arrived, Returned, Stopped, GivenUp}
 use Rattle.cw_strands.specs.Promises.{IsStrandOf}
 use Rattle.cw_strands.specs.RestLaws.{onwards, call_job, Cut, Kept, RootsAreSerial, SchedulesAreSerial}
-use Rattle.cw_strands.proofs.Under.{joined_quiet}
-use Rattle.cw_strands.proofs.Travels.{travel_under}
+use Rattle.cw_strands.proofs.Travels.{joined_quiet, travel_under}
 use Rattle.cw_strands.proofs.StrandLaws.{rest_under, starts, runs, falls, passes, wants_memory, gives, gives_over, gives_stop, drops, arrives, returns, stops}
 
 module _ (code : Code) where

@@ -12,10 +12,10 @@ use Rattle.cw_strands.specs.Jobs.{Extent, ToJoin, has_come, Standing, standing, 
 use Rattle.cw_strands.specs.Strands.{Strand, Going, Waits, Halted, rest_at, Turn, Goes, HandsOut, ComesBack, turn_back, turn_in, turn_call, turn_of, turn, spawn_job, goes_on, resumed, HasStopped, stopped_after, dropped, cost_of}
 use Rattle.cw_strands.specs.Promises.{Takes, OutAt, Outs, IsOutHere, OutsHere, Leads, IsStrandOf}
 use Rattle.cw_strands.specs.RestLaws.{onwards}
-use Rattle.cw_strands.proofs.Acts.{acts_by}
-use Rattle.cw_strands.proofs.Under.{joined_quiet}
-use Rattle.cw_strands.proofs.Travels.{travel_under}
-use Rattle.cw_strands.proofs.Budgets.{takes_none, takes_then, takes_step, come_at, meaning_stands, stands_meaning, stands_short}
+use Rattle.cw_strands.specs.lemmas.Acts.{acts_by}
+use Rattle.cw_strands.specs.lemmas.Budgets.{takes_none, takes_then, takes_step, come_at, stands_meaning}
+use Rattle.cw_strands.proofs.Travels.{joined_quiet, travel_under}
+use Rattle.cw_strands.proofs.Budgets.{meaning_stands, stands_short}
 
 -- a greater bound does no harm
 out_later : (limit b c : ℕ) (w : Waiting) (kind : CallKind) (below below' : List Job → Type 0) (outs : List Job) → b ≤ c → ((others : List Job) → below others → below' others) → OutAt limit b w kind below outs → OutAt limit c w kind below' outs

@@ -15,9 +15,9 @@ use Rattle.cw_strands.specs.Strands.{Strand, Going, Waits, Halted, outs_of, rest
 use Rattle.cw_strands.specs.Promises.{IsOutHere, Outs, OutsHere, IsStrandOf}
 use Rattle.cw_strands.specs.Steps.{started, Advanced, Ran as Instruction, Handed, AtSync, Finished, Unfit, finished, turned, went_on, advance, given_to, give, skip, take_back, out_of_memory, WaitsFor}
 use Rattle.cw_strands.specs.Worlds.{Place, Undecided, Kept, Offered, Runs, Made, Settled, Spent, World, IsUnrun, effect_in, IsWaiting, placed, joined_by, Has, Next, Run, Spawn, Offer, Inline, Begin, Skip, Resume, End, Settle, Give, Want, GiveUp, After, Now, Later, world_of, NoneIsUnfit}
-use Rattle.cw_strands.proofs.Acts.{acts_by}
+use Rattle.cw_strands.specs.lemmas.Acts.{acts_by}
+use Rattle.cw_strands.specs.lemmas.Rests.{GoesOn, act_goes}
 use Rattle.cw_strands.proofs.Budgets.{meaning_stands}
-use Rattle.cw_strands.proofs.Rests.{GoesOn, act_goes}
 use Rattle.cw_strands.proofs.JobsFit.{Base, Alone, Upon, lifted, LiftedWent, lifted_step, FitJob, hands_fit, arrived, gives_fit}
 use Rattle.cw_strands.specs.Over.{under}
 use Rattle.cw_strands.proofs.WorldLaws.{set_gives, added_gives, stays_there, one_there, last_there, Named, PlaceOk, WorldOk, next_ok, begins_ok}

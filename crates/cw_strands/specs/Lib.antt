@@ -8,3 +8,4 @@ pub mod Worlds
 pub mod Events
 pub mod Costs
 pub mod Walks
+pub mod lemmas

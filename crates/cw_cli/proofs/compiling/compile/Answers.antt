@@ -1,5 +1,5 @@
 use Rattle.std.proofs.Common.{rules, sym, subst, ◌∙◌}
-use Rattle.cw_parse.specs.View as parsed
+use Rattle.cw_tree.specs.SyntaxView as parsed
 use Rattle.cw_code.specs.Code.{code_view}
 use Rattle.cw_cli.specs.Sources.{IsSourceOf}
 use Rattle.cw_cli.specs.Compiled.{IsCompiled}

@@ -1,0 +1,6 @@
+-- Lemmas on runs of jobs, which the proofs of crates above cite.
+pub mod Tests
+pub mod Acts
+pub mod Under
+pub mod Budgets
+pub mod Rests
