@@ -8,13 +8,11 @@ mod codes;
 #[cfg(test)]
 mod examples;
 #[cfg(test)]
+mod generated;
+#[cfg(test)]
 mod integers;
 #[cfg(test)]
 mod loops;
-#[cfg(test)]
-mod owning;
-#[cfg(test)]
-mod parsing;
 #[cfg(test)]
 mod program;
 #[cfg(test)]
@@ -25,7 +23,5 @@ mod rows;
 mod sinks;
 #[cfg(test)]
 mod tables;
-#[cfg(test)]
-mod typing;
 #[cfg(test)]
 mod words;

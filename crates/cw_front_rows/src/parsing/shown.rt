@@ -3,8 +3,8 @@
 use cw_lex::lex;
 use cw_model::syntax::{CallKind, Operator};
 use cw_parse::parse;
-use cw_parse::tree::{Ast, Call, Expr, Head, Line, Name, Stmt};
 use cw_text::{Fault, Place, Source};
+use cw_tree::syntax::{Ast, Call, Expr, Head, Line, Name, Stmt};
 use std::alloc::{AllocError, Global};
 
 /// The tree of a text.

@@ -1,0 +1,112 @@
+//! The rows of tags of small runs, whole and with a piece that ran apart, by hand.
+
+use cw_measure::BurdenedPath;
+use cw_regions::{RegionRow, RegionTable};
+use std::alloc::{AllocError, Global};
+
+fn row(work: u64, span: u64, burdened: u128) -> RegionRow {
+    RegionRow {
+        work,
+        span,
+        burdened,
+    }
+}
+
+// An execution in an execution of the same tag is not counted a second time; another tag has a row of its own, and one
+// that never runs has zeros.
+#[test]
+fn nested_executions(rt: HostRuntime) -> Result<(), AllocError> {
+    let mut table = RegionTable::new(rt.alloc());
+    table.begin(0, 11, 11, 11)?;
+    table.begin(1, 15, 15, 15)?;
+    table.begin(0, 22, 22, 22)?;
+    table.end(0, 32, 32, 32)?;
+    table.end(1, 33, 33, 33)?;
+    table.end(0, 35, 35, 35)?;
+    assert_eq!(rt; table.region(0), row(24, 24, 24));
+    assert_eq!(rt; table.region(1), row(18, 18, 18));
+    assert_eq!(rt; table.region(2), row(0, 0, 0));
+    Ok(())
+}
+
+// One tag, executed twice, each time a spawn of a child of 1 instruction beside 2, with a burden of 10. The region's own
+// two instructions lie outside.
+#[test]
+fn two_executions(rt: HostRuntime) -> Result<(), AllocError> {
+    let alloc = rt.alloc();
+    let mut table = RegionTable::new(alloc);
+    let mut burdened = BurdenedPath::new(alloc);
+    for (begin, path) in [(1, 1), (7, 6)] {
+        burdened.note(begin);
+        table.begin(0, begin, path, burdened.weight())?;
+        burdened.spawn(begin + 1, true)?;
+        burdened.end_child(begin + 2, 10);
+        burdened.join(begin + 4);
+        table.end(0, begin + 4, path + 3, burdened.weight())?;
+    }
+    burdened.note(14);
+    assert_eq!(rt; table.region(0), row(8, 6, 26));
+    assert_eq!(rt; burdened.weight(), 32);
+    Ok(())
+}
+
+// A piece that ran apart inside an open execution: what it executes of the same tag is not counted again, what it
+// executes of another one is.
+#[test]
+fn a_piece_inside_an_execution(rt: HostRuntime) -> Result<(), AllocError> {
+    let alloc = rt.alloc();
+    let mut table = RegionTable::new(alloc);
+    table.begin(1, 1, 1, 1)?;
+    table.end(1, 3, 3, 3)?;
+    table.begin(0, 4, 4, 4)?;
+    let mut piece = RegionTable::new(alloc);
+    piece.stand_in(0)?;
+    piece.begin(0, 2, 2, 2)?;
+    piece.begin(1, 3, 3, 3)?;
+    piece.end(1, 8, 6, 7)?;
+    piece.end(0, 9, 7, 8)?;
+    table.join(piece);
+    table.end(0, 20, 11, 14)?;
+    assert_eq!(rt; table.region(0), row(16, 7, 10));
+    assert_eq!(rt; table.region(1), row(7, 5, 6));
+    Ok(())
+}
+
+// What a piece executes is added to what ours did, tag by tag, whichever of the two has rows for more tags; and an
+// execution that begins later is summed as ever.
+#[test]
+fn rows_of_more_tags_stay(rt: HostRuntime) -> Result<(), AllocError> {
+    let alloc = rt.alloc();
+    let cases: [([u32; 3], [u32; 3], [u32; 3]); 4] = [
+        ([5, 7, 0], [20, 0, 0], [25, 7, 0]),
+        ([5, 0, 0], [20, 30, 40], [25, 30, 40]),
+        ([0, 0, 0], [20, 0, 40], [20, 0, 40]),
+        ([5, 0, 9], [0, 0, 0], [5, 0, 9]),
+    ];
+    for (ours, piece, wanted) in cases {
+        let mut table = executed(alloc, &ours)?;
+        table.join(executed(alloc, &piece)?);
+        for tag in 0..3u32 {
+            let sum = wanted[tag as usize] as u64;
+            assert_eq!(rt; table.region(tag), row(sum, sum, sum as u128));
+            table.begin(tag, 100, 50, 60)?;
+            table.end(tag, 101, 52, 63)?;
+            assert_eq!(rt; table.region(tag), row(sum + 1, sum + 2, sum as u128 + 3));
+        }
+    }
+    Ok(())
+}
+
+// A table of one execution of each tag that has instructions, from its tenth instruction on.
+fn executed(alloc: Global, works: &[u32; 3]) -> Result<RegionTable, AllocError> {
+    let mut table = RegionTable::new(alloc);
+    for tag in 0..3u32 {
+        let work = works[tag as usize];
+        if work > 0 {
+            let end = 10 + work as u64;
+            table.begin(tag, 10, 10, 10)?;
+            table.end(tag, end, end, end as u128)?;
+        }
+    }
+    Ok(table)
+}
