@@ -13,9 +13,10 @@ use Rattle.cw_model.specs.Syntax.{Name, Param, Reducer, Program}
 use Rattle.cw_model.specs.Answers.{main_name}
 use Rattle.cw_model.specs.Sizes.{first_places, regions_in, regions_in_block, regions_of, function_limits, limit_faults}
 use Rattle.cw_model.specs.Typing.{Known, is_known, is_int, is_array, is_new, is_fine, is_argument, are_arguments, called, is_target, is_call, is_reducer, Returns, Nowhere, WithInt, Alone, may_return, declares, surely_returns, ends_block, is_head_of_loop, is_cut, faults_in, faults_in_block, known_of, is_head, faults_of, type_faults}
+use Rattle.cw_model.specs.lemmas.Kept.{left_none, right_none, kept, both_left, both_right}
 use Rattle.cw_tree.specs.Resolved as spec
 use Rattle.cw_tree.specs.Bounds.{Counts, is_below, fits_expr, fits_argument, fits_target, fits_return, fits_head, fits_parts, fits_stmt, fits_block, counts_of, fits_function, is_fitting}
-use Rattle.cw_tree.proofs.Plain.{left_none, right_none, kept, both_left, both_right, function_faults}
+use Rattle.cw_tree.proofs.Plain.{function_faults}
 use Rattle.cw_tree.proofs.Right.{both, same}
 use Rattle.cw_tree.specs.lemmas.Slotted.{one_more, few_ints_in, few_arrays_in, params_count}
 use Rattle.cw_tree.specs.lemmas.Few.{heads_small, small_head}

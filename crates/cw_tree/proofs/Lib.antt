@@ -1,4 +1,3 @@
 mod Plain
 mod Right
-mod Looked
 mod Fitting

@@ -9,27 +9,8 @@ use Rattle.cw_model.specs.Syntax as model
 use Rattle.cw_model.specs.Syntax.{Name, Program}
 use Rattle.cw_model.specs.Answers.{main_name}
 use Rattle.cw_model.specs.Typing.{Known, Returns, Nowhere, is_fine, is_new, is_array, is_head_of_loop, is_cut, is_head, repeated_names, type_faults, faults_in, faults_in_block, faults_of, declares, surely_returns, ends_block, known_of, WithInt, Alone}
+use Rattle.cw_model.specs.lemmas.Kept.{left_none, right_none, kept, both_left, both_right}
 use Rattle.cw_tree.specs.Resolved as Resolved
-
-pub left_none : (xs ys : List ℕ) → xs ++ ys ≡ [] → xs ≡ []
-left_none [] ys h = refl
-left_none (x ∷ xs) ys h = cc
-
-pub right_none : (xs ys : List ℕ) → xs ++ ys ≡ [] → ys ≡ []
-right_none [] ys h = h
-right_none (x ∷ xs) ys h = cc
-
-pub kept : (b : Bool) (line : ℕ) → unless b line ≡ [] → b ≡ true
-kept true line h = refl
-kept false line h = cc
-
-pub both_left : (a b : Bool) → (a && b) ≡ true → a ≡ true
-both_left true b h = refl
-both_left false b h = h
-
-pub both_right : (a b : Bool) → (a && b) ≡ true → b ≡ true
-both_right true b h = h
-both_right false b h = cc
 
 pub plain_of_expr : (l : Resolved.Locals) (e : model.Expr) → Resolved.plain_expr (Resolved.resolved_expr l e) ≡ e
 plain_of_expr l (model.Number n) = refl

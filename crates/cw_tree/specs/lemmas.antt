@@ -2,3 +2,4 @@
 pub mod Few
 pub mod Slotted
 pub mod NamedSlots
+pub mod Looked

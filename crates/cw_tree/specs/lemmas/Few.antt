@@ -1,5 +1,5 @@
 -- Where no limit is passed, a program is small.
-use Rattle.std.proofs.Common.{◌≡◌, refl, ℕ, ◌+◌, ◌-◌, ◌≤◌, nat_le, List, [], ◌∷◌, ◌++◌, length, map, drop, flat_map, All, sym, ap, ◌∙◌, arith, length-append, length-drop}
+use Rattle.std.proofs.Common.{◌≡◌, ℕ, ◌+◌, ◌-◌, ◌≤◌, nat_le, List, [], ◌∷◌, ◌++◌, length, map, drop, flat_map, All, sym, ap, ◌∙◌, arith, length-append, length-drop}
 use Rattle.std.proofs.lemmas.List.{length-map}
 use Rattle.std.proofs.lemmas.List.Elements.{All-cons}
 use Rattle.cw_model.specs.Lines.{unless}
@@ -7,19 +7,12 @@ use Rattle.cw_model.specs.Syntax.{Name, Param, Reducer, Stmt, Declare, DeclareAr
 use Rattle.cw_model.specs.Syntax as model
 use Rattle.cw_model.specs.Limits.{most_parameters, most_declared, most_tag_bytes}
 use Rattle.cw_model.specs.Sizes.{declaring_lines, declaring_lines_in, function_limits, limit_faults, lines_beyond, first_places, regions_of}
+use Rattle.cw_model.specs.lemmas.Kept.{left_none, right_none}
 use Rattle.cw_tree.specs.declared.syntax.Function.{Function}
 use Rattle.cw_tree.specs.SyntaxView as parsed
 use Rattle.cw_tree.specs.Declares.{declares_in, declares_in_block}
 
-left_none : (xs ys : List ℕ) → xs ++ ys ≡ [] → xs ≡ []
-left_none [] ys h = refl
-left_none (x ∷ xs) ys h = cc
-
-right_none : (xs ys : List ℕ) → xs ++ ys ≡ [] → ys ≡ []
-right_none [] ys h = h
-right_none (x ∷ xs) ys h = cc
-
-none_left : (n : ℕ) (xs : List ℕ) → drop n xs ≡ [] → length xs ≤ n
+pub none_left : (n : ℕ) (xs : List ℕ) → drop n xs ≡ [] → length xs ≤ n
 none_left n xs h = let e : length xs - n ≡ 0 = sym (length-drop n xs) ∙ ap length h in omega (arith, e)
 
 mutual

@@ -72,3 +72,13 @@ among_push x (z ∷ names) y = first (same_name x z) (among_push x names y)
         (if b then true else is_among x (names ++ y ∷ [])) ≡ ((if b then true else is_among x names) || same_name x y)
     first true h = refl
     first false h = h
+
+-- the slot of a known name stays, whatever comes behind
+pub slot_stays : (x : Name) (names more : List Name) → is_among x names ≡ true → slot_of x (names ++ more) ≡ slot_of x names
+slot_stays x [] more h = cc
+slot_stays x (y ∷ names) more h = first (same_name x y) (slot_stays x names more) h
+  where
+    first : (b : Bool) → (is_among x names ≡ true → slot_of x (names ++ more) ≡ slot_of x names) → (if b then true else is_among x names) ≡ true →
+        (if b then 0 else suc (slot_of x (names ++ more))) ≡ (if b then 0 else suc (slot_of x names))
+    first true f g = refl
+    first false f g = ap suc (f g)

@@ -1,4 +1,4 @@
-use Rattle.cw_tree.proofs.Looked as lemma
+use Rattle.cw_tree.specs.lemmas.Looked as lemma
 use Rattle.cw_tree.proofs.laws.slots_are_right.Goals as goal
 
 pub returns : goal.returns
