@@ -13,7 +13,6 @@ pub mod Wording
 pub mod Passing
 pub mod Lines
 pub mod Beginning
-pub mod Looked
 pub mod Holding
 pub mod Branches
 pub mod Fitting

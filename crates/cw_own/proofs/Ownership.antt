@@ -22,8 +22,8 @@ use Rattle.cw_own.proofs.Showing as showing
 use Rattle.cw_own.proofs.Following as following
 use Rattle.cw_model.specs.Ownership.{Holder, SpawnIn, CutOf}
 use Rattle.cw_model.specs.lemmas.Kept.{both_left, both_right, left_none, right_none, kept}
+use Rattle.cw_tree.specs.lemmas.Looked.{body_is, all_right}
 use Rattle.cw_own.proofs.Laws.{same_rows}
-use Rattle.cw_own.proofs.Looked.{body_is, all_right}
 
 -- a function
 function_by_slot : (program : Program) (lists : Lists) (f : Function) → is_right_function lists f ≡ true → faults_of program (plain_function f) ≡ [] → Same (owner_faults_of program.functions (plain_function f)) (function_lines f)
