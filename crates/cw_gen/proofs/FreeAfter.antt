@@ -10,12 +10,13 @@ use Rattle.cw_model.specs.Meaning.{function_of}
 use Rattle.cw_model.specs.Typing.{Known, Returns, Nowhere, is_fine, is_int, is_array, is_call, called, is_cut, surely_returns, block_returns, declares, ends_block, faults_in, faults_in_block}
 use Rattle.cw_model.specs.Ownership.{SpawnIn, CutOf, Taken, freed, without, own_names, where_it_goes_on, target_names, arrays_given, given, may_read, may_write, Around, Closing, Joins, Leaves, Declared, declared_by, known_after, taken_after, taken_after_all, owner_faults, owner_faults_in}
 use Rattle.cw_model.specs.WhileLaw.{WhilesAreLeast}
+use Rattle.cw_model.specs.lemmas.Kept.{left_none, right_none, kept}
 use Rattle.cw_loops.specs.Lowered.{is_plain, lower_exprs, lower_stmt, lower_block, loop_count, loop_count_in}
 use Rattle.cw_loops.specs.SourceLike.{is_source_expr, is_source_target, is_source_stmt, is_source_block}
 use Rattle.cw_loops.specs.lemmas.Tests.{both_true, either_right}
 use Rattle.cw_loops.specs.lemmas.Naming.{later_among}
 use Rattle.cw_loops.specs.lemmas.Knowing.{known_array_more}
-use Rattle.cw_loops.specs.lemmas.Declaring.{left_none, right_none, kept, CutKept, cut_kept}
+use Rattle.cw_loops.specs.lemmas.Declaring.{CutKept, cut_kept}
 use Rattle.cw_loops.specs.lemmas.Seeing.{SameKnown, after_known, CallKept, call_kept}
 use Rattle.cw_gen.proofs.Held.{held_after, held_after_all}
 use Rattle.cw_gen.proofs.FreeTexts.{returns_same, own_same, given_same}

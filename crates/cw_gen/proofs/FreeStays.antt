@@ -10,10 +10,11 @@ use Rattle.cw_model.specs.Names.{same_name, is_among, differ}
 use Rattle.cw_model.specs.Captured.{read_by, read_by_all, read_in, read_in_block}
 use Rattle.cw_model.specs.Typing.{Known, Returns, Nowhere, is_fine, is_int, is_array, is_cut, is_new, is_head_of_loop, surely_returns, block_returns, declares, ends_block, faults_in, faults_in_block}
 use Rattle.cw_model.specs.Ownership.{Holder, SpawnIn, CutOf, Taken, is_taken, is_spawn_in, is_cut_of, freed, without, own_names, where_it_goes_on, target_names, given, names_in, are_free, may_read, may_write, may_index, keeps_loop, are_inner, for_head, Around, InLoop, Closing, Joins, Leaves, Declared, declared_by, known_after, taken_after, taken_after_all, owner_faults, owner_faults_in}
+use Rattle.cw_model.specs.lemmas.Kept.{left_none, right_none, kept}
 use Rattle.cw_loops.specs.lemmas.Tests.{both_true, never, refuted}
-use Rattle.cw_loops.specs.lemmas.Naming.{among_join, front_among, later_among}
+use Rattle.cw_loops.specs.lemmas.Naming.{front_among, later_among, none_among}
 use Rattle.cw_loops.specs.lemmas.Knowing.{Unknown, new_unknown, known_more, known_array_more}
-use Rattle.cw_loops.specs.lemmas.Declaring.{left_none, right_none, kept, CutKept, cut_kept, head_kept, block_new}
+use Rattle.cw_loops.specs.lemmas.Declaring.{CutKept, cut_kept, head_kept, block_new}
 use Rattle.cw_loops.specs.lemmas.Seeing.{SameKnown, after_known}
 use Rattle.cw_gen.proofs.FreeTexts.{own_declared, read_is_in, free_each}
 use Rattle.cw_gen.proofs.FreeMembers.{In, in_left, in_right, in_kept, in_taken, Outer, outer_more, outer_not}
@@ -23,10 +24,6 @@ pub record Stays (t : Name × Holder) (after : Taken) (reads : List Name) : Type
   pub stays : In t after
   pub unread : is_among t.0 reads ≡ false
 
--- a name in neither list
-pub not_both_lists : (x : Name) (a b : List Name) → is_among x a ≡ false → is_among x b ≡ false → is_among x (a ++ b) ≡ false
-not_both_lists x a b h g = among_join x a b ∙ ap (λ q. q || is_among x b) h ∙ g
-
 unread_expr : (around : Around) (taken : Taken) (e : Expr) (t : Name × Holder) → may_read around taken e ≡ true → In t taken → is_among t.0 (read_by e) ≡ false
 unread_expr around taken e t h i =
     refuted (is_among t.0 (read_by e)) (λ o. never (is_taken taken t.0) (in_taken t taken i) (free_each taken (names_in e) (both_true (are_free taken (names_in e)) (keeps_loop around e) h).0 t.0 (read_is_in e t.0 o)))
@@ -35,7 +32,7 @@ unread_all : (around : Around) (taken : Taken) (es : List Expr) (t : Name × Hol
 unread_all around taken [] t h i = refl
 unread_all around taken (e ∷ es) t h i =
     let p = both_true (may_read around taken e) (list_all (λ e. may_read around taken e) es) h in
-    not_both_lists t.0 (read_by e) (read_by_all es) (unread_expr around taken e t p.0 i) (unread_all around taken es t p.1 i)
+    none_among t.0 (read_by e) (read_by_all es) (unread_expr around taken e t p.0 i) (unread_all around taken es t p.1 i)
 
 -- a name that is not known is not the owners'
 pub unknown_out : (known : Known) (owners : List Name) (x : Name) → SameKnown known owners → Unknown known x → is_among x owners ≡ false
@@ -94,7 +91,7 @@ module _ (program : Program) where
   choice_stays e b c one other known owners around same depth line taken types owns t i o n = record {
     stays = in_left t _ _ (subst (λ r. In t (where_it_goes_on r (without (own_names b) (taken_after_all program.functions depth b taken)))) (sym (goes_on known b (left_none _ _ types')))
         (in_kept (λ u. not (is_among u.0 (own_names b))) t (taken_after_all program.functions depth b taken) first.stays (ap not (not_own Nowhere known owners same b (left_none _ _ types') t.0 n))));
-    unread = not_both_lists t.0 (read_by e) (read_in_block b ++ read_in_block c) (unread_expr around taken e t (kept (may_read around taken e) line (left_none _ _ owns)) i) (not_both_lists t.0 (read_in_block b) (read_in_block c) first.unread second.unread);
+    unread = none_among t.0 (read_by e) (read_in_block b ++ read_in_block c) (unread_expr around taken e t (kept (may_read around taken e) line (left_none _ _ owns)) i) (none_among t.0 (read_in_block b) (read_in_block c) first.unread second.unread);
   }
     where
       types' : faults_in_block program Nowhere known b ++ faults_in_block program Nowhere known c ≡ []
@@ -119,9 +116,9 @@ module _ (program : Program) where
   for_stays : (x y z : Name) (from to : Expr) (grain : ℕ) (over : List Name) (b : Block) → BlockStays b → ForStays (For x y z from to grain over b)
   for_stays x y z from to grain over b more known owners around same depth line taken types owns t i o n = record {
     stays = leave depth (x ∷ own_names b) (taken_after_all program.functions (depth + 1) b taken) t inner.stays
-        (not_both_lists t.0 (x ∷ []) (own_names b) (ap (λ q. if q then true else false) not_variable) (not_own Nowhere known' owners' same' b types' t.0 n')) o;
-    unread = not_both_lists t.0 (read_by from) (read_by to ++ read_in_block b) (unread_expr (for_head around) taken from t reads.0 i)
-        (not_both_lists t.0 (read_by to) (read_in_block b) (unread_expr (for_head around) taken to t reads.1 i) inner.unread);
+        (none_among t.0 (x ∷ []) (own_names b) (ap (λ q. if q then true else false) not_variable) (not_own Nowhere known' owners' same' b types' t.0 n')) o;
+    unread = none_among t.0 (read_by from) (read_by to ++ read_in_block b) (unread_expr (for_head around) taken from t reads.0 i)
+        (none_among t.0 (read_by to) (read_in_block b) (unread_expr (for_head around) taken to t reads.1 i) inner.unread);
   }
     where
       known' : Known
@@ -164,7 +161,7 @@ module _ (program : Program) where
   cut_stays : (a : Name) (e : Expr) (l r : Name) (b : Block) → BlockStays b → StmtStays (Cut a e l r b)
   cut_stays a e l r b more known owners around same depth line taken types owns t i o n = record {
     stays = in_kept (λ u. not (is_cut_of a u)) t (freed (depth + 1) (without (l ∷ r ∷ own_names b) after)) (leave depth (l ∷ r ∷ own_names b) after t inner.stays not_parts (outer_more depth t.1 o)) (ap not (other_cut a taken t free i));
-    unread = not_both_lists t.0 (read_by e) (read_in_block b) (unread_expr around taken e t rules.0 i) inner.unread;
+    unread = none_among t.0 (read_by e) (read_in_block b) (unread_expr around taken e t rules.0 i) inner.unread;
   }
     where
       after : Taken
@@ -196,8 +193,8 @@ module _ (program : Program) where
 
       not_parts : is_among t.0 (l ∷ r ∷ own_names b) ≡ false
       not_parts =
-          not_both_lists t.0 (l ∷ []) (r ∷ own_names b) (ap (λ q. if q then true else false) (part l (new_unknown program known l k.left)))
-          (not_both_lists t.0 (r ∷ []) (own_names b) (ap (λ q. if q then true else false) (part r (new_unknown program known r k.right))) (not_own Nowhere ((r, true) ∷ (l, true) ∷ known) (r ∷ l ∷ owners) same' b types' t.0 n'))
+          none_among t.0 (l ∷ []) (r ∷ own_names b) (ap (λ q. if q then true else false) (part l (new_unknown program known l k.left)))
+          (none_among t.0 (r ∷ []) (own_names b) (ap (λ q. if q then true else false) (part r (new_unknown program known r k.right))) (not_own Nowhere ((r, true) ∷ (l, true) ∷ known) (r ∷ l ∷ owners) same' b types' t.0 n'))
 
       inner : Stays t after (read_in_block b)
       inner = more ((r, true) ∷ (l, true) ∷ known) (r ∷ l ∷ owners) around same' (depth + 1) Joins ((a, CutOf) ∷ taken) [] types' owns' t (inr i) (outer_more depth t.1 o) n'
@@ -220,7 +217,7 @@ module _ (program : Program) where
         let three = both_true (may_read around taken j && may_read around taken e && are_free taken (a ∷ [])) (may_index around a j) (kept _ line owns) in
         let two = both_true (may_read around taken j && may_read around taken e) (are_free taken (a ∷ [])) three.0 in
         let one = both_true (may_read around taken j) (may_read around taken e) two.0 in
-        record { stays = i; unread = not_both_lists t.0 (read_by j) (read_by e) (unread_expr around taken j t one.0 i) (unread_expr around taken e t one.1 i) }
+        record { stays = i; unread = none_among t.0 (read_by j) (read_by e) (unread_expr around taken j t one.0 i) (unread_expr around taken e t one.1 i) }
     stmt_stays (AddTo s e) known owners around same depth line taken types owns t i o n = record { stays = i; unread = unread_expr around taken e t (kept _ line owns) i }
     stmt_stays (Call Plain site target f es) known owners around same depth line taken types owns t i o n =
         let two = both_true _ (differ (given program.functions f es)) (kept _ line owns) in
@@ -237,14 +234,14 @@ module _ (program : Program) where
         let inner = block_stays b known owners around same depth Leaves taken [] (right_none (unless (is_fine known e) line) _ types) (right_none (unless (may_read around taken e) line) _ owns) t i o n in
         record {
           stays = in_right t (where_it_goes_on (block_returns b) (without (own_names b) (taken_after_all program.functions depth b taken))) taken i;
-          unread = not_both_lists t.0 (read_by e) (read_in_block b) (unread_expr around taken e t (kept (may_read around taken e) line (left_none _ _ owns)) i) inner.unread;
+          unread = none_among t.0 (read_by e) (read_in_block b) (unread_expr around taken e t (kept (may_read around taken e) line (left_none _ _ owns)) i) inner.unread;
         }
     stmt_stays (IfElse e b c) known owners around same depth line taken types owns t i o n = choice_stays e b c (block_stays b) (block_stays c) known owners around same depth line taken types owns t i o n
     stmt_stays (While e b) known owners around same depth line taken types owns t i o n =
         let all = taken_after program.functions depth (While e b) taken in
         let i' : In t all = in_left t taken (where_it_goes_on (block_returns b) (without (own_names b) (taken_after_all program.functions depth b taken))) i in
         let inner = block_stays b known owners around same depth Leaves all [] (right_none (unless (is_fine known e) line) _ types) (right_none (unless (may_read around all e) line) _ owns) t i' o n in
-        record { stays = i'; unread = not_both_lists t.0 (read_by e) (read_in_block b) (unread_expr around all e t (kept (may_read around all e) line (left_none _ _ owns)) i') inner.unread }
+        record { stays = i'; unread = none_among t.0 (read_by e) (read_in_block b) (unread_expr around all e t (kept (may_read around all e) line (left_none _ _ owns)) i') inner.unread }
     stmt_stays (For x y z from to grain over b) known owners around same depth line taken types owns t i o n = for_stays x y z from to grain over b (block_stays b) known owners around same depth line taken types owns t i (outer_more depth t.1 o) n
     stmt_stays (Scope b) known owners around same depth line taken types owns t i o n = scope_stays b (block_stays b) known owners around same depth taken types owns t i o n
     stmt_stays (Cut a e l r b) known owners around same depth line taken types owns t i o n = cut_stays a e l r b (block_stays b) known owners around same depth line taken types owns t i o n
@@ -260,7 +257,7 @@ module _ (program : Program) where
         let here = stmt_stays s known owners around same depth line taken (left_none _ _ types) (left_none _ _ owns) t i o n in
         let rest = block_stays b (declares s known) (known_after owners s) around (after_known s known owners same) depth closing (taken_after program.functions depth s taken) (declared_by line s declared)
         (right_none (unless (not (surely_returns s) || ends_block b) line) _ (right_none (faults_in program Nowhere known line s) _ types)) (right_none (owner_faults program.functions around owners depth taken line s) _ owns) t here.stays o (more_owners s owners t.0 n) in
-        record { stays = rest.stays; unread = not_both_lists t.0 (read_in s) (read_in_block b) here.unread rest.unread }
+        record { stays = rest.stays; unread = none_among t.0 (read_in s) (read_in_block b) here.unread rest.unread }
 
   -- after a loop, of all that was taken before it
   pub for_keeps : (x y z : Name) (from to : Expr) (grain : ℕ) (over : List Name) (b : Block) → ForStays (For x y z from to grain over b)

@@ -11,6 +11,7 @@ use Rattle.cw_model.specs.Meaning.{function_of}
 use Rattle.cw_model.specs.Typing.{Known, Returns, Nowhere, WithInt, Alone, is_fine, is_int, is_array, is_call, called, is_cut, is_head, is_head_of_loop, surely_returns, declares, ends_block, known_of, faults_in, faults_in_block, faults_of}
 use Rattle.cw_model.specs.Ownership.{Holder, CutOf, Taken, is_taken, freed, own_names, target_names, given, names_in, are_free, are_inner, keeps_loop, may_read, may_write, may_index, for_head, Around, NoLoop, InLoop, Closing, Joins, Leaves, Declared, declared_by, known_after, taken_after, taken_after_all, owner_faults, owner_faults_in, owner_faults_of}
 use Rattle.cw_model.specs.WhileLaw.{WhilesAreLeast}
+use Rattle.cw_model.specs.lemmas.Kept.{left_none, right_none, kept}
 use Rattle.cw_loops.specs.Lowered.{is_plain, low, lower_expr, lower_exprs, lower_stmt, lower_block, loop_count, loop_count_in, made_by, made_in, made_of, loop_name, loop_function, lower_functions, lowered}
 use Rattle.cw_loops.specs.Lowerable.{is_lowerable}
 use Rattle.cw_loops.specs.SourceLike.{is_source_expr, is_source_target, is_source_stmt, is_source_block, is_source_function}
@@ -18,7 +19,7 @@ use Rattle.cw_loops.specs.LoweringLaws.{IsOwnedSource}
 use Rattle.cw_loops.specs.lemmas.Tests.{both_true, never, refuted, either_right}
 use Rattle.cw_loops.specs.lemmas.Naming.{Placed, at_front, after_it, placed, each_of, among_right, front_among, later_among, new_are_there}
 use Rattle.cw_loops.specs.lemmas.Knowing.{known_more, known_array_more, new_unknown, not_both}
-use Rattle.cw_loops.specs.lemmas.Declaring.{left_none, right_none, kept, HeadKept, head_kept, CutKept, cut_kept}
+use Rattle.cw_loops.specs.lemmas.Declaring.{HeadKept, head_kept, CutKept, cut_kept}
 use Rattle.cw_loops.specs.lemmas.Seeing.{SameKnown, after_known, call_kept, Seen, Home, declared_there, known_before, home, block_seen}
 use Rattle.cw_loops.specs.lemmas.Heads.{parameters_known, head_of, heads_kept}
 use Rattle.cw_loops.specs.lemmas.Finding.{Found, found_left, found_right, all_found, params_same}

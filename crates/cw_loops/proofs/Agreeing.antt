@@ -10,8 +10,8 @@ use Rattle.cw_loops.specs.Lowered.{is_plain}
 use Rattle.cw_loops.specs.Lowerable.{Surroundings, can_write, can_read, is_local, is_variable, can_evaluate}
 use Rattle.cw_loops.specs.SourceLike.{is_source_expr}
 use Rattle.cw_loops.specs.lemmas.Tests.{both_true, none_of, not_true, all_of, never, refuted}
-use Rattle.cw_loops.specs.lemmas.Apart.{same_are, same_itself}
-use Rattle.cw_loops.specs.lemmas.Naming.{among_join, among_left, among_right, neither_among}
+use Rattle.cw_loops.specs.lemmas.Apart.{same_itself}
+use Rattle.cw_loops.specs.lemmas.Naming.{among_left, among_right, neither_among, pushed, passed}
 use Rattle.cw_loops.specs.lemmas.Knowing.{Unknown, not_both, known_more, known_array_more}
 
 -- both agree on each name: on its kind, on what stands outside the loop, and on what may be done with it there
@@ -111,24 +111,6 @@ head_keeps (InLoop outer i over) (Not e) h = head_keeps (InLoop outer i over) e 
 head_keeps (InLoop outer i over) (Binary operator d e) h =
     let k = both_true (keeps_loop (InLoop outer i []) d) (keeps_loop (InLoop outer i []) e) h in
     all_of (keeps_loop (InLoop outer i over) d) (keeps_loop (InLoop outer i over) e) (head_keeps (InLoop outer i over) d k.0) (head_keeps (InLoop outer i over) e k.1)
-
--- one name more at the end
-pub pushed : (x y : Name) (xs : List Name) (b : Bool) → b ≡ is_among x xs → (if same_name x y then true else b) ≡ is_among x (xs ++ y ∷ [])
-pushed x y xs b h = go (same_name x y) refl (is_among x xs) refl ∙ sym (among_join x xs (y ∷ []))
-  where
-    go : (s : Bool) → same_name x y ≡ s → (m : Bool) → is_among x xs ≡ m → (if s then true else b) ≡ (is_among x xs || (if s then true else false))
-    go true e true o = sym (ap (λ z. z || true) o)
-    go true e false o = sym (ap (λ z. z || true) o)
-    go false e true o = h ∙ o ∙ sym (ap (λ z. z || false) o)
-    go false e false o = h ∙ o ∙ sym (ap (λ z. z || false) o)
-
--- a name that is new is of the other kind only where it was
-pub passed : (x y : Name) (xs : List Name) (b : Bool) → b ≡ is_among x xs → is_among y xs ≡ false → (if same_name x y then false else b) ≡ is_among x xs
-passed x y xs b h n = go (same_name x y) refl
-  where
-    go : (s : Bool) → same_name x y ≡ s → (if s then false else b) ≡ is_among x xs
-    go true e = sym (ap (λ z. is_among z xs) (same_are x y e) ∙ n)
-    go false e = h
 
 module _ {c : Surroundings} {ints arrays : List Name} {known : Known} {owners : List Name} {around : Around} {returns : Returns} (agree : Agree c ints arrays known owners around returns) where
   pub with_int : (y : Name) → Unknown known y → Agree c (ints ++ y ∷ []) arrays ((y, false) ∷ known) (y ∷ owners) around returns

@@ -13,6 +13,7 @@ use Rattle.cw_model.specs.Names.{same_name, is_among}
 use Rattle.cw_model.specs.Meaning.{function_of}
 use Rattle.cw_model.specs.Captured.{captured}
 use Rattle.cw_model.specs.Typing.{Known, is_int, is_array, is_fine, is_new, is_head_of_loop, faults_in, faults_in_block, declares, ends_block, surely_returns, Returns, Nowhere}
+use Rattle.cw_model.specs.lemmas.Kept.{left_none, right_none, kept}
 use Rattle.cw_tree.specs.Resolved.{Lists, Locals, Use, slot_of, use_of, resolved_expr, resolved_argument, resolved_stmt, resolved_block, with_int, with_array, locals_after, head_with}
 use Rattle.cw_tree.specs.Resolved as source
 use Rattle.cw_tree.specs.Bounds.{Counts, fits_expr, fits_head, fits_parts, fits_stmt, fits_block}
@@ -26,7 +27,7 @@ use Rattle.cw_loops.specs.lemmas.Tests.{both_true, Told, yes_is, no_is, told, ne
 use Rattle.cw_loops.specs.lemmas.Apart.{same_are}
 use Rattle.cw_loops.specs.lemmas.Naming.{each_of, same_turned, Side, in_first, in_second, side, among_right, among_join, front_among, later_among}
 use Rattle.cw_loops.specs.lemmas.Knowing.{new_unknown, not_both}
-use Rattle.cw_loops.specs.lemmas.Declaring.{left_none, right_none, kept, HeadKept, head_kept, CutKept, cut_kept}
+use Rattle.cw_loops.specs.lemmas.Declaring.{HeadKept, head_kept, CutKept, cut_kept}
 use Rattle.cw_loops.proofs.Shifting.{small_slot}
 use Rattle.cw_loops.proofs.Entering.{joined, at, lowered_at, two_lists, Entered, entered, variable_can, after_stmt, after_array}
 use Rattle.cw_loops.proofs.OuterReads.{captured_in_order}

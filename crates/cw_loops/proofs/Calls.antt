@@ -14,12 +14,12 @@ use Rattle.cw_model.specs.Meaning.{Completion, Normal, Returned, Deeper, Calls, 
 use Rattle.cw_loops.specs.Lowered.{lower_expr, lower_exprs}
 use Rattle.cw_loops.specs.Lowerable.{Surroundings, can_evaluate, can_pass, can_pass_all, can_target, can_read, is_local, integers_of, arrays_of}
 use Rattle.cw_loops.specs.lemmas.Tests.{both_true}
+use Rattle.cw_loops.specs.lemmas.Naming.{later_among, front_among}
 use Rattle.cw_loops.proofs.Alike.{Alike, Whole, Keeps, same_series, same_fork, no_event, alike_pay, alike_then, alike_one, alike_weaken}
 use Rattle.cw_loops.proofs.Tables.{keys}
 use Rattle.cw_loops.proofs.Arguments.{Fresh, find_at, keys-append}
 use Rattle.cw_loops.proofs.Fitting.{Good, Fine, find_fine, fit-append, fine-append, sizes, find-sizes, sizes-put, Kept, kept_same, evaluate_fits}
 use Rattle.cw_loops.proofs.Statements.{OptionFits, Out, goes, alike_done, value_then, rel_set_array, rel_set_int}
-use Rattle.cw_loops.proofs.Slices.{among_first, among_rest}
 use Rattle.cw_loops.proofs.Cuts.{alike_right}
 use Rattle.cw_loops.proofs.Worlds.{World, Rel, related, source, target, find_in, evaluate_same, can_fit, local_same}
 
@@ -74,8 +74,8 @@ pub among_there : (a : Name) (v : List ℤ) (t u : List (Name × List ℤ)) → 
 among_there a v t u = rw (keys-append t ((a, v) ∷ u)) (there (keys t))
   where
     there : (xs : List Name) → is_among a (xs ++ a ∷ keys u) ≡ true
-    there [] = among_first a (keys u)
-    there (x ∷ xs) = among_rest a x (xs ++ a ∷ keys u) (there xs)
+    there [] = front_among a (keys u)
+    there (x ∷ xs) = later_among a x (xs ++ a ∷ keys u) (there xs)
 
 fresh_if : (b : Bool) (p : Param) (ps : List Param) (known : List Name) → p.is_array ≡ b → Fresh known (arrays_of (p ∷ ps)) → Fresh known (if b then p.name ∷ arrays_of ps else arrays_of ps)
 fresh_if b p ps known e h = subst (λ x. Fresh known (if x then p.name ∷ arrays_of ps else arrays_of ps)) e h

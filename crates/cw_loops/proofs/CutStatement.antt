@@ -15,9 +15,10 @@ use Rattle.cw_model.specs.Outcome.{then_do, ◌>>=◌, pay, joined_up}
 use Rattle.cw_model.specs.Meaning.{Normal, onward, going, scoped, Calls, cut_place, uncut, run, run_all}
 use Rattle.cw_loops.specs.Lowered.{lower_expr}
 use Rattle.cw_loops.specs.Lowerable.{Surroundings, can_evaluate, is_local}
+use Rattle.cw_loops.specs.lemmas.Naming.{none_among, among_left}
 use Rattle.cw_loops.proofs.Alike.{Alike, alike_pay, alike_then, alike_one, series_keeps, as_whole}
 use Rattle.cw_loops.proofs.Tables.{keys}
-use Rattle.cw_loops.proofs.Arguments.{keys-append, find_at, among-append}
+use Rattle.cw_loops.proofs.Arguments.{keys-append, find_at}
 use Rattle.cw_loops.proofs.Cuts.{alike_right}
 use Rattle.cw_loops.proofs.Fitting.{Good, Fine, find_fine, fit-take, fine-take, fine-append, elements-append, elements-take, elements-drop, Kept, kept_same, kept_then, sizes, sizes-put, sizes-leave, find-sizes}
 use Rattle.cw_loops.proofs.Worlds.{World, Rel, related, source, target, find_in, evaluate_same, local_same, local_outer}
@@ -26,7 +27,6 @@ use Rattle.cw_loops.proofs.Blocks.{onward_then}
 use Rattle.cw_loops.proofs.Control.{BlockAlike, in_scope}
 use Rattle.cw_loops.proofs.Calls.{keys-sizes, among_there}
 use Rattle.cw_loops.proofs.Loop.{GivesSuch, ResultSuch, such_then}
-use Rattle.cw_loops.proofs.Turn.{among_left}
 
 -- a place within an array
 record CutAt (xs : List ℤ) (v : ℤ) : Type 0 where
@@ -69,7 +69,7 @@ module _ (c : Surroundings) (fo go : List (Name × ℤ)) (Slot : (fa ga : List (
   inside f n = new_array r (drop n xs) (new_array l (take n xs) f)
 
   part_new : (b : Name) → is_local c b ≡ true → is_among b arrays ≡ false → is_among b (keys (fa ++ la)) ≡ false
-  part_new b bl bn = ap (λ t. is_among b t) (keys-append fa la) ∙ among-append b (keys fa) (keys la) (local_outer c fo go Slot w fa ga slot b bl) (ap (λ t. is_among b t) ka ∙ bn)
+  part_new b bl bn = ap (λ t. is_among b t) (keys-append fa la) ∙ none_among b (keys fa) (keys la) (local_outer c fo go Slot w fa ga slot b bl) (ap (λ t. is_among b t) ka ∙ bn)
 
   xs_fine : Fine xs
   xs_fine = find_fine a (fa ++ la) good.arrays
@@ -112,7 +112,7 @@ module _ (c : Surroundings) (fo go : List (Name × ℤ)) (Slot : (fa ga : List (
       let l_there : is_among l (keys (sizes in0)) ≡ true = ap (λ t. is_among l t) (keys-sizes in0 ∙ keys-append ((fa ++ la) ++ l1) r1) ∙ among_left l (keys ((fa ++ la) ++ l1)) (r ∷ []) (among_there l (take n xs) (fa ++ la) []) in
       let r_there : is_among r (keys (sizes in0)) ≡ true = ap (λ t. is_among r t) (keys-sizes in0) ∙ among_there r (drop n xs) ((fa ++ la) ++ l1) [] in
       let l_found : find [] l in0 ≡ take n xs = ap (λ t. find [] l t) (append_assoc (fa ++ la) l1 r1) ∙ find_at [] l (take n xs) (fa ++ la) r1 (part_new l l_local l_new) in
-      let r_past : is_among r (keys ((fa ++ la) ++ l1)) ≡ false = ap (λ t. is_among r t) (keys-append (fa ++ la) l1) ∙ among-append r (keys (fa ++ la)) (l ∷ []) (part_new r r_local r_new) (ap (λ b. if b then true else false) r_other) in
+      let r_past : is_among r (keys ((fa ++ la) ++ l1)) ≡ false = ap (λ t. is_among r t) (keys-append (fa ++ la) l1) ∙ none_among r (keys (fa ++ la)) (l ∷ []) (part_new r r_local r_new) (ap (λ b. if b then true else false) r_other) in
       let r_found : find [] r in0 ≡ drop n xs = find_at [] r (drop n xs) ((fa ++ la) ++ l1) [] r_past in
       let l_long : length lf ≡ length (take n xs) = find-sizes l (fa' ++ la') ∙ ap (λ u. find 0 l u) kept.is ∙ find_in 0 l (sizes in0) kept.more l_there ∙ sym (find-sizes l in0) ∙ ap length l_found in
       let r_long : length rf ≡ length (drop n xs) = find-sizes r (fa' ++ la') ∙ ap (λ u. find 0 r u) kept.is ∙ find_in 0 r (sizes in0) kept.more r_there ∙ sym (find-sizes r in0) ∙ ap length r_found in

@@ -18,6 +18,7 @@ use Rattle.cw_loops.specs.Lowered.{is_plain, low, high, loop_function}
 use Rattle.cw_loops.specs.Lowerable.{Surroundings, can_read, is_local, can_capture, can_slice, can_loop}
 use Rattle.cw_loops.specs.lemmas.Tests.{both_true, not_true}
 use Rattle.cw_loops.specs.lemmas.Apart.{same_are, plain_apart}
+use Rattle.cw_loops.specs.lemmas.Naming.{later_among, front_among, among_right}
 use Rattle.cw_loops.proofs.Alike.{Alike, alike_then, alike_one, series_keeps}
 use Rattle.cw_loops.proofs.Tables.{keys, find_past, put_past}
 use Rattle.cw_loops.proofs.Arguments.{Fresh, table, keys-append}
@@ -27,15 +28,15 @@ use Rattle.cw_loops.proofs.HalvesCall.{halves_call}
 use Rattle.cw_loops.proofs.Fitting.{Good, kept_same, sizes, sizes-put}
 use Rattle.cw_loops.proofs.Statements.{Out, goes, alike_done}
 use Rattle.cw_loops.proofs.Worlds.{World, Rel, related, source, target, reads_same, local_same, local_outer, local_given}
-use Rattle.cw_loops.proofs.Slices.{mapped, Distinct, differ_distinct, keys-mapped, mapped_alike, find_put_other, among_first, among_rest, slice_none, slice_length, back_is}
+use Rattle.cw_loops.proofs.Slices.{mapped, Distinct, differ_distinct, keys-mapped, mapped_alike, find_put_other, slice_none, slice_length, back_is}
 use Rattle.cw_loops.proofs.Ranges.{Agrees, Put, ranges}
-use Rattle.cw_loops.proofs.Turn.{turn_scope, BodyAlike, each_turn, among_right, table_at, other_than}
+use Rattle.cw_loops.proofs.Turn.{turn_scope, BodyAlike, each_turn, table_at, other_than}
 use Rattle.cw_loops.proofs.Fresh.{AllPlain, not_plain, fresh_from, pairs_fresh, cutting_from, taken_of, keys-taken, find-taken, frame_is}
 use Rattle.cw_loops.proofs.Loop.{GivesSuch, ResultSuch}
 
 pub map_same : {B : Type 0} (f g : Name → B) (xs : List Name) → ((a : Name) → is_among a xs ≡ true → f a ≡ g a) → map f xs ≡ map g xs
 map_same f g [] h = refl
-map_same f g (x ∷ xs) h = rw (h x (among_first x xs)) (ap (λ t. g x ∷ t) (map_same f g xs (λ a o. h a (among_rest a x xs o))))
+map_same f g (x ∷ xs) h = rw (h x (front_among x xs)) (ap (λ t. g x ∷ t) (map_same f g xs (λ a o. h a (later_among a x xs o))))
 
 pub such_done : (P : ℤ → Type 0) (r : Result) → ResultSuch P r → GivesSuch P (done_at 1 r)
 such_done P (Value v) h = h
@@ -44,9 +45,9 @@ such_done P (Fails trap) h = tt
 mapped_past : (as' : List Name) (f : Name → List ℤ → List ℤ) (t u : List (Name × List ℤ)) → ((a : Name) → is_among a as' ≡ true → is_among a (keys t) ≡ false) → mapped as' f (t ++ u) ≡ t ++ mapped as' f u
 mapped_past [] f t u h = refl
 mapped_past (a ∷ as') f t u h =
-    let n : is_among a (keys t) ≡ false = h a (among_first a as') in
+    let n : is_among a (keys t) ≡ false = h a (front_among a as') in
     ap (λ x. mapped as' f (put a (f a x) (t ++ u))) (find_past [] a t u n) ∙ ap (λ x. mapped as' f x) (put_past a (f a (find [] a u)) t u n)
-    ∙ mapped_past as' f t (put a (f a (find [] a u)) u) (λ b o. h b (among_rest b a as' o))
+    ∙ mapped_past as' f t (put a (f a (find [] a u)) u) (λ b o. h b (later_among b a as' o))
 
 sizes_mapped : (as' : List Name) (f : Name → List ℤ → List ℤ) (t : List (Name × List ℤ)) → Distinct as' → ((a : Name) → is_among a as' ≡ true → length (f a (find [] a t)) ≡ length (find [] a t)) → sizes (mapped as' f t) ≡ sizes t
 sizes_mapped [] f t d h = refl
@@ -54,8 +55,8 @@ sizes_mapped (a ∷ as') f t d h =
     let v : List ℤ = f a (find [] a t) in
     sizes_mapped as' f (put a v t) d.1 (λ b o.
     let same : find [] b (put a v t) ≡ find [] b t = find_put_other b a v t (other_than b a as' d.0 o) in
-    ap (λ x. length (f b x)) same ∙ h b (among_rest b a as' o) ∙ sym (ap length same))
-    ∙ sizes-put a v t (h a (among_first a as'))
+    ap (λ x. length (f b x)) same ∙ h b (later_among b a as' o) ∙ sym (ap length same))
+    ∙ sizes-put a v t (h a (front_among a as'))
 
 -- the range lies in each array
 lies_each : (lo hi : ℤ) (over : List Name) (g : Name → List ℤ) → lies_within lo hi (map g over) ≡ true → (a : Name) → is_among a over ≡ true → (int_le (pos 0) lo ≡ true) × (int_le hi (pos (length (g a))) ≡ true)

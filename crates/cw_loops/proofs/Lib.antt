@@ -44,6 +44,5 @@ mod Tracking
 mod LoopTexts
 mod BySlot
 mod WholeSlots
-mod RightSlots
 mod FewUses
 mod SmallLoops

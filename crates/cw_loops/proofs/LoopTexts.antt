@@ -8,6 +8,7 @@ use Rattle.cw_model.specs.Syntax.{Name, Param}
 use Rattle.cw_model.specs.Syntax as model
 use Rattle.cw_model.specs.Names.{same_name, is_among, differ}
 use Rattle.cw_tree.specs.Resolved.{Lists, Locals, slot_of}
+use Rattle.cw_tree.specs.lemmas.NamedSlots.{slot_stays}
 use Rattle.cw_loops.specs.Lowered.{is_plain, low, high, middle, left_part, right_part, int_params, array_params, variables, loop_function, leaf_block, node_block, both_halves, in_cuts, left_arguments, right_arguments}
 use Rattle.cw_loops.specs.Slotted.{Expr, Number, Variable, Binary, Int, Array, Declare, Assign, Start, IfElse, While, Scope, Cut, Block, End, Then, Function, slotted_name, slotted_argument, slotted_block, slotted_function}
 use Rattle.cw_loops.specs.Expanded.{turn_slot, left_slot, right_slot, numbers, half, loop_text}
@@ -17,7 +18,7 @@ use Rattle.cw_loops.specs.lemmas.Tests.{both_true, never, refuted, not_true}
 use Rattle.cw_loops.specs.lemmas.Apart.{same_are, same_itself, plain_apart, apart_plain}
 use Rattle.cw_loops.specs.lemmas.Naming.{Placed, at_front, after_it, placed, among_right, among_join, front_among, later_among}
 use Rattle.cw_loops.proofs.Fresh.{left_left, right_right}
-use Rattle.cw_loops.proofs.Shifting.{slot_stays, slot_past}
+use Rattle.cw_loops.proofs.Shifting.{slot_past}
 use Rattle.cw_loops.proofs.Entering.{joined}
 
 -- numbers in turn

@@ -11,15 +11,16 @@ use Rattle.cw_model.specs.Meaning.{function_of}
 use Rattle.cw_model.specs.Captured.{captured, read_by, read_by_all, read_in, read_in_block, declared_in_block}
 use Rattle.cw_model.specs.Typing.{Known, is_int, is_array, is_fine, is_new, is_argument, are_arguments, is_call, is_head_of_loop, called, may_return, ends_block, surely_returns, faults_in, faults_in_block, declares, Returns, Nowhere}
 use Rattle.cw_model.specs.Ownership.{Around, InLoop, for_head, is_outer, may_index, keeps_loop, may_read, may_write, are_free, are_inner, names_in, arrays_given, target_names, known_after, Taken, Declared, Closing, Leaves, Joins, CutOf, taken_after, declared_by, owner_faults, owner_faults_in}
+use Rattle.cw_model.specs.lemmas.Kept.{left_none, right_none, kept}
 use Rattle.cw_loops.specs.Lowered.{is_plain, low, high}
 use Rattle.cw_loops.specs.Lowerable.{Surroundings, can_write, can_read, is_local, is_variable, can_evaluate, can_pass, can_pass_all, can_target, new_integers, new_arrays, can_capture, can_slice, can_loop, inside, can_lower, can_lower_all}
 use Rattle.cw_loops.specs.SourceLike.{is_source_expr, is_source_stmt, is_source_block, is_source_target}
 use Rattle.cw_loops.specs.lemmas.Tests.{both_true, never, refuted, all_of, not_true}
-use Rattle.cw_loops.specs.lemmas.Naming.{Placed, at_front, after_it, placed, Side, in_first, in_second, side, each_of, among_left, among_right, front_among, later_among, neither_among, same_turned, new_are_there, new_are_all, new_differ}
+use Rattle.cw_loops.specs.lemmas.Naming.{Placed, at_front, after_it, placed, Side, in_first, in_second, side, each_of, among_left, among_right, front_among, later_among, neither_among, same_turned, new_are_there, new_are_all, new_differ, pushed, passed}
 use Rattle.cw_loops.specs.lemmas.Knowing.{Unknown, new_unknown, Adds, an_int, an_array, nothing, adds, known_more}
-use Rattle.cw_loops.specs.lemmas.Declaring.{left_none, right_none, kept, HeadKept, head_kept, CutKept, cut_kept, block_new}
+use Rattle.cw_loops.specs.lemmas.Declaring.{HeadKept, head_kept, CutKept, cut_kept, block_new}
 use Rattle.cw_loops.specs.lemmas.Seeing.{CallKept, call_kept, GivenKept, given_kept, AllInner, inner_names, Seen, Home, declared_there, known_before, home, block_seen}
-use Rattle.cw_loops.proofs.Agreeing.{Agree, reads_well, AllReadWell, first_well, second_well, outside, local_from, write_from, read_from, int_local, expr_can, head_keeps, pushed, passed, with_int, with_array, with_returns}
+use Rattle.cw_loops.proofs.Agreeing.{Agree, reads_well, AllReadWell, first_well, second_well, outside, local_from, write_from, read_from, int_local, expr_can, head_keeps, with_int, with_array, with_returns}
 
 -- lists that are tested name by name
 

@@ -8,11 +8,12 @@ use Rattle.cw_loops.specs.Lowered.{is_plain}
 use Rattle.cw_model.specs.Captured.{captured, read_by, read_by_all, read_in, read_in_block, declared_in, declared_in_block}
 use Rattle.cw_tree.specs.Resolved.{Lists, Locals, Use, slot_of, use_of, resolved_expr, resolved_argument, resolved_stmt, resolved_block, with_int, with_array, locals_after, reads, argument_reads, arguments_read, reads_in, reads_in_block, captured_in}
 use Rattle.cw_tree.specs.Resolved as spec
+use Rattle.cw_tree.specs.lemmas.NamedSlots.{slot_stays}
 use Rattle.cw_loops.specs.Lowerable.{Surroundings, can_write, can_read, is_local, is_variable, can_evaluate, can_pass, can_pass_all, can_target, new_integers, new_arrays, can_loop, inside, can_lower, can_lower_all}
 use Rattle.cw_loops.specs.lemmas.Tests.{both_true, Told, yes_is, no_is, told, never, not_true}
 use Rattle.cw_loops.specs.lemmas.Apart.{same_are}
 use Rattle.cw_loops.specs.lemmas.Naming.{Side, in_first, in_second, side, among_left, among_right, front_among, later_among, neither_among, new_are_there, new_are_all}
-use Rattle.cw_loops.proofs.Shifting.{above, slot_stays, slot_past}
+use Rattle.cw_loops.proofs.Shifting.{above, slot_past}
 use Rattle.cw_loops.proofs.Taken.{Matches, both_match, kept_match, own_match, dropped_match, fewer_match, each_match, matched}
 use Rattle.cw_loops.proofs.Entering.{at, Entered, entered, variable_can, two_lists, after_stmt, after_array}
 

@@ -1,11 +1,11 @@
 -- The slot of a name where it went is its place among the names of the function of its loop.
-use Rattle.std.proofs.Common.{◌≡◌, ℕ, suc, ◌+◌, ◌-◌, ◌≤◌, ◌<◌, nat_lt, Bool, true, false, List, [], ◌∷◌, ◌++◌, length, map, arith, refl, sym, ◌∙◌, ap}
+use Rattle.std.proofs.Common.{◌≡◌, ℕ, suc, ◌+◌, ◌-◌, ◌≤◌, ◌<◌, nat_lt, Bool, true, false, List, [], ◌∷◌, ◌++◌, length, map, arith, sym, ◌∙◌, ap}
 use Rattle.std.specs.Prelude.{if◌then◌else◌}
 use Rattle.std.proofs.lemmas.Bool.Decides.{nat_tests}
 use Rattle.cw_model.specs.Syntax.{Name}
 use Rattle.cw_model.specs.Names.{same_name, is_among}
 use Rattle.cw_tree.specs.Resolved.{slot_of}
-use Rattle.cw_tree.specs.lemmas.NamedSlots.{one_slot, slot_in}
+use Rattle.cw_tree.specs.lemmas.NamedSlots.{one_slot, slot_in, slot_stays}
 use Rattle.cw_loops.specs.Lowered.{is_plain, low, high}
 use Rattle.cw_loops.specs.Moved.{most_slot, slot, Moves, place_from, moved_int, moved_array}
 use Rattle.cw_loops.specs.lemmas.Apart.{plain_apart}
@@ -21,16 +21,7 @@ below k n h = grind (arith, nat_tests, h)
 pub above : (k n : ℕ) → n ≤ k → nat_lt k n ≡ false
 above k n h = grind (arith, nat_tests, h)
 
--- a name that is there keeps its place, and another comes behind all
-pub slot_stays : (x : Name) (names more : List Name) → is_among x names ≡ true → slot_of x (names ++ more) ≡ slot_of x names
-slot_stays x [] more h = absurd cc
-slot_stays x (y ∷ names) more h = first (same_name x y) (slot_stays x names more) h
-  where
-    first : (b : Bool) → (is_among x names ≡ true → slot_of x (names ++ more) ≡ slot_of x names) → (if b then true else is_among x names) ≡ true →
-        (if b then 0 else suc (slot_of x (names ++ more))) ≡ (if b then 0 else suc (slot_of x names))
-    first true f g = refl
-    first false f g = ap suc (f g)
-
+-- a name that is not there comes behind all
 pub slot_past : (x : Name) (names more : List Name) → is_among x names ≡ false → slot_of x (names ++ more) ≡ length names + slot_of x more
 slot_past x [] more h = omega arith
 slot_past x (y ∷ names) more h = first (same_name x y) (slot_past x names more) h

@@ -11,12 +11,14 @@ use Rattle.cw_model.specs.Names.{is_among, differ}
 use Rattle.cw_model.specs.Sizes.{limit_faults, loop_faults, function_limits}
 use Rattle.cw_model.specs.Typing.{Known, is_array, is_fine, is_head_of_loop, is_cut, is_head, declares, faults_in, faults_in_block, faults_of, known_of, Returns, Nowhere, WithInt, Alone, IsWellTyped}
 use Rattle.cw_model.specs.Ownership.{Around, NoLoop, InLoop, Taken, CutOf, Declared, Closing, Joins, Leaves, for_head, may_read, may_write, taken_after, declared_by, known_after, owner_faults, owner_faults_in, owner_faults_of, KeepsOwnership}
+use Rattle.cw_model.specs.lemmas.Kept.{left_none, right_none, kept}
 use Rattle.cw_tree.specs.Declares.{declares_in, declares_in_block}
 use Rattle.cw_tree.specs.Resolved.{Lists, Locals, Resolved, use_of, with_int, with_array, locals_after, locals_of, head_with, resolved_stmt, resolved_block, resolved_function, resolved, lists_of, plain}
 use Rattle.cw_tree.specs.Resolved as source
 use Rattle.cw_tree.specs.Slots.{is_resolved}
 use Rattle.cw_tree.specs.lemmas.Few.{heads_small, small_head, functions_few}
 use Rattle.cw_tree.specs.lemmas.Slotted.{params_count}
+use Rattle.cw_tree.specs.lemmas.Looked.{slots_are_right}
 use Rattle.cw_loops.specs.Lowered.{loop_count, loop_count_in}
 use Rattle.cw_loops.specs.Moved.{Loop, Moves, slot, moves_of, nothing_moved, arrays_after, loop_with, made_stmt, made_block, made_body}
 use Rattle.cw_loops.specs.Slotted as slotted
@@ -25,11 +27,10 @@ use Rattle.cw_loops.specs.Small.{IsSmallLoop, AreSmallLoops}
 use Rattle.cw_loops.specs.lemmas.Tests.{both_true, Told, yes_is, no_is, told, never}
 use Rattle.cw_loops.specs.lemmas.Naming.{Placed, at_front, after_it, placed}
 use Rattle.cw_loops.specs.lemmas.Knowing.{not_there}
-use Rattle.cw_loops.specs.lemmas.Declaring.{left_none, right_none, kept, head_kept}
+use Rattle.cw_loops.specs.lemmas.Declaring.{head_kept}
 use Rattle.cw_loops.specs.lemmas.Heads.{heads_kept}
 use Rattle.cw_loops.specs.lemmas.Numbering.{count_of}
 use Rattle.cw_loops.proofs.WholeSlots.{few_loops}
-use Rattle.cw_loops.proofs.RightSlots.{slotted_is}
 use Rattle.cw_loops.proofs.Shifting.{small_slot}
 use Rattle.cw_loops.proofs.Tracking.{no_more}
 use Rattle.cw_loops.proofs.FewUses.{few_captured}
@@ -302,4 +303,4 @@ program_small program types owns within few =
 pub tree_small : (tree : Resolved) (made : Bodies) → is_resolved tree ≡ true → IsWellTyped (plain tree) → KeepsOwnership (plain tree) → limit_faults (plain tree) ≡ [] → loop_faults (plain tree) ≡ [] → made ≡ made_of_tree tree → AreSmallBodies tree made
 tree_small tree made right types owns within few is =
     subst (AreSmallBodies tree) (sym is)
-    (subst (λ r. AreSmallBodies r (made_of_tree r)) (sym (slotted_is tree right)) (program_small (plain tree) types owns within few))
+    (subst (λ r. AreSmallBodies r (made_of_tree r)) (sym (slots_are_right tree right)) (program_small (plain tree) types owns within few))

@@ -4,14 +4,14 @@ use Rattle.std.specs.Prelude.{if◌then◌else◌, not, ◌&&◌, ◌||◌}
 use Rattle.cw_model.specs.Syntax.{Name, Function}
 use Rattle.cw_model.specs.Names.{same_name, is_among, differ}
 use Rattle.cw_tree.specs.Resolved.{Use, slot_of, use_of, is_slot_in}
-use Rattle.cw_tree.specs.lemmas.NamedSlots.{slot_in, slot_out}
+use Rattle.cw_tree.specs.lemmas.NamedSlots.{slot_in, slot_out, slot_stays}
 use Rattle.cw_loops.specs.Lowered.{is_plain, low, high}
 use Rattle.cw_loops.specs.Lowerable.{Surroundings, can_write, can_read, is_local, nothing_around, inside}
 use Rattle.cw_loops.specs.Moved.{slot, Moves, nothing_moved, moved_int, moved_array, is_over}
 use Rattle.cw_loops.specs.lemmas.Tests.{both_true, Told, yes_is, no_is, told, never, refuted, not_true, all_of}
 use Rattle.cw_loops.specs.lemmas.Apart.{same_are, same_itself, plain_apart}
 use Rattle.cw_loops.specs.lemmas.Naming.{Placed, at_front, after_it, placed, Side, in_first, in_second, side, among_right, front_among, later_among, neither_among}
-use Rattle.cw_loops.proofs.Shifting.{small_slot, below, above, slot_stays, slot_past, int_moved, past_int, own_int_moved, array_moved, past_array, own_array_moved}
+use Rattle.cw_loops.proofs.Shifting.{small_slot, below, above, slot_past, int_moved, past_int, own_int_moved, array_moved, past_array, own_array_moved}
 use Rattle.cw_loops.proofs.Taken.{slots_among}
 use Rattle.cw_loops.proofs.Entering.{Entered}
 

@@ -13,6 +13,7 @@ use Rattle.cw_model.specs.Meaning.{Completion, Normal, onward, going, Calls, run
 use Rattle.cw_loops.specs.Lowered.{is_plain, low, high}
 use Rattle.cw_loops.specs.Lowerable.{Surroundings}
 use Rattle.cw_loops.specs.lemmas.Apart.{same_are, same_itself, not_first, not_later, apart, plain_apart}
+use Rattle.cw_loops.specs.lemmas.Naming.{later_among, front_among, among_left}
 use Rattle.cw_loops.proofs.Alike.{Alike, alike_then, then_gives}
 use Rattle.cw_loops.proofs.Numbers.{tested, between}
 use Rattle.cw_loops.proofs.Tables.{keys}
@@ -23,20 +24,8 @@ use Rattle.cw_loops.proofs.HalvesCall.{Reached, counted, length_of_table}
 use Rattle.cw_loops.proofs.Fitting.{Good, AllFit, fine-put, find_fine, fit-append}
 use Rattle.cw_loops.proofs.Statements.{Out, goes, returns, OutAll, alike_done, length-keys, fine_set}
 use Rattle.cw_loops.proofs.Worlds.{World, Rel, related, source, target, find_in}
-use Rattle.cw_loops.proofs.Slices.{mapped, Distinct, keys-mapped, find_mapped, mapped_alike, find_put_other, put_put, put_unmapped, among_first, among_rest}
+use Rattle.cw_loops.proofs.Slices.{mapped, Distinct, keys-mapped, find_mapped, mapped_alike, find_put_other, put_put, put_unmapped, swapped}
 use Rattle.cw_loops.proofs.Ranges.{Agrees, Put, get_slice, set_slice}
-
-pub among_left : (x : Name) (xs ys : List Name) → is_among x xs ≡ true → is_among x (xs ++ ys) ≡ true
-among_left x [] ys h = absurd cc
-among_left x (y ∷ xs) ys h = go (same_name x y) h (among_left x xs ys)
-  where
-    go : (b : Bool) → (if b then true else is_among x xs) ≡ true → (is_among x xs ≡ true → is_among x (xs ++ ys) ≡ true) → (if b then true else is_among x (xs ++ ys)) ≡ true
-    go true g f = refl
-    go false g f = f g
-
-pub among_right : (x : Name) (xs ys : List Name) → is_among x ys ≡ true → is_among x (xs ++ ys) ≡ true
-among_right x [] ys h = h
-among_right x (y ∷ xs) ys h = among_rest x y (xs ++ ys) (among_right x xs ys h)
 
 pub among_split : (x : Name) (xs ys : List Name) → is_among x xs ≡ false → is_among x (xs ++ ys) ≡ true → is_among x ys ≡ true
 among_split x [] ys h g = g
@@ -71,13 +60,10 @@ changed_other s a v b h = ap (λ x. if x then v else s b) h
 
 table_same : (over : List Name) (s s' : Name → List ℤ) → ((b : Name) → is_among b over ≡ true → s b ≡ s' b) → table over s ≡ table over s'
 table_same [] s s' h = refl
-table_same (a ∷ over) s s' h = rw (h a (among_first a over)) (ap (λ t. (a, s' a) ∷ t) (table_same over s s' (λ b o. h b (among_rest b a over o))))
+table_same (a ∷ over) s s' h = rw (h a (front_among a over)) (ap (λ t. (a, s' a) ∷ t) (table_same over s s' (λ b o. h b (later_among b a over o))))
 
 pub other_than : (a b : Name) (bs : List Name) → is_among b bs ≡ false → is_among a bs ≡ true → same_name a b ≡ false
 other_than a b bs h o = apart a b (λ e. let q : true ≡ false = sym o ∙ ap (λ y. is_among y bs) e ∙ h in absurd cc)
-
-pub turned : (a b : Name) → same_name a b ≡ false → same_name b a ≡ false
-turned a b h = apart b a (λ e. let q : false ≡ true = sym h ∙ ap (λ y. same_name a y) e ∙ same_itself a in absurd cc)
 
 table_put : (over : List Name) (s : Name → List ℤ) (a : Name) (v : List ℤ) → Distinct over → is_among a over ≡ true → put a v (table over s) ≡ table over (changed s a v)
 table_put [] s a v d h = absurd cc
@@ -87,7 +73,7 @@ table_put (b ∷ over) s a v d h = go (same_name a b) refl h (table_put over s a
         (if x then (b, v) ∷ table over s else (b, s b) ∷ put a v (table over s)) ≡ (b, changed s a v b) ∷ table over (changed s a v)
     go true e g f =
         let ab : a ≡ b = same_are a b e in
-        let rest : table over s ≡ table over (changed s a v) = table_same over s (changed s a v) (λ c o. sym (changed_other s a v c (ap (λ y. same_name y c) ab ∙ turned c b (other_than c b over d.0 o)))) in
+        let rest : table over s ≡ table over (changed s a v) = table_same over s (changed s a v) (λ c o. sym (changed_other s a v c (ap (λ y. same_name y c) ab ∙ swapped c b (other_than c b over d.0 o)))) in
         let here : changed s a v b ≡ v = ap (changed s a v) (sym ab) ∙ changed_here s a v in
         rw here (ap (λ t. (b, v) ∷ t) rest)
     go false e g f = rw (changed_other s a v b e) (ap (λ t. (b, s b) ∷ t) (f g))
@@ -109,7 +95,7 @@ mapped_put (b ∷ bs) f g t a d h k = go (same_name a b) refl h (λ u. mapped_pu
         ap (λ y. put a (g a (find [] a t)) (mapped bs f (put y (f y (find [] y t)) t))) ba
         ∙ put_unmapped bs f (put a (f a (find [] a t)) t) a (g a (find [] a t)) new
         ∙ ap (λ u. mapped bs f u) (put_put a (g a (find [] a t)) (f a (find [] a t)) t)
-        ∙ mapped_alike bs f g (put a (g a (find [] a t)) t) d.1 (λ c oc. sym (k c (turned c a (other_than c a bs new oc)) (find [] c (put a (g a (find [] a t)) t))))
+        ∙ mapped_alike bs f g (put a (g a (find [] a t)) t) d.1 (λ c oc. sym (k c (swapped c a (other_than c a bs new oc)) (find [] c (put a (g a (find [] a t)) t))))
         ∙ ap (λ y. mapped bs g (put y (g y (find [] y t)) t)) (sym ba)
     go false e o ih =
         ap (λ v. put a (g a v) (mapped bs f (put b (f b (find [] b t)) t))) (sym (find_put_other a b (f b (find [] b t)) t e))

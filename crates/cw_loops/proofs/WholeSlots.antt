@@ -1,5 +1,5 @@
 -- Lowering a whole program by slot makes the lowered program, each name looked up.
-use Rattle.std.proofs.Common.{◌≡◌, ℕ, zero, suc, ◌+◌, ◌-◌, ◌≤◌, ◌<◌, Bool, true, false, List, [], ◌∷◌, ◌++◌, length, map, drop, flat_map, arith, refl, sym, ◌∙◌, ap, append_assoc, append-nil, length-append, length-drop}
+use Rattle.std.proofs.Common.{◌≡◌, ℕ, zero, suc, ◌+◌, ◌≤◌, ◌<◌, Bool, true, false, List, [], ◌∷◌, ◌++◌, length, map, flat_map, arith, refl, sym, ◌∙◌, ap, append_assoc, append-nil, length-append}
 use Rattle.std.specs.Prelude.{if◌then◌else◌, not, nat_le, ◌&&◌, filter}
 use Rattle.std.specs.List.{list_all}
 use Rattle.std.proofs.lemmas.Bool.Decides.{nat_tests}
@@ -11,6 +11,7 @@ use Rattle.cw_model.specs.Names.{same_name, is_among, differ}
 use Rattle.cw_model.specs.Sizes.{loops_in, loops_in_block, limit_faults, loop_faults, function_limits}
 use Rattle.cw_model.specs.Typing.{is_head, faults_of, type_faults, WithInt, Alone, known_of, IsWellTyped}
 use Rattle.cw_model.specs.Ownership.{KeepsOwnership}
+use Rattle.cw_model.specs.lemmas.Kept.{left_none, right_none}
 use Rattle.cw_tree.specs.Declares.{declares_in_block}
 use Rattle.cw_tree.specs.Resolved.{Lists, Locals, slot_of, resolved_function, resolved_block, resolved, locals_of, lists_of, function_names, reducer_names, tags_of}
 use Rattle.cw_tree.specs.Resolved as source
@@ -19,8 +20,9 @@ use Rattle.cw_tree.specs.ResolvedView.{program_of, resolved_of}
 use Rattle.cw_tree.specs.Slots.{is_resolved}
 use Rattle.cw_tree.specs.Bounds.{counts_of, fits_function, fits_block, is_fitting}
 use Rattle.cw_tree.specs.Laws.{ResolvedFits}
-use Rattle.cw_tree.specs.lemmas.Few.{heads_small, small_head, functions_few}
-use Rattle.cw_tree.specs.lemmas.NamedSlots.{slot_out}
+use Rattle.cw_tree.specs.lemmas.Few.{none_left, heads_small, small_head, functions_few}
+use Rattle.cw_tree.specs.lemmas.NamedSlots.{slot_out, slot_stays}
+use Rattle.cw_tree.specs.lemmas.Looked.{slots_are_right}
 use Rattle.cw_loops.specs.Lowered.{is_plain, loop_name, loop_count, loop_count_in, lower_block, made_in, lower_functions, made_of, lowered}
 use Rattle.cw_loops.specs.Lowerable.{nothing_around, integers_of, arrays_of, can_lower_all, can_lower_function, is_lowerable}
 use Rattle.cw_loops.specs.SourceLike.{is_source_like}
@@ -31,14 +33,12 @@ use Rattle.cw_loops.specs.Lowers.{Bodies, arrays_from, made_bodies, made_of_tree
 use Rattle.cw_loops.specs.Expanded.{loop_texts, with_bodies, expanded, lowered_by_slot}
 use Rattle.cw_loops.specs.lemmas.Tests.{both_true, Told, yes_is, no_is, told}
 use Rattle.cw_loops.specs.lemmas.Apart.{same_itself, apart_plain}
-use Rattle.cw_loops.specs.lemmas.Declaring.{left_none, right_none}
 use Rattle.cw_loops.specs.lemmas.Heads.{int_kind, head_of, heads_kept}
-use Rattle.cw_loops.specs.lemmas.Numbering.{Numbered, Made, count_of, made_functions, loops_apart}
+use Rattle.cw_loops.specs.lemmas.Numbering.{Numbered, Made, count_of, made_functions, loops_apart, names_stay}
 use Rattle.cw_loops.proofs.Accepting.{owned_can}
-use Rattle.cw_loops.proofs.Shifting.{small_slot, slot_stays, slot_past}
+use Rattle.cw_loops.proofs.Shifting.{small_slot, slot_past}
 use Rattle.cw_loops.proofs.Entering.{at, two_lists}
 use Rattle.cw_loops.proofs.Tracking.{tracks_outside}
-use Rattle.cw_loops.proofs.RightSlots.{slotted_is}
 use Rattle.cw_loops.proofs.BySlot.{Here, Done, as_blocks, block_made}
 
 -- how many loops there are
@@ -80,9 +80,6 @@ count_all (f ∷ fs) =
     let p = count_in f.body in
     let q = count_all fs in
     let all = length-append (loops_in_block f.body) (flat_map (λ (g : Function). loops_in_block g.body) fs) in omega (arith, p, q, all)
-
-none_left : (n : ℕ) (xs : List ℕ) → drop n xs ≡ [] → length xs ≤ n
-none_left n xs h = let e : length xs - n ≡ 0 = sym (length-drop n xs) ∙ ap length h in omega (arith, e)
 
 pub few_loops : (program : Program) → loop_faults program ≡ [] → count_of program.functions ≤ 4096
 few_loops program h =
@@ -133,10 +130,6 @@ arrays_counted n (p ∷ ps) few = go p.is_array few (λ m. arrays_counted m ps)
     go false h more = more n h
 
 -- the indices of functions
-
-names_stay : (k : ℕ) (fs : List Function) → function_names (lower_functions k fs) ≡ function_names fs
-names_stay k [] = refl
-names_stay k (f ∷ fs) = ap (λ r. f.name ∷ r) (names_stay (k + loop_count_in f.body) fs)
 
 numbered_slot : (made : List Function) (j i : ℕ) → Numbered j made → i < length made → slot_of (loop_name (j + i)) (function_names made) ≡ i
 numbered_slot [] j i h less = absurd (omega (arith, less))
@@ -304,4 +297,4 @@ lowers_by_slot fits program typed owned source_like within loops =
 pub tree_is_lowered : ResolvedFits → (tree : Tree) (made : Bodies) → is_resolved (resolved_of tree) ≡ true → type_faults (program_of tree) ≡ [] → KeepsOwnership (program_of tree) → limit_faults (program_of tree) ≡ [] → loop_faults (program_of tree) ≡ [] →
     made ≡ made_of_tree (resolved_of tree) → is_source_like (program_of tree) ≡ true → expanded (resolved_of tree) made ≡ slotted_functions (program_of tree)
 tree_is_lowered fits tree made right typed owned within loops is source_like =
-    ap (expanded (resolved_of tree)) is ∙ ap lowered_by_slot (slotted_is (resolved_of tree) right) ∙ lowers_by_slot fits (program_of tree) typed owned source_like within loops
+    ap (expanded (resolved_of tree)) is ∙ ap lowered_by_slot (slots_are_right (resolved_of tree) right) ∙ lowers_by_slot fits (program_of tree) typed owned source_like within loops

@@ -1,5 +1,5 @@
 -- The names that a well typed statement declares are new.
-use Rattle.std.proofs.Common.{◌≡◌, ℕ, Bool, true, false, List, [], ◌∷◌, ◌++◌, refl, sym, subst}
+use Rattle.std.proofs.Common.{◌≡◌, ℕ, Bool, true, false, List, [], ◌∷◌, ◌++◌, sym, subst}
 use Rattle.std.specs.Prelude.{if◌then◌else◌, not, ◌||◌, nat_le}
 use Rattle.std.specs.List.{list_all}
 use Rattle.cw_model.specs.Limits.{most_grain}
@@ -8,23 +8,10 @@ use Rattle.cw_model.specs.Syntax.{Name, Expr, Stmt, Declare, DeclareArray, Assig
 use Rattle.cw_model.specs.Names.{same_name, is_among}
 use Rattle.cw_model.specs.Captured.{declared_in, declared_in_block}
 use Rattle.cw_model.specs.Typing.{Known, is_fine, is_int, is_array, is_new, is_head_of_loop, is_cut, ends_block, surely_returns, faults_in, faults_in_block, declares, Returns, Nowhere}
+use Rattle.cw_model.specs.lemmas.Kept.{left_none, right_none, kept}
 use Rattle.cw_loops.specs.lemmas.Tests.{both_true, not_true}
 use Rattle.cw_loops.specs.lemmas.Naming.{Placed, at_front, after_it, placed, Side, in_first, in_second, side}
 use Rattle.cw_loops.specs.lemmas.Knowing.{Unknown, new_unknown, Adds, an_int, an_array, nothing, adds}
-
--- lines of nothing
-
-pub left_none : (xs ys : List ℕ) → xs ++ ys ≡ [] → xs ≡ []
-left_none [] ys h = refl
-left_none (x ∷ xs) ys h = cc
-
-pub right_none : (xs ys : List ℕ) → xs ++ ys ≡ [] → ys ≡ []
-right_none [] ys h = h
-right_none (x ∷ xs) ys h = cc
-
-pub kept : (b : Bool) (line : ℕ) → unless b line ≡ [] → b ≡ true
-kept true line h = refl
-kept false line h = cc
 
 -- what the head of a loop keeps
 pub record HeadKept (program : Program) (known : Known) (x : Name) (from to : Expr) (grain : ℕ) (over : List Name) : Type 0 where

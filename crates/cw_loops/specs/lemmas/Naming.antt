@@ -59,6 +59,9 @@ side x xs ys h = go (is_among x xs) refl (sym (among_join x xs ys) ∙ h)
 pub neither_among : (x : Name) (xs ys : List Name) → is_among x (xs ++ ys) ≡ false → (is_among x xs ≡ false) × (is_among x ys ≡ false)
 neither_among x xs ys h = none_of (is_among x xs) (is_among x ys) (sym (among_join x xs ys) ∙ h)
 
+pub none_among : (x : Name) (xs ys : List Name) → is_among x xs ≡ false → is_among x ys ≡ false → is_among x (xs ++ ys) ≡ false
+none_among x xs ys h g = among_join x xs ys ∙ ap (λ b. b || is_among x ys) h ∙ g
+
 pub same_turned : (x y : Name) → same_name x y ≡ same_name y x
 same_turned x y = go (same_name x y) (same_name y x) refl refl
   where
@@ -67,6 +70,24 @@ same_turned x y = go (same_name x y) (same_name y x) refl refl
     go false false e f = refl
     go true false e f = sym (same_itself y) ∙ ap (λ z. same_name y z) (sym (same_are x y e)) ∙ f
     go false true e f = sym e ∙ ap (λ z. same_name x z) (same_are y x f) ∙ same_itself x
+
+-- one name more at the end
+pub pushed : (x y : Name) (xs : List Name) (b : Bool) → b ≡ is_among x xs → (if same_name x y then true else b) ≡ is_among x (xs ++ y ∷ [])
+pushed x y xs b h = go (same_name x y) refl (is_among x xs) refl ∙ sym (among_join x xs (y ∷ []))
+  where
+    go : (s : Bool) → same_name x y ≡ s → (m : Bool) → is_among x xs ≡ m → (if s then true else b) ≡ (is_among x xs || (if s then true else false))
+    go true e true o = sym (ap (λ z. z || true) o)
+    go true e false o = sym (ap (λ z. z || true) o)
+    go false e true o = h ∙ o ∙ sym (ap (λ z. z || false) o)
+    go false e false o = h ∙ o ∙ sym (ap (λ z. z || false) o)
+
+-- a name that is new is of the other kind only where it was
+pub passed : (x y : Name) (xs : List Name) (b : Bool) → b ≡ is_among x xs → is_among y xs ≡ false → (if same_name x y then false else b) ≡ is_among x xs
+passed x y xs b h n = go (same_name x y) refl
+  where
+    go : (s : Bool) → same_name x y ≡ s → (if s then false else b) ≡ is_among x xs
+    go true e = sym (ap (λ z. is_among z xs) (same_are x y e) ∙ n)
+    go false e = h
 
 -- what is said of each name of a list
 

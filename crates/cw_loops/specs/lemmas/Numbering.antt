@@ -1,8 +1,9 @@
 -- What loops are made into: as many functions, named by numbers in turn.
-use Rattle.std.proofs.Common.{◌≡◌, ℕ, suc, ◌+◌, ◌<◌, false, List, [], ◌∷◌, ◌++◌, length, arith, refl, sym, ◌∙◌, subst, length-append}
+use Rattle.std.proofs.Common.{◌≡◌, ℕ, suc, ◌+◌, ◌<◌, false, List, [], ◌∷◌, ◌++◌, length, arith, refl, sym, ◌∙◌, subst, length-append, ap}
 use Rattle.cw_model.specs.Syntax.{Stmt, Declare, DeclareArray, Assign, AssignElement, AddTo, Call, Start, Begin, Sync, If, IfElse, While, For, Scope, Cut, Region, Print, Return, Block, End, Then, Function}
 use Rattle.cw_model.specs.Names.{same_name}
-use Rattle.cw_loops.specs.Lowered.{loop_name, loop_count, loop_count_in, made_by, made_in, made_of}
+use Rattle.cw_tree.specs.Resolved.{function_names}
+use Rattle.cw_loops.specs.Lowered.{loop_name, loop_count, loop_count_in, lower_functions, made_by, made_in, made_of}
 use Rattle.cw_loops.specs.lemmas.Apart.{apart}
 
 -- functions that are named by these numbers in turn
@@ -66,3 +67,13 @@ loops_apart j k h = apart (loop_name j) (loop_name k) (λ e. let q : j ≡ k = n
   where
     numbers : loop_name j ≡ loop_name k → j ≡ k
     numbers e = cc
+
+-- lowering leaves the names of functions
+pub names_stay : (k : ℕ) (fs : List Function) → function_names (lower_functions k fs) ≡ function_names fs
+names_stay k [] = refl
+names_stay k (f ∷ fs) = ap (λ names. f.name ∷ names) (names_stay (k + loop_count_in f.body) fs)
+
+-- and their count
+pub count_stays : (k : ℕ) (fs : List Function) → length (lower_functions k fs) ≡ length fs
+count_stays k [] = refl
+count_stays k (f ∷ fs) = ap suc (count_stays (k + loop_count_in f.body) fs)

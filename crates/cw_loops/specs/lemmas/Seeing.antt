@@ -11,13 +11,14 @@ use Rattle.cw_model.specs.Answers.{main_name}
 use Rattle.cw_model.specs.Captured.{read_by, read_by_all, read_in, read_in_block, declared_in, declared_in_block}
 use Rattle.cw_model.specs.Typing.{Known, is_int, is_array, is_fine, is_new, is_reducer, is_argument, are_arguments, called, is_target, is_call, is_head_of_loop, may_return, ends_block, surely_returns, faults_in, faults_in_block, declares, Returns, Nowhere, WithInt, Alone}
 use Rattle.cw_model.specs.Ownership.{Around, InLoop, for_head, is_outer, may_read, may_write, are_free, are_inner, names_in, arrays_given, given, target_names, known_after, Taken, Declared, Closing, Leaves, Joins, CutOf, taken_after, declared_by, owner_faults, owner_faults_in}
+use Rattle.cw_model.specs.lemmas.Kept.{left_none, right_none, kept}
 use Rattle.cw_loops.specs.Lowered.{is_plain}
 use Rattle.cw_loops.specs.SourceLike.{is_source_expr, is_source_stmt, is_source_block, is_source_target}
 use Rattle.cw_loops.specs.lemmas.Tests.{both_true, not_true, never, none_of}
 use Rattle.cw_loops.specs.lemmas.Apart.{same_are}
 use Rattle.cw_loops.specs.lemmas.Naming.{Placed, at_front, after_it, placed, Side, in_first, in_second, side, none_any, among_left, among_right, front_among, later_among}
 use Rattle.cw_loops.specs.lemmas.Knowing.{Adds, an_int, an_array, nothing, adds, known_more, known_array_more}
-use Rattle.cw_loops.specs.lemmas.Declaring.{left_none, right_none, kept, HeadKept, head_kept, CutKept, cut_kept}
+use Rattle.cw_loops.specs.lemmas.Declaring.{HeadKept, head_kept, CutKept, cut_kept}
 
 -- where a name that is read comes from
 pub data Place (around : Around) (known : Known) (declared : List Name) (x : Name) : Type 0 where
