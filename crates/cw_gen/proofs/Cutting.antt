@@ -11,10 +11,12 @@ use Rattle.cw_model.specs.Ownership.{CutOf, Taken, is_taken, cut_ended, freed, w
 use Rattle.cw_code.specs.declared.code.Halves.{Halves}
 use Rattle.cw_code.specs.Run.{is_full, settled, cut_arrays, may_cut, uncut_arrays}
 use Rattle.cw_tree.specs.Resolved.{Locals, slot_of, with_array}
+use Rattle.cw_tree.specs.lemmas.NamedSlots.{slot_stays, slot_in}
+use Rattle.cw_loops.specs.lemmas.Naming.{later_among, among_left}
 use Rattle.cw_gen.proofs.Decided.{both_true}
 use Rattle.cw_gen.proofs.Fine.{IsUsable, Room}
 use Rattle.cw_gen.proofs.Takens.{holds, holds_behind, freed_without, spawn_past_cut}
-use Rattle.cw_gen.proofs.Names.{Entries, names_in, names_more, get-other, length-settled, slot_stays, slot_within, among_before, AgreesOf, is_free}
+use Rattle.cw_gen.proofs.Names.{Entries, names_in, names_more, get-other, length-settled, AgreesOf, is_free}
 use Rattle.cw_gen.proofs.Names as names
 use Rattle.cw_gen.proofs.Scopes.{extended, same_locals}
 use Rattle.cw_gen.proofs.Stores.{Store, Waits, Outside, int_waits, array_waits, joined_with, Agrees, Fills, finds, new_array_is_there, exits, leaves_block}
@@ -66,7 +68,7 @@ can_cut locals taken x y frame store outer u room a =
     let s1 = slice_set s h.array None in
     let s2 = slice_set s1 h.left None in
     let next : length (locals.arrays ++ y ∷ []) ≡ length locals.arrays + 1 = length-append locals.arrays (y ∷ []) in
-    let within = slot_within x locals.arrays u.declared in
+    let within = slot_in x locals.arrays u.declared in
     let one : is_full (slice_get s h.array) ≡ true = ap is_full (finds locals taken x frame store outer u a) in
     let two : is_full (slice_get s1 h.left) ≡ true = ap is_full (get-other s h.left h.array None (λ e. omega (arith, within, e))) ∙ new_array_is_there locals taken frame store outer h.left (omega arith) (omega (arith, room)) a in
     let three : is_full (slice_get s2 h.right) ≡ true =
@@ -128,14 +130,7 @@ pub slot_first : (x : Name) (ns more : List Name) → is_among x ns ≡ false �
 slot_first x ns more h = ap (slot_of x) (sym (append_assoc ns (x ∷ []) more)) ∙ slot_stays x (ns ++ x ∷ []) more (among_end x ns) ∙ slot_here x ns h
 
 pub among_first : (x : Name) (ns more : List Name) → is_among x (ns ++ x ∷ more) ≡ true
-among_first x ns more = ap (is_among x) (sym (append_assoc ns (x ∷ []) more)) ∙ among_before x (ns ++ x ∷ []) more (among_end x ns)
-
-further : (x y : Name) (ns : List Name) → is_among x ns ≡ true → is_among x (y ∷ ns) ≡ true
-further x y ns h = test (same_name x y)
-  where
-    test : (b : Bool) → (if b then true else is_among x ns) ≡ true
-    test true = refl
-    test false = h
+among_first x ns more = ap (is_among x) (sym (append_assoc ns (x ∷ []) more)) ∙ among_left x (ns ++ x ∷ []) more (among_end x ns)
 
 -- a name that is not taken is not taken of fewer
 free_without : (own : List Name) (taken : Taken) (x : Name) → is_taken taken x ≡ false → is_taken (without own taken) x ≡ false
@@ -188,12 +183,12 @@ cut_exits locals taken x y z xs n own more more_arrays all frame g st store oute
     let i = slot_of x locals.arrays in
     let named : names_in start.arrays ≡ inner.arrays = names_more (frame.arrays ++ (y, take n xs) ∷ []) z (drop n xs) ∙ ap (λ l. l ++ z ∷ []) (names_more frame.arrays y (take n xs) ∙ ap (λ l. l ++ y ∷ []) a.arrays.named) in
     let b1 = exits (extended inner more more_arrays) all g st w outer ag in
-    let b2 = leaves_block inner more more_arrays own (freed depth all) start g j outer a.ints.named named a.whole own_ok own_arrays_ok (λ q h. free q (further q y (z ∷ own) (further q z own h))) b1 in
+    let b2 = leaves_block inner more more_arrays own (freed depth all) start g j outer a.ints.named named a.whole own_ok own_arrays_ok (λ q h. free q (later_among q y (z ∷ own) (later_among q z own h))) b1 in
     let same : inner ≡ extended locals [] (y ∷ z ∷ []) = same_locals locals.ints (locals.ints ++ []) inner.arrays (locals.arrays ++ y ∷ z ∷ []) (sym (append-nil locals.ints)) (append_assoc locals.arrays (y ∷ []) (z ∷ [])) in
     let b3 = leaves_block locals [] (y ∷ z ∷ []) (y ∷ z ∷ []) t1 frame left_inner j outer a.ints.named a.arrays.named a.whole (λ q h. cc) (λ q h. h)
-    (λ q h. free_without own (freed depth all) q (free q (among_before q (y ∷ z ∷ []) own h))) (subst (λ ls. Agrees ls t1 left_inner j outer) same b2) in
-    let use_y : IsUsable inner.arrays t1 y = record { declared = among_before y (locals.arrays ++ y ∷ []) (z ∷ []) (among_end y locals.arrays); free = free_without own (freed depth all) y (free y (first y (z ∷ own))) } in
-    let use_z : IsUsable inner.arrays t1 z = record { declared = among_end z (locals.arrays ++ y ∷ []); free = free_without own (freed depth all) z (free z (further z y (z ∷ own) (first z own))) } in
+    (λ q h. free_without own (freed depth all) q (free q (among_left q (y ∷ z ∷ []) own h))) (subst (λ ls. Agrees ls t1 left_inner j outer) same b2) in
+    let use_y : IsUsable inner.arrays t1 y = record { declared = among_left y (locals.arrays ++ y ∷ []) (z ∷ []) (among_end y locals.arrays); free = free_without own (freed depth all) y (free y (first y (z ∷ own))) } in
+    let use_z : IsUsable inner.arrays t1 z = record { declared = among_end z (locals.arrays ++ y ∷ []); free = free_without own (freed depth all) z (free z (later_among z y (z ∷ own) (first z own))) } in
     let at_y : slot_of y inner.arrays ≡ length locals.arrays = slot_stays y (locals.arrays ++ y ∷ []) (z ∷ []) (among_end y locals.arrays) ∙ slot_here y locals.arrays new_y in
     let at_z : slot_of z inner.arrays ≡ length (locals.arrays ++ y ∷ []) = slot_here z (locals.arrays ++ y ∷ []) new_z in
     let next : length (locals.arrays ++ y ∷ []) ≡ length locals.arrays + 1 = length-append locals.arrays (y ∷ []) in

@@ -1,17 +1,18 @@
 -- What the entry of a function keeps of its text, and where main's stands.
-use Rattle.std.proofs.Common.{◌≡◌, ℕ, suc, ◌+◌, List, [], ◌∷◌, ◌++◌, length, Bool, true, false, not, cond, filter, if◌then◌else◌, refl, sym, ap, ◌∙◌}
+use Rattle.std.proofs.Common.{◌≡◌, ℕ, suc, List, [], ◌∷◌, ◌++◌, length, Bool, true, false, not, cond, filter, if◌then◌else◌, refl, sym, ap, ◌∙◌}
 use Rattle.std.specs.Prelude.{map}
 use Rattle.std.proofs.lemmas.List.{map-append}
 use Rattle.cw_model.specs.Syntax.{Name, Param, Function, Program}
 use Rattle.cw_model.specs.Names.{same_name, is_among}
 use Rattle.cw_model.specs.Answers.{main_name}
 use Rattle.cw_tree.specs.Resolved.{Lists, locals_of, slot_of, function_names}
-use Rattle.cw_loops.specs.Lowered.{loop_count_in, lower_functions, made_of}
+use Rattle.cw_tree.specs.lemmas.NamedSlots.{slot_stays}
+use Rattle.cw_loops.specs.Lowered.{lower_functions, made_of}
 use Rattle.cw_loops.specs.Slotted.{slotted_block, slotted_function, lowered_lists}
+use Rattle.cw_loops.specs.lemmas.Numbering.{names_stay}
 use Rattle.cw_gen.specs.Emit.{count_ints, count_arrays, ints_in_block, arrays_in_block, emitted_func}
 use Rattle.cw_gen.proofs.Fine.{Room, room_of, is_function}
 use Rattle.cw_gen.proofs.Texts.{code_of, room_of_func}
-use Rattle.cw_gen.proofs.Names.{slot_stays}
 
 -- the slots of a room
 abbrev pub ints_of : Room → ℕ
@@ -45,11 +46,6 @@ as_counted lists g first start =
   where
     room : ℕ → ℕ → Room
     room ints arrays = record { ints = ints; arrays = arrays; given = (locals_of g.params).arrays }
-
--- lowering keeps the names of functions, in their order
-names_stay : (k : ℕ) (fs : List Function) → function_names (lower_functions k fs) ≡ function_names fs
-names_stay k [] = refl
-names_stay k (f ∷ fs) = ap (λ names. f.name ∷ names) (names_stay (k + loop_count_in f.body) fs)
 
 -- the name of a function is one of the names
 named : (x : Name) (fs : List Function) → is_function x fs ≡ true → is_among x (function_names fs) ≡ true

@@ -1,14 +1,15 @@
 -- A program within its limits has few functions, those of its loops counted too.
-use Rattle.std.proofs.Common.{◌≡◌, ℕ, suc, ◌+◌, ◌≤◌, List, [], ◌∷◌, ◌++◌, length, refl, sym, ap, ◌∙◌, arith, length-append}
+use Rattle.std.proofs.Common.{◌≡◌, ℕ, ◌+◌, ◌≤◌, List, [], ◌∷◌, ◌++◌, length, refl, sym, ap, ◌∙◌, arith, length-append}
 use Rattle.std.specs.Prelude.{map, flat_map}
 use Rattle.std.proofs.lemmas.List.{length-map, length-drop}
 use Rattle.cw_model.specs.Limits.{most_functions, most_loops}
 use Rattle.cw_model.specs.Syntax.{Stmt, Declare, DeclareArray, Assign, AssignElement, AddTo, Call, Start, Begin, Sync, If, IfElse, While, For, Scope, Cut, Region, Print, Return, Block, End, Then, Function, Program}
 use Rattle.cw_model.specs.Captured.{captured}
 use Rattle.cw_model.specs.Sizes.{lines_beyond, loops_in, loops_in_block}
+use Rattle.cw_model.specs.lemmas.Kept.{left_none}
 use Rattle.cw_loops.specs.Lowered.{loop_name, loop_count, loop_count_in, lower_block, made_by, made_in, loop_function, lower_functions, made_of, lowered}
 use Rattle.cw_loops.specs.SlotLaws.{IsWithinLimits}
-use Rattle.cw_gen.proofs.Rules.{first_empty}
+use Rattle.cw_loops.specs.lemmas.Numbering.{count_stays}
 
 -- no line is beyond the limit, so there are no more of them
 none_beyond : (most : ℕ) (lines : List ℕ) → lines_beyond most lines ≡ [] → length lines ≤ most
@@ -50,15 +51,11 @@ made_count_of k [] = refl
 made_count_of k (f ∷ fs) =
     both_long (made_in k f.body) (made_of (k + loop_count_in f.body) fs) (loops_in_block f.body) (flat_map (λ g. loops_in_block g.body) fs) (made_count_in k f.body) (made_count_of (k + loop_count_in f.body) fs)
 
-lowered_count : (k : ℕ) (fs : List Function) → length (lower_functions k fs) ≡ length fs
-lowered_count k [] = refl
-lowered_count k (f ∷ fs) = ap (λ n. suc n) (lowered_count (k + loop_count_in f.body) fs)
-
 pub few_functions : (program : Program) → IsWithinLimits program → length (lowered program).functions ≤ 8192
 few_functions program within =
     let fs = program.functions in
     let lines = map (λ (f : Function). f.line) fs in
     let loops = flat_map (λ (f : Function). loops_in_block f.body) fs in
-    let few = none_beyond most_functions lines (first_empty (lines_beyond most_functions lines) _ within.limits) in
+    let few = none_beyond most_functions lines (left_none (lines_beyond most_functions lines) _ within.limits) in
     let few_loops = none_beyond most_loops loops within.loops in
-    omega (arith, length-append (lower_functions 0 fs) (made_of 0 fs), lowered_count 0 fs, made_count_of 0 fs, length-map fs (λ (f : Function). f.line), few, few_loops)
+    omega (arith, length-append (lower_functions 0 fs) (made_of 0 fs), count_stays 0 fs, made_count_of 0 fs, length-map fs (λ (f : Function). f.line), few, few_loops)

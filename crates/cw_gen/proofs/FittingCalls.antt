@@ -13,6 +13,7 @@ use Rattle.cw_model.specs.Typing.{Nowhere}
 use Rattle.cw_model.specs.Ownership.{SpawnIn, Taken, taken_by, target_names}
 use Rattle.cw_model.specs.Ownership as ownership
 use Rattle.cw_tree.specs.Resolved.{Locals, slot_of, locals_of}
+use Rattle.cw_tree.specs.lemmas.NamedSlots.{slot_in}
 use Rattle.std.proofs.lemmas.Slice.Eq.{bytes_eq-Decides}
 use Rattle.cw_code.specs.declared.code.Callee.{Callee}
 use Rattle.cw_code.specs.declared.code.Instr.TheVariants as instr
@@ -23,7 +24,7 @@ use Rattle.cw_gen.proofs.Held.{held_after}
 use Rattle.cw_gen.proofs.Decided.{both_true, first_true, second_true, at_most, below, equal}
 use Rattle.cw_gen.proofs.Fine.{AllUsable, HasSite, ArgsFine, TargetFine, is_function, StmtFine}
 use Rattle.cw_gen.proofs.Takens.{holds, holds_behind, held_by_spawn}
-use Rattle.cw_gen.proofs.Names.{slot_within, slots_apart}
+use Rattle.cw_gen.proofs.Names.{slots_apart}
 use Rattle.cw_gen.proofs.Rows.{row, row_more, covers_itself, covers_name, outers, outers_more, each_covers_itself, CutsOpen, slot_is_full, array_is_full, is_equal}
 use Rattle.cw_gen.proofs.Passing.{slots_for, usable_args, passed_slots, as_many_arrays, not_same, negated}
 use Rattle.cw_gen.proofs.Shapes.{Opened, depth_in, after_arg, args_after}
@@ -71,7 +72,7 @@ module _ (setting : Setting) where
   slots_named_well locals taken (a ∷ given) room us apart =
       let i = slot_of a locals.arrays in
       let more = slots_for locals.arrays given in
-      both_true (nat_lt i (size setting).arrays) (is_none_of i more && names_arrays (size setting).arrays more) (below i (size setting).arrays (omega (arith, slot_within a locals.arrays us.0.declared, room.1)))
+      both_true (nat_lt i (size setting).arrays) (is_none_of i more && names_arrays (size setting).arrays more) (below i (size setting).arrays (omega (arith, slot_in a locals.arrays us.0.declared, room.1)))
       (both_true (is_none_of i more) (names_arrays (size setting).arrays more) (none given us.1 (negated (is_among a given) (first_true (not (is_among a given)) (differ given) apart))) (slots_named_well locals taken given room us.1 (second_true (not (is_among a given)) (differ given) apart)))
     where
       not_equal : (c d : ℕ) → c ≢ d → nat_eq c d ≡ false

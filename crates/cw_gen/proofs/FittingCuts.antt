@@ -7,14 +7,15 @@ use Rattle.std.proofs.lemmas.List.{set-set}
 use Rattle.cw_model.specs.Typing.{Nowhere, block_returns}
 use Rattle.cw_model.specs.Ownership.{CutOf, cut_ended, Taken, is_taken, freed, without, own_names, Joins}
 use Rattle.cw_tree.specs.Resolved.{Locals, slot_of, with_array}
+use Rattle.cw_tree.specs.lemmas.NamedSlots.{slot_stays, slot_in}
 use Rattle.std.proofs.lemmas.Slice.Eq.{bytes_eq-Decides}
 use Rattle.cw_code.specs.declared.code.Instr.TheVariants as instr
 use Rattle.cw_code.specs.Fits.{names_halves, gone_rows, is_full_in, full_in_all, has_array, has_arrays, is_no_part, are_no_parts, is_ready, leaves, Covers, CoversEach, Leads}
+use Rattle.cw_loops.specs.lemmas.Naming.{among_left}
 use Rattle.cw_gen.proofs.Held.{held_after, held_after_all}
 use Rattle.cw_gen.proofs.Decided.{both_true, at_most, below}
 use Rattle.cw_gen.proofs.Fine.{IsUsable, ExprFine, PartsFine, FreeAtEnd, BlockFine}
 use Rattle.cw_gen.proofs.Takens.{holds_behind, spawn_past_cut}
-use Rattle.cw_gen.proofs.Names.{slot_within, slot_stays, among_before}
 use Rattle.cw_gen.proofs.Scopes.{locals_after_all, extended, same_locals, names_extend}
 use Rattle.cw_gen.proofs.Texts.{expr_code, stmt_code, block_code}
 use Rattle.cw_gen.proofs.Rows.{row, row_of, row_more, length-row, covers_after, covers_none, covers_declared, covers_set, covers_lower, outers, Over, outers_more, outers_array, each_covers_after, CutsOpen, halves_at, cuts_kept, array_is_full, next_array_is_full, not_cut_behind, outside_full, no_part, is_equal}
@@ -43,7 +44,7 @@ module _ (setting : Setting) where
       let end = end_shape setting.fs (size setting) inside inner inner_taken b in
       let next : length (locals.arrays ++ l ∷ []) ≡ length locals.arrays + 1 = length-append locals.arrays (l ∷ []) in
       let next' : length (locals.arrays ++ l ∷ []) ≡ suc (length locals.arrays) = omega (arith, next) in
-      let within_a = slot_within a locals.arrays usable.declared in
+      let within_a = slot_in a locals.arrays usable.declared in
       let plus : depth_in opened + 1 ≡ level = omega arith in
       let left = cut_ended a (freed level (without own after_it)) in
       let leads' : Leads (table setting) next_place (made setting opened locals left 0) = subst (λ m. Leads (table setting) next_place (made setting opened locals (cut_ended a (freed m (without own (held_after_all setting.fs m b inner_taken)))) 0)) plus leads in
@@ -113,11 +114,11 @@ module _ (setting : Setting) where
       let deeper : level + 1 ≡ suc (depth_in opened) = omega (arith, at) in
       let next : length (locals.arrays ++ l ∷ []) ≡ length locals.arrays + 1 = length-append locals.arrays (l ∷ []) in
       let all : length inner.arrays ≡ length locals.arrays + 2 = omega (arith, length-append (locals.arrays ++ l ∷ []) (r ∷ []), next) in
-      let within_a = slot_within a locals.arrays usable.declared in
+      let within_a = slot_in a locals.arrays usable.declared in
       let room' : HasRoom setting inner = (room.0, omega (arith, parts.there, all)) in
       let same : inner.arrays ≡ locals.arrays ++ l ∷ r ∷ [] = append_assoc locals.arrays (l ∷ []) (r ∷ []) in
       let cuts' : CutsOpen inside inner inner_taken = (
-        record { name = a; declared = ap (is_among a) same ∙ among_before a locals.arrays (l ∷ r ∷ []) usable.declared; slot = ap (slot_of a) same ∙ slot_stays a locals.arrays (l ∷ r ∷ []) usable.declared; cut = inl refl; left = omega (arith, all); right = omega (arith, all, next) },
+        record { name = a; declared = ap (is_among a) same ∙ among_left a locals.arrays (l ∷ r ∷ []) usable.declared; slot = ap (slot_of a) same ∙ slot_stays a locals.arrays (l ∷ r ∷ []) usable.declared; cut = inl refl; left = omega (arith, all); right = omega (arith, all, next) },
         cuts_kept opened locals inner (l ∷ r ∷ []) taken inner_taken same (λ q k. inr k) cuts,
       ) in
       let pb = place + length ce + 1 in

@@ -5,6 +5,7 @@ use Rattle.cw_model.specs.Syntax.{Name, Expr, Number, Variable, Element, Length,
 use Rattle.std.proofs.lemmas.List.{append-nil}
 use Rattle.cw_model.specs.Ownership.{Taken}
 use Rattle.cw_tree.specs.Resolved.{Locals, slot_of}
+use Rattle.cw_tree.specs.lemmas.NamedSlots.{slot_in}
 use Rattle.cw_loops.specs.Slotted.{slotted_argument}
 use Rattle.cw_code.specs.declared.code.UnaryOperator.TheVariants as unary
 use Rattle.cw_code.specs.declared.code.Instr.{Instr}
@@ -13,7 +14,6 @@ use Rattle.cw_code.specs.Fits.{Shape, has_array, Leads}
 use Rattle.cw_gen.specs.Emit.{emitted_arg}
 use Rattle.cw_gen.proofs.Decided.{both_true, at_most, below}
 use Rattle.cw_gen.proofs.Fine.{IsUsable, ExprFine, ArgFine, ArgsFine}
-use Rattle.cw_gen.proofs.Names.{slot_within}
 use Rattle.cw_gen.proofs.Texts.{expr_code, args_code}
 use Rattle.cw_gen.proofs.Codes.{arg_code, array_code}
 use Rattle.cw_gen.proofs.Rows.{CutsOpen, slot_is_full, array_is_full}
@@ -27,11 +27,11 @@ module _ (setting : Setting) where
 
     -- a name that may be used has a slot
     pub slot_is_there : (x : Name) → IsUsable locals.ints taken x → nat_lt (slot_of x locals.ints) (size setting).ints ≡ true
-    slot_is_there x u = below (slot_of x locals.ints) (size setting).ints (omega (arith, slot_within x locals.ints u.declared, room.0))
+    slot_is_there x u = below (slot_of x locals.ints) (size setting).ints (omega (arith, slot_in x locals.ints u.declared, room.0))
 
     -- so has an array
     pub array_is_there : (x : Name) → IsUsable locals.arrays taken x → nat_lt (slot_of x locals.arrays) (size setting).arrays ≡ true
-    array_is_there x u = below (slot_of x locals.arrays) (size setting).arrays (omega (arith, slot_within x locals.arrays u.declared, room.1))
+    array_is_there x u = below (slot_of x locals.arrays) (size setting).arrays (omega (arith, slot_in x locals.arrays u.declared, room.1))
 
     -- the first place of an expression takes what comes to it
     pub expr_enters : (e : Expr) (place n : ℕ) (more : Shapes) → ExprFine locals taken e → StandsAt setting.tab place (expr_shapes here n e ++ more) → Leads (table setting) place (here n)

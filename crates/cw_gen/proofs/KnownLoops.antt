@@ -8,16 +8,22 @@ use Rattle.cw_model.specs.Syntax.{Name, Expr, Stmt, Start, If, IfElse, While, Fo
 use Rattle.cw_model.specs.Names.{same_name, is_among, differ}
 use Rattle.cw_model.specs.Captured.{captured}
 use Rattle.cw_model.specs.Typing.{Returns, Nowhere, Alone, Known, is_array, is_fine, is_cut, is_head_of_loop, called, surely_returns, ends_block, declares, faults_in, faults_in_block}
+use Rattle.cw_model.specs.lemmas.Kept.{kept, left_none, right_none}
 use Rattle.cw_tree.specs.Resolved.{Locals, with_int, with_array, locals_after, locals_of}
 use Rattle.cw_loops.specs.Lowered.{is_plain, low, high, middle, left_part, right_part, loop_name, int_params, array_params, variables, leaf_block, left_arguments, right_arguments, both_halves, in_cuts, node_block, loop_function, loop_count, loop_count_in, lower_block, made_by, made_in}
 use Rattle.cw_loops.specs.Lowerable.{Surroundings, can_read, is_local, can_evaluate, new_integers, new_arrays, can_capture, can_slice, inside, can_lower, can_lower_all}
+use Rattle.cw_loops.specs.lemmas.Tests.{both_true, not_true, never, refuted}
+use Rattle.cw_loops.specs.lemmas.Apart.{same_are, plain_apart}
+use Rattle.cw_loops.specs.lemmas.Naming.{front_among, later_among, among_left, among_right, Placed, at_front, after_it, placed, none_among}
+use Rattle.cw_loops.specs.lemmas.Knowing.{not_both}
+use Rattle.cw_loops.specs.lemmas.Heads.{names_of}
 use Rattle.cw_gen.proofs.Held.{has_no_half_in}
 use Rattle.cw_gen.proofs.Fine.{Begins}
 use Rattle.cw_gen.proofs.Kept.{ArgsKnown, StmtKnown, BlockKnown, FunctionKnown, AllFunctionsKnown}
-use Rattle.cw_gen.proofs.KnownNames.{both_of, turned, never, refuted, kept, front, rear, same_are, plain_apart, front_among, later_among, past, among_left, among_right, none_among, Placed, at_front, after_it, placed, differ_join}
-use Rattle.cw_gen.proofs.KnownParams.{names_of, loop_names, loop_ints, loop_arrays}
+use Rattle.cw_gen.proofs.KnownNames.{past, differ_join}
+use Rattle.cw_gen.proofs.KnownParams.{loop_names, loop_ints, loop_arrays}
 use Rattle.cw_gen.proofs.KnownFunctions.{Found, AllFound, found_first, found_second, CallFound}
-use Rattle.cw_gen.proofs.KnownPlaces.{Agree, not_both, agree_inside, agree_after}
+use Rattle.cw_gen.proofs.KnownPlaces.{Agree, agree_inside, agree_after}
 use Rattle.cw_gen.proofs.KnownStatements.{no_half_in, begins_array, head_kept, loop_kept, block_known, cut_kept, cut_agrees}
 
 -- the locals inside the cuts of these arrays
@@ -93,7 +99,7 @@ module _ (all : List Function) (given : List Name) where
       differ rest ≡ true → Begins given locals.arrays → ((r : Returns) → BlockKnown all given r (cut_locals rest locals) text) → BlockKnown all given returns locals (in_cuts line rest text)
   cuts_known returns line [] locals text lows middles there left right apart begins h = h returns
   cuts_known returns line (a ∷ rest) locals text lows middles there left right apart begins h =
-      let two = both_of (not (is_among a rest)) (differ rest) apart in (
+      let two = both_true (not (is_among a rest)) (differ rest) apart in (
         (
           there a (front_among a rest),
           (middles, lows),
@@ -101,8 +107,8 @@ module _ (all : List Function) (given : List Name) where
           none_among (right_part a) locals.arrays (left_part a ∷ []) (right a (front_among a rest)) refl,
           begins,
           cuts_known Nowhere line rest more text lows middles (λ b o. beside b (left_part a) (right_part a) locals.arrays (there b (later_among b a rest o)))
-              (λ b o. none_among (left_part b) (locals.arrays ++ left_part a ∷ []) (right_part a ∷ []) (none_among (left_part b) locals.arrays (left_part a ∷ []) (left b (later_among b a rest o)) (past (left_part b) (left_part a) [] (other b o (turned _ two.0)) refl)) refl)
-              (λ b o. none_among (right_part b) (locals.arrays ++ left_part a ∷ []) (right_part a ∷ []) (none_among (right_part b) locals.arrays (left_part a ∷ []) (right b (later_among b a rest o)) refl) (past (right_part b) (right_part a) [] (other b o (turned _ two.0)) refl))
+              (λ b o. none_among (left_part b) (locals.arrays ++ left_part a ∷ []) (right_part a ∷ []) (none_among (left_part b) locals.arrays (left_part a ∷ []) (left b (later_among b a rest o)) (past (left_part b) (left_part a) [] (other b o (not_true _ two.0)) refl)) refl)
+              (λ b o. none_among (right_part b) (locals.arrays ++ left_part a ∷ []) (right_part a ∷ []) (none_among (right_part b) locals.arrays (left_part a ∷ []) (right b (later_among b a rest o)) refl) (past (right_part b) (right_part a) [] (other b o (not_true _ two.0)) refl))
               two.1 (begins_array given (with_array (left_part a) locals) (right_part a) (begins_array given locals (left_part a) begins)) h,
         ),
         tt,
@@ -223,10 +229,10 @@ capture_each c ints [] can v o = absurd cc
 capture_each c ints (x ∷ xs) can v o = go (placed v x xs o) (capture_each c ints xs three.1 v)
   where
     one : (is_plain x ≡ true) × ((can_read c x && (is_among x (c.outer ++ ints) && can_capture c ints xs)) ≡ true)
-    one = both_of (is_plain x) (can_read c x && (is_among x (c.outer ++ ints) && can_capture c ints xs)) can
+    one = both_true (is_plain x) (can_read c x && (is_among x (c.outer ++ ints) && can_capture c ints xs)) can
 
     three : (is_among x (c.outer ++ ints) ≡ true) × (can_capture c ints xs ≡ true)
-    three = both_of (is_among x (c.outer ++ ints)) (can_capture c ints xs) (both_of (can_read c x) (is_among x (c.outer ++ ints) && can_capture c ints xs) one.1).1
+    three = both_true (is_among x (c.outer ++ ints)) (can_capture c ints xs) (both_true (can_read c x) (is_among x (c.outer ++ ints) && can_capture c ints xs) one.1).1
 
     go : Placed v x xs → (is_among v xs ≡ true → (is_plain v ≡ true) × (is_among v (c.outer ++ ints) ≡ true)) → (is_plain v ≡ true) × (is_among v (c.outer ++ ints) ≡ true)
     go (at_front same) more = (ap is_plain same ∙ one.0, ap (λ z. is_among z (c.outer ++ ints)) same ∙ three.0)
@@ -237,10 +243,10 @@ slice_each c arrays [] can a o = absurd cc
 slice_each c arrays (x ∷ xs) can a o = go (placed a x xs o) (slice_each c arrays xs three.1 a)
   where
     one : (is_plain x ≡ true) × ((is_local c x && (is_among x arrays && can_slice c arrays xs)) ≡ true)
-    one = both_of (is_plain x) (is_local c x && (is_among x arrays && can_slice c arrays xs)) can
+    one = both_true (is_plain x) (is_local c x && (is_among x arrays && can_slice c arrays xs)) can
 
     three : (is_among x arrays ≡ true) × (can_slice c arrays xs ≡ true)
-    three = both_of (is_among x arrays) (can_slice c arrays xs) (both_of (is_local c x) (is_among x arrays && can_slice c arrays xs) one.1).1
+    three = both_true (is_among x arrays) (can_slice c arrays xs) (both_true (is_local c x) (is_among x arrays && can_slice c arrays xs) one.1).1
 
     go : Placed a x xs → (is_among a xs ≡ true → (is_plain a ≡ true) × (is_among a arrays ≡ true)) → (is_plain a ≡ true) × (is_among a arrays ≡ true)
     go (at_front same) more = (ap is_plain same ∙ one.0, ap (λ z. is_among z arrays) same ∙ three.0)
@@ -257,18 +263,18 @@ module _ (program : Program) (all : List Function) (calls : (f : Name) (g : Func
     pub made_by_known : (returns : Returns) (c : Surroundings) (ints arrays : List Name) (known : Known) (locals : Locals) → Agree c ints arrays known locals → (line k : ℕ) (s : Stmt) →
         faults_in program returns known line s ≡ [] → can_lower c ints arrays s ≡ true → AllFound all (made_by line k s) → AllFunctionsKnown all (made_by line k s)
     made_by_known returns c ints arrays known locals agree line k (If e b) typed can found =
-        made_in_known returns c ints arrays known locals agree k b (rear (unless (is_fine known e) line) (faults_in_block program returns known b) typed) (both_of (can_evaluate c e) (can_lower_all c ints arrays b) can).1 found
+        made_in_known returns c ints arrays known locals agree k b (right_none (unless (is_fine known e) line) (faults_in_block program returns known b) typed) (both_true (can_evaluate c e) (can_lower_all c ints arrays b) can).1 found
     made_by_known returns c ints arrays known locals agree line k (IfElse e b d) typed can found =
-        let h = both_of (can_lower_all c ints arrays b) (can_lower_all c ints arrays d) (both_of (can_evaluate c e) _ can).1 in
+        let h = both_true (can_lower_all c ints arrays b) (can_lower_all c ints arrays d) (both_true (can_evaluate c e) _ can).1 in
         let first = faults_in_block program returns known b in
         let second = faults_in_block program returns known d in
-        let branches = rear (unless (is_fine known e) line) (first ++ second) typed in
+        let branches = right_none (unless (is_fine known e) line) (first ++ second) typed in
         let made = made_in k b in
         let made' = made_in (k + loop_count_in b) d in
-        both_known all made made' (made_in_known returns c ints arrays known locals agree k b (front first second branches) h.0 (found_first all made made' found))
-        (made_in_known returns c ints arrays known locals agree (k + loop_count_in b) d (rear first second branches) h.1 (found_second all made made' found))
+        both_known all made made' (made_in_known returns c ints arrays known locals agree k b (left_none first second branches) h.0 (found_first all made made' found))
+        (made_in_known returns c ints arrays known locals agree (k + loop_count_in b) d (right_none first second branches) h.1 (found_second all made made' found))
     made_by_known returns c ints arrays known locals agree line k (While e b) typed can found =
-        made_in_known returns c ints arrays known locals agree k b (rear (unless (is_fine known e) line) (faults_in_block program returns known b) typed) (both_of (can_evaluate c e) (can_lower_all c ints arrays b) can).1 found
+        made_in_known returns c ints arrays known locals agree k b (right_none (unless (is_fine known e) line) (faults_in_block program returns known b) typed) (both_true (can_evaluate c e) (can_lower_all c ints arrays b) can).1 found
     made_by_known returns c ints arrays known locals agree line k (For x y z from to grain over b) typed can found =
         let name = loop_name (k + loop_count_in b) in
         let taken = captured x b in
@@ -277,8 +283,8 @@ module _ (program : Program) (all : List Function) (calls : (f : Name) (g : Func
         let keeps = loop_kept c ints arrays x y z from to grain over b can in
         let known' = (x, false) ∷ known in
         let head_line = unless (is_head_of_loop program known x y z from to grain over) line in
-        let head = head_kept program known x y z from to grain over (kept (is_head_of_loop program known x y z from to grain over) line (front head_line (faults_in_block program Nowhere known' b) typed)) in
-        let typed_body = rear head_line (faults_in_block program Nowhere known' b) typed in
+        let head = head_kept program known x y z from to grain over (kept (is_head_of_loop program known x y z from to grain over) line (left_none head_line (faults_in_block program Nowhere known' b) typed)) in
+        let typed_body = right_none head_line (faults_in_block program Nowhere known' b) typed in
         let made = made_in k b in
         let found_body = found_first all made (g ∷ []) found in
         let here : Found all g = (found_second all made (g ∷ []) found).0 in
@@ -300,15 +306,15 @@ module _ (program : Program) (all : List Function) (calls : (f : Name) (g : Func
         let inner = (arrays ++ l ∷ []) ++ r ∷ [] in
         let known' = (r, true) ∷ (l, true) ∷ known in
         let test = unless (is_cut program known a e l r) line in
-        let cut = cut_kept program known a e l r (kept (is_cut program known a e l r) line (front test (faults_in_block program Nowhere known' b) typed)) in
-        let one = both_of (can_evaluate c e) _ can in
-        let two = both_of (is_local c a) _ one.1 in
-        let three = both_of (is_local c l) _ two.1 in
-        let four = both_of (is_local c r) _ three.1 in
-        let five = both_of (not (is_among l arrays)) _ four.1 in
-        let six = both_of (not (is_among r arrays)) _ five.1 in
-        let seven = both_of (not (same_name r l)) (can_lower_all c ints inner b) six.1 in
-        made_in_known Nowhere c ints inner known' (with_array r (with_array l locals)) (cut_agrees agree a e l r cut) k b (rear test (faults_in_block program Nowhere known' b) typed) seven.1 found
+        let cut = cut_kept program known a e l r (kept (is_cut program known a e l r) line (left_none test (faults_in_block program Nowhere known' b) typed)) in
+        let one = both_true (can_evaluate c e) _ can in
+        let two = both_true (is_local c a) _ one.1 in
+        let three = both_true (is_local c l) _ two.1 in
+        let four = both_true (is_local c r) _ three.1 in
+        let five = both_true (not (is_among l arrays)) _ four.1 in
+        let six = both_true (not (is_among r arrays)) _ five.1 in
+        let seven = both_true (not (same_name r l)) (can_lower_all c ints inner b) six.1 in
+        made_in_known Nowhere c ints inner known' (with_array r (with_array l locals)) (cut_agrees agree a e l r cut) k b (right_none test (faults_in_block program Nowhere known' b) typed) seven.1 found
     made_by_known returns c ints arrays known locals agree line k (Region tag b) typed can found = made_in_known Nowhere c ints arrays known locals agree k b typed can found
     made_by_known returns c ints arrays known locals agree line k _ typed can found = tt
 
@@ -320,10 +326,10 @@ module _ (program : Program) (all : List Function) (calls : (f : Name) (g : Func
         let here = faults_in program returns known line s in
         let last = unless (not (surely_returns s) || ends_block b) line in
         let behind = faults_in_block program returns (declares s known) b in
-        let typed_here = front here (last ++ behind) typed in
-        let two = both_of (can_lower c ints arrays s) (can_lower_all c (ints ++ new_integers s) (arrays ++ new_arrays s) b) can in
+        let typed_here = left_none here (last ++ behind) typed in
+        let two = both_true (can_lower c ints arrays s) (can_lower_all c (ints ++ new_integers s) (arrays ++ new_arrays s) b) can in
         let made = made_by line k s in
         let made' = made_in (k + loop_count s) b in
         both_known all made made' (made_by_known returns c ints arrays known locals agree line k s typed_here two.0 (found_first all made made' found))
         (made_in_known returns c (ints ++ new_integers s) (arrays ++ new_arrays s) (declares s known) (locals_after locals s) (agree_after program returns line c ints arrays known locals s typed_here agree) (k + loop_count s) b
-        (rear last behind (rear here (last ++ behind) typed)) two.1 (found_second all made made' found))
+        (right_none last behind (right_none here (last ++ behind) typed)) two.1 (found_second all made made' found))

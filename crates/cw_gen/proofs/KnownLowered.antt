@@ -7,13 +7,14 @@ use Rattle.cw_model.specs.Syntax.{Name, Function, Program}
 use Rattle.cw_model.specs.Names.{same_name, is_among, differ}
 use Rattle.cw_model.specs.Answers.{main_name}
 use Rattle.cw_model.specs.Typing.{WithInt, Alone, globals, block_returns, faults_in_block, known_of, is_head, called, faults_of, repeated_names, IsWellTyped}
+use Rattle.cw_model.specs.lemmas.Kept.{kept, left_none, right_none}
 use Rattle.cw_tree.specs.Resolved.{locals_of}
 use Rattle.cw_loops.specs.Lowered.{is_plain, loop_count_in, lower_function, lower_functions, made_in, made_of, lowered}
 use Rattle.cw_loops.specs.Lowerable.{nothing_around, integers_of, arrays_of, can_lower_function, is_lowerable}
 use Rattle.cw_loops.specs.LoweringLaws.{IsOwnedSource}
+use Rattle.cw_loops.specs.lemmas.Tests.{both_true}
+use Rattle.cw_loops.specs.lemmas.Heads.{names_of}
 use Rattle.cw_gen.proofs.Kept.{FunctionKnown, AllFunctionsKnown}
-use Rattle.cw_gen.proofs.KnownNames.{both_of, kept, front, rear}
-use Rattle.cw_gen.proofs.KnownParams.{names_of}
 use Rattle.cw_gen.proofs.KnownFunctions.{AllFound, found_first, found_second, loops_found, CallFound, call_found}
 use Rattle.cw_gen.proofs.KnownPlaces.{agree_head}
 use Rattle.cw_gen.proofs.KnownStatements.{returns_same, block_known}
@@ -26,9 +27,9 @@ record HeadOf (f : Function) : Type 0 where
 
 head_of : (program : Program) (f : Function) → is_head program f ≡ true → HeadOf f
 head_of program f h =
-    let three = (both_of _ (not (same_name f.name main_name) || (f.gives_int && not (list_any (λ p. p.is_array) f.params))) h).0 in
-    let two = both_of _ (not f.gives_int || block_returns f.body) three in
-    record { apart = (both_of (differ (names_of f.params)) (not (list_any (λ p. is_among p.name (globals program)) f.params)) two.0).0; returns = two.1 }
+    let three = (both_true _ (not (same_name f.name main_name) || (f.gives_int && not (list_any (λ p. p.is_array) f.params))) h).0 in
+    let two = both_true _ (not f.gives_int || block_returns f.body) three in
+    record { apart = (both_true (differ (names_of f.params)) (not (list_any (λ p. is_among p.name (globals program)) f.params)) two.0).0; returns = two.1 }
 
 module _ (program : Program) (all : List Function) (calls : (f : Name) (g : Function) → called f program.functions ≡ Some g → CallFound all f g) where
   -- a function of the source, and those of its loops
@@ -37,9 +38,9 @@ module _ (program : Program) (all : List Function) (calls : (f : Name) (g : Func
       let returns = if f.gives_int then WithInt else Alone in
       let test = unless (is_head program f) f.line in
       let inner = faults_in_block program returns (known_of f.params) f.body in
-      let head = head_of program f (kept (is_head program f) f.line (front test inner typed)) in
-      let typed_body = rear test inner typed in
-      let can_body = (both_of (differ (arrays_of f.params)) _ (both_of (is_plain f.name) _ can).1).1 in
+      let head = head_of program f (kept (is_head program f) f.line (left_none test inner typed)) in
+      let typed_body = right_none test inner typed in
+      let can_body = (both_true (differ (arrays_of f.params)) _ (both_true (is_plain f.name) _ can).1).1 in
       let agree = agree_head program.functions f.params head.apart in
       let around = nothing_around program.functions in
       let locals = locals_of f.params in (
@@ -56,18 +57,18 @@ module _ (program : Program) (all : List Function) (calls : (f : Name) (g : Func
       AllFunctionsKnown all (lower_functions k fs) × AllFunctionsKnown all (made_of k fs)
   sources_known k [] typed can found = (tt, tt)
   sources_known k (f ∷ fs) typed can found =
-      let two = both_of (can_lower_function program.functions f) (list_all (can_lower_function program.functions) fs) can in
+      let two = both_true (can_lower_function program.functions f) (list_all (can_lower_function program.functions) fs) can in
       let made = made_in k f.body in
       let made' = made_of (k + loop_count_in f.body) fs in
-      let here = source_known k f (front (faults_of program f) (flat_map (faults_of program) fs) typed) two.0 (found_first all made made' found) in
-      let there = sources_known (k + loop_count_in f.body) fs (rear (faults_of program f) (flat_map (faults_of program) fs) typed) two.1 (found_second all made made' found) in
+      let here = source_known k f (left_none (faults_of program f) (flat_map (faults_of program) fs) typed) two.0 (found_first all made made' found) in
+      let there = sources_known (k + loop_count_in f.body) fs (right_none (faults_of program f) (flat_map (faults_of program) fs) typed) two.1 (found_second all made made' found) in
       ((here.0, there.0), both_known all made made' here.1 there.1)
 
 -- in a well typed program that can be lowered
 pub lowerable_known : (program : Program) → IsWellTyped program → is_lowerable program ≡ true → AllFunctionsKnown (lowered program).functions (lowered program).functions
 lowerable_known program typed can =
     let fs = program.functions in
-    let typed' = rear (repeated_names program) (flat_map (faults_of program) fs) (rear (unless (is_among main_name (map (λ f. f.name) fs)) 1) (repeated_names program ++ flat_map (faults_of program) fs) typed) in
+    let typed' = right_none (repeated_names program) (flat_map (faults_of program) fs) (right_none (unless (is_among main_name (map (λ f. f.name) fs)) 1) (repeated_names program ++ flat_map (faults_of program) fs) typed) in
     let two = sources_known program (lowered program).functions (call_found 0 fs (made_of 0 fs)) 0 fs typed' can (loops_found fs fs can) in
     both_known (lowered program).functions (lower_functions 0 fs) (made_of 0 fs) two.0 two.1
 

@@ -68,7 +68,6 @@ pub mod FittingCuts
 pub mod Fitting
 pub mod Entries
 pub mod FitsWhole
-pub mod Slotted
 pub mod FewFunctions
 pub mod Views
 pub mod Emitting

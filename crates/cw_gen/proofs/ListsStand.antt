@@ -17,7 +17,7 @@ use Rattle.cw_loops.specs.LoweringLaws.{IsOwnedSource}
 use Rattle.cw_loops.specs.SourceLike.{is_source_block, is_source_function}
 use Rattle.cw_loops.specs.Slotted.{slotted_stmt, slotted_block, slotted_function, slotted_functions, lowered_lists}
 use Rattle.cw_loops.specs.lemmas.Apart.{same_itself, apart_plain}
-use Rattle.cw_loops.specs.lemmas.Numbering.{Numbered, Made, count_of, made_functions, loops_apart}
+use Rattle.cw_loops.specs.lemmas.Numbering.{Numbered, Made, count_of, made_functions, loops_apart, count_stays}
 use Rattle.cw_gen.specs.Emit.{Tables, first_list, most_jump, whole_list, half_list, emitted_sites_of, no_lists}
 use Rattle.cw_gen.proofs.Decided.{first_true, second_true}
 use Rattle.cw_gen.proofs.Texts.{tables_in, code_of}
@@ -188,10 +188,6 @@ past_source (f ∷ fs) made k j h =
     ap (λ b. if b then 0 else suc (slot_of (loop_name j) (function_names (lower_functions (k + loop_count_in f.body) fs ++ made)))) (apart_plain f.name (j ∷ []) (first_true (is_plain f.name) (is_source_block f.body) here))
     ∙ omega (arith, more)
 
-as_many_lowered : (k : ℕ) (fs : List Function) → length (lower_functions k fs) ≡ length fs
-as_many_lowered k [] = refl
-as_many_lowered k (f ∷ fs) = ap suc (as_many_lowered (k + loop_count_in f.body) fs)
-
 -- the lists of the calls of a loop's function have three numbers of their own
 module _ (first : ℕ) (names : List Name) (key sources : ℕ) where
   -- the first of these numbers
@@ -259,7 +255,7 @@ module _ (program : Program) (source_like : list_all is_source_function program.
   as_many : length (slotted_functions program) ≡ length program.functions + loops
   as_many =
       length-map (lowered program).functions (slotted_function (lowered_lists program)) ∙ length-append (lower_functions 0 program.functions) made
-      ∙ (let many = numbered_loops.many in let kept = as_many_lowered 0 program.functions in omega (arith, many, kept))
+      ∙ (let many = numbered_loops.many in let kept = count_stays 0 program.functions in omega (arith, many, kept))
 
   -- each number is used once at most, and is in range
   all_within : (first key : ℕ) → are_numbered 0 (call_sites program) ≡ true → suc (length (call_sites program)) ≡ first → first + 3 * (length program.functions + loops) ≤ most_jump →

@@ -10,18 +10,20 @@ use Rattle.cw_model.specs.Meaning.{function_of}
 use Rattle.cw_model.specs.Answers.{main_name}
 use Rattle.cw_model.specs.Sites.{call_sites, are_numbered}
 use Rattle.cw_model.specs.Typing.{is_head, faults_of, repeated, repeated_names, type_faults}
+use Rattle.cw_model.specs.lemmas.Kept.{kept, left_none, right_none}
 use Rattle.cw_tree.specs.Resolved.{reducer_names}
 use Rattle.cw_code.specs.Fits as fits
 use Rattle.cw_loops.specs.Lowered.{loop_count_in, lower_function, lower_functions, made_of, lowered}
 use Rattle.cw_loops.specs.LoweringLaws.{IsOwnedSource}
 use Rattle.cw_loops.specs.Slotted.{lowered_lists}
+use Rattle.cw_loops.specs.lemmas.Heads.{heads_kept}
+use Rattle.cw_loops.specs.lemmas.Tests.{not_true}
 use Rattle.cw_gen.proofs.Decided.{first_true, second_true}
 use Rattle.cw_gen.proofs.Fine.{is_function, ProgramFine}
 use Rattle.cw_gen.proofs.Kept.{AllFunctionsKnown, AllFree}
 use Rattle.cw_gen.proofs.NamedLowered.{all_listed}
-use Rattle.cw_gen.proofs.NamedSource.{typed_functions}
 use Rattle.cw_gen.proofs.Rooms.{all_have_rooms}
-use Rattle.cw_gen.proofs.Rules.{rule_kept, first_empty, rest_empty, not_true, neither_first, neither_second, function_there}
+use Rattle.cw_gen.proofs.Rules.{neither_first, neither_second, function_there}
 use Rattle.cw_gen.proofs.Texts.{code_of, tables_in}
 use Rattle.cw_gen.proofs.Together.{functions_fine}
 use Rattle.cw_gen.proofs.Told.{AllPass}
@@ -43,10 +45,10 @@ all_ints (p ∷ ps) h = test (all_ints ps (neither_second p.is_array (list_any (
 -- in a program of right types
 main_fine : (program : Program) (fs : List Function) → flat_map (faults_of program) fs ≡ [] → is_function main_name fs ≡ true → MainFine fs
 main_fine program [] typed h = cc
-main_fine program (f ∷ fs) typed h = test (main_fine program fs (rest_empty (faults_of program f) _ typed)) (same_name main_name f.name) refl h
+main_fine program (f ∷ fs) typed h = test (main_fine program fs (right_none (faults_of program f) _ typed)) (same_name main_name f.name) refl h
   where
     head : is_head program f ≡ true
-    head = rule_kept (is_head program f) f.line (first_empty (unless (is_head program f) f.line) _ (first_empty (faults_of program f) _ typed))
+    head = kept (is_head program f) f.line (left_none (unless (is_head program f) f.line) _ (left_none (faults_of program f) _ typed))
 
     both : same_name f.name main_name ≡ true → (f.gives_int && not (list_any (λ p. p.is_array) f.params)) ≡ true
     both e =
@@ -104,10 +106,10 @@ same_head name k (f ∷ fs) more h = test (same_head name (k + loop_count_in f.b
 -- reducers that no rule refuses have names that differ
 no_earlier : (ds : List (Name × ℕ)) (earlier : List Name) → repeated ds earlier ≡ [] → (x : Name) → is_among x earlier ≡ true → fits.is_among x (map (λ d. d.0) ds) ≡ false
 no_earlier [] earlier h x a = refl
-no_earlier (d ∷ ds) earlier h x a = test (no_earlier ds (d.0 ∷ earlier) (rest_empty (unless (not (is_among d.0 earlier)) d.1) (repeated ds (d.0 ∷ earlier)) h) x (further d.0)) (same_name x d.0) refl
+no_earlier (d ∷ ds) earlier h x a = test (no_earlier ds (d.0 ∷ earlier) (right_none (unless (not (is_among d.0 earlier)) d.1) (repeated ds (d.0 ∷ earlier)) h) x (further d.0)) (same_name x d.0) refl
   where
     new : is_among d.0 earlier ≡ false
-    new = not_true (is_among d.0 earlier) (rule_kept (not (is_among d.0 earlier)) d.1 (first_empty (unless (not (is_among d.0 earlier)) d.1) (repeated ds (d.0 ∷ earlier)) h))
+    new = not_true (is_among d.0 earlier) (kept (not (is_among d.0 earlier)) d.1 (left_none (unless (not (is_among d.0 earlier)) d.1) (repeated ds (d.0 ∷ earlier)) h))
 
     further : (y : Name) → is_among x (y ∷ earlier) ≡ true
     further y = inner (same_name x y)
@@ -123,7 +125,7 @@ no_earlier (d ∷ ds) earlier h x a = test (no_earlier ds (d.0 ∷ earlier) (res
 reducers_apart : (ds : List (Name × ℕ)) (earlier : List Name) → repeated ds earlier ≡ [] → fits.are_apart (map (λ d. d.0) ds) ≡ true
 reducers_apart [] earlier h = refl
 reducers_apart (d ∷ ds) earlier h =
-    let more = rest_empty (unless (not (is_among d.0 earlier)) d.1) (repeated ds (d.0 ∷ earlier)) h in
+    let more = right_none (unless (not (is_among d.0 earlier)) d.1) (repeated ds (d.0 ∷ earlier)) h in
     ap (λ b. not b && fits.are_apart (map (λ e. e.0) ds)) (no_earlier ds (d.0 ∷ earlier) more d.0 (ap (λ b. if b then true else is_among d.0 earlier) ((bytes_eq-Decides d.0 d.0).1 refl))) ∙ reducers_apart ds (d.0 ∷ earlier) more
 
 reducer_names_are : (rs : List Reducer) → map (λ r. r.name) rs ≡ map (λ (d : Name × ℕ). d.0) (map (λ (r : Reducer). (r.name, r.line)) rs)
@@ -134,7 +136,7 @@ reducer_names_are (r ∷ rs) = ap (λ l. r.name ∷ l) (reducer_names_are rs)
 pub source_main : (program : Program) → type_faults program ≡ [] → is_function main_name program.functions ≡ true
 source_main program typed =
     let main = is_among main_name (map (λ f. f.name) program.functions) in
-    function_there main_name program.functions (rule_kept main 1 (first_empty (unless main 1) _ typed))
+    function_there main_name program.functions (kept main 1 (left_none (unless main 1) _ typed))
 
 -- and in the lowered program, with the head that it has in the source
 pub lowered_main : (program : Program) → type_faults program ≡ [] → SameHead main_name program.functions (lowered program).functions
@@ -143,10 +145,10 @@ lowered_main program typed = same_head main_name 0 program.functions (made_of 0 
 -- the names of reducers differ
 apart_reducers : (program : Program) → type_faults program ≡ [] → fits.are_apart (reducer_names program.reducers) ≡ true
 apart_reducers program typed =
-    let behind_main = rest_empty (unless (is_among main_name (map (λ f. f.name) program.functions)) 1) _ typed in
+    let behind_main = right_none (unless (is_among main_name (map (λ f. f.name) program.functions)) 1) _ typed in
     let functions = map (λ (f : Function). (f.name, f.line)) program.functions in
     let reducers = map (λ (r : Reducer). (r.name, r.line)) program.reducers in
-    let repeats = first_empty (repeated reducers []) _ (rest_empty (repeated functions []) _ (first_empty (repeated_names program) _ behind_main)) in
+    let repeats = left_none (repeated reducers []) _ (right_none (repeated functions []) _ (left_none (repeated_names program) _ behind_main)) in
     ap fits.are_apart (reducer_names_are program.reducers) ∙ reducers_apart reducers [] repeats
 
 -- what the code of a lowered program relies on
@@ -158,7 +160,7 @@ program_fine program source numbered known free passes =
     let tables = tables_in (code_of program) in
     let fs = (lowered program).functions in
     let head = lowered_main program source.typed in
-    let main = main_fine program program.functions (typed_functions program source.typed) (source_main program source.typed) in
+    let main = main_fine program program.functions (heads_kept program source.typed) (source_main program source.typed) in
     record {
       functions = functions_fine fs lists tables fs known free passes (all_have_rooms lists fs) (all_listed program source numbered);
       names = refl;

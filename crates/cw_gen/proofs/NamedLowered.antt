@@ -6,11 +6,12 @@ use Rattle.cw_model.specs.Names.{is_among}
 use Rattle.cw_model.specs.Captured.{captured}
 use Rattle.cw_model.specs.Sites.{call_sites, are_numbered}
 use Rattle.cw_tree.specs.Resolved.{Lists, slot_of, function_names}
+use Rattle.cw_tree.specs.lemmas.NamedSlots.{slot_stays}
 use Rattle.cw_loops.specs.Lowered.{loop_name, loop_count, loop_count_in, lower_stmt, lower_block, made_by, made_in, in_cuts, both_halves, left_arguments, right_arguments, loop_function, lower_functions, made_of, lowered}
 use Rattle.cw_loops.specs.LoweringLaws.{IsOwnedSource}
 use Rattle.cw_loops.specs.Slotted.{lowered_lists}
+use Rattle.cw_loops.specs.lemmas.Numbering.{names_stay}
 use Rattle.cw_gen.specs.Emit.{Tables}
-use Rattle.cw_gen.proofs.Rules.{same_slot}
 use Rattle.cw_gen.proofs.Told.{ListedStmt, ListedBlock, AllListed}
 use Rattle.cw_gen.proofs.NamedSource.{NamedStmt, NamedBlock, AllNamed, source_named}
 use Rattle.cw_gen.proofs.SourceSites.{sites_stand}
@@ -86,21 +87,16 @@ module _ (lists : Lists) (tables : Tables) where
   loops_listed k [] h = tt
   loops_listed k (f ∷ fs) h = listed_both (made_in k f.body) (made_of (k + loop_count_in f.body) fs) (made_listed_in k f.body h.0) (loops_listed (k + loop_count_in f.body) fs h.1)
 
--- lowering keeps the names of functions
-pub names_kept : (k : ℕ) (fs : List Function) → function_names (lower_functions k fs) ≡ function_names fs
-names_kept k [] = refl
-names_kept k (f ∷ fs) = ap (λ names. f.name ∷ names) (names_kept (k + loop_count_in f.body) fs)
-
 -- the functions of the source come first
 pub first_names : (program : Program) → (lowered_lists program).functions ≡ function_names program.functions ++ function_names (made_of 0 program.functions)
 first_names program =
     map-append (λ f. f.name) (lower_functions 0 program.functions) (made_of 0 program.functions)
-    ∙ ap (λ names. names ++ function_names (made_of 0 program.functions)) (names_kept 0 program.functions)
+    ∙ ap (λ names. names ++ function_names (made_of 0 program.functions)) (names_stay 0 program.functions)
 
 -- so each has the index that it has there
 pub same_index : (program : Program) (f : Name) → is_among f (function_names program.functions) ≡ true → slot_of f (lowered_lists program).functions ≡ slot_of f (function_names program.functions)
 same_index program f h =
-    ap (slot_of f) (first_names program) ∙ same_slot f (function_names program.functions) (function_names (made_of 0 program.functions)) h
+    ap (slot_of f) (first_names program) ∙ slot_stays f (function_names program.functions) (function_names (made_of 0 program.functions)) h
 
 -- what the lowered program names is told by its code
 pub all_listed : (program : Program) → IsOwnedSource program → are_numbered 0 (call_sites program) ≡ true → AllListed (lowered_lists program) (tables_in (code_of program)) (lowered program).functions

@@ -5,14 +5,15 @@ use Rattle.std.proofs.lemmas.Slice.Eq.{bytes_eq-Decides}
 use Rattle.cw_model.specs.Syntax.{Name, Expr, Stmt, AddTo, Call, If, IfElse, While, For, Scope, Cut, Region, Block, End, Then, Function, Program}
 use Rattle.cw_model.specs.Names.{same_name, is_among, new_names}
 use Rattle.cw_model.specs.Lines.{unless}
-use Rattle.cw_model.specs.Typing.{Returns, Nowhere, WithInt, Alone, Known, is_fine, called, is_call, is_cut, is_head_of_loop, is_head, is_reducer, surely_returns, declares, ends_block, faults_in, faults_in_block, faults_of, known_of, repeated_names, type_faults}
-use Rattle.cw_model.specs.Answers.{main_name}
+use Rattle.cw_model.specs.Typing.{Returns, Nowhere, WithInt, Alone, Known, is_fine, called, is_call, is_cut, is_head_of_loop, is_head, is_reducer, surely_returns, declares, ends_block, faults_in, faults_in_block, faults_of, known_of, type_faults}
 use Rattle.cw_model.specs.Report.{tags_in, tags_in_block}
+use Rattle.cw_model.specs.lemmas.Kept.{kept, left_none, right_none}
 use Rattle.cw_tree.specs.Resolved.{Lists, Locals, slot_of, with_int, with_array, locals_after, locals_of, lists_of, function_names, reducer_names, tags_of, resolved_stmt, resolved_block, resolved_function, resolved}
+use Rattle.cw_loops.specs.lemmas.Heads.{heads_kept}
 use Rattle.cw_gen.specs.Emit.{Tables, emitted_sites, emitted_sites_in, emitted_sites_of}
 use Rattle.cw_gen.proofs.Decided.{first_true}
 use Rattle.cw_gen.proofs.Fine.{IsListed, HasSite}
-use Rattle.cw_gen.proofs.Rules.{rule_kept, first_empty, rest_empty, Each, each_front, each_rear, listed_there}
+use Rattle.cw_gen.proofs.Rules.{Each, each_front, each_rear, listed_there}
 use Rattle.cw_gen.proofs.SourceSites.{StandsAtItsNumber}
 use Rattle.cw_gen.proofs.Tags.{tags_are_told}
 
@@ -88,28 +89,28 @@ module _ (program : Program) (lists : Lists) (tables : Tables) (reducers_are : l
   mutual
     stmt_named : (returns : Returns) (known : Known) (locals : Locals) (line : ℕ) (s : Stmt) → faults_in program returns known line s ≡ [] → Each (λ t. Tag t) (tags_in s) → Each (StandsAtItsNumber tables.sites) (emitted_sites line (resolved_stmt plain_lists locals s)) → NamedStmt lists tables s
     stmt_named returns known locals line (AddTo s e) typed tags sites =
-        subst (λ names. IsListed names s) (sym reducers_are) (listed_there s (reducer_names program.reducers) (first_true (is_reducer program s) (is_fine known e) (rule_kept (is_reducer program s && is_fine known e) line typed)))
+        subst (λ names. IsListed names s) (sym reducers_are) (listed_there s (reducer_names program.reducers) (first_true (is_reducer program s) (is_fine known e) (kept (is_reducer program s && is_fine known e) line typed)))
     stmt_named returns known locals line (Call kind site target f es) typed tags sites =
-        let there = callee_there program.functions known target f es (called f program.functions) refl (rule_kept (is_call known target (called f program.functions) es) line typed) in
+        let there = callee_there program.functions known target f es (called f program.functions) refl (kept (is_call known target (called f program.functions) es) line typed) in
         record { site = _; positive = sites.0.positive; there = sites.0.there; numbered = refl; of_kind = refl; calls = sym (same_slots f there) }
     stmt_named returns known locals line (If e b) typed tags sites =
-        block_named returns known locals b (rest_empty (unless (is_fine known e) line) _ typed) tags sites
+        block_named returns known locals b (right_none (unless (is_fine known e) line) _ typed) tags sites
     stmt_named returns known locals line (IfElse e b c) typed tags sites =
         let faults_b = faults_in_block program returns known b in
         let faults_c = faults_in_block program returns known c in
-        let both = rest_empty (unless (is_fine known e) line) (faults_b ++ faults_c) typed in
+        let both = right_none (unless (is_fine known e) line) (faults_b ++ faults_c) typed in
         let sites_b = emitted_sites_in (resolved_block plain_lists locals b) in
         let sites_c = emitted_sites_in (resolved_block plain_lists locals c) in (
-          block_named returns known locals b (first_empty faults_b faults_c both) (each_front (λ t. Tag t) (tags_in_block b) (tags_in_block c) tags) (each_front (StandsAtItsNumber tables.sites) sites_b sites_c sites),
-          block_named returns known locals c (rest_empty faults_b faults_c both) (each_rear (λ t. Tag t) (tags_in_block b) (tags_in_block c) tags) (each_rear (StandsAtItsNumber tables.sites) sites_b sites_c sites),
+          block_named returns known locals b (left_none faults_b faults_c both) (each_front (λ t. Tag t) (tags_in_block b) (tags_in_block c) tags) (each_front (StandsAtItsNumber tables.sites) sites_b sites_c sites),
+          block_named returns known locals c (right_none faults_b faults_c both) (each_rear (λ t. Tag t) (tags_in_block b) (tags_in_block c) tags) (each_rear (StandsAtItsNumber tables.sites) sites_b sites_c sites),
         )
     stmt_named returns known locals line (While e b) typed tags sites =
-        block_named returns known locals b (rest_empty (unless (is_fine known e) line) _ typed) tags sites
+        block_named returns known locals b (right_none (unless (is_fine known e) line) _ typed) tags sites
     stmt_named returns known locals line (For x y z from to grain over b) typed tags sites =
-        block_named Nowhere ((x, false) ∷ known) (with_int x locals) b (rest_empty (unless (is_head_of_loop program known x y z from to grain over) line) _ typed) tags sites
+        block_named Nowhere ((x, false) ∷ known) (with_int x locals) b (right_none (unless (is_head_of_loop program known x y z from to grain over) line) _ typed) tags sites
     stmt_named returns known locals line (Scope b) typed tags sites = block_named Nowhere known locals b typed tags sites
     stmt_named returns known locals line (Cut a e l r b) typed tags sites =
-        block_named Nowhere ((r, true) ∷ (l, true) ∷ known) (with_array r (with_array l locals)) b (rest_empty (unless (is_cut program known a e l r) line) _ typed) tags sites
+        block_named Nowhere ((r, true) ∷ (l, true) ∷ known) (with_array r (with_array l locals)) b (right_none (unless (is_cut program known a e l r) line) _ typed) tags sites
     stmt_named returns known locals line (Region tag b) typed tags sites = (tags.0, block_named Nowhere known locals b typed tags.1 sites)
     stmt_named returns known locals line _ typed tags sites = tt
 
@@ -121,8 +122,8 @@ module _ (program : Program) (lists : Lists) (tables : Tables) (reducers_are : l
         let there = faults_in_block program returns (declares s known) b in
         let sites_here = emitted_sites line (resolved_stmt plain_lists locals s) in
         let sites_there = emitted_sites_in (resolved_block plain_lists (locals_after locals s) b) in (
-          stmt_named returns known locals line s (first_empty here (last ++ there) typed) (each_front (λ t. Tag t) (tags_in s) (tags_in_block b) tags) (each_front (StandsAtItsNumber tables.sites) sites_here sites_there sites),
-          block_named returns (declares s known) (locals_after locals s) b (rest_empty last there (rest_empty here (last ++ there) typed)) (each_rear (λ t. Tag t) (tags_in s) (tags_in_block b) tags) (each_rear (StandsAtItsNumber tables.sites) sites_here sites_there sites),
+          stmt_named returns known locals line s (left_none here (last ++ there) typed) (each_front (λ t. Tag t) (tags_in s) (tags_in_block b) tags) (each_front (StandsAtItsNumber tables.sites) sites_here sites_there sites),
+          block_named returns (declares s known) (locals_after locals s) b (right_none last there (right_none here (last ++ there) typed)) (each_rear (λ t. Tag t) (tags_in s) (tags_in_block b) tags) (each_rear (StandsAtItsNumber tables.sites) sites_here sites_there sites),
         )
 
   functions_named : (fs : List Function) → flat_map (faults_of program) fs ≡ [] → Each (λ t. Tag t) (flat_map (λ f. tags_in_block f.body) fs) → Each (StandsAtItsNumber tables.sites) (emitted_sites_of (map (resolved_function plain_lists) fs)) → AllNamed lists tables fs
@@ -131,8 +132,8 @@ module _ (program : Program) (lists : Lists) (tables : Tables) (reducers_are : l
       let sites_here = emitted_sites_in (resolved_block plain_lists (locals_of f.params) f.body) in
       let sites_there = emitted_sites_of (map (resolved_function plain_lists) fs) in
       let tags_there = flat_map (λ g. tags_in_block g.body) fs in (
-        block_named (if f.gives_int then WithInt else Alone) (known_of f.params) (locals_of f.params) f.body (rest_empty (unless (is_head program f) f.line) _ (first_empty (faults_of program f) _ typed)) (each_front (λ t. Tag t) (tags_in_block f.body) tags_there tags) (each_front (StandsAtItsNumber tables.sites) sites_here sites_there sites),
-        functions_named fs (rest_empty (faults_of program f) _ typed) (each_rear (λ t. Tag t) (tags_in_block f.body) tags_there tags) (each_rear (StandsAtItsNumber tables.sites) sites_here sites_there sites),
+        block_named (if f.gives_int then WithInt else Alone) (known_of f.params) (locals_of f.params) f.body (right_none (unless (is_head program f) f.line) _ (left_none (faults_of program f) _ typed)) (each_front (λ t. Tag t) (tags_in_block f.body) tags_there tags) (each_front (StandsAtItsNumber tables.sites) sites_here sites_there sites),
+        functions_named fs (right_none (faults_of program f) _ typed) (each_rear (λ t. Tag t) (tags_in_block f.body) tags_there tags) (each_rear (StandsAtItsNumber tables.sites) sites_here sites_there sites),
       )
 
 -- each tag of a program is one of those that it lists
@@ -141,15 +142,10 @@ tags_of_program program =
     let all = flat_map (λ (f : Function). tags_in_block f.body) program.functions in
     subst (λ names. Each (λ tag. IsListed names tag) all) (sym (tags_are_told program)) (tags_listed (λ tag. IsListed (new_names all []) tag) all [] (λ x h. listed_there x (new_names all []) h) (λ x h. cc))
 
--- the rules on the functions of a program of right types
-pub typed_functions : (program : Program) → type_faults program ≡ [] → flat_map (faults_of program) program.functions ≡ []
-typed_functions program typed =
-    rest_empty (repeated_names program) _ (rest_empty (unless (is_among main_name (map (λ f. f.name) program.functions)) 1) _ typed)
-
 -- a program of right types whose sites stand at their numbers
 pub source_named : (program : Program) (lists : Lists) (tables : Tables) → lists.reducers ≡ reducer_names program.reducers → lists.tags ≡ tags_of program →
     ((f : Name) → is_among f (function_names program.functions) ≡ true → slot_of f lists.functions ≡ slot_of f (function_names program.functions)) →
     type_faults program ≡ [] → Each (StandsAtItsNumber tables.sites) (emitted_sites_of (resolved program).functions) → AllNamed lists tables program.functions
 source_named program lists tables reducers tags slots typed sites =
     let listed = subst (λ names. Each (λ tag. IsListed names tag) (flat_map (λ (f : Function). tags_in_block f.body) program.functions)) (sym tags) (tags_of_program program) in
-    functions_named program lists tables reducers slots program.functions (typed_functions program typed) listed sites
+    functions_named program lists tables reducers slots program.functions (heads_kept program typed) listed sites

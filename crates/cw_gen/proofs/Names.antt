@@ -10,6 +10,9 @@ use Rattle.cw_model.specs.Names.{same_name, is_among, find, put}
 use Rattle.cw_model.specs.Ownership.{Taken, is_taken, cut_ended, freed, without}
 use Rattle.cw_code.specs.Run.{Slots, Results, is_full, full, settled}
 use Rattle.cw_tree.specs.Resolved.{slot_of}
+use Rattle.cw_tree.specs.lemmas.NamedSlots.{slot_stays, slot_in}
+use Rattle.cw_loops.specs.lemmas.Naming.{among_left}
+use Rattle.cw_gen.proofs.KnownNames.{in_second}
 use Rattle.cw_gen.proofs.Fine.{IsUsable}
 use Rattle.cw_gen.proofs.Takens.{holds, held_is_taken, held_past, held_past_cut, held_without}
 
@@ -95,15 +98,6 @@ put_names x v (e ∷ es) = test (put_names x v es) (same_name x e.0)
     test more true = refl
     test more false = ap (λ l. e.0 ∷ l) more
 
--- the slot of a name that is there
-pub slot_within : (x : Name) (names : List Name) → is_among x names ≡ true → slot_of x names < length names
-slot_within x [] h = cc
-slot_within x (y ∷ names) h = test (slot_within x names) (same_name x y) h
-  where
-    test : (is_among x names ≡ true → slot_of x names < length names) → (b : Bool) → (if b then true else is_among x names) ≡ true → (if b then 0 else suc (slot_of x names)) < length (y ∷ names)
-    test more true h' = omega arith
-    test more false h' = omega (arith, more h')
-
 -- two names that are there have one slot only if they are the same
 pub slots_apart : (x y : Name) (names : List Name) → is_among x names ≡ true → is_among y names ≡ true → same_name x y ≡ false → slot_of x names ≢ slot_of y names
 slots_apart x y [] hx hy other = cc
@@ -134,32 +128,6 @@ slot_new x (y ∷ names) more h = test (slot_new x names more) (same_name x y) h
     test : (is_among x names ≡ false → length names ≤ slot_of x (names ++ more)) → (b : Bool) → (if b then true else is_among x names) ≡ false → length (y ∷ names) ≤ (if b then 0 else suc (slot_of x (names ++ more)))
     test step true h' = cc
     test step false h' = omega (arith, step h')
-
--- the slot of a name that was there stays, whatever comes behind
-pub slot_stays : (x : Name) (names more : List Name) → is_among x names ≡ true → slot_of x (names ++ more) ≡ slot_of x names
-slot_stays x [] more h = cc
-slot_stays x (y ∷ names) more h = test (slot_stays x names more) (same_name x y) h
-  where
-    test : (is_among x names ≡ true → slot_of x (names ++ more) ≡ slot_of x names) → (b : Bool) → (if b then true else is_among x names) ≡ true → (if b then 0 else suc (slot_of x (names ++ more))) ≡ (if b then 0 else suc (slot_of x names))
-    test step true h' = refl
-    test step false h' = ap suc (step h')
-
--- a name is there, or among those behind
-pub split_among : (x : Name) (names more : List Name) → is_among x (names ++ more) ≡ true → is_among x names ≡ false → is_among x more ≡ true
-split_among x [] more h k = h
-split_among x (y ∷ names) more h k = test (split_among x names more) (same_name x y) h k
-  where
-    test : (is_among x (names ++ more) ≡ true → is_among x names ≡ false → is_among x more ≡ true) → (b : Bool) → (if b then true else is_among x (names ++ more)) ≡ true → (if b then true else is_among x names) ≡ false → is_among x more ≡ true
-    test step true h' k' = cc
-    test step false h' k' = step h' k'
-
-pub among_before : (x : Name) (names more : List Name) → is_among x names ≡ true → is_among x (names ++ more) ≡ true
-among_before x [] more h = cc
-among_before x (y ∷ names) more h = test (among_before x names more) (same_name x y) h
-  where
-    test : (is_among x names ≡ true → is_among x (names ++ more) ≡ true) → (b : Bool) → (if b then true else is_among x names) ≡ true → (if b then true else is_among x (names ++ more)) ≡ true
-    test step true h' = refl
-    test step false h' = step h'
 
 both_apart : {A : Type 0} (a : ℕ) (r s : Results A) → NotAwaited a r → NotAwaited a s → NotAwaited a (r ++ s)
 both_apart a [] s h k = k
@@ -238,7 +206,7 @@ module _ (cuts : Bool) {A : Type 0} where
     where
       each : (rs : Results A) → AllHeld names taken (suc (length outer)) rs → NotAwaited a rs
       each [] k = tt
-      each (r ∷ rs) k = (λ e. omega (arith, le, e, slot_within k.0.name names k.0.declared, k.0.slot), each rs k.1)
+      each (r ∷ rs) k = (λ e. omega (arith, le, e, slot_in k.0.name names k.0.declared, k.0.slot), each rs k.1)
 
   pub all_kept : (names names' : List Name) (taken taken' : Taken) (depth : ℕ) (results : Results A) → Keeps cuts names names' taken taken' depth → AllHeld names taken depth results → AllHeld names' taken' depth results
   all_kept names names' taken taken' depth [] k h = tt
@@ -287,7 +255,7 @@ module _ (cuts : Bool) {A : Type 0} where
   -- the slot of a name can be written
   pub can_write : (names : List Name) (taken : Taken) (x : Name) (entries : Entries A) (slots : Slots A) (waits : List (Results A)) → IsUsable names taken x → AgreesOf names taken entries slots waits → is_full (slice_get slots (slot_of x names)) ≡ true
   can_write names taken x entries slots waits u a =
-      is_there names taken (slot_of x names) entries slots waits (is_free names taken x waits u a.levels) (omega (arith, slot_within x names u.declared, count_slots names taken entries slots waits a)) a
+      is_there names taken (slot_of x names) entries slots waits (is_free names taken x waits u a.levels) (omega (arith, slot_in x names u.declared, count_slots names taken entries slots waits a)) a
 
   -- what the slots hold after all joins, with one value written
   written : (names : List Name) (taken : Taken) (x : Name) (v : A) (entries : Entries A) (slots : Slots A) (waits : List (Results A)) → IsUsable names taken x → (a : AgreesOf names taken entries slots waits) →
@@ -320,7 +288,7 @@ module _ (cuts : Bool) {A : Type 0} where
       at = sym (length_names entries ∙ ap length a.named)
 
       kept : (depth : ℕ) → Keeps cuts names (names ++ x ∷ []) taken taken depth
-      kept depth = record { name = λ y h k. (among_before y names (x ∷ []) h, slot_stays y names (x ∷ []) h); hold = λ y h k. k }
+      kept depth = record { name = λ y h k. (among_left y names (x ∷ []) h, slot_stays y names (x ∷ []) h); hold = λ y h k. k }
 
       cases : (rest : List A) → settled (all_of waits) slots ≡ full (values_in entries ++ rest) → 0 < length rest → AgreesOf (names ++ x ∷ []) taken (entries ++ (x, v) ∷ []) (slice_set slots (length names) (Some v)) waits
       cases [] held some = absurd (omega (arith, some))
@@ -413,7 +381,7 @@ module _ (cuts : Bool) {A : Type 0} where
         where
           cases : (c : Bool) → is_among x names ≡ c → c ≡ true
           cases true e = refl
-          cases false e = absurd (true≢false (sym (covers x (split_among x names more h e)) ∙ not_own depth x k))
+          cases false e = absurd (true≢false (sym (covers x (in_second x names more h e)) ∙ not_own depth x k))
 
       kept : (depth : ℕ) → Keeps cuts (names ++ more) names taken (without own taken) depth
       kept depth = record {

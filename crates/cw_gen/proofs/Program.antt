@@ -10,8 +10,10 @@ use Rattle.cw_model.specs.Meaning.{Returned, Deeper, function_of, call}
 use Rattle.cw_model.specs.Answers.{Ended, sum_to, int_given, answer_of, main_frame, main_name, serial_answer}
 use Rattle.cw_model.specs.Trees.{Marked, Invocation, tree_of, normal}
 use Rattle.cw_tree.specs.Resolved.{Lists, slot_of, locals_of, function_names, reducer_names}
+use Rattle.cw_tree.specs.lemmas.NamedSlots.{slot_stays}
 use Rattle.cw_loops.specs.Lowered.{lower_function, lower_functions, made_by, made_in, made_of, loop_count, loop_count_in, lowered}
 use Rattle.cw_loops.specs.Slotted.{slotted_block, slotted_function, lowered_lists}
+use Rattle.cw_loops.specs.lemmas.Numbering.{names_stay}
 use Rattle.cw_code.specs.declared.code.Func.{Func}
 use Rattle.cw_code.specs.declared.code.Instr.{Instr}
 use Rattle.cw_code.specs.Code.{Code}
@@ -19,11 +21,11 @@ use Rattle.cw_code.specs.Run.{Ran, On, Stuck, first_state, reducers_of, go_on, s
 use Rattle.cw_code.specs.Fits.{params_of, main_params}
 use Rattle.cw_gen.specs.Emit.{most_jump, first_list, count_ints, count_arrays, ints_in_block, arrays_in_block, emitted_instrs, emitted_funcs}
 use Rattle.cw_gen.specs.Generates.{main_count}
+use Rattle.cw_gen.proofs.KnownNames.{in_second}
 use Rattle.cw_gen.proofs.Fine.{is_function, FunctionFine, FunctionsFine, ProgramFine}
 use Rattle.cw_gen.proofs.Traces.{resume}
 use Rattle.cw_gen.proofs.Places.{HasAt, has_all}
 use Rattle.cw_gen.proofs.Decided.{taken, both_true, at_most, equal}
-use Rattle.cw_gen.proofs.Names.{split_among, slot_stays}
 use Rattle.cw_gen.proofs.Codes.{bound_main, main_locals}
 use Rattle.cw_gen.proofs.Texts.{function_code, tables_in, Compiled, Table, code_of, TurnsClose}
 use Rattle.cw_gen.proofs.Laws.{calls_run}
@@ -125,11 +127,6 @@ by_its_name name (f ∷ fs) h = test (by_its_name name fs) (same_name name f.nam
     test more true h' = refl
     test more false h' = more h'
 
--- lowering leaves the names of functions
-lowered_names : (k : ℕ) (fs : List Function) → function_names (lower_functions k fs) ≡ function_names fs
-lowered_names k [] = refl
-lowered_names k (f ∷ fs) = ap (λ l. f.name ∷ l) (lowered_names (k + loop_count_in f.body) fs)
-
 -- a name that is not among either is not among both
 neither : (name : Name) (fs gs : List Function) → is_among name (function_names fs) ≡ false → is_among name (function_names gs) ≡ false → is_among name (function_names (fs ++ gs)) ≡ false
 neither name [] gs h k = k
@@ -164,7 +161,7 @@ not_made_of k (f ∷ fs) = neither main_name (made_in k f.body) (made_of (k + lo
 names_are : (program : Program) → (lowered_lists program).functions ≡ function_names program.functions ++ function_names (made_of 0 program.functions)
 names_are program =
     map-append (λ (f : Function). f.name) (lower_functions 0 program.functions) (made_of 0 program.functions)
-    ∙ ap (λ l. l ++ function_names (made_of 0 program.functions)) (lowered_names 0 program.functions)
+    ∙ ap (λ l. l ++ function_names (made_of 0 program.functions)) (names_stay 0 program.functions)
 
 -- main is one of the source
 pub main_there : (program : Program) → is_function main_name (lowered program).functions ≡ true → is_among main_name (function_names program.functions) ≡ true
@@ -174,7 +171,7 @@ main_there program h = cases (is_among main_name (function_names program.functio
     cases true e = refl
     cases false e =
         let among = sym (ap (is_among main_name) (names_are program)) ∙ by_its_name main_name (lowered program).functions h in
-        absurd (true≢false (sym (split_among main_name (function_names program.functions) (function_names (made_of 0 program.functions)) among e) ∙ not_made_of 0 program.functions))
+        absurd (true≢false (sym (in_second main_name (function_names program.functions) (function_names (made_of 0 program.functions)) among e) ∙ not_made_of 0 program.functions))
 
 -- main has the same place among the functions of the source
 pub main_place : (program : Program) → is_function main_name (lowered program).functions ≡ true → slot_of main_name (function_names program.functions) ≡ slot_of main_name (lowered_lists program).functions

@@ -8,13 +8,15 @@ use Rattle.cw_model.specs.Syntax.{Name}
 use Rattle.cw_model.specs.Names.{same_name, is_among}
 use Rattle.cw_model.specs.Ownership.{Holder, CutOf, Taken, is_taken}
 use Rattle.cw_tree.specs.Resolved.{Locals, slot_of, with_int, with_array}
+use Rattle.cw_tree.specs.lemmas.NamedSlots.{slot_stays, slot_in}
 use Rattle.cw_code.specs.declared.code.Halves.{Halves}
 use Rattle.cw_code.specs.Fits.{Row, Outer, Shape, empty_rows, gone_rows, is_full_in, full_in_all, has_slot, has_array, is_no_part, none_empty, Covers, CoversEach}
+use Rattle.cw_loops.specs.lemmas.Naming.{among_left}
 use Rattle.cw_gen.specs.Emit.{halves_of}
 use Rattle.cw_gen.proofs.Takens.{holds, not_held}
 use Rattle.cw_gen.proofs.Decided.{both_true}
 use Rattle.cw_gen.proofs.Fine.{IsUsable, Room}
-use Rattle.cw_gen.proofs.Names.{get-other, slots_apart, slot_within, slot_stays, among_before}
+use Rattle.cw_gen.proofs.Names.{get-other, slots_apart}
 use Rattle.cw_gen.proofs.Scopes.{extended, same_locals}
 
 -- it is one of what is taken
@@ -292,7 +294,7 @@ cuts_kept (Some c ∷ opened) locals locals' more taken taken' e keep h =
     let n : length locals'.arrays ≡ length locals.arrays + length more = ap length e ∙ length-append locals.arrays more in (
       record {
         name = h.0.name;
-        declared = ap (is_among h.0.name) e ∙ among_before h.0.name locals.arrays more h.0.declared;
+        declared = ap (is_among h.0.name) e ∙ among_left h.0.name locals.arrays more h.0.declared;
         slot = ap (slot_of h.0.name) e ∙ slot_stays h.0.name locals.arrays more h.0.declared ∙ h.0.slot;
         cut = keep h.0.name h.0.cut;
         left = omega (arith, h.0.left, n);
@@ -335,7 +337,7 @@ not_cut (Some c ∷ opened) locals taken x u h = ((λ e. slots_apart x h.0.name 
 pub not_cut_behind : (opened : Opened) (locals : Locals) (taken : Taken) (i : ℕ) → length locals.arrays ≤ i → CutsOpen opened locals taken → NotCut i opened
 not_cut_behind [] locals taken i le h = tt
 not_cut_behind (None ∷ opened) locals taken i le h = not_cut_behind opened locals taken i le h
-not_cut_behind (Some c ∷ opened) locals taken i le h = ((λ e. omega (arith, le, e, slot_within h.0.name locals.arrays h.0.declared, h.0.slot)), not_cut_behind opened locals taken i le h.1)
+not_cut_behind (Some c ∷ opened) locals taken i le h = ((λ e. omega (arith, le, e, slot_in h.0.name locals.arrays h.0.declared, h.0.slot)), not_cut_behind opened locals taken i le h.1)
 
 -- the rows of arrays round the innermost sync block
 pub outside_full : (size : Room) (opened : Opened) (locals : Locals) (taken : Taken) (i : ℕ) → NotCut i opened → ((d : ℕ) → d ≤ length opened → is_full_in (slice_get (row size.arrays d locals.arrays taken) i) ≡ true) → full_in_all (gone_rows (outers size opened locals taken)) i ≡ true

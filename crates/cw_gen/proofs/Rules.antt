@@ -1,32 +1,13 @@
 -- What a rule that no line breaks says, and lists whose items all have a property.
-use Rattle.std.proofs.Common.{◌≡◌, ℕ, suc, List, [], ◌∷◌, ◌++◌, Bool, true, false, not, ◌||◌, if◌then◌else◌, Some, refl, sym, ap}
+use Rattle.std.proofs.Common.{◌≡◌, suc, List, [], ◌∷◌, ◌++◌, Bool, true, false, ◌||◌, if◌then◌else◌, Some, refl, sym, ap}
 use Rattle.std.specs.Prelude.{map, slice_get}
 use Rattle.std.proofs.lemmas.Slice.Eq.{bytes_eq-Decides}
 use Rattle.cw_model.specs.Syntax.{Name, Function}
 use Rattle.cw_model.specs.Names.{same_name, is_among}
-use Rattle.cw_model.specs.Lines.{unless}
 use Rattle.cw_tree.specs.Resolved.{slot_of}
 use Rattle.cw_gen.proofs.Fine.{IsListed, is_function}
 
--- a rule that gives no line is kept
-pub rule_kept : (b : Bool) (line : ℕ) → unless b line ≡ [] → b ≡ true
-rule_kept true line h = refl
-rule_kept false line h = cc
-
--- both parts of an empty list are empty
-pub first_empty : {A : Type 0} (xs ys : List A) → xs ++ ys ≡ [] → xs ≡ []
-first_empty [] ys h = refl
-first_empty (x ∷ xs) ys h = cc
-
-pub rest_empty : {A : Type 0} (xs ys : List A) → xs ++ ys ≡ [] → ys ≡ []
-rest_empty [] ys h = h
-rest_empty (x ∷ xs) ys h = cc
-
 -- tests that fail
-pub not_true : (b : Bool) → not b ≡ true → b ≡ false
-not_true true h = cc
-not_true false h = refl
-
 pub neither_first : (a b : Bool) → (a || b) ≡ false → a ≡ false
 neither_first true b h = cc
 neither_first false b h = refl
@@ -57,15 +38,6 @@ listed_there x (y ∷ names) h = test (listed_there x names) (same_name x y) ref
     test : (is_among x names ≡ true → IsListed names x) → (b : Bool) → same_name x y ≡ b → (if b then true else is_among x names) ≡ true → slice_get (y ∷ names) (if b then 0 else suc (slot_of x names)) ≡ Some x
     test more true e h' = ap (λ n. Some n) (sym ((bytes_eq-Decides x y).0 e))
     test more false e h' = more h'
-
--- a name among the first names of a list has the same place there
-pub same_slot : (x : Name) (names more : List Name) → is_among x names ≡ true → slot_of x (names ++ more) ≡ slot_of x names
-same_slot x [] more h = cc
-same_slot x (y ∷ names) more h = test (same_slot x names more) (same_name x y) h
-  where
-    test : (is_among x names ≡ true → slot_of x (names ++ more) ≡ slot_of x names) → (b : Bool) → (if b then true else is_among x names) ≡ true → (if b then 0 else suc (slot_of x (names ++ more))) ≡ (if b then 0 else suc (slot_of x names))
-    test rest true h' = refl
-    test rest false h' = ap (λ n. suc n) (rest h')
 
 -- a function of this name is there
 pub function_there : (name : Name) (fs : List Function) → is_among name (map (λ f. f.name) fs) ≡ true → is_function name fs ≡ true

@@ -7,6 +7,7 @@ use Rattle.cw_model.specs.Typing.{surely_returns, block_returns}
 use Rattle.cw_model.specs.Ownership.{own_names}
 use Rattle.cw_tree.specs.Resolved.{Lists, Locals, with_int, with_array, locals_after}
 use Rattle.cw_loops.specs.Slotted.{slotted_stmt, slotted_block}
+use Rattle.cw_loops.specs.lemmas.Naming.{later_among}
 use Rattle.cw_gen.specs.Emit.{stmt_returns, returns}
 
 -- the locals that are known after the statements of a block
@@ -39,13 +40,6 @@ behind x y names others more h = test (same_name x y) h
     test true h' = refl
     test false h' = more h'
 
-further : (x y : Name) (names : List Name) → is_among x names ≡ true → is_among x (y ∷ names) ≡ true
-further x y names h = test (same_name x y)
-  where
-    test : (b : Bool) → (if b then true else is_among x names) ≡ true
-    test true = refl
-    test false = h
-
 pub names_extend : (b : Block) (locals : Locals) → More locals b
 names_extend End locals = record { ints = []; arrays = []; same = same_locals locals.ints (locals.ints ++ []) locals.arrays (locals.arrays ++ []) (sym (append-nil locals.ints)) (sym (append-nil locals.arrays)); own = λ x h. cc; own_arrays = λ x h. cc }
 names_extend (Then line (Declare x e) b) locals =
@@ -55,7 +49,7 @@ names_extend (Then line (Declare x e) b) locals =
       arrays = all.arrays;
       same = all.same ∙ same_locals ((locals.ints ++ x ∷ []) ++ all.ints) (locals.ints ++ x ∷ all.ints) (locals.arrays ++ all.arrays) (locals.arrays ++ all.arrays) (append_assoc locals.ints (x ∷ []) all.ints) refl;
       own = λ y h. behind y x all.ints (own_names b) (all.own y) h;
-      own_arrays = λ y h. further y x (own_names b) (all.own_arrays y h);
+      own_arrays = λ y h. later_among y x (own_names b) (all.own_arrays y h);
     }
 names_extend (Then line (DeclareArray a e) b) locals =
     let all = names_extend b (with_array a locals) in
@@ -63,7 +57,7 @@ names_extend (Then line (DeclareArray a e) b) locals =
       ints = all.ints;
       arrays = a ∷ all.arrays;
       same = all.same ∙ same_locals (locals.ints ++ all.ints) (locals.ints ++ all.ints) ((locals.arrays ++ a ∷ []) ++ all.arrays) (locals.arrays ++ a ∷ all.arrays) refl (append_assoc locals.arrays (a ∷ []) all.arrays);
-      own = λ y h. further y a (own_names b) (all.own y h);
+      own = λ y h. later_among y a (own_names b) (all.own y h);
       own_arrays = λ y h. behind y a all.arrays (own_names b) (all.own_arrays y) h;
     }
 names_extend (Then line s b) locals =

@@ -17,6 +17,7 @@ use Rattle.cw_tree.specs.declared.resolved.Tree as source
 use Rattle.cw_tree.specs.Resolved.{lists_of, resolved}
 use Rattle.cw_tree.specs.Slots.{is_resolved}
 use Rattle.cw_tree.specs.ResolvedView.{resolved_of, program_of}
+use Rattle.cw_tree.specs.lemmas.Looked.{slots_are_right}
 use Rattle.cw_code.specs.declared.code.Code as declared
 use Rattle.cw_code.specs.declared.code.Site.{Site}
 use Rattle.cw_code.specs.Code.{Code, code_view, site_view}
@@ -38,7 +39,6 @@ use Rattle.cw_gen.proofs.KnownLowered.{functions_known}
 use Rattle.cw_gen.proofs.ListsStand.{all_pass}
 use Rattle.cw_gen.proofs.Program.{table_of, same_run, same_params}
 use Rattle.cw_gen.proofs.MainKept.{source_main, lowered_main, program_fine}
-use Rattle.cw_gen.proofs.Slotted.{slotted}
 use Rattle.cw_gen.proofs.SourceSites.{same_sites, as_many_sites}
 use Rattle.cw_gen.proofs.Tags.{tags_are_told, tags_are_apart, head_is}
 use Rattle.cw_gen.proofs.Texts.{code_of, tables_in}
@@ -80,7 +80,7 @@ module _ (least : WhilesAreLeast) (lowerable : OwnedIsLowerable) (answers : Lowe
 
   -- each name of the tree is looked up right
   same_tree : resolved_of tree ≡ resolved program
-  same_tree = slotted (resolved_of tree) slots
+  same_tree = slots_are_right (resolved_of tree) slots
 
   owned_source : IsOwnedSource program
   owned_source = record { typed = typed; owned = owned; source_like = source_like }

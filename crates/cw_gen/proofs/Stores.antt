@@ -10,7 +10,7 @@ use Rattle.cw_code.specs.Run.{Slots, Results, is_full, settled}
 use Rattle.cw_tree.specs.Resolved.{Locals, slot_of, with_int, with_array}
 use Rattle.cw_gen.proofs.Fine.{IsUsable, Room}
 use Rattle.cw_gen.proofs.Takens.{holds}
-use Rattle.cw_gen.proofs.Names.{Entries, names_in, values_in, NotAwaited, all_of, get-other, length-settled, slot_new, slot_stays, slot_within, AgreesOf, is_free, is_later, can_write, count_slots}
+use Rattle.cw_gen.proofs.Names.{Entries, names_in, values_in, NotAwaited, all_of, get-other, length-settled, slot_new, AgreesOf, is_free, is_later, can_write, count_slots}
 use Rattle.cw_gen.proofs.Names as names
 
 -- the slots of a call, and what waits for the join of its innermost sync block

@@ -1,5 +1,5 @@
 -- Functions whose names are known and free, and whose slots, lists and sites are told, are what their code relies on.
-use Rattle.std.proofs.Common.{◌≡◌, ℕ, ◌+◌, List, [], ◌∷◌, ◌++◌, Bool, true, false, not, ◌||◌, if◌then◌else◌, Option, Some, None, refl}
+use Rattle.std.proofs.Common.{◌≡◌, ℕ, ◌+◌, List, [], ◌∷◌, Bool, true, false, not, ◌||◌, if◌then◌else◌, Option, Some, None, refl}
 use Rattle.std.specs.List.{list_any}
 use Rattle.cw_model.specs.Syntax.{Name, Expr, Number, Variable, Element, Length, Negative, Not, Binary, Stmt, Declare, DeclareArray, Assign, AssignElement, AddTo, Call, Start, Begin, Sync, If, IfElse, While, For, Scope, Cut, Region, Print, Return, Block, End, Then, Param, Function}
 use Rattle.cw_model.specs.Meaning.{function_of}
@@ -7,27 +7,11 @@ use Rattle.cw_model.specs.Typing.{Returns, Nowhere, WithInt, Alone}
 use Rattle.cw_model.specs.Ownership.{Taken, CutOf, is_taken, names_in, target_names, are_free}
 use Rattle.cw_tree.specs.Resolved.{Lists, Locals, with_array, locals_after, locals_of}
 use Rattle.cw_gen.specs.Emit.{Tables}
+use Rattle.cw_gen.proofs.FreeTexts.{free_first, free_second}
 use Rattle.cw_gen.proofs.Held.{held_after}
 use Rattle.cw_gen.proofs.Fine.{ExprFine, ArgFine, ArgsFine, TargetFine, ReturnFine, AllUsable, Room, room_of, StmtFine, BlockFine, FunctionFine, FunctionsFine}
 use Rattle.cw_gen.proofs.Kept.{ExprKnown, ArgKnown, ArgsKnown, TargetKnown, ReturnKnown, AllKnown, StmtKnown, BlockKnown, FunctionKnown, AllFunctionsKnown, ExprsFree, ReturnFree, StmtFree, BlockFree, AllFree}
 use Rattle.cw_gen.proofs.Told.{PassesStmt, PassesBlock, AllPass, RoomStmt, RoomBlock, HasRooms, AllHaveRooms, ListedStmt, ListedBlock, AllListed}
-
--- of names that are free together each is free
-free_before : (taken : Taken) (xs ys : List Name) → are_free taken (xs ++ ys) ≡ true → are_free taken xs ≡ true
-free_before taken [] ys h = refl
-free_before taken (x ∷ xs) ys h = test (free_before taken xs ys) (is_taken taken x) h
-  where
-    test : (are_free taken (xs ++ ys) ≡ true → are_free taken xs ≡ true) → (b : Bool) → not (b || list_any (λ z. is_taken taken z) (xs ++ ys)) ≡ true → not (b || list_any (λ z. is_taken taken z) xs) ≡ true
-    test more true h' = cc
-    test more false h' = more h'
-
-free_behind : (taken : Taken) (xs ys : List Name) → are_free taken (xs ++ ys) ≡ true → are_free taken ys ≡ true
-free_behind taken [] ys h = h
-free_behind taken (x ∷ xs) ys h = test (free_behind taken xs ys) (is_taken taken x) h
-  where
-    test : (are_free taken (xs ++ ys) ≡ true → are_free taken ys ≡ true) → (b : Bool) → not (b || list_any (λ z. is_taken taken z) (xs ++ ys)) ≡ true → are_free taken ys ≡ true
-    test more true h' = cc
-    test more false h' = more h'
 
 free_one : (taken : Taken) (x : Name) (xs : List Name) → are_free taken (x ∷ xs) ≡ true → is_taken taken x ≡ false
 free_one taken x xs h = test (is_taken taken x) h
@@ -41,12 +25,12 @@ module _ (locals : Locals) (taken : Taken) where
   expr_fine (Number n) known free = tt
   expr_fine (Variable x) known free = record { declared = known; free = free_one taken x [] free }
   expr_fine (Element a e) known free =
-      (record { declared = known.0; free = free_one taken a (names_in e) free }, expr_fine e known.1 (free_behind taken (a ∷ []) (names_in e) free))
+      (record { declared = known.0; free = free_one taken a (names_in e) free }, expr_fine e known.1 (free_second taken (a ∷ []) (names_in e) free))
   expr_fine (Length a) known free = record { declared = known; free = free_one taken a [] free }
   expr_fine (Negative e) known free = expr_fine e known free
   expr_fine (Not e) known free = expr_fine e known free
   expr_fine (Binary operator d e) known free =
-      (expr_fine d known.0 (free_before taken (names_in d) (names_in e) free), expr_fine e known.1 (free_behind taken (names_in d) (names_in e) free))
+      (expr_fine d known.0 (free_first taken (names_in d) (names_in e) free), expr_fine e known.1 (free_second taken (names_in d) (names_in e) free))
 
   arg_fine : (b : Bool) (e : Expr) → ArgKnown b locals e → are_free taken (names_in e) ≡ true → ArgFine b locals taken e
   arg_fine false e known free = (expr_fine e known.0 free, known.1)
@@ -74,7 +58,7 @@ module _ (locals : Locals) (taken : Taken) where
   all_usable : (names xs : List Name) → AllKnown names xs → are_free taken xs ≡ true → AllUsable names taken xs
   all_usable names [] known free = tt
   all_usable names (x ∷ xs) known free =
-      (record { declared = known.0; free = free_one taken x xs free }, all_usable names xs known.1 (free_behind taken (x ∷ []) xs free))
+      (record { declared = known.0; free = free_one taken x xs free }, all_usable names xs known.1 (free_second taken (x ∷ []) xs free))
 
 module _ (fs : List Function) (lists : Lists) (tables : Tables) (room : Room) where
   mutual
