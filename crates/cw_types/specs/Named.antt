@@ -1,7 +1,7 @@
 -- Functions and reducers by their names and lines.
-use Rattle.std.specs.Prelude.{ℕ, List, [], map, flat_map}
+use Rattle.std.specs.Prelude.{ℕ, List, map, flat_map}
 use Rattle.cw_model.specs.Syntax.{Name, Function, Reducer}
-use Rattle.cw_model.specs.Typing.{repeated, of_both_kinds}
+use Rattle.cw_model.specs.Typing.{of_both_kinds}
 use Rattle.cw_tree.specs.declared.syntax.Function as code_function
 use Rattle.cw_tree.specs.declared.syntax.Reducer as code_reducer
 use Rattle.cw_tree.specs.SyntaxView.{function_of, reducer_of}

@@ -1,5 +1,5 @@
 -- The lines that pass a limit, and what noting those of tags leaves.
-use Rattle.std.specs.Prelude.{◌≡◌, ℕ, nat_le, List, [], ◌∷◌, ◌++◌, length, map, drop, Result, OnOk}
+use Rattle.std.specs.Prelude.{◌≡◌, ℕ, nat_le, List, [], ◌∷◌, length, map, drop}
 use Rattle.cw_model.specs.Limits.{most_functions, most_reducers, most_tag_bytes, most_tags}
 use Rattle.cw_model.specs.Lines.{lowest, unless}
 use Rattle.cw_model.specs.Sizes.{first_places, lines_beyond}
