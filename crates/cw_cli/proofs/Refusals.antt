@@ -1,5 +1,5 @@
 -- A stage that refuses its input refuses the bytes.
-use Rattle.std.proofs.Common.{◌≡◌, ℕ, true, List, [], Some, None, Result, Ok, Err, MatchResult, IsErrAnd, subst, sym, ap, ◌∙◌}
+use Rattle.std.proofs.Common.{◌≡◌, ℕ, true, List, [], Result, Ok, Err, MatchResult, IsErrAnd, subst, sym, ap, ◌∙◌}
 use Rattle.cw_model.specs.declared.token.Token.{Token}
 use Rattle.cw_model.specs.Syntax.{Program}
 use Rattle.cw_model.specs.Text.{IsSourceText}

@@ -1,4 +1,4 @@
-use Rattle.std.proofs.Common.{◌≡◌, ℕ, List, true}
+use Rattle.std.proofs.Common.{◌≡◌, true}
 use Rattle.std.specs.Prelude.{take}
 use Rattle.std.specs.List.{list_all}
 use Rattle.cw_model.specs.Ints.{fits}
