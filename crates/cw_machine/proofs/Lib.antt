@@ -25,6 +25,7 @@ pub mod FromMain
 pub mod Inside
 pub mod Pieces
 pub mod Slices
+pub mod Ahead
 pub mod Rests
 pub mod Effects
 pub mod Given

@@ -2,6 +2,7 @@
 
 ghost use Rattle.std.specs.Prelude.{◌≡◌, IfOk};
 ghost use Rattle.cw_code.specs.Code.{code_view};
+ghost use Rattle.cw_code.specs.Fits as fits;
 ghost use Rattle.cw_machine.specs.Runs as runs;
 ghost use Rattle.cw_model.specs.Answers as answers;
 
@@ -107,6 +108,13 @@ fn finished(
         sites: all.sites,
         regions: all.regions,
     })
+}
+
+/// How many arguments `main` takes.
+pub fn main_takes(code: &Verified) -> usize
+    ensures { result ≡ fits.main_params (code_view code.now.code) }
+{
+    code.func(code.code.main as usize).params
 }
 
 // The value that a call gave, and 0 where it gave none.

@@ -3,7 +3,7 @@
 ghost use Rattle.cw_code.specs.Code.{code_view};
 ghost use Rattle.cw_machine.specs.Runs as runs;
 
-use crate::alone::{int_given, is_asked};
+use crate::alone::{int_given, is_asked, main_takes};
 use crate::machine::{Machine, Moved};
 use cw_text::Fault;
 use cw_verify::verified::Verified;
@@ -35,13 +35,10 @@ pub fn values_alone(
     ensures { runs.GivesAsCode (code_view code.value.code) args.now n burden result }
 {
     let verified: &Verified = &code;
-    let main = verified.code.main as usize;
-    let f = verified.func(main);
-    if !is_asked(f.params, args.len(), n, burden) {
+    if !is_asked(main_takes(verified), args.len(), n, burden) {
         return Err(Fault::Arguments);
     }
-    let reducers = verified.code.reducers.len();
-    let mut machine = Machine::new(alloc, f, verified.room(main), args, reducers)?;
+    let mut machine = Machine::begun(alloc, verified, args)?;
     match machine.run(verified, n) {
         Moved::Gave(value) => Ok(Values {
             value: int_given(value),
