@@ -27,8 +27,7 @@ Exit status and standard error (L is a line of the source):
   2  refused 2 line L   a token that no source has there, or the source ends
   2  refused 3 line L   a rule of names and types is broken
   2  refused 4 line L   a rule of ownership is broken
-  2  refused 5 line L   a limit on the size of programs is passed, or a
-                        statement is not compiled yet
+  2  refused 5 line L   a limit on the size of a source or a program is passed
   2  refused 6          code that the verifier refuses
   3  trap C line L      C is 1 for overflow, 2 division by 0, 3 index, 4 length,
                         5 turns of a loop, 6 depth of calls
