@@ -91,14 +91,14 @@ module _ (bytes : List ℕ) (program : Program) (source : Sources.IsSourceOf byt
       few : loop_faults program ≡ []
       few = sym (ap loop_faults is_program) ∙ few_here
 
-      code_refused : (f : Fault) → gen.Why program f → Sources.IsRefused bytes f
+      code_refused : (f : Fault) → gen.IsRefusal program f → Sources.IsRefused bytes f
       code_refused (fault.Size p) h = Sources.code program accepted few h
       code_refused fault.Memory h = tt
       code_refused _ h = absurd h
 
       -- the code of the lowered tree
-      pub tree_too_large : (f : Fault) → gen.Why (program_of other) f → Sources.IsRefused bytes f
-      tree_too_large f h = code_refused f (subst (λ p. gen.Why p f) is_program h)
+      pub tree_too_large : (f : Fault) → gen.IsRefusal (program_of other) f → Sources.IsRefused bytes f
+      tree_too_large f h = code_refused f (subst (λ p. gen.IsRefusal p f) is_program h)
 
       -- generated code fits, so the verifier refuses it for want of memory alone
       pub not_unfit : (code : declared.Code) → gen.Generates (program_of other) (code_view code) → (f : Fault) → Fails (Fits (code_view code) → ⊥) f → Sources.IsRefused bytes f

@@ -6,7 +6,7 @@ use Rattle.std.specs.List.{list_all}
 use Rattle.cw_model.specs.Ints.{fits}
 use Rattle.std.proofs.lemmas.Bool.Decides.{nat_tests}
 use Rattle.cw_model.specs.Syntax.{Program, Reducer}
-use Rattle.cw_model.specs.Limits.{most_limit, most_burden}
+use Rattle.cw_model.specs.declared.limits.TheConstants.{MOST_LIMIT, MOST_BURDEN}
 use Rattle.cw_model.specs.Trees.{Tree}
 use Rattle.cw_model.specs.Answers.{Answer, Ended, TrappedAt, OverLimit}
 use Rattle.cw_model.specs.declared.trap.Trap.{Trap}
@@ -15,7 +15,7 @@ use Rattle.cw_model.specs.Report.{check_text, value_line, sum_lines, report_text
 use Rattle.cw_code.specs.Code.{Code}
 use Rattle.cw_code.specs.Run.{code_serial}
 use Rattle.cw_code.specs.Fits.{main_params}
-use Rattle.cw_machine.specs.Runs.{Runs, Gives, Why, is_request}
+use Rattle.cw_machine.specs.Runs.{Runs, Gives, IsFailure, is_request}
 use Rattle.cw_machine.specs.declared.values.Values.{Values}
 use Rattle.cw_machine.specs.declared.alone.Ended as run
 use Rattle.cw_text.specs.declared.fault.Fault.{Fault}
@@ -130,19 +130,19 @@ no_part seen old new text same part = let e : (seen new).failures ≡ (seen old)
 module _ (bytes : List ℕ) (args : List ℤ) (words : list_all fits args ≡ true) (options : Options) (code : Code) (compiled : IsCompiled bytes code) where
   may : is_request code args options.limit options.burden ≡ true → analyses.MayRun compiled.program args options
   may h =
-      let n = both (nat_eq (length args) (main_params code)) (nat_le 1 options.limit && (nat_le options.limit most_limit && nat_le options.burden most_burden)) h in
-      let l = both (nat_le 1 options.limit) (nat_le options.limit most_limit && nat_le options.burden most_burden) n.1 in
-      let b = both (nat_le options.limit most_limit) (nat_le options.burden most_burden) l.1 in
+      let n = both (nat_eq (length args) (main_params code)) (nat_le 1 options.limit && (nat_le options.limit MOST_LIMIT && nat_le options.burden MOST_BURDEN)) h in
+      let l = both (nat_le 1 options.limit) (nat_le options.limit MOST_LIMIT && nat_le options.burden MOST_BURDEN) n.1 in
+      let b = both (nat_le options.limit MOST_LIMIT) (nat_le options.burden MOST_BURDEN) l.1 in
       record {
         count = is_same (length args) (main_params code) n.0 ∙ compiled.generates.params;
-        in_range = record { some_limit = is_most 1 options.limit l.0; limit = is_most options.limit most_limit b.0; burden = is_most options.burden most_burden b.1 };
+        in_range = record { some_limit = is_most 1 options.limit l.0; limit = is_most options.limit MOST_LIMIT b.0; burden = is_most options.burden MOST_BURDEN b.1 };
       }
 
   must : analyses.MayRun compiled.program args options → is_request code args options.limit options.burden ≡ true
   must m =
       true_both (nat_eq (length args) (main_params code)) _ (same_is (length args) (main_params code) (m.count ∙ sym compiled.generates.params))
       (true_both (nat_le 1 options.limit) _ (most_is 1 options.limit m.in_range.some_limit)
-      (true_both (nat_le options.limit most_limit) _ (most_is options.limit most_limit m.in_range.limit) (most_is options.burden most_burden m.in_range.burden)))
+      (true_both (nat_le options.limit MOST_LIMIT) _ (most_is options.limit MOST_LIMIT m.in_range.limit) (most_is options.burden MOST_BURDEN m.in_range.burden)))
 
   run_of : analyses.MayRun compiled.program args options → analyses.IsRunOf bytes args options compiled.program
   run_of m = record { compiles = compiled.compiles; may = m }
@@ -213,12 +213,12 @@ module _ (bytes : List ℕ) (args : List ℤ) (words : list_all fits args ≡ tr
   module _ {V : Type 0} (ran : V → Type 0) (told : Result V Fault → List ℕ) (tells : Tells ran told) {W : Type 0} (seen : W → Seen) (old new : W) where
     -- a run gives what the code's meaning gives, or tells why not
     abbrev RanAs : Result V Fault → Type 0
-    RanAs r = MatchResult r ran (Why code args options.limit options.burden)
+    RanAs r = MatchResult r ran (IsFailure code args options.limit options.burden)
 
     answer_of : (e : V) (r : ran e) → analyses.answer_to compiled.program args options ≡ (tells.ended e r).answer
     answer_of e r = let ends = tells.ended e r in answer_is (may ends.asked) ends.answer ends.serial
 
-    trap_of : (trap : Trap) (line : ℕ) (lines : Vec ℤ) → Why code args options.limit options.burden (fault.Trap trap line lines) → analyses.answer_to compiled.program args options ≡ TrappedAt trap line lines.items
+    trap_of : (trap : Trap) (line : ℕ) (lines : Vec ℤ) → IsFailure code args options.limit options.burden (fault.Trap trap line lines) → analyses.answer_to compiled.program args options ≡ TrappedAt trap line lines.items
     trap_of trap line lines h = answer_is (may h.0) (TrappedAt trap line lines.items) h.1
 
     -- a run that ended, and its text was written
@@ -233,7 +233,7 @@ module _ (bytes : List ℕ) (args : List ℤ) (words : list_all fits args ≡ tr
         }
 
     -- a run that did not end, and what is told of it was written
-    unreported : (f : Fault) → Why code args options.limit options.burden f → WritesAll (seen old) (seen new) (told (Err f)) → (told (Err f) ≡ [] → new ≡ old) → analyses.IsUnreported seen old new bytes args options f
+    unreported : (f : Fault) → IsFailure code args options.limit options.burden f → WritesAll (seen old) (seen new) (told (Err f)) → (told (Err f) ≡ [] → new ≡ old) → analyses.IsUnreported seen old new bytes args options f
     unreported fault.OverLimit h took idle =
         record { program = compiled.program; run = run_of (may h.0); over = answer_is (may h.0) OverLimit h.1; untouched = idle tells.over }
     unreported (fault.Trap trap line lines) h took idle =

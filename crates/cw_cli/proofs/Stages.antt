@@ -2,7 +2,7 @@
 use Rattle.std.proofs.Common.{◌≡◌, ℕ, ◌≤◌, ◌<◌, List, [], length, Result, Ok, Err, ◌⊎◌, inl, inr, refl, sym, ap, ◌∙◌, subst, arith}
 use Rattle.std.proofs.lemmas.Bool.{cases_lt}
 use Rattle.cw_model.specs.declared.token.Token.{Token}
-use Rattle.cw_model.specs.Limits.{most_source_bytes}
+use Rattle.cw_model.specs.declared.limits.TheConstants.{MOST_SOURCE_BYTES}
 use Rattle.cw_model.specs.Lines.{IsLeastLine}
 use Rattle.cw_model.specs.Text.{IsAscii, IsSourceText, line_at, IsFirstAbove, IsTooLong, IsNotAscii}
 use Rattle.cw_model.specs.Tokens.{IsTokenCut, HasLexicalFault, HasNameFault}
@@ -74,7 +74,7 @@ AfterText bytes =
 
 abbrev Answer : List ℕ → Result Program Fault → Type 0
 Answer bytes =
-    Stage {A = Unit {0}} (λ _. length bytes ≤ most_source_bytes) (IsTooLong bytes) (λ at. fault.Size at)
+    Stage {A = Unit {0}} (λ _. length bytes ≤ MOST_SOURCE_BYTES) (IsTooLong bytes) (λ at. fault.Size at)
     (λ _. Stage {A = Unit {0}} (λ _. IsAscii bytes) (IsNotAscii bytes) (λ at. fault.Lexical at) (λ _. AfterText bytes))
 
 not_before : (bytes : List ℕ) (at other : ℕ) → IsFirstAbove bytes at → IsFirstAbove bytes other → at < other → ⊥
@@ -88,7 +88,7 @@ same_above bytes at other a b = by_order (cases_lt at other) (cases_lt other at)
     by_order _ (inl k) = absurd (not_before bytes other at b a k)
     by_order (inr h) (inr k) = omega (arith, h, k)
 
-length_choice : (bytes : List ℕ) → IsChoice {A = Unit {0}} (λ _. length bytes ≤ most_source_bytes) (IsTooLong bytes)
+length_choice : (bytes : List ℕ) → IsChoice {A = Unit {0}} (λ _. length bytes ≤ MOST_SOURCE_BYTES) (IsTooLong bytes)
 length_choice bytes = record {
   one_value = λ a b h k. refl;
   apart = λ a line h k. omega (arith, h, k.long);

@@ -5,7 +5,7 @@ use Rattle.std.proofs.lemmas.List.Elements.{All-map}
 use Rattle.clap.specs.Words.{first_of, first_value, matched_of, raw_values, rows_of}
 use Rattle.clap.proofs.WalkLemmas.{first_value-rows, raw_values-rows}
 use Rattle.clap.specs.declared.parser.matches.Found.{Found}
-use Rattle.cw_model.specs.Pieces.{value_of}
+use Rattle.cw_model.specs.Pieces.{decimal_value}
 use Rattle.cw_cli.specs.Command.{NumberRow}
 use Rattle.cw_cli.specs.Requests.{texts_of, values_of, number_text, IsArgument, IsFaultUnless}
 use Rattle.cw_text.specs.declared.fault.Fault.{Fault}
@@ -15,9 +15,9 @@ use Rattle.cw_text.specs.declared.fault.Fault.TheVariants as fault
 abbrev pub lent : List (Bor (List ℕ)) → List (List ℕ)
 lent ts = map (λ t. t.now) ts
 
-values-lent : (ts : List (Bor (List ℕ))) → map (λ t. pos (value_of t.now)) ts ≡ values_of (lent ts)
+values-lent : (ts : List (Bor (List ℕ))) → map (λ t. pos (decimal_value t.now)) ts ≡ values_of (lent ts)
 values-lent [] = refl
-values-lent (t ∷ ts) = ap (λ vs. pos (value_of t.now) ∷ vs) (values-lent ts)
+values-lent (t ∷ ts) = ap (λ vs. pos (decimal_value t.now) ∷ vs) (values-lent ts)
 
 or_none : (r : Option (Bor (List (Bor (List ℕ))))) (none : Bor (List (Bor (List ℕ)))) → none.now ≡ [] → lent (unwrap_or r none).now ≡ unwrap_or (option_map (λ s. lent s.now) r) []
 or_none None none e = ap lent e
@@ -27,7 +27,7 @@ or_none (Some s) none e = refl
 pub texts_given : (found : Found) (id : List ℕ) (r : Option (Bor (List (Bor (List ℕ))))) (none given : Bor (List (Bor (List ℕ)))) → option_map (λ s. lent s.now) r ≡ option_map raw_values (matched_of found id) → none.now ≡ [] → given ≡ unwrap_or r none → lent given.now ≡ texts_of (rows_of found) id
 texts_given found id r none given e n g = ap (λ s. lent s.now) g ∙ or_none r none n ∙ ap (λ o. unwrap_or o []) (e ∙ raw_values-rows found id)
 
-pub values_given : (ts : List (Bor (List ℕ))) (texts : List (List ℕ)) (vs : List ℤ) → lent ts ≡ texts → vs ≡ map (λ t. pos (value_of t.now)) ts → vs ≡ values_of texts
+pub values_given : (ts : List (Bor (List ℕ))) (texts : List (List ℕ)) (vs : List ℤ) → lent ts ≡ texts → vs ≡ map (λ t. pos (decimal_value t.now)) ts → vs ≡ values_of texts
 values_given ts texts vs e v = v ∙ values-lent ts ∙ ap values_of e
 
 pub arguments_given : (ts : List (Bor (List ℕ))) (texts : List (List ℕ)) → lent ts ≡ texts → All (λ t. IsArgument t.now) ts → All IsArgument texts

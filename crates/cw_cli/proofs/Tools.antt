@@ -4,7 +4,7 @@ use Rattle.std.proofs.lemmas.List.{append-nil, take_all, length-take-le}
 use Rattle.std.specs.Prelude.{nat_le, is_err, OnOk}
 use Rattle.std.proofs.lemmas.Bool.Decides.{nat_tests}
 use Rattle.std.specs.Io.KnownBytes.{Appends}
-use Rattle.cw_model.specs.Limits.{most_source_bytes}
+use Rattle.cw_model.specs.declared.limits.TheConstants.{MOST_SOURCE_BYTES}
 use Rattle.cw_model.specs.Text.{IsSourceText}
 use Rattle.cw_text.specs.declared.fault.Fault.{Fault}
 use Rattle.cw_text.specs.declared.fault.Fault.TheVariants as fault
@@ -34,7 +34,7 @@ idle seen w = inl (record { bytes = nothing (seen w).bytes; failed = refl })
 
 -- one byte more than a source may have
 abbrev most_read : ℕ
-most_read = most_source_bytes + 1
+most_read = MOST_SOURCE_BYTES + 1
 
 shorter_or_longer : (n m : ℕ) → (n ≤ m) ⊎ (m < n)
 shorter_or_longer n m = tested (nat_le n m) refl
@@ -43,9 +43,9 @@ shorter_or_longer n m = tested (nat_le n m) refl
     tested true e = inl (grind (arith, nat_tests, e))
     tested false e = inr (grind (arith, nat_tests, e))
 
-module _ (bytes : List ℕ) (long : most_source_bytes < length bytes) where
+module _ (bytes : List ℕ) (long : MOST_SOURCE_BYTES < length bytes) where
   -- one byte too many is read too
-  too_long : most_source_bytes < length (take most_read bytes)
+  too_long : MOST_SOURCE_BYTES < length (take most_read bytes)
   too_long = let e = length-take-le most_read bytes (omega (arith, long)) in omega (arith, e)
 
   no_source : IsSourceText (take most_read bytes) → ⊥
@@ -116,9 +116,9 @@ module _ (bytes : List ℕ) (long : most_source_bytes < length bytes) where
 module _ {W : Type 0} (seen : W → Seen) (old new : W) (args : List ℤ) (options : Options) where
   -- what an analysis of the bytes that were read answers is answered for the whole source
   whole : (bytes : List ℕ) (r : Result (Unit {0}) Fault) → IsAnalysed seen old new (take most_read bytes) args options r → IsAnalysed seen old new bytes args options r
-  whole bytes r h = by_length (shorter_or_longer (length bytes) most_source_bytes)
+  whole bytes r h = by_length (shorter_or_longer (length bytes) MOST_SOURCE_BYTES)
     where
-      by_length : (length bytes ≤ most_source_bytes) ⊎ (most_source_bytes < length bytes) → IsAnalysed seen old new bytes args options r
+      by_length : (length bytes ≤ MOST_SOURCE_BYTES) ⊎ (MOST_SOURCE_BYTES < length bytes) → IsAnalysed seen old new bytes args options r
       by_length (inl short) = subst (λ bs. IsAnalysed seen old new bs args options r) (take_all most_read bytes (omega (arith, short))) h
       by_length (inr long) = long_whole bytes long seen old new args options options.mode r h
 

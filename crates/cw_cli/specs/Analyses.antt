@@ -2,7 +2,7 @@
 use Rattle.std.specs.Prelude.{◌≡◌, ◌≢◌, ℕ, ℤ, List, length, Result, MatchResult}
 use Rattle.cw_model.specs.declared.trap.Trap.{Trap}
 use Rattle.cw_model.specs.Syntax.{Program}
-use Rattle.cw_model.specs.Meaning.{function_of}
+use Rattle.cw_model.specs.Meaning.{function_named}
 use Rattle.cw_model.specs.Answers.{Answer, Ended, TrappedAt, OverLimit, main_name, serial_answer}
 use Rattle.cw_model.specs.Report as report
 use Rattle.cw_model.specs.Report.{report_text}
@@ -25,7 +25,7 @@ mode_of mode.Sites = report.Sites
 
 -- main has so many parameters, and the limit and the burden are in range
 pub record MayRun (program : Program) (args : List ℤ) (options : Options) : Type 0 where
-  pub count : length args ≡ length (function_of main_name program.functions).params
+  pub count : length args ≡ length (function_named main_name program.functions).params
   pub in_range : AreInRange options
 
 -- the bytes are a source of this program, and it may be run so

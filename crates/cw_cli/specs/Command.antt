@@ -4,7 +4,7 @@ use Rattle.clap.specs.Lexer.{usize_max}
 use Rattle.clap.specs.Words.{AddsSubcommand, App, Rule, Text, app_of, new_app, new_rule, with_rule, with_subcommand}
 use Rattle.clap.specs.declared.builder.Command.{Command}
 use Rattle.clap.specs.declared.builder.ArgAction.TheVariants.{Append, Set}
-use Rattle.cw_model.specs.Limits.{most_limit, most_burden}
+use Rattle.cw_model.specs.declared.limits.TheConstants.{MOST_LIMIT, MOST_BURDEN}
 use Rattle.cw_cli.specs.declared.asked.Mode.{Mode}
 use Rattle.cw_cli.specs.declared.asked.Mode.TheVariants as mode
 
@@ -18,11 +18,11 @@ pub record NumberRow : Type 0 where
 
 -- the limit of a run
 abbrev pub limit_row : NumberRow
-limit_row = record { name = codes "limit"; least = 1; most = most_limit; usual = codes "1000000000" }
+limit_row = record { name = codes "limit"; least = 1; most = MOST_LIMIT; usual = codes "1000000000" }
 
 -- the burden of a spawn
 abbrev pub burden_row : NumberRow
-burden_row = record { name = codes "burden"; least = 0; most = most_burden; usual = codes "15000" }
+burden_row = record { name = codes "burden"; least = 0; most = MOST_BURDEN; usual = codes "15000" }
 
 -- the options that take a number
 abbrev pub number_rows : List NumberRow

@@ -4,8 +4,8 @@ use Rattle.std.specs.Option.{SomeIff}
 use Rattle.clap.specs.Words.{IsAmong, Kinds, Row, Text, all_of, fault_of, first_of, subcommand_of}
 use Rattle.clap.specs.declared.error.ErrorKind.{ErrorKind}
 use Rattle.clap.specs.declared.error.ErrorKind.TheVariants as kind
-use Rattle.cw_model.specs.Limits.{most_limit, most_burden, most_number, usual_limit, usual_burden}
-use Rattle.cw_model.specs.Pieces.{value_of}
+use Rattle.cw_model.specs.declared.limits.TheConstants.{MOST_LIMIT, MOST_BURDEN, MOST_NUMBER, USUAL_LIMIT, USUAL_BURDEN}
+use Rattle.cw_model.specs.Pieces.{decimal_value}
 use Rattle.cw_text.specs.declared.fault.Fault.{Fault}
 use Rattle.cw_text.specs.declared.fault.Fault.TheVariants as fault
 use Rattle.cw_cli.specs.Numbers.{IsNumberWithin}
@@ -20,12 +20,12 @@ use Rattle.cw_cli.specs.declared.asked.Said.TheVariants as said
 -- the limit and the burden are in range
 pub record AreInRange (options : Options) : Type 0 where
   pub some_limit : 1 ≤ options.limit
-  pub limit : options.limit ≤ most_limit
-  pub burden : options.burden ≤ most_burden
+  pub limit : options.limit ≤ MOST_LIMIT
+  pub burden : options.burden ≤ MOST_BURDEN
 
 -- the options of a run that is given none
 abbrev pub usual_options : Options
-usual_options = record { mode = mode.Run; limit = usual_limit; burden = usual_burden }
+usual_options = record { mode = mode.Run; limit = USUAL_LIMIT; burden = USUAL_BURDEN }
 
 -- the command of this name, if there is one
 abbrev pub IsModeNamed : Text → Option Mode → Type 0
@@ -57,7 +57,7 @@ number_text rows row = unwrap_or (first_of row.name rows) row.usual
 
 -- the number that a word writes, exactly where it is in the range of the row
 abbrev pub IsNumberOf : Text → NumberRow → Option ℕ → Type 0
-IsNumberOf text row n = SomeIff n (IsNumberWithin row.least row.most text) (value_of text)
+IsNumberOf text row n = SomeIff n (IsNumberWithin row.least row.most text) (decimal_value text)
 
 -- the words for all numbers
 abbrev pub numbers_of : List Row → List Text
@@ -65,11 +65,11 @@ numbers_of rows = map (λ row. number_text rows row) number_rows
 
 -- a word that writes an argument of main
 abbrev pub IsArgument : Text → Type 0
-IsArgument text = IsNumberWithin 0 most_number text
+IsArgument text = IsNumberWithin 0 MOST_NUMBER text
 
 -- the values of words that are numbers
 abbrev pub values_of : List Text → List ℤ
-values_of texts = map (λ text. pos (value_of text)) texts
+values_of texts = map (λ text. pos (decimal_value text)) texts
 
 -- each word writes a number in the range of its row
 abbrev pub AreWithin : List NumberRow → List Text → Type 0
@@ -87,7 +87,7 @@ pub record IsRequestOf (words : Words) (r : Request) : Type 0 where
   pub file_is : string_bytes r.file ≡ words.file
   pub args_are : r.args.items ≡ values_of words.args
   pub mode_is : r.options.mode ≡ words.mode
-  pub numbers_are : option_numbers r.options ≡ map value_of words.numbers
+  pub numbers_are : option_numbers r.options ≡ map decimal_value words.numbers
 
 -- the words that the rows of a command have, of this source
 abbrev pub words_in : Mode → Text → List Row → Words

@@ -2,8 +2,8 @@
 use Rattle.std.specs.Prelude.{◌≡◌, ◌≢◌, ◌^◌, ◌<◌, List, [], ◌∷◌, All, Some, codes, length, map, slice_get}
 use Rattle.clap.specs.Words.{Text}
 use Rattle.clap.specs.declared.error.ErrorKind.TheVariants as kind
-use Rattle.cw_model.specs.Limits.{usual_limit, usual_burden}
-use Rattle.cw_model.specs.Pieces.{value_of}
+use Rattle.cw_model.specs.declared.limits.TheConstants.{USUAL_LIMIT, USUAL_BURDEN}
+use Rattle.cw_model.specs.Pieces.{decimal_value}
 use Rattle.cw_cli.specs.Command.{command_name, limit_row, burden_row, number_rows, usual_numbers}
 use Rattle.cw_cli.specs.Requests.{AreRead, AreWithin, Words, faults}
 use Rattle.cw_cli.specs.declared.asked.Mode.{Mode}
@@ -50,7 +50,7 @@ WordsAreReadOnce = (given : List Text) (words words' : Words) → AreRead given 
 
 -- the words for the usual numbers are numbers in range, and write the usual limit and the usual burden
 abbrev pub UsualNumbersAreWritten : Type 0
-UsualNumbersAreWritten = AreWithin number_rows usual_numbers × (map value_of usual_numbers ≡ usual_limit ∷ usual_burden ∷ [])
+UsualNumbersAreWritten = AreWithin number_rows usual_numbers × (map decimal_value usual_numbers ≡ USUAL_LIMIT ∷ USUAL_BURDEN ∷ [])
 
 -- numbers after the source, attached to their names, and words after `--`
 abbrev pub WordExamples : Type 0

@@ -3,14 +3,9 @@
 ghost use Rattle.std.specs.Prelude.{◌≡◌, [], string_bytes};
 ghost use Rattle.cw_cli.specs.declared.asked.Said.TheVariants.{Fault};
 
+use cw_model::limits::{USUAL_BURDEN, USUAL_LIMIT};
 use cw_text::Fault;
 use std::alloc::Global;
-
-/// The limit of a run that is given none, in instructions.
-pub const USUAL_LIMIT: u64 = 1_000_000_000;
-
-/// The burden of a spawn where none is given, in instructions.
-pub const USUAL_BURDEN: u64 = 15_000;
 
 /// What the program is asked to write.
 #[derive(Clone, Copy, Debug, PartialEq, Eq)]

@@ -3,10 +3,10 @@
 ghost use Rattle.std.specs.Prelude.{◌≡◌};
 ghost use Rattle.std.specs.List.{list_all};
 ghost use Rattle.std.specs.Option.{SomeIff};
-ghost use Rattle.cw_model.specs.Pieces.{is_digit, value_of};
+ghost use Rattle.cw_model.specs.Pieces.{is_digit, decimal_value};
 ghost use Rattle.cw_cli.specs.Numbers.{IsNumber, IsNumberWithin};
 
-use cw_machine::alone::{MOST_BURDEN, MOST_LIMIT};
+use cw_model::limits::{MOST_BURDEN, MOST_LIMIT};
 
 /// An option that takes a number.
 #[derive(Clone, Copy)]
@@ -44,16 +44,16 @@ pub const BURDEN: NumberOption = NumberOption {
 /// The number that the text writes, where it is digits alone, at least one, and the number is in
 /// range.
 pub fn read_number(text: &str, least: u64, most: u64) -> Option<u64>
-    ensures { SomeIff result (IsNumberWithin least most text.now) (value_of text.now) }
+    ensures { SomeIff result (IsNumberWithin least most text.now) (decimal_value text.now) }
 {
-    match value_of(text) {
+    match decimal(text) {
         Some(n) if least <= n && n <= most => Some(n),
         _ => None,
     }
 }
 
-fn value_of(text: &str) -> Option<u64>
-    ensures { SomeIff result (IsNumber text.now) (value_of text.now) }
+fn decimal(text: &str) -> Option<u64>
+    ensures { SomeIff result (IsNumber text.now) (decimal_value text.now) }
 {
     if is_digits(text) {
         text.parse::<u64>().ok()

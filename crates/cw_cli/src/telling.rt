@@ -13,15 +13,15 @@ ghost use Rattle.cw_cli.specs.Tools.{
 
 use crate::analysis::analyse_alone;
 use crate::asked::{Request, Said};
+use cw_model::limits::MOST_SOURCE_BYTES;
 use cw_report::{Input, Sink, write_fault, write_text};
 use cw_text::Fault;
-use cw_text::source::MOST_BYTES;
 use std::alloc::Global;
 use std::io;
 use std::io::Read;
 
 /// One byte more than a source may have: as much as is read of one.
-const MOST_READ: u64 = MOST_BYTES as u64 + 1;
+const MOST_READ: u64 = MOST_SOURCE_BYTES as u64 + 1;
 
 /// Reads the source, analyses it as asked, and writes the report to `out`; gives the exit status.
 ///

@@ -16,7 +16,7 @@ ghost use Rattle.std.specs.Prelude.{
   string_bytes,
 };
 ghost use Rattle.clap.specs.Words.{FailsBy, kind_of, rows_of, found_of, subcommand_of, subcommand_rows_of};
-ghost use Rattle.cw_model.specs.Pieces.{value_of};
+ghost use Rattle.cw_model.specs.Pieces.{decimal_value};
 ghost use Rattle.cw_cli.specs.Command.{command_line, command_name};
 ghost use Rattle.cw_cli.specs.Requests.{
   AreProper,
@@ -37,11 +37,9 @@ use crate::command::command;
 use crate::number::{BURDEN, LIMIT, NumberOption, read_number};
 use clap::error::ErrorKind;
 use clap::{ArgMatches, Error};
+use cw_model::limits::MOST_NUMBER;
 use cw_text::Fault;
 use std::alloc::Global;
-
-/// The greatest argument of `main`.
-const MOST_ARGUMENT: u64 = i64::MAX as u64;
 
 /// Reads the program's words, without the program's own name.
 ///
@@ -128,7 +126,7 @@ fn number_of(given: &ArgMatches<'_>, option: NumberOption) -> Option<u64>
 }
 
 fn args_of(alloc: Global, texts: &[&str]) -> Result<Vec<i64>, Fault>
-    ensures ok { IfOk result (λ v. v.items ≡ map (λ text. pos (value_of text.now)) texts.now) }
+    ensures ok { IfOk result (λ v. v.items ≡ map (λ text. pos (decimal_value text.now)) texts.now) }
     ensures digits { OnOk result (All (λ text. IsArgument text.now) texts.now) }
     ensures why { IfErr result (IsFaultUnless (All (λ text. IsArgument text.now) texts.now)) }
 {
@@ -140,11 +138,11 @@ fn args_of(alloc: Global, texts: &[&str]) -> Result<Vec<i64>, Fault>
 }
 
 fn push_arg(args: &mut Vec<i64>, text: &str) -> Result<(), Fault>
-    ensures ok { OnOk result (args.new.items ≡ args.old.items ++ pos (value_of text.now) ∷ []) }
+    ensures ok { OnOk result (args.new.items ≡ args.old.items ++ pos (decimal_value text.now) ∷ []) }
     ensures digits { OnOk result (IsArgument text.now) }
     ensures why { IfErr result (IsFaultUnless (IsArgument text.now)) }
 {
-    match read_number(text, 0, MOST_ARGUMENT) {
+    match read_number(text, 0, MOST_NUMBER) {
         Some(value) => {
             args.push(value as i64)?;
             Ok(())

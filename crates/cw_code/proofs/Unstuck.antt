@@ -3,7 +3,7 @@ use Rattle.std.proofs.Common.{◌≡◌, ◌≢◌, ℕ, zero, suc, ◌+◌, ◌
 use Rattle.std.specs.Prelude.{take, drop, map, replicate, slice_get, slice_set, is_none, option_map, nat_eq, nat_le}
 use Rattle.std.proofs.lemmas.List.{length-drop, length-reverse, length-take, length-map, length-replicate}
 use Rattle.cw_model.specs.declared.trap.Trap.TheVariants as trap
-use Rattle.cw_model.specs.Limits.{most_depth}
+use Rattle.cw_model.specs.declared.limits.TheConstants.{MOST_DEPTH}
 use Rattle.cw_model.specs.Syntax.{Name}
 use Rattle.cw_model.specs.Ints.{Result, Value, Fails, is_zero, natural}
 use Rattle.cw_model.specs.Expressions.{apply, element, in_bounds, written}
@@ -21,9 +21,9 @@ use Rattle.cw_code.specs.declared.code.Inner.{Inner}
 use Rattle.cw_code.specs.declared.code.Instr.{Instr}
 use Rattle.cw_code.specs.declared.code.Instr.TheVariants as instr
 use Rattle.cw_code.specs.Code.{Code}
-use Rattle.cw_code.specs.Run.{Slots, Results, Whole, Waiting, Around, Caller, Block, State, Went, On, Ends, Stops, Stuck, Ran, ticked, synced, inside, on_top, on_two, on_slot, is_full, operated, set_array, apply_unary, adds, settled, put_in, slots_of, arrays_of, may_take, slot_taken, moved_out, Entering, arguments_of, has_room, may_keep, may_begin, waiting_at, begun, begins, call_of, on_arrays, enter, recur, parts_of, looped, on_range, start, given, going_on, returns_to, back, opened_at, opened, opened_region, cut_arrays, may_cut, cuts, resumes, closed, uncut, cut_ends, passed_by, jumped, act, step, go_on, steps, first_state, first_went, reducers_of, code_serial}
-use Rattle.cw_code.specs.Fits.{params_of, array_params_of, gives_value, NeverStuck, is_site, names_target, names_callee, is_none_of, names_arrays, names_passed, names_well, Outer, Shape, empty_rows, gone_rows, full_in_all, is_full_in, has_slot, has_array, has_arrays, has_target, has_arguments, none_open, can_close, has_parts, can_uncut, is_no_part, are_no_parts, is_ready, with_target, with_gone, with_passed, none_empty, first_shape, closed_shape, with_uncut, uncut_shape, opened_shape, outer_of, cut_outer, popped, leaves, nexts, Table, Leads, AllLead, Fits}
-use Rattle.cw_code.specs.Good.{IsNotAmong, slots_in, slot_cut, ints_round, arrays_round, all_of, Holds, CutsAgree, Seat, Good, IsGiven, Resumed, Resumes, AllResume, GoodState, GoodWent, Facts, FitBegins, FitFacts, FitSteps, NeverStuckFrom}
+use Rattle.cw_code.specs.Run.{Slots, Results, Whole, Waiting, Around, Caller, Block, State, Transition, On, Ends, Stops, Stuck, RunOutcome, ticked, synced, inside, on_top, on_two, on_slot, is_full, operated, set_array, apply_unary, adds, settled, put_in, slots_of, arrays_of, may_take, slot_taken, moved_out, Entering, arguments_of, has_room, may_keep, may_begin, waiting_at, begun, begins, call_of, on_arrays, enter, recur, parts_of, looped, on_range, start, given, going_on, returns_to, back, opened_at, opened, opened_region, cut_arrays, may_cut, cuts, resumes, closed, resumes_uncut, cut_ends, passed_by, jumped, act, step, go_on, steps, first_state, first_transition, reducers_of, code_serial}
+use Rattle.cw_code.specs.Fits.{params_of, array_params_of, gives_value, NeverStuck, is_site, names_target, names_callee, is_none_of, names_arrays, names_passed, names_well, Outer, Shape, empty_rows, gone_rows, full_in_all, is_full_in, has_slot, has_array, has_arrays, has_target, has_arguments, none_open, can_close, has_parts, can_uncut, is_no_part, are_no_parts, is_ready, with_target, with_gone, with_passed, none_empty, first_shape, closed_shape, with_uncut, uncut_shape, opened_shape, outer_of, cut_outer, popped, leaves, nexts, Table, FlowsInto, FlowsIntoEach, Fits}
+use Rattle.cw_code.specs.Good.{IsNotAmong, slots_in, slot_cut, ints_round, arrays_round, all_of, Holds, CutsAgree, Seat, Good, IsGiven, Resumed, Resumes, AllResume, GoodState, GoodTransition, Facts, FitBegins, FitFacts, FitSteps, NeverStuckFrom}
 use Rattle.cw_code.specs.lemmas.Slots.{set_other}
 use Rattle.cw_code.proofs.Tests.{taken, both_true, first_true, second_true, at_most, equal, le_of, lt_of, eq_of}
 use Rattle.cw_code.proofs.Slots.{set_full, full_there, row_there, slots_in_both, none_waits}
@@ -32,26 +32,26 @@ use Rattle.cw_code.proofs.Taken.{lie_within, missing, there, gives_back, there_a
 
 module _ (code : Code) (fits : Fits code) where
   goes_back : (callee : Func) (around : List Around) (v : Option ℤ) (arrays : Slots (List ℤ)) (t : Trace) → IsGiven callee.gives_int v → CutsAgree [] around → callee.arrays ≡ length arrays → ((a : ℕ) → a < length arrays → is_full (slice_get arrays a) ≡ true)
-      → AllResume code fits callee around → GoodWent code fits (back around v arrays t)
+      → AllResume code fits callee around → GoodTransition code fits (back around v arrays t)
   goes_back callee [] v arrays t i c n all h = tt
   goes_back callee (Caller w ∷ around) v arrays t i c n all h =
       let b = gives_back w.taken arrays (let le = h.0.enough in omega (arith, n, le)) all in
       let r = h.0.on v i b.0 b.2 _ in
-      subst (λ o. GoodWent code fits (returns_to w around v o t)) (sym b.1)
-      (subst (GoodWent code fits) (sym r.went) (record { seat = h.0.seat; call = r.good; others = h.1 }))
+      subst (λ o. GoodTransition code fits (returns_to w around v o t)) (sym b.1)
+      (subst (GoodTransition code fits) (sym r.went) (record { seat = h.0.seat; call = r.good; others = h.1 }))
   goes_back callee (Block o ∷ around) v arrays t i c n all h = absurd c
 
   abbrev table_at : (place : ℕ) → Seat code fits place → Table
   table_at place seat = (fits.each seat.index seat.func seat.is_func).table
 
   -- the seat of a place that takes what comes
-  abbrev next_seat : (place : ℕ) (seat : Seat code fits place) (next : ℕ) (out : Shape) → Leads (table_at place seat) next out → Seat code fits next
+  abbrev next_seat : (place : ℕ) (seat : Seat code fits place) (next : ℕ) (out : Shape) → FlowsInto (table_at place seat) next out → Seat code fits next
   next_seat place seat next out l = record { index = seat.index; func = seat.func; is_func = seat.is_func; shape = l.there; at = l.found }
 
-  takes : (place : ℕ) (seat : Seat code fits place) (out : Shape) (s : State) (next : ℕ) (l : Leads (table_at place seat) next out) → Good seat.func out s → Good seat.func l.there s
+  takes : (place : ℕ) (seat : Seat code fits place) (out : Shape) (s : State) (next : ℕ) (l : FlowsInto (table_at place seat) next out) → Good seat.func out s → Good seat.func l.there s
   takes place seat out s next l g = covered seat.func l.there out s l.as_many (l.covers, l.covers_gone, refl, l.covers_outer) g
 
-  arrives : (place : ℕ) (seat : Seat code fits place) (out : Shape) (s : State) (l : Leads (table_at place seat) s.place out) → Good seat.func out s → AllResume code fits seat.func s.around → GoodState code fits s
+  arrives : (place : ℕ) (seat : Seat code fits place) (out : Shape) (s : State) (l : FlowsInto (table_at place seat) s.place out) → Good seat.func out s → AllResume code fits seat.func s.around → GoodState code fits s
   arrives place seat out s l g others = record { seat = next_seat place seat s.place out l; call = takes place seat out s s.place l g; others = others }
 
   -- a function begins
@@ -115,7 +115,7 @@ module _ (code : Code) (fits : Fits code) where
       pub target : has_target shape e.target ≡ true
       pub gives : (a : ℕ) → e.target ≡ Some a → e.func.gives_int ≡ true
       pub keeps : has_arguments e.kind e.func.params shape.operands ≡ true
-      pub leads : Leads table (s.place + 1) (record shape {
+      pub leads : FlowsInto table (s.place + 1) (record shape {
         operands = shape.operands - e.func.params;
         empty = with_target e.kind e.target shape.empty;
         gone = with_passed e.kind (map slot_taken e.taken) shape.gone;
@@ -154,7 +154,7 @@ module _ (code : Code) (fits : Fits code) where
       spawned_count : has_arguments Spawned e.func.params shape.operands ≡ true → shape.operands - e.func.params ≡ 0
       spawned_count k = let n = eq_of e.func.params shape.operands k in omega (arith, n)
 
-      waits : (kind : CallKind) (target : Option ℕ) → has_arguments kind e.func.params shape.operands ≡ true → has_target shape target ≡ true → ((a : ℕ) → target ≡ Some a → e.func.gives_int ≡ true) → (l : Leads table (s.place + 1) (left_by kind target))
+      waits : (kind : CallKind) (target : Option ℕ) → has_arguments kind e.func.params shape.operands ≡ true → has_target shape target ≡ true → ((a : ℕ) → target ≡ Some a → e.func.gives_int ≡ true) → (l : FlowsInto table (s.place + 1) (left_by kind target))
           → (v : Option ℤ) → IsGiven e.func.gives_int v → (results : Results (List ℤ)) → slots_in results ≡ map slot_taken e.taken → (t : Trace) → Resumed seat.func l.there (called_by kind target) v results s.around t
       waits Plain None k there gives l v i results same t = record {
         slots = s.slots;
@@ -219,7 +219,7 @@ module _ (code : Code) (fits : Fits code) where
           none (v ∷ ops) n = absurd (omega (arith, n))
 
       -- a call that finds what it must begins
-      begins_well : GoodWent code fits (begins s e)
+      begins_well : GoodTransition code fits (begins s e)
       begins_well =
           let f = fits.each h.index e.func h.is in
           let enough = h.enough in
@@ -235,7 +235,7 @@ module _ (code : Code) (fits : Fits code) where
             enough = omega (arith, many, room');
             on = waits e.kind e.target h.keeps h.target h.gives h.leads;
           } in
-          subst (GoodWent code fits) (sym (taken (may_begin s e) (On (begun s e)) Stuck may))
+          subst (GoodTransition code fits) (sym (taken (may_begin s e) (On (begun s e)) Stuck may))
           (starts_well h.index e.func h.is e.arguments e.given e.depth (Caller (waiting_at s e) ∷ s.around) (inside (ticked s.trace)) h.arguments h.given refl refl tt (resumes, good.others))
 
     -- the function that a call names, and the slots of the arrays that it takes
@@ -266,7 +266,7 @@ module _ (code : Code) (fits : Fits code) where
     -- a call with the arrays in these slots, whole
     whole_enters : (kind : CallKind) (site target : Option ℕ) (depth : ℕ) (function : ℕ) (passed : List ℕ) (n : Named function passed) (given : List (List ℤ)) → length given ≡ length passed → AllThere passed s.arrays
         → has_arguments kind n.func.params shape.operands ≡ true → has_target shape target ≡ true → ((a : ℕ) → target ≡ Some a → n.func.gives_int ≡ true)
-        → Leads table (s.place + 1) (record shape { operands = shape.operands - n.func.params; empty = with_target kind target shape.empty; gone = with_passed kind passed shape.gone })
+        → FlowsInto table (s.place + 1) (record shape { operands = shape.operands - n.func.params; empty = with_target kind target shape.empty; gone = with_passed kind passed shape.gone })
         → Enters (record { kind = kind; site = site; target = target; depth = depth; func = n.func; arguments = arguments_of n.func s.operands; given = given; taken = map (λ a. Whole a) passed })
     whole_enters kind site target depth function passed n given e there keeps has gives l = record {
       index = function;
@@ -279,7 +279,7 @@ module _ (code : Code) (fits : Fits code) where
       target = has;
       gives = gives;
       keeps = keeps;
-      leads = subst (λ p. Leads table (s.place + 1) (record shape { operands = shape.operands - n.func.params; empty = with_target kind target shape.empty; gone = with_passed kind p shape.gone })) (sym (whole_slots passed)) l;
+      leads = subst (λ p. FlowsInto table (s.place + 1) (record shape { operands = shape.operands - n.func.params; empty = with_target kind target shape.empty; gone = with_passed kind p shape.gone })) (sym (whole_slots passed)) l;
     }
 
     -- the same, by the name of its function
@@ -288,8 +288,8 @@ module _ (code : Code) (fits : Fits code) where
 
     enters_well : (kind : CallKind) (c : Callee) → names_callee code seat.func kind c ≡ true
         → (has_arguments kind (params_of (slice_get code.funcs c.function)) shape.operands && (has_target shape c.target && has_arrays shape (passed_by code c.passed))) ≡ true
-        → Leads table (s.place + 1) (record shape { operands = shape.operands - params_of (slice_get code.funcs c.function); empty = with_target kind c.target shape.empty; gone = with_passed kind (passed_by code c.passed) shape.gone })
-        → GoodWent code fits (enter s kind c (passed_by code c.passed) (slice_get code.funcs c.function))
+        → FlowsInto table (s.place + 1) (record shape { operands = shape.operands - params_of (slice_get code.funcs c.function); empty = with_target kind c.target shape.empty; gone = with_passed kind (passed_by code c.passed) shape.gone })
+        → GoodTransition code fits (enter s kind c (passed_by code c.passed) (slice_get code.funcs c.function))
     enters_well kind c n r l =
         let passed = passed_by code c.passed in
         let params = params_of (slice_get code.funcs c.function) in
@@ -299,22 +299,22 @@ module _ (code : Code) (fits : Fits code) where
         let rest = second_true (has_arguments kind params shape.operands) (has_target shape c.target && has_arrays shape passed) r in
         let there = all_there seat.func.arrays passed f.slots (second_true (has_target shape c.target) (has_arrays shape passed) rest) in
         let given = there_arrays passed s.arrays there in
-        let lead = subst (λ k. Leads table (s.place + 1) (record shape { operands = shape.operands - k; empty = with_target kind c.target shape.empty; gone = with_passed kind passed shape.gone })) (params_are c.function passed f) l in
+        let lead = subst (λ k. FlowsInto table (s.place + 1) (record shape { operands = shape.operands - k; empty = with_target kind c.target shape.empty; gone = with_passed kind passed shape.gone })) (params_are c.function passed f) l in
         let enters = whole_enters kind (Some c.site) c.target (s.depth + 1) c.function passed f given.0 given.2 there keeps (first_true (has_target shape c.target) (has_arrays shape passed) rest) (λ a e. gives f.func f.is a (subst (λ o. names_target code seat.func c o ≡ true) e target)) lead in
-        subst (λ o. GoodWent code fits (enter s kind c passed o)) (sym f.is)
-        (subst (λ o. GoodWent code fits (if nat_lt most_depth (s.depth + 1) then Stops trap.TooDeep c.line s.trace.lines else on_arrays o (λ xs. begins s (call_of s kind c passed f.func xs)))) (sym given.1)
-        (either (nat_lt most_depth (s.depth + 1)) _ (begins_well _ enters)))
+        subst (λ o. GoodTransition code fits (enter s kind c passed o)) (sym f.is)
+        (subst (λ o. GoodTransition code fits (if nat_lt MOST_DEPTH (s.depth + 1) then Stops trap.TooDeep c.line s.trace.lines else on_arrays o (λ xs. begins s (call_of s kind c passed f.func xs)))) (sym given.1)
+        (either (nat_lt MOST_DEPTH (s.depth + 1)) _ (begins_well _ enters)))
       where
         gives : (f : Func) → slice_get code.funcs c.function ≡ Some f → (a : ℕ) → names_target code seat.func c (Some a) ≡ true → f.gives_int ≡ true
         gives f is a h = sym (ap gives_value is) ∙ second_true (nat_lt a seat.func.slots) (gives_value (slice_get code.funcs c.function)) h
 
-        either : (b : Bool) (w : Went) → GoodWent code fits w → GoodWent code fits (if b then Stops trap.TooDeep c.line s.trace.lines else w)
+        either : (b : Bool) (w : Transition) → GoodTransition code fits w → GoodTransition code fits (if b then Stops trap.TooDeep c.line s.trace.lines else w)
         either true w h = tt
         either false w h = h
 
     recurs_well : (kind : CallKind) (c : Inner) → names_passed code seat.func c.function (passed_by code c.passed) ≡ true → (has_arguments kind (params_of (slice_get code.funcs c.function)) shape.operands && has_arrays shape (passed_by code c.passed)) ≡ true
-        → Leads table (s.place + 1) (record shape { operands = shape.operands - params_of (slice_get code.funcs c.function); empty = with_target kind None shape.empty; gone = with_passed kind (passed_by code c.passed) shape.gone })
-        → GoodWent code fits (recur s kind (passed_by code c.passed) (slice_get code.funcs c.function))
+        → FlowsInto table (s.place + 1) (record shape { operands = shape.operands - params_of (slice_get code.funcs c.function); empty = with_target kind None shape.empty; gone = with_passed kind (passed_by code c.passed) shape.gone })
+        → GoodTransition code fits (recur s kind (passed_by code c.passed) (slice_get code.funcs c.function))
     recurs_well kind c n r l =
         let passed = passed_by code c.passed in
         let params = params_of (slice_get code.funcs c.function) in
@@ -322,10 +322,10 @@ module _ (code : Code) (fits : Fits code) where
         let keeps = subst (λ k. has_arguments kind k shape.operands ≡ true) (params_are c.function passed f) (first_true (has_arguments kind params shape.operands) (has_arrays shape passed) r) in
         let there = all_there seat.func.arrays passed f.slots (second_true (has_arguments kind params shape.operands) (has_arrays shape passed) r) in
         let given = there_arrays passed s.arrays there in
-        let lead = subst (λ k. Leads table (s.place + 1) (record shape { operands = shape.operands - k; empty = with_target kind None shape.empty; gone = with_passed kind passed shape.gone })) (params_are c.function passed f) l in
+        let lead = subst (λ k. FlowsInto table (s.place + 1) (record shape { operands = shape.operands - k; empty = with_target kind None shape.empty; gone = with_passed kind passed shape.gone })) (params_are c.function passed f) l in
         let enters = whole_enters kind None None s.depth c.function passed f given.0 given.2 there keeps refl (λ a e. absurd (none a e)) lead in
-        subst (λ o. GoodWent code fits (recur s kind passed o)) (sym f.is)
-        (subst (λ o. GoodWent code fits (on_arrays o (λ xs. begins s (record { kind = kind; site = None; target = None; depth = s.depth; func = f.func; arguments = arguments_of f.func s.operands; given = xs; taken = map (λ a. Whole a) passed })))) (sym given.1)
+        subst (λ o. GoodTransition code fits (recur s kind passed o)) (sym f.is)
+        (subst (λ o. GoodTransition code fits (on_arrays o (λ xs. begins s (record { kind = kind; site = None; target = None; depth = s.depth; func = f.func; arguments = arguments_of f.func s.operands; given = xs; taken = map (λ a. Whole a) passed })))) (sym given.1)
         (begins_well _ enters))
       where
         none : (a : ℕ) → None ≡ Some a → ⊥
@@ -333,8 +333,8 @@ module _ (code : Code) (fits : Fits code) where
 
     starts_loop : (c : Inner) (line : ℕ) → (names_passed code seat.func c.function (passed_by code c.passed) && nat_le 2 (params_of (slice_get code.funcs c.function))) ≡ true
         → (nat_le (params_of (slice_get code.funcs c.function)) shape.operands && has_arrays shape (passed_by code c.passed)) ≡ true
-        → Leads table (s.place + 1) (record shape { operands = shape.operands - params_of (slice_get code.funcs c.function) })
-        → GoodWent code fits (start s line (passed_by code c.passed) (slice_get code.funcs c.function))
+        → FlowsInto table (s.place + 1) (record shape { operands = shape.operands - params_of (slice_get code.funcs c.function) })
+        → GoodTransition code fits (start s line (passed_by code c.passed) (slice_get code.funcs c.function))
     starts_loop c line n r l =
         let passed = passed_by code c.passed in
         let params = params_of (slice_get code.funcs c.function) in
@@ -344,16 +344,16 @@ module _ (code : Code) (fits : Fits code) where
         let keeps = subst (λ k. nat_le k shape.operands ≡ true) same (first_true (nat_le params shape.operands) (has_arrays shape passed) r) in
         let there = all_there seat.func.arrays passed f.slots (second_true (nat_le params shape.operands) (has_arrays shape passed) r) in
         let given = there_arrays passed s.arrays there in
-        let lead = subst (λ k. Leads table (s.place + 1) (record shape { operands = shape.operands - k })) same l in
-        subst (λ o. GoodWent code fits (start s line passed o)) (sym f.is)
-        (subst (λ o. GoodWent code fits (on_arrays o (λ xs. on_range (arguments_of f.func s.operands) (λ low high captured. looped s line passed f.func xs low captured (loop_turns low high xs))))) (sym given.1)
+        let lead = subst (λ k. FlowsInto table (s.place + 1) (record shape { operands = shape.operands - k })) same l in
+        subst (λ o. GoodTransition code fits (start s line passed o)) (sym f.is)
+        (subst (λ o. GoodTransition code fits (on_arrays o (λ xs. on_range (arguments_of f.func s.operands) (λ low high captured. looped s line passed f.func xs low captured (loop_turns low high xs))))) (sym given.1)
         (ranges f.func f.is f.many keeps given.0 given.2 there lead (arguments_of f.func s.operands) (arguments_count f.func (enough_so Plain f.func.params keeps)) (omega (arith, two, same))))
       where
         none : (a : ℕ) → None ≡ Some a → ⊥
         none a e = cc
 
         loops : (f : Func) → slice_get code.funcs c.function ≡ Some f → length (passed_by code c.passed) ≡ f.array_params → nat_le f.params shape.operands ≡ true → (given : List (List ℤ)) → length given ≡ length (passed_by code c.passed) → AllThere (passed_by code c.passed) s.arrays
-            → Leads table (s.place + 1) (record shape { operands = shape.operands - f.params }) → (low : ℤ) (captured : List ℤ) → length captured + 2 ≡ f.params → (turns : Result) → GoodWent code fits (looped s line (passed_by code c.passed) f given low captured turns)
+            → FlowsInto table (s.place + 1) (record shape { operands = shape.operands - f.params }) → (low : ℤ) (captured : List ℤ) → length captured + 2 ≡ f.params → (turns : Result) → GoodTransition code fits (looped s line (passed_by code c.passed) f given low captured turns)
         loops f is many keeps given e there lead low captured count (Fails trap) = tt
         loops f is many keeps given e there lead low captured count (Value m) =
             let same = part_slots (natural low) (passed_by code c.passed) given e in
@@ -383,19 +383,19 @@ module _ (code : Code) (fits : Fits code) where
             })
 
         ranges : (f : Func) → slice_get code.funcs c.function ≡ Some f → length (passed_by code c.passed) ≡ f.array_params → nat_le f.params shape.operands ≡ true → (given : List (List ℤ)) → length given ≡ length (passed_by code c.passed) → AllThere (passed_by code c.passed) s.arrays
-            → Leads table (s.place + 1) (record shape { operands = shape.operands - f.params }) → (arguments : List ℤ) → length arguments ≡ f.params → 2 ≤ f.params
-            → GoodWent code fits (on_range arguments (λ low high captured. looped s line (passed_by code c.passed) f given low captured (loop_turns low high given)))
+            → FlowsInto table (s.place + 1) (record shape { operands = shape.operands - f.params }) → (arguments : List ℤ) → length arguments ≡ f.params → 2 ≤ f.params
+            → GoodTransition code fits (on_range arguments (λ low high captured. looped s line (passed_by code c.passed) f given low captured (loop_turns low high given)))
         ranges f is many keeps given e there lead [] n two = absurd (omega (arith, n, two))
         ranges f is many keeps given e there lead (low ∷ []) n two = absurd (omega (arith, n, two))
         ranges f is many keeps given e there lead (low ∷ high ∷ captured) n two = loops f is many keeps given e there lead low captured (omega (arith, n)) (loop_turns low high given)
 
     -- the same call goes on, with so many operands
-    more : (n : ℕ) (to : State) → to ≡ record s { place = to.place; operands = to.operands; trace = to.trace } → n ≡ length to.operands → Leads table to.place (record shape { operands = n }) → GoodState code fits to
+    more : (n : ℕ) (to : State) → to ≡ record s { place = to.place; operands = to.operands; trace = to.trace } → n ≡ length to.operands → FlowsInto table to.place (record shape { operands = n }) → GoodState code fits to
     more n to same e l = subst (GoodState code fits) (sym same)
         (arrives s.place seat (record shape { operands = n }) (record s { place = to.place; operands = to.operands; trace = to.trace }) l (record { as_many = e; ints = g.ints; arrays = g.arrays; cuts = g.cuts }) good.others)
 
     -- a full array slot is written
-    more_array : (n a : ℕ) (xs : List ℤ) (rest : List ℤ) → is_full (slice_get s.arrays a) ≡ true → n ≡ length rest → Leads table (s.place + 1) (record shape { operands = n })
+    more_array : (n a : ℕ) (xs : List ℤ) (rest : List ℤ) → is_full (slice_get s.arrays a) ≡ true → n ≡ length rest → FlowsInto table (s.place + 1) (record shape { operands = n })
         → GoodState code fits (record s { place = s.place + 1; operands = rest; arrays = slice_set s.arrays a (Some xs); trace = ticked s.trace })
     more_array n a xs rest there e l =
         arrives s.place seat (record shape { operands = n }) (record s { place = s.place + 1; operands = rest; arrays = slice_set s.arrays a (Some xs); trace = ticked s.trace }) l
@@ -406,42 +406,42 @@ module _ (code : Code) (fits : Fits code) where
           cuts = g.cuts;
         }) good.others
 
-    slot_well : {A : Type 0} (o : Option (Option A)) (go : A → Went) → is_full o ≡ true → ((x : A) → GoodWent code fits (go x)) → GoodWent code fits (on_slot o go)
+    slot_well : {A : Type 0} (o : Option (Option A)) (go : A → Transition) → is_full o ≡ true → ((x : A) → GoodTransition code fits (go x)) → GoodTransition code fits (on_slot o go)
     slot_well None go h k = cc
     slot_well (Some None) go h k = cc
     slot_well (Some (Some x)) go h k = k x
 
-    operates_well : (line : ℕ) (rest : List ℤ) (r : Result) (n : ℕ) → Leads table (s.place + 1) (record shape { operands = n }) → n ≡ length rest + 1 → GoodWent code fits (operated s line rest r)
+    operates_well : (line : ℕ) (rest : List ℤ) (r : Result) (n : ℕ) → FlowsInto table (s.place + 1) (record shape { operands = n }) → n ≡ length rest + 1 → GoodTransition code fits (operated s line rest r)
     operates_well line rest (Value v) n l e = more n _ refl (omega (arith, e)) l
     operates_well line rest (Fails trap) n l e = tt
 
-    sets_well : (a line : ℕ) (rest : List ℤ) (make : ℤ → List ℤ) (r : Result) (n : ℕ) → is_full (slice_get s.arrays a) ≡ true → Leads table (s.place + 1) (record shape { operands = n }) → n ≡ length rest → GoodWent code fits (set_array s a line rest make r)
+    sets_well : (a line : ℕ) (rest : List ℤ) (make : ℤ → List ℤ) (r : Result) (n : ℕ) → is_full (slice_get s.arrays a) ≡ true → FlowsInto table (s.place + 1) (record shape { operands = n }) → n ≡ length rest → GoodTransition code fits (set_array s a line rest make r)
     sets_well a line rest make (Value v) n there l e = more_array n a (make v) rest there e l
     sets_well a line rest make (Fails trap) n there l e = tt
 
-    top_well : (go : ℤ → List ℤ → Went) → nat_le 1 shape.operands ≡ true → ((v : ℤ) (rest : List ℤ) → shape.operands ≡ length rest + 1 → GoodWent code fits (go v rest)) → GoodWent code fits (on_top s go)
+    top_well : (go : ℤ → List ℤ → Transition) → nat_le 1 shape.operands ≡ true → ((v : ℤ) (rest : List ℤ) → shape.operands ≡ length rest + 1 → GoodTransition code fits (go v rest)) → GoodTransition code fits (on_top s go)
     top_well go enough k = cases s.operands g.as_many
       where
-        cases : (ops : List ℤ) → shape.operands ≡ length ops → GoodWent code fits (on_top (record s { operands = ops }) go)
+        cases : (ops : List ℤ) → shape.operands ≡ length ops → GoodTransition code fits (on_top (record s { operands = ops }) go)
         cases [] e = absurd (omega (arith, e, le_of 1 shape.operands enough))
         cases (v ∷ rest) e = k v rest (omega (arith, e))
 
-    two_well : (go : ℤ → ℤ → List ℤ → Went) → nat_le 2 shape.operands ≡ true → ((v w : ℤ) (rest : List ℤ) → shape.operands ≡ length rest + 2 → GoodWent code fits (go v w rest)) → GoodWent code fits (on_two s go)
+    two_well : (go : ℤ → ℤ → List ℤ → Transition) → nat_le 2 shape.operands ≡ true → ((v w : ℤ) (rest : List ℤ) → shape.operands ≡ length rest + 2 → GoodTransition code fits (go v w rest)) → GoodTransition code fits (on_two s go)
     two_well go enough k = cases s.operands g.as_many
       where
-        cases : (ops : List ℤ) → shape.operands ≡ length ops → GoodWent code fits (on_two (record s { operands = ops }) go)
+        cases : (ops : List ℤ) → shape.operands ≡ length ops → GoodTransition code fits (on_two (record s { operands = ops }) go)
         cases [] e = absurd (omega (arith, e, le_of 2 shape.operands enough))
         cases (w ∷ []) e = absurd (omega (arith, e, le_of 2 shape.operands enough))
         cases (w ∷ v ∷ rest) e = k v w rest (omega (arith, e))
 
-    adds_well : (o : Option Name) (v : ℤ) (rest : List ℤ) → (name : Name) × (o ≡ Some name) → shape.operands ≡ length rest + 1 → Leads table (s.place + 1) (popped shape) → GoodWent code fits (adds s o v rest)
+    adds_well : (o : Option Name) (v : ℤ) (rest : List ℤ) → (name : Name) × (o ≡ Some name) → shape.operands ≡ length rest + 1 → FlowsInto table (s.place + 1) (popped shape) → GoodTransition code fits (adds s o v rest)
     adds_well None v rest h e l = absurd (none h.0 h.1)
       where
         none : (name : Name) → None ≡ Some name → ⊥
         none name k = cc
     adds_well (Some name) v rest h e l = more (shape.operands - 1) _ refl (omega (arith, e)) l
 
-    opens_well : (tag : Option Name) → Leads table (s.place + 1) (opened_shape shape (outer_of shape)) → GoodWent code fits (opened s tag None)
+    opens_well : (tag : Option Name) → FlowsInto table (s.place + 1) (opened_shape shape (outer_of shape)) → GoodTransition code fits (opened s tag None)
     opens_well tag l =
         arrives s.place seat (opened_shape shape (outer_of shape)) (record s { place = s.place + 1; results = []; arrived = []; around = Block (opened_at s tag None) ∷ s.around; trace = inside (ticked s.trace) }) l
         (record {
@@ -451,7 +451,7 @@ module _ (code : Code) (fits : Fits code) where
           cuts = (refl, g.cuts);
         }) good.others
 
-    region_well : (o : Option Name) → (name : Name) × (o ≡ Some name) → Leads table (s.place + 1) (opened_shape shape (outer_of shape)) → GoodWent code fits (opened_region s o)
+    region_well : (o : Option Name) → (name : Name) × (o ≡ Some name) → FlowsInto table (s.place + 1) (opened_shape shape (outer_of shape)) → GoodTransition code fits (opened_region s o)
     region_well None h l = absurd (none h.0 h.1)
       where
         none : (name : Name) → None ≡ Some name → ⊥
@@ -466,17 +466,17 @@ module _ (code : Code) (fits : Fits code) where
     joined_here = joined seat.func shape s g
 
     closes_well : (outer : List Outer) (around : List Around) → can_close outer ≡ true → Good seat.func (record after_join { outer = outer }) (record (put_in s) { around = around })
-        → AllResume code fits seat.func around → Leads table (s.place + 1) (closed_shape shape outer) → GoodWent code fits (closed (put_in s) around)
+        → AllResume code fits seat.func around → FlowsInto table (s.place + 1) (closed_shape shape outer) → GoodTransition code fits (closed (put_in s) around)
     closes_well [] around h k others l = cc
     closes_well (o ∷ outer) [] h k others l = absurd k.cuts
     closes_well (o ∷ outer) (Caller w ∷ around) h k others l = absurd k.cuts
     closes_well (o ∷ outer) (Block b ∷ around) h k others l =
-        let uncut : b.cut ≡ None = no_cut b.cut (subst (λ c. is_none c ≡ true) k.cuts.0 h) in
-        subst (λ c. GoodWent code fits (if is_none c then resumes (put_in s) b around else Stuck)) (sym uncut)
+        let resumes_uncut : b.cut ≡ None = no_cut b.cut (subst (λ c. is_none c ≡ true) k.cuts.0 h) in
+        subst (λ c. GoodTransition code fits (if is_none c then resumes (put_in s) b around else Stuck)) (sym resumes_uncut)
         (arrives s.place seat (closed_shape shape (o ∷ outer)) _ l (record {
           as_many = k.as_many;
           ints = with_outer seat.func.slots (none_empty (length shape.empty)) o.empty (empty_rows outer) (settled s.results s.slots) (slots_in b.results) (ints_round around) k.ints;
-          arrays = subst (λ c. Holds seat.func.arrays o.gone (gone_rows outer) (settled s.arrived s.arrays) (slot_cut c ++ slots_in b.arrived) (arrays_round around)) uncut
+          arrays = subst (λ c. Holds seat.func.arrays o.gone (gone_rows outer) (settled s.arrived s.arrays) (slot_cut c ++ slots_in b.arrived) (arrays_round around)) resumes_uncut
               (with_outer seat.func.arrays (none_empty (length shape.gone)) o.gone (gone_rows outer) (settled s.arrived s.arrays) (slot_cut b.cut ++ slots_in b.arrived) (arrays_round around) k.arrays);
           cuts = k.cuts.1;
         }) others)
@@ -489,7 +489,7 @@ module _ (code : Code) (fits : Fits code) where
     abbrev cut_slots : Halves → List ℕ
     cut_slots h = h.array ∷ h.left ∷ h.right ∷ []
 
-    cuts_well : (h : Halves) (line : ℕ) (xs rest : List ℤ) (r : Result) → AllThere (cut_slots h) s.arrays → shape.operands ≡ length rest + 1 → Leads table (s.place + 1) (opened_shape (popped shape) (cut_outer shape h)) → GoodWent code fits (cuts s h line xs rest r)
+    cuts_well : (h : Halves) (line : ℕ) (xs rest : List ℤ) (r : Result) → AllThere (cut_slots h) s.arrays → shape.operands ≡ length rest + 1 → FlowsInto table (s.place + 1) (opened_shape (popped shape) (cut_outer shape h)) → GoodTransition code fits (cuts s h line xs rest r)
     cuts_well h line xs rest (Fails trap) there e l = tt
     cuts_well h line xs rest (Value v) there e l =
         let gone = slice_set s.arrays h.array None in
@@ -511,7 +511,7 @@ module _ (code : Code) (fits : Fits code) where
         let taken_out = with_taken seat.func.arrays shape.gone rows s.arrays (slots_in s.arrived) round h.array there.1 g.arrays in
         let both = with_slot seat.func.arrays row rows (slice_set gone h.left (Some left)) waits round h.right right right_there2 (with_slot seat.func.arrays row rows gone waits round h.left left left_there taken_out) in
         let s' : State = record s { operands = rest; arrays = cut_arrays h xs (natural v) s.arrays } in
-        subst (GoodWent code fits) (sym (taken (may_cut h s.arrays) (opened s' None (Some h)) Stuck may))
+        subst (GoodTransition code fits) (sym (taken (may_cut h s.arrays) (opened s' None (Some h)) Stuck may))
         (arrives s.place seat (opened_shape (popped shape) (cut_outer shape h)) (record s' { place = s.place + 1; results = []; arrived = []; around = Block (opened_at s' None (Some h)) ∷ s.around; trace = inside (ticked s.trace) }) l
         (record {
           as_many = omega (arith, e);
@@ -521,7 +521,7 @@ module _ (code : Code) (fits : Fits code) where
         }) good.others)
 
     uncuts_well : (outer : List Outer) (around : List Around) → can_uncut outer ≡ true → Good seat.func (record after_join { outer = outer }) (record (put_in s) { around = around })
-        → AllResume code fits seat.func around → Leads table (s.place + 1) (uncut_shape shape outer) → GoodWent code fits (cut_ends (put_in s) around)
+        → AllResume code fits seat.func around → FlowsInto table (s.place + 1) (uncut_shape shape outer) → GoodTransition code fits (cut_ends (put_in s) around)
     uncuts_well [] around h k others l = cc
     uncuts_well (o ∷ outer) [] h k others l = absurd k.cuts
     uncuts_well (o ∷ outer) (Caller w ∷ around) h k others l = absurd k.cuts
@@ -537,8 +537,8 @@ module _ (code : Code) (fits : Fits code) where
             k.arrays.awaited a (omega (arith, row_there o.gone a own, k.arrays.rows_hold.0.as_wide, k.arrays.as_wide))
             (none_waits seat.func.arrays (gone_rows (o ∷ outer)) (arrays_round (Block b ∷ around)) a k.arrays.rows_hold all)
 
-        ends : (c : Halves) → (full_in_all (gone_rows (o ∷ outer)) c.left && full_in_all (gone_rows (o ∷ outer)) c.right) ≡ true → b.cut ≡ Some c → Leads table (s.place + 1) (record shape { empty = o.empty; gone = slice_set o.gone c.array false; outer = outer })
-            → GoodWent code fits (uncut (put_in s) b around (Some c))
+        ends : (c : Halves) → (full_in_all (gone_rows (o ∷ outer)) c.left && full_in_all (gone_rows (o ∷ outer)) c.right) ≡ true → b.cut ≡ Some c → FlowsInto table (s.place + 1) (record shape { empty = o.empty; gone = slice_set o.gone c.array false; outer = outer })
+            → GoodTransition code fits (resumes_uncut (put_in s) b around (Some c))
         ends c there is lead =
             let all = gone_rows (o ∷ outer) in
             let left_there = back_there c.left (first_true (full_in_all all c.left) (full_in_all all c.right) there) in
@@ -562,15 +562,15 @@ module _ (code : Code) (fits : Fits code) where
             still_right : (a c' : ℕ) → is_full (slice_get (settled s.arrived s.arrays) c') ≡ true → is_full (slice_get (slice_set (settled s.arrived s.arrays) a (Some [])) c') ≡ true
             still_right a c' h' = set_full (settled s.arrived s.arrays) a c' [] (full_there (settled s.arrived s.arrays) c' h') (λ n. h')
 
-        by_cut : (c : Option Halves) → has_parts (gone_rows (o ∷ outer)) c ≡ true → c ≡ b.cut → Leads table (s.place + 1) (record shape { empty = o.empty; gone = with_uncut c o.gone; outer = outer }) → GoodWent code fits (uncut (put_in s) b around b.cut)
+        by_cut : (c : Option Halves) → has_parts (gone_rows (o ∷ outer)) c ≡ true → c ≡ b.cut → FlowsInto table (s.place + 1) (record shape { empty = o.empty; gone = with_uncut c o.gone; outer = outer }) → GoodTransition code fits (resumes_uncut (put_in s) b around b.cut)
         by_cut None p is lead = cc
-        by_cut (Some c) p is lead = subst (λ x. GoodWent code fits (uncut (put_in s) b around x)) is (ends c p (sym is) lead)
+        by_cut (Some c) p is lead = subst (λ x. GoodTransition code fits (resumes_uncut (put_in s) b around x)) is (ends c p (sym is) lead)
 
     none_round : (outer : List Outer) → none_open outer ≡ true → CutsAgree outer s.around → CutsAgree [] s.around
     none_round [] h k = k
     none_round (o ∷ outer) h k = cc
 
-    ends_well : (v : Option ℤ) → IsGiven seat.func.gives_int v → none_open shape.outer ≡ true → GoodWent code fits (back s.around v (settled s.arrived s.arrays) (synced s.trace))
+    ends_well : (v : Option ℤ) → IsGiven seat.func.gives_int v → none_open shape.outer ≡ true → GoodTransition code fits (back s.around v (settled s.arrived s.arrays) (synced s.trace))
     ends_well v i shut =
         let alone = none_round shape.outer shut g.cuts in
         goes_back seat.func s.around v (settled s.arrived s.arrays) (synced s.trace) i alone joined_here.arrays.as_wide (λ a lt. joined_here.arrays.awaited a lt (none s.around alone a)) good.others
@@ -580,12 +580,12 @@ module _ (code : Code) (fits : Fits code) where
         none (Caller w ∷ around) k a = tt
         none (Block b ∷ around) k a = absurd k
 
-    acts_well : (i : Instr) → names_well code seat.func s.place i ≡ true → is_ready code shape i ≡ true → AllLead table (leaves code shape i) (nexts s.place i) → GoodWent code fits (act code s (Some i))
+    acts_well : (i : Instr) → names_well code seat.func s.place i ≡ true → is_ready code shape i ≡ true → FlowsIntoEach table (leaves code shape i) (nexts s.place i) → GoodTransition code fits (act code s (Some i))
     acts_well (instr.Push v) n r l = more (shape.operands + 1) _ refl (omega (arith, g.as_many)) l.0
     acts_well (instr.Load a) n r l = slot_well (slice_get s.slots a) _ (full_slot a r) (λ v. more (shape.operands + 1) _ refl (omega (arith, g.as_many)) l.0)
     acts_well (instr.Store a) n r l = top_well _ (second_true (has_slot shape a) (nat_le 1 shape.operands) r) (λ v rest e.
         let there = full_slot a (first_true (has_slot shape a) (nat_le 1 shape.operands) r) in
-        subst (GoodWent code fits) (sym (taken (is_full (slice_get s.slots a)) (On (record s { place = s.place + 1; operands = rest; slots = slice_set s.slots a (Some v); trace = ticked s.trace })) Stuck there))
+        subst (GoodTransition code fits) (sym (taken (is_full (slice_get s.slots a)) (On (record s { place = s.place + 1; operands = rest; slots = slice_set s.slots a (Some v); trace = ticked s.trace })) Stuck there))
         (arrives s.place seat (popped shape) (record s { place = s.place + 1; operands = rest; slots = slice_set s.slots a (Some v); trace = ticked s.trace }) l.0
         (record {
           as_many = omega (arith, e);
@@ -598,7 +598,7 @@ module _ (code : Code) (fits : Fits code) where
     acts_well (instr.Skip k) n r l = more shape.operands _ refl g.as_many l.0
     acts_well (instr.SkipIfZero k) n r l = top_well _ r (λ v rest e. either (is_zero v) rest e)
       where
-        either : (b : Bool) (rest : List ℤ) → shape.operands ≡ length rest + 1 → GoodWent code fits (jumped (record s { operands = rest }) (if b then s.place + 1 + k else s.place + 1))
+        either : (b : Bool) (rest : List ℤ) → shape.operands ≡ length rest + 1 → GoodTransition code fits (jumped (record s { operands = rest }) (if b then s.place + 1 + k else s.place + 1))
         either true rest e = more (shape.operands - 1) _ refl (omega (arith, e)) l.1.0
         either false rest e = more (shape.operands - 1) _ refl (omega (arith, e)) l.0
     acts_well (instr.GoBack k) n r l = more shape.operands _ refl g.as_many l.0
@@ -650,14 +650,14 @@ module _ (code : Code) (fits : Fits code) where
             let w = h.is_table.within s.place shape seat.at in
             record { instr = i; is = e; named = h.names s.place i w.0 w.1 e; ready = h.is_table.ready s.place shape i seat.at e; leads = h.is_table.goes s.place shape i seat.at e; full = full_slot; full_array = full_array }
 
-    pub steps_well : GoodWent code fits (step code s)
-    steps_well = subst (λ o. GoodWent code fits (act code s o)) (sym facts.is) (acts_well facts.instr facts.named facts.ready facts.leads)
+    pub steps_well : GoodTransition code fits (step code s)
+    steps_well = subst (λ o. GoodTransition code fits (act code s o)) (sym facts.is) (acts_well facts.instr facts.named facts.ready facts.leads)
 
   runs_well : (n : ℕ) (s : State) → GoodState code fits s → is_none (steps code n s) ≡ false
   runs_well zero s good = refl
   runs_well (suc n) s good = cases (λ s' good'. runs_well n s' good') (step code s) (steps_well s good)
     where
-      cases : ((s' : State) → GoodState code fits s' → is_none (steps code n s') ≡ false) → (w : Went) → GoodWent code fits w → is_none (go_on w n (λ s'. steps code n s')) ≡ false
+      cases : ((s' : State) → GoodState code fits s' → is_none (steps code n s') ≡ false) → (w : Transition) → GoodTransition code fits w → is_none (go_on w n (λ s'. steps code n s')) ≡ false
       cases more (On s') h = more s' h
       cases more (Ends v arrays t) h = refl
       cases more (Stops trap line lines) h = refl
@@ -667,11 +667,11 @@ module _ (code : Code) (fits : Fits code) where
   pub first_good : FitBegins code fits
   first_good k f args given e m m' = starts_well k f e args given 1 [] _ m m' refl refl tt tt
 
-  answered : (r : Ran) → is_none r ≡ false → is_none (option_map (λ o. answer_of (reducers_of code) o) r) ≡ false
+  answered : (r : RunOutcome) → is_none r ≡ false → is_none (option_map (λ o. answer_of (reducers_of code) o) r) ≡ false
   answered None h = h
   answered (Some o) h = refl
 
-  found_main : (o : Option Func) → slice_get code.funcs code.main ≡ o → (args : List ℤ) → length args ≡ params_of o → (n : ℕ) → is_none (option_map (λ r. answer_of (reducers_of code) r) (go_on (first_went o args) n (λ s. steps code n s))) ≡ false
+  found_main : (o : Option Func) → slice_get code.funcs code.main ≡ o → (args : List ℤ) → length args ≡ params_of o → (n : ℕ) → is_none (option_map (λ r. answer_of (reducers_of code) r) (go_on (first_transition o args) n (λ s. steps code n s))) ≡ false
   found_main None e args m n = absurd (none (sym (ap gives_value e) ∙ fits.main))
     where
       none : false ≡ true → ⊥

@@ -1,8 +1,8 @@
 //! Texts with their tokens, each kind alone and beside others, and texts that have none, by the rules of the language.
 
 use cw_lex::lex;
+use cw_model::limits::MOST_SOURCE_BYTES;
 use cw_model::token::{Kind, Token};
-use cw_text::source::MOST_BYTES;
 use cw_text::{Fault, Place, Source};
 use std::alloc::{AllocError, Global};
 use std::test::Fail;
@@ -228,7 +228,7 @@ fn the_first_fault_decides(rt: HostRuntime) -> Result<(), Fail> {
 #[test]
 fn the_longest_text_is_cut(rt: HostRuntime) -> Result<(), Fail> {
     let alloc = rt.alloc();
-    let mut bytes = vec![in alloc; b';'; MOST_BYTES]?;
+    let mut bytes = vec![in alloc; b';'; MOST_SOURCE_BYTES]?;
     let tokens = tokens_of(alloc, bytes.as_slice())?;
     assert_eq!(rt; tokens.len(), 1_048_576);
     bytes.push(b'$')?;

@@ -1,8 +1,8 @@
 //! Sources: which bytes are read and which are refused at which line, and the number, status and text of each
 //! fault.
 
+use cw_model::limits::MOST_SOURCE_BYTES;
 use cw_model::trap::Trap;
-use cw_text::source::MOST_BYTES;
 use cw_text::{Fault, Place, Source};
 use std::alloc::{AllocError, Global};
 use std::test::Fail;
@@ -92,7 +92,7 @@ fn bytes_above_ascii_are_refused_at_their_line(rt: HostRuntime) -> Result<(), Fa
 #[test]
 fn the_length_of_a_source_is_limited(rt: HostRuntime) -> Result<(), Fail> {
     let alloc = rt.alloc();
-    let mut bytes = vec![in alloc; b'\n'; MOST_BYTES]?;
+    let mut bytes = vec![in alloc; b'\n'; MOST_SOURCE_BYTES]?;
     let source = Source::read(alloc, bytes.as_slice())?;
     assert_eq!(rt; source.bytes().len(), 1_048_576);
     bytes.push(0xff)?;

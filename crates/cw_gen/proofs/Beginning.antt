@@ -4,7 +4,7 @@ use Rattle.std.specs.Prelude.{slice_get, reverse, take, drop, map}
 use Rattle.cw_model.specs.Names.{differ}
 use mathlib.Core.List.{reverse_aux}
 use Rattle.std.proofs.lemmas.List.{length-reverse, length-map}
-use Rattle.cw_model.specs.Limits.{most_depth}
+use Rattle.cw_model.specs.declared.limits.TheConstants.{MOST_DEPTH}
 use Rattle.cw_model.specs.Ints.{natural}
 use Rattle.cw_model.specs.declared.syntax.CallKind.TheVariants.{Plain}
 use Rattle.cw_model.specs.Syntax.{Name, Expr, Begin, Function}
@@ -12,14 +12,14 @@ use Rattle.cw_model.specs.Trees.{Series}
 use Rattle.cw_model.specs.Frames.{Frame, no_frame, int_of, array_of}
 use Rattle.cw_model.specs.Expressions.{Gives, evaluate, and_then, done_at}
 use Rattle.cw_model.specs.Outcome.{Outcome, Trace, then_do, joined_up, pay, pay_for}
-use Rattle.cw_model.specs.Meaning.{Returned, Completion, Normal, ByReturn, Calls, Deeper, going, onward, scoped, turns, Entry, SameDepth, depth_of, call_event, start_event, given_array, function_of, arguments, new_length, cut_place, uncut, loop_frame, slices_back, returned_arrays, end_of_call, run_all, call}
+use Rattle.cw_model.specs.Meaning.{Returned, Completion, Normal, ByReturn, Calls, Deeper, going, onward, scoped, turns, Entry, SameDepth, depth_of, call_event, start_event, given_array, function_named, arguments, new_length, cut_place, uncut, loop_frame, slices_back, returned_arrays, end_of_call, run_all, call}
 use Rattle.cw_model.specs.Meaning as meaning
 use Rattle.cw_model.specs.Ownership.{Taken}
 use Rattle.cw_tree.specs.Resolved.{Lists, Locals, slot_of}
 use Rattle.cw_code.specs.declared.code.Func.{Func}
 use Rattle.cw_code.specs.declared.code.Instr.TheVariants as instr
 use Rattle.cw_code.specs.Code.{Code}
-use Rattle.cw_code.specs.Run.{Around, State, Went, On, Ran, ticked, on_slot, onto, begins, on_arrays, arguments_of, parts_of, looped, on_range, start, passed_by, act, go_on, steps}
+use Rattle.cw_code.specs.Run.{Around, State, Transition, On, RunOutcome, ticked, on_slot, onto, begins, on_arrays, arguments_of, parts_of, looped, on_range, start, passed_by, act, go_on, steps}
 use Rattle.cw_gen.specs.Emit.{whole_list, emitted_loads, whole_of}
 use Rattle.cw_gen.proofs.Fine.{AllUsable, TakesRange, ExprFine, Room}
 use Rattle.cw_gen.proofs.Traces.{resume, joined_quiet, resume_then, resume_one}
@@ -38,7 +38,7 @@ use Rattle.cw_gen.proofs.Slices.{slices_are, hands_of_loop}
 
 module _ (code : Code) (depth : ℕ) where
   -- integers that are taken along, one instruction for each
-  pub loads_run : (around : List Around) (locals : Locals) (taken' : Taken) (captured : List Name) (pc : ℕ) (ops : List ℤ) (store : Store) (outer : Outside) (frame : Frame) (t : Trace) (left : ℕ) (next : Unit {0} → ℕ → Trace → Ran) →
+  pub loads_run : (around : List Around) (locals : Locals) (taken' : Taken) (captured : List Name) (pc : ℕ) (ops : List ℤ) (store : Store) (outer : Outside) (frame : Frame) (t : Trace) (left : ℕ) (next : Unit {0} → ℕ → Trace → RunOutcome) →
       HasAt code.instrs pc (emitted_loads (map (λ x. slot_of x locals.ints) captured)) → AllUsable locals.ints taken' captured → Agrees locals taken' frame store outer →
       ((l : ℕ) (u : Trace) → l ≤ left → steps code l (here depth around (pc + length captured) (reverse_aux (map (int_of frame) captured) ops) store u) ≡ next tt l u) →
       steps code left (here depth around pc ops store t) ≡ resume t (pay (length captured) left) next
@@ -71,16 +71,16 @@ module _ (code : Code) (fs : List Function) (lists : Lists) (depth bound : ℕ) 
   turns_known f captured over line frame low n l = then_do (joined_up (λ q. Series q) (calls SameDepth f (loop_given f captured over frame low n) line l)) (λ r. going (slices_back over (natural low) r.1 frame))
 
   -- the instruction of a loop's first call
-  start_runs : (around : List Around) (locals : Locals) (taken' : Taken) (level first line pc : ℕ) (size : Room) (name : Name) (captured over : List Name) (fn : Func) (low high : ℤ) (store : Store) (outer : Outside) (frame : Frame) (u : Trace) (left : ℕ) (next : Completion → ℕ → Trace → Ran) →
-      nat_lt most_depth depth ≡ false → slice_get code.instrs pc ≡ Some (instr.Start (whole_of first (slot_of name lists.functions)) line) → slice_get code.funcs (slot_of name lists.functions) ≡ Some fn → passed_by code (whole_list first (slot_of name lists.functions)) ≡ slots_for locals.arrays over →
-      level ≡ suc (length outer) → Compiled code fs lists (function_of name fs) fn → TakesRange (function_of name fs) captured over →
+  start_runs : (around : List Around) (locals : Locals) (taken' : Taken) (level first line pc : ℕ) (size : Room) (name : Name) (captured over : List Name) (fn : Func) (low high : ℤ) (store : Store) (outer : Outside) (frame : Frame) (u : Trace) (left : ℕ) (next : Completion → ℕ → Trace → RunOutcome) →
+      nat_lt MOST_DEPTH depth ≡ false → slice_get code.instrs pc ≡ Some (instr.Start (whole_of first (slot_of name lists.functions)) line) → slice_get code.funcs (slot_of name lists.functions) ≡ Some fn → passed_by code (whole_list first (slot_of name lists.functions)) ≡ slots_for locals.arrays over →
+      level ≡ suc (length outer) → Compiled code fs lists (function_named name fs) fn → TakesRange (function_named name fs) captured over →
       AllUsable locals.arrays taken' over → differ over ≡ true → Agrees locals taken' frame store outer → Fills store size → left ≤ bound →
       Onwards code depth around locals taken' (pc + 1) outer size left next →
       steps code left (at around pc (reverse (low ∷ high ∷ map (int_of frame) captured)) store u)
-      ≡ resume u (then_do (pay_for (and_then (Gives (pos 0) 0) (λ v. loop_turns low high (map (array_of frame) over))) line left) (λ n. turns_known (function_of name fs) captured over line frame low n)) next
+      ≡ resume u (then_do (pay_for (and_then (Gives (pos 0) 0) (λ v. loop_turns low high (map (array_of frame) over))) line left) (λ n. turns_known (function_named name fs) captured over line frame low n)) next
   unfolding hands_of_loop
   start_runs around locals taken' level first line pc size name captured over fn low high store outer frame u left next shallow has found passed_is at_level compiled takes us apart agrees m within on =
-      let f = function_of name fs in
+      let f = function_named name fs in
       let vs = low ∷ high ∷ map (int_of frame) captured in
       let s = at around pc (reverse vs) store u in
       let c = whole_of first (slot_of name lists.functions) in
@@ -91,8 +91,8 @@ module _ (code : Code) (fs : List Function) (lists : Lists) (depth bound : ℕ) 
       let r = loop_turns low high arrays in
       let n : fn.params ≡ length vs = compiled.params ∙ takes.ints ∙ ap (λ k. suc (suc k)) (sym (length-map captured (int_of frame))) in
       let many : length (reverse vs) ≡ fn.params = length-reverse vs ∙ sym n in
-      let next' : ℤ → ℕ → Trace → Ran = λ v l u'. resume u' (turns_known f captured over line frame low v l) next in
-      let go : ℤ → Went = λ v. On (entered code fs lists depth around pc store Plain None None depth passed outs fn (low ∷ (low +ℤ v) ∷ map (int_of frame) captured) (map (λ a. take (natural v) (drop (natural low) (array_of frame a))) over) u) in
+      let next' : ℤ → ℕ → Trace → RunOutcome = λ v l u'. resume u' (turns_known f captured over line frame low v l) next in
+      let go : ℤ → Transition = λ v. On (entered code fs lists depth around pc store Plain None None depth passed outs fn (low ∷ (low +ℤ v) ∷ map (int_of frame) captured) (map (λ a. take (natural v) (drop (natural low) (array_of frame a))) over) u) in
       let looped_so : act code s (Some i) ≡ looped s line passed fn arrays low (map (int_of frame) captured) r =
       ap (start s line (passed_by code c.passed)) found
       ∙ ap (λ p. start s line p (Some fn)) passed_is
@@ -114,14 +114,14 @@ module _ (code : Code) (fs : List Function) (lists : Lists) (depth bound : ℕ) 
       ∙ sym (resume_then u (pay_for (done_at 1 r) line left) (λ v. turns_known f captured over line frame low v) next)
 
   -- the first call of a loop's function
-  pub begin_runs : (around : List Around) (locals : Locals) (taken' : Taken) (level first line pc : ℕ) (size : Room) (name : Name) (from to : Expr) (captured over : List Name) (fn : Func) (store : Store) (outer : Outside) (frame : Frame) (t : Trace) (left : ℕ) (next : Completion → ℕ → Trace → Ran) →
-      nat_lt most_depth depth ≡ false → HasAt code.instrs pc (stmt_code first lists locals line (Begin name from to captured over)) → slice_get code.funcs (slot_of name lists.functions) ≡ Some fn → passed_by code (whole_list first (slot_of name lists.functions)) ≡ slots_for locals.arrays over →
-      level ≡ suc (length outer) → Compiled code fs lists (function_of name fs) fn → TakesRange (function_of name fs) captured over →
+  pub begin_runs : (around : List Around) (locals : Locals) (taken' : Taken) (level first line pc : ℕ) (size : Room) (name : Name) (from to : Expr) (captured over : List Name) (fn : Func) (store : Store) (outer : Outside) (frame : Frame) (t : Trace) (left : ℕ) (next : Completion → ℕ → Trace → RunOutcome) →
+      nat_lt MOST_DEPTH depth ≡ false → HasAt code.instrs pc (stmt_code first lists locals line (Begin name from to captured over)) → slice_get code.funcs (slot_of name lists.functions) ≡ Some fn → passed_by code (whole_list first (slot_of name lists.functions)) ≡ slots_for locals.arrays over →
+      level ≡ suc (length outer) → Compiled code fs lists (function_named name fs) fn → TakesRange (function_named name fs) captured over →
       ExprFine locals taken' from → ExprFine locals taken' to → AllUsable locals.ints taken' captured → AllUsable locals.arrays taken' over → differ over ≡ true → Agrees locals taken' frame store outer → Fills store size → left ≤ bound →
       Onwards code depth around locals taken' (pc + length (stmt_code first lists locals line (Begin name from to captured over))) outer size left next →
       steps code left (at around pc [] store t) ≡ resume t (meaning.run (Begin name from to captured over) line fs calls frame left) next
   begin_runs around locals taken' level first line pc size name from to captured over fn store outer frame t left next shallow has found passed_is at_level compiled takes from_fine to_fine captured_us us apart agrees m within on =
-      let f = function_of name fs in
+      let f = function_named name fs in
       let cf = expr_code locals line from in
       let ct = expr_code locals line to in
       let slots = map (λ x. slot_of x locals.ints) captured in

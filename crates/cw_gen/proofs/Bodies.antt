@@ -7,7 +7,7 @@ use Rattle.cw_model.specs.Trees.{Series}
 use Rattle.cw_model.specs.Frames.{Frame, array_of, new_array, leave}
 use Rattle.cw_model.specs.Expressions.{evaluate, and_then, done_at}
 use Rattle.cw_model.specs.Outcome.{Outcome, Trace, then_do, joined_up, pay, pay_for}
-use Rattle.cw_model.specs.Meaning.{Returned, Completion, Normal, ByReturn, Calls, Deeper, going, onward, scoped, turns, Entry, SameDepth, depth_of, call_event, start_event, given_array, function_of, arguments, new_length, cut_place, uncut, returned_arrays, end_of_call, run_all, call}
+use Rattle.cw_model.specs.Meaning.{Returned, Completion, Normal, ByReturn, Calls, Deeper, going, onward, scoped, turns, Entry, SameDepth, depth_of, call_event, start_event, given_array, function_named, arguments, new_length, cut_place, uncut, returned_arrays, end_of_call, run_all, call}
 use Rattle.cw_model.specs.Meaning as meaning
 use Rattle.cw_model.specs.Typing.{Returns, Nowhere, block_returns}
 use Rattle.cw_model.specs.Ownership.{CutOf, Taken, cut_ended, is_taken, freed, without, own_names, where_it_goes_on, Joins, Leaves}
@@ -17,7 +17,7 @@ use Rattle.cw_code.specs.declared.code.Instr.{Instr}
 use Rattle.cw_code.specs.declared.code.Instr.TheVariants as instr
 use Rattle.cw_code.specs.Code.{Code}
 use Rattle.cw_code.specs.Run as run
-use Rattle.cw_code.specs.Run.{Slots, Results, Waiting, Around, Caller, State, Went, On, Stops, Stuck, Ran, ticked, synced, inside, is_full, on_slot, onto, operated, set_array, settled, put_in, full, arrays_in, moved_out, Whole, slot_taken, may_take, may_keep, may_begin, kept_by, taken_from, has_room, Entering, begins, begun, call_of, on_arrays, arguments_of, enter, recur, slots_named, passed_by, given_back, returns_to, event_of, rejoined, result_of, back, block_event, opened, opened_at, opened_region, cut_arrays, may_cut, cuts, uncut_arrays, adds, printed, added, act, go_on, steps}
+use Rattle.cw_code.specs.Run.{Slots, Results, Waiting, Around, Caller, State, Transition, On, Stops, Stuck, RunOutcome, ticked, synced, inside, is_full, on_slot, onto, operated, set_array, settled, put_in, full, arrays_in, moved_out, Whole, slot_taken, may_take, may_keep, may_begin, kept_by, taken_from, has_room, Entering, begins, begun, call_of, on_arrays, arguments_of, enter, recur, slots_named, passed_by, given_back, returns_to, event_of, rejoined, result_of, back, block_event, opened, opened_at, opened_region, cut_arrays, may_cut, cuts, uncut_arrays, adds, printed, added, act, go_on, steps}
 use Rattle.cw_gen.specs.Emit.{most_jump, distance, first_list, halves_of, returns}
 use Rattle.cw_gen.proofs.Held.{held_after, held_after_all, held_turn, has_no_half_in}
 use Rattle.cw_gen.proofs.Decided.{taken}
@@ -43,14 +43,14 @@ module _ (code : Code) (fs : List Function) (lists : Lists) (small : length code
   -- what a block between two places does
   abbrev pub BlockRuns : List Around → Returns → (level : ℕ) → Locals → Taken → Block → (pc pc' : ℕ) (size : Room) → Outside → (left : ℕ) → Type 0
   BlockRuns around returns level locals taken' b pc pc' size outer left =
-      (store : Store) (frame : Frame) (t : Trace) (l : ℕ) (next : Completion → ℕ → Trace → Ran) → l ≤ left → Agrees locals taken' frame store outer → Fills store size →
+      (store : Store) (frame : Frame) (t : Trace) (l : ℕ) (next : Completion → ℕ → Trace → RunOutcome) → l ≤ left → Agrees locals taken' frame store outer → Fills store size →
       (block_returns b ≡ false → Onwards code depth around (locals_after_all locals b) (held_after_all fs level b taken') pc' outer size l next) → Backs code depth returns size around l next →
       steps code l (at around pc [] store t) ≡ resume t (run_all b fs calls frame l) next
 
   -- the same with its names gone at its end
   abbrev pub BodyRuns : List Around → Returns → (level : ℕ) → Locals → Taken → Block → (pc pc' : ℕ) (size : Room) → Outside → (left : ℕ) → Type 0
   BodyRuns around returns level locals taken' b pc pc' size outer left =
-      (store : Store) (frame : Frame) (t : Trace) (l : ℕ) (next : Completion → ℕ → Trace → Ran) → l ≤ left → Agrees locals taken' frame store outer → Fills store size →
+      (store : Store) (frame : Frame) (t : Trace) (l : ℕ) (next : Completion → ℕ → Trace → RunOutcome) → l ≤ left → Agrees locals taken' frame store outer → Fills store size →
       (block_returns b ≡ false → Onwards code depth around locals (without (own_names b) (held_after_all fs level b taken')) pc' outer size l next) → Backs code depth returns size around l next →
       steps code l (at around pc [] store t) ≡ resume t (scoped frame (run_all b fs calls frame) l) next
 
@@ -68,7 +68,7 @@ module _ (code : Code) (fs : List Function) (lists : Lists) (small : length code
       ∙ sym (resume_then t (run_all b fs calls frame l) (λ way. onward way (λ g. going (leave frame g))) next)
 
   -- a sync block inside a call: what opens it, the block, and its end
-  pub inside_block : (around : List Around) (returns : Returns) (level : ℕ) (locals : Locals) (taken' : Taken) (b : Block) (kind : BlockKind) (tag : Option Name) (pc : ℕ) (size : Room) (store : Store) (outer : Outside) (frame : Frame) (t : Trace) (left : ℕ) (next : Completion → ℕ → Trace → Ran) →
+  pub inside_block : (around : List Around) (returns : Returns) (level : ℕ) (locals : Locals) (taken' : Taken) (b : Block) (kind : BlockKind) (tag : Option Name) (pc : ℕ) (size : Room) (store : Store) (outer : Outside) (frame : Frame) (t : Trace) (left : ℕ) (next : Completion → ℕ → Trace → RunOutcome) →
       level ≡ suc (length outer) → HasAt code.instrs pc (instr.Open kind ∷ (block_code (first_list code.sites) lists locals b ++ instr.Close ∷ [])) → ((s : State) → act code s (Some (instr.Open kind)) ≡ opened s tag None) →
       EndsFree fs (level + 1) Joins taken' b → Agrees locals taken' frame store outer → Fills store size →
       ((around' : List Around) (l : ℕ) → l < left → BlockRuns around' Nowhere (level + 1) locals taken' b (pc + 1) (pc + 1 + length (block_code (first_list code.sites) lists locals b)) size (waits_of store ∷ outer) l) →
@@ -111,10 +111,10 @@ module _ (code : Code) (fs : List Function) (lists : Lists) (small : length code
       ∙ sym (resume_then t (pay 1 left) (λ _ l. then_do (joined_up part (piece l)) (λ way. onward way ends)) next)
 
   -- a cut, the block that has its parts, and its end
-  pub cut_runs : (around : List Around) (level : ℕ) (locals : Locals) (taken' : Taken) (x y z : Name) (e : Expr) (b : Block) (line pc : ℕ) (size : Room) (store : Store) (outer : Outside) (frame : Frame) (t : Trace) (left : ℕ) (next : Completion → ℕ → Trace → Ran) →
+  pub cut_runs : (around : List Around) (level : ℕ) (locals : Locals) (taken' : Taken) (x y z : Name) (e : Expr) (b : Block) (line pc : ℕ) (size : Room) (store : Store) (outer : Outside) (frame : Frame) (t : Trace) (left : ℕ) (next : Completion → ℕ → Trace → RunOutcome) →
       level ≡ suc (length outer) → HasAt code.instrs pc (stmt_code (first_list code.sites) lists locals line (Cut x e y z b)) →
       IsUsable locals.arrays taken' x → ExprFine locals taken' e → PartsFine size locals y z → FreeAtEnd fs (level + 1) Joins ((x, CutOf) ∷ taken') (y ∷ z ∷ own_names b) b → Agrees locals taken' frame store outer → Fills store size →
-      ((around' : List Around) (l : ℕ) → l < left → (st : Store) (w : Waits) (frame' : Frame) (t' : Trace) (l' : ℕ) (next' : Completion → ℕ → Trace → Ran) → l' ≤ l → Agrees (with_array z (with_array y locals)) ((x, CutOf) ∷ taken') frame' st (w ∷ outer) → Fills st size →
+      ((around' : List Around) (l : ℕ) → l < left → (st : Store) (w : Waits) (frame' : Frame) (t' : Trace) (l' : ℕ) (next' : Completion → ℕ → Trace → RunOutcome) → l' ≤ l → Agrees (with_array z (with_array y locals)) ((x, CutOf) ∷ taken') frame' st (w ∷ outer) → Fills st size →
       (block_returns b ≡ false → Onwards code depth around' (locals_after_all (with_array z (with_array y locals)) b) (held_after_all fs (level + 1) b ((x, CutOf) ∷ taken')) (pc + length (expr_code locals line e) + 1 + length (block_code (first_list code.sites) lists (with_array z (with_array y locals)) b)) (w ∷ outer) size l' next') → Backs code depth Nowhere size around' l' next' →
       steps code l' (at around' (pc + length (expr_code locals line e) + 1) [] st t') ≡ resume t' (run_all b fs calls frame' l') next') →
       Onwards code depth around locals (held_after fs level (Cut x e y z b) taken') (pc + length (stmt_code (first_list code.sites) lists locals line (Cut x e y z b))) outer size left next →
@@ -185,7 +185,7 @@ module _ (code : Code) (fs : List Function) (lists : Lists) (small : length code
   pub while_runs : (n : ℕ) (around : List Around) (returns : Returns) (level : ℕ) (locals : Locals) (taken' : Taken) (e : Expr) (b : Block) (line pc : ℕ) (size : Room) (outer : Outside) (left : ℕ) → has_no_half_in b ≡ true →
       HasAt code.instrs pc (stmt_code (first_list code.sites) lists locals line (While e b)) → ExprFine locals (held_after fs level (While e b) taken') e →
       BodyRuns around returns level locals (held_after fs level (While e b) taken') b (pc + length (expr_code locals line e) + 1) (pc + length (expr_code locals line e) + 1 + length (block_code (first_list code.sites) lists locals b)) size outer left →
-      (store : Store) (frame : Frame) (t : Trace) (l : ℕ) (next : Completion → ℕ → Trace → Ran) → l < n → l ≤ left → Agrees locals (held_after fs level (While e b) taken') frame store outer → Fills store size →
+      (store : Store) (frame : Frame) (t : Trace) (l : ℕ) (next : Completion → ℕ → Trace → RunOutcome) → l < n → l ≤ left → Agrees locals (held_after fs level (While e b) taken') frame store outer → Fills store size →
       Onwards code depth around locals (held_after fs level (While e b) taken') (pc + length (stmt_code (first_list code.sites) lists locals line (While e b))) outer size l next → Backs code depth returns size around l next →
       steps code l (at around pc [] store t) ≡ resume t (turns n (evaluate e) line (λ frame'. scoped frame' (run_all b fs calls frame')) frame l) next
   while_runs zero around returns level locals taken' e b line pc size outer left no_half has fine body store frame t l next below le a m on backs = absurd (omega arith)

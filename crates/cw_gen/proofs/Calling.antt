@@ -5,7 +5,7 @@ use Rattle.std.proofs.lemmas.Slice.Eq.{bytes_eq-Decides}
 use Rattle.cw_model.specs.Names.{same_name, is_among, differ}
 use Rattle.std.proofs.lemmas.List.{length-set, length-map}
 use Rattle.cw_model.specs.declared.trap.Trap.TheVariants as trap
-use Rattle.cw_model.specs.Limits.{most_depth}
+use Rattle.cw_model.specs.declared.limits.TheConstants.{MOST_DEPTH}
 use Rattle.cw_model.specs.declared.syntax.CallKind.{CallKind}
 use Rattle.cw_model.specs.declared.syntax.CallKind.TheVariants.{Plain, Spawned}
 use Rattle.cw_model.specs.Syntax.{Name, Function}
@@ -17,7 +17,7 @@ use Rattle.cw_tree.specs.Resolved.{Lists, Locals, slot_of, locals_of}
 use Rattle.cw_code.specs.declared.code.Func.{Func}
 use Rattle.cw_code.specs.Code.{Code}
 use Rattle.cw_code.specs.Run as run
-use Rattle.cw_code.specs.Run.{Slots, Results, Waiting, Around, Caller, State, Went, On, Stops, Stuck, Ran, ticked, synced, inside, is_full, on_slot, onto, operated, set_array, settled, put_in, full, arrays_in, moved_out, Whole, slot_taken, may_take, may_keep, may_begin, kept_by, taken_from, has_room, Entering, begins, begun, call_of, on_arrays, enter, slots_named, passed_by, given_back, returns_to, event_of, rejoined, result_of, back, block_event, opened, opened_at, opened_region, cut_arrays, may_cut, cuts, uncut_arrays, adds, printed, added, act, go_on, steps}
+use Rattle.cw_code.specs.Run.{Slots, Results, Waiting, Around, Caller, State, Transition, On, Stops, Stuck, RunOutcome, ticked, synced, inside, is_full, on_slot, onto, operated, set_array, settled, put_in, full, arrays_in, moved_out, Whole, slot_taken, may_take, may_keep, may_begin, kept_by, taken_from, has_room, Entering, begins, begun, call_of, on_arrays, enter, slots_named, passed_by, given_back, returns_to, event_of, rejoined, result_of, back, block_event, opened, opened_at, opened_region, cut_arrays, may_cut, cuts, uncut_arrays, adds, printed, added, act, go_on, steps}
 use Rattle.cw_gen.proofs.Decided.{taken, both_true, at_most, equal}
 use Rattle.cw_gen.proofs.Fine.{AllUsable, TargetFine, Room}
 use Rattle.cw_gen.proofs.Traces.{resume, joined_quiet}
@@ -58,12 +58,12 @@ pub record Hands (locals : Locals) (taken' : Taken) (frame : Frame) (f : Functio
 module _ (code : Code) (fs : List Function) (lists : Lists) where
   -- what calls from a depth do, with less than a bound left
   pub record CallsRun (bound depth : ℕ) (calls : Calls) : Type 0 where
-    pub enters : (entry : Entry) → nat_lt most_depth (depth_of entry depth) ≡ false → (f : Function) (fn : Func) → Compiled code fs lists f fn →
+    pub enters : (entry : Entry) → nat_lt MOST_DEPTH (depth_of entry depth) ≡ false → (f : Function) (fn : Func) → Compiled code fs lists f fn →
         (vs : List ℤ) (xss : List (List ℤ)) (given : Frame) → length vs ≡ fn.params → length xss ≡ fn.array_params → Bound f.params vs xss no_frame given →
-        (around : List Around) (line left : ℕ) (t : Trace) (next : Returned → ℕ → Trace → Ran) → left < bound →
+        (around : List Around) (line left : ℕ) (t : Trace) (next : Returned → ℕ → Trace → RunOutcome) → left < bound →
         ((v : Option ℤ) (g : Frame) (arrays : Slots (List ℤ)) (l : ℕ) (u : Trace) → GivenBy f v → GivesBack (locals_of f.params).arrays g arrays → l ≤ left → go_on (back around v arrays u) l (λ s. steps code l s) ≡ next (v, g) l u) →
         steps code left (here (depth_of entry depth) around fn.start [] (first_store fn vs xss) t) ≡ resume t (calls entry f given line left) next
-    pub traps : nat_lt most_depth (depth + 1) ≡ true → (f : Function) (given : Frame) (line left : ℕ) → left < bound → calls Deeper f given line left ≡ Trapped trap.TooDeep line []
+    pub traps : nat_lt MOST_DEPTH (depth + 1) ≡ true → (f : Function) (given : Frame) (line left : ℕ) → left < bound → calls Deeper f given line left ≡ Trapped trap.TooDeep line []
 
   -- there is room for the call of a function that has its code
   has_its_room : (f : Function) (fn : Func) → Compiled code fs lists f fn → (ops : List ℤ) (xss : List (List ℤ)) → length ops ≡ fn.params → length xss ≡ fn.array_params → has_room fn ops xss ≡ true
@@ -215,8 +215,8 @@ module _ (code : Code) (fs : List Function) (lists : Lists) where
 
     -- a call, from its function's beginning on
     module _ (bound : ℕ) (calls : Calls) (run_calls : CallsRun bound depth calls) where
-      pub inside_runs : (around : List Around) (locals : Locals) (taken' : Taken) (level : ℕ) (kind : CallKind) (entry : Entry) (mark : Option ℕ) (target : Option Name) (line pc : ℕ) (size : Room) (f : Function) (fn : Func) (frame : Frame) (h : Hands locals taken' frame f fn) (store : Store) (outer : Outside) (u : Trace) (l : ℕ) (next : Completion → ℕ → Trace → Ran) →
-          nat_lt most_depth (depth_of entry depth) ≡ false → level ≡ suc (length outer) → Compiled code fs lists f fn → TargetFine locals taken' f target → Agrees locals taken' frame store outer → Fills store size → l < bound →
+      pub inside_runs : (around : List Around) (locals : Locals) (taken' : Taken) (level : ℕ) (kind : CallKind) (entry : Entry) (mark : Option ℕ) (target : Option Name) (line pc : ℕ) (size : Room) (f : Function) (fn : Func) (frame : Frame) (h : Hands locals taken' frame f fn) (store : Store) (outer : Outside) (u : Trace) (l : ℕ) (next : Completion → ℕ → Trace → RunOutcome) →
+          nat_lt MOST_DEPTH (depth_of entry depth) ≡ false → level ≡ suc (length outer) → Compiled code fs lists f fn → TargetFine locals taken' f target → Agrees locals taken' frame store outer → Fills store size → l < bound →
           Onwards code depth around locals (taken_on kind level target h.names taken') (pc + 1) outer size l next →
           steps code l (entered around pc store kind mark (option_map (λ x. slot_of x locals.ints) target) (depth_of entry depth) (slots_for locals.arrays h.names) h.outs fn h.ints h.arrays u)
           ≡ resume (inside (ticked u)) (calls entry f h.given line l) (λ r l' u'. resume (rejoined (event_of kind mark) (ticked u).events u') (going (set_result target r.0 (h.returned r.1)) l') next)

@@ -14,7 +14,7 @@ use Rattle.cw_tree.specs.Resolved.{Locals, slot_of, locals_of}
 use Rattle.cw_loops.specs.Slotted.{slotted_argument}
 use Rattle.cw_loops.specs.Slotted as slotted
 use Rattle.cw_code.specs.declared.code.Func.{Func}
-use Rattle.cw_code.specs.Run.{Slots, Around, State, Went, is_full, on_slot, settled, full, slots_of, arrays_of, arguments_of}
+use Rattle.cw_code.specs.Run.{Slots, Around, State, Transition, is_full, on_slot, settled, full, slots_of, arrays_of, arguments_of}
 use Rattle.cw_gen.specs.Emit.{most_jump, distance, emitted_arg}
 use Rattle.cw_gen.proofs.Texts.{expr_code}
 use Rattle.cw_gen.proofs.Decided.{first_true, second_true}
@@ -194,7 +194,7 @@ gives_back room locals taken' frame store outer e begins a = record {
 }
 
 -- a slot that is full
-pub full_slot : {A : Type 0} (o : Option (Option A)) (w : Went) → is_full o ≡ true → on_slot o (λ old. w) ≡ w
+pub full_slot : {A : Type 0} (o : Option (Option A)) (w : Transition) → is_full o ≡ true → on_slot o (λ old. w) ≡ w
 full_slot (Some (Some x)) w h = refl
 full_slot (Some None) w h = cc
 full_slot None w h = cc

@@ -3,7 +3,7 @@ use Rattle.std.proofs.Common.{◌≡◌, ℕ, suc, ◌+◌, List, [], ◌∷◌,
 use Rattle.std.specs.Prelude.{sum_by, map}
 use Rattle.std.proofs.lemmas.List.Sums.{sum_by-cons}
 use Rattle.cw_model.specs.Syntax.{Name, Expr, Number, Variable, Element, Length, Negative, Not, Binary, Stmt, Declare, DeclareArray, Assign, AssignElement, AddTo, Call, Start, Begin, Sync, If, IfElse, While, Scope, Cut, Region, Print, Return, Block, End, Then, Param, Function, Program}
-use Rattle.cw_model.specs.Meaning.{function_of}
+use Rattle.cw_model.specs.Meaning.{function_named}
 use Rattle.cw_model.specs.Typing.{Returns, Nowhere, WithInt, Alone}
 use Rattle.cw_model.specs.Ownership.{CutOf, Taken}
 use Rattle.cw_model.specs.Sizes.{size_of, arguments_size, stmt_size, block_size, function_size, static_size}
@@ -78,9 +78,9 @@ module _ (fs : List Function) (lists : Lists) (tables : Tables) where
     stmt_count size returns level locals taken line (AddTo s e) fine = one_more (expr_code locals line e) _ ∙ ap (λ k. k + 1) (expr_count locals taken line e fine.1)
     stmt_count size returns level locals taken line (Print e) fine = one_more (expr_code locals line e) _ ∙ ap (λ k. k + 1) (expr_count locals taken line e fine)
     stmt_count size returns level locals taken line (Call kind site target f es) fine =
-        one_more (args_code locals line es) _ ∙ ap (λ k. k + 1) (args_count locals taken line (function_of f fs).params es fine.2)
+        one_more (args_code locals line es) _ ∙ ap (λ k. k + 1) (args_count locals taken line (function_named f fs).params es fine.2)
     stmt_count size returns level locals taken line (Start kind f es) fine =
-        one_more (args_code locals line es) _ ∙ ap (λ k. k + 1) (args_count locals taken line (function_of f fs).params es fine.2)
+        one_more (args_code locals line es) _ ∙ ap (λ k. k + 1) (args_count locals taken line (function_named f fs).params es fine.2)
     stmt_count size returns level locals taken line (Begin f from to captured over) fine =
         let cf = expr_code locals line from in
         let ct = expr_code locals line to in

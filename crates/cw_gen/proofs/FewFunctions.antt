@@ -2,7 +2,7 @@
 use Rattle.std.proofs.Common.{◌≡◌, ℕ, ◌+◌, ◌≤◌, List, [], ◌∷◌, ◌++◌, length, refl, sym, ap, ◌∙◌, arith, length-append}
 use Rattle.std.specs.Prelude.{map, flat_map}
 use Rattle.std.proofs.lemmas.List.{length-map, length-drop}
-use Rattle.cw_model.specs.Limits.{most_functions, most_loops}
+use Rattle.cw_model.specs.declared.limits.TheConstants.{MOST_FUNCTIONS, MOST_LOOPS}
 use Rattle.cw_model.specs.Syntax.{Stmt, Declare, DeclareArray, Assign, AssignElement, AddTo, Call, Start, Begin, Sync, If, IfElse, While, For, Scope, Cut, Region, Print, Return, Block, End, Then, Function, Program}
 use Rattle.cw_model.specs.Captured.{captured}
 use Rattle.cw_model.specs.Sizes.{lines_beyond, loops_in, loops_in_block}
@@ -56,6 +56,6 @@ few_functions program within =
     let fs = program.functions in
     let lines = map (λ (f : Function). f.line) fs in
     let loops = flat_map (λ (f : Function). loops_in_block f.body) fs in
-    let few = none_beyond most_functions lines (left_none (lines_beyond most_functions lines) _ within.limits) in
-    let few_loops = none_beyond most_loops loops within.loops in
+    let few = none_beyond MOST_FUNCTIONS lines (left_none (lines_beyond MOST_FUNCTIONS lines) _ within.limits) in
+    let few_loops = none_beyond MOST_LOOPS loops within.loops in
     omega (arith, length-append (lower_functions 0 fs) (made_of 0 fs), count_stays 0 fs, made_count_of 0 fs, length-map fs (λ (f : Function). f.line), few, few_loops)

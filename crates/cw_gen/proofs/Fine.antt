@@ -2,7 +2,7 @@
 use Rattle.std.specs.Prelude.{◌≡◌, ◌++◌, suc, map, not, ℕ, ◌+◌, if◌then◌else◌, ◌-◌, ◌<◌, ◌≤◌, Bool, true, false, List, [], ◌∷◌, length, Option, Some, None, slice_get}
 use Rattle.cw_model.specs.Syntax.{Name, Expr, Number, Variable, Element, Length, Negative, Not, Binary, Stmt, Declare, DeclareArray, Assign, AssignElement, AddTo, Call, Start, Begin, Sync, If, IfElse, While, Scope, Cut, Region, Print, Return, Block, End, Then, Param, Function, Program}
 use Rattle.cw_model.specs.Names.{same_name, is_among, differ}
-use Rattle.cw_model.specs.Meaning.{function_of}
+use Rattle.cw_model.specs.Meaning.{function_named}
 use Rattle.cw_model.specs.Typing.{Returns, Nowhere, WithInt, Alone, block_returns}
 use Rattle.cw_model.specs.Ownership.{Taken, CutOf, is_taken, given, own_names, Closing, Joins, Leaves, at_end}
 use Rattle.cw_tree.specs.Resolved.{Lists, Locals, slot_of, with_array, locals_after, locals_of}
@@ -136,20 +136,20 @@ abbrev mutual
   StmtFine fs lists tables room returns depth locals taken (AddTo s e) = IsListed lists.reducers s × ExprFine locals taken e
   StmtFine fs lists tables room returns depth locals taken (Call kind site target f es) =
       (is_function f fs ≡ true)
-      × TargetFine locals taken (function_of f fs) target
-      × ArgsFine locals taken (function_of f fs).params es
+      × TargetFine locals taken (function_named f fs) target
+      × ArgsFine locals taken (function_named f fs).params es
       × (differ (given fs f es) ≡ true)
       × IsPassed tables.passed site (passed_in (map (slotted_argument locals) es))
       × HasSite tables.sites kind site (slot_of f lists.functions)
   StmtFine fs lists tables room returns depth locals taken (Start kind f es) =
       (is_function f fs ≡ true)
-      × ((function_of f fs).gives_int ≡ false)
-      × ArgsFine locals taken (function_of f fs).params es
+      × ((function_named f fs).gives_int ≡ false)
+      × ArgsFine locals taken (function_named f fs).params es
       × (differ (given fs f es) ≡ true)
       × IsPassed tables.passed (half_list (first_list tables.sites) kind (slot_of f lists.functions)) (passed_in (map (slotted_argument locals) es))
   StmtFine fs lists tables room returns depth locals taken (Begin f from to captured over) =
       (is_function f fs ≡ true)
-      × TakesRange (function_of f fs) captured over
+      × TakesRange (function_named f fs) captured over
       × ExprFine locals taken from
       × ExprFine locals taken to
       × AllUsable locals.ints taken captured
@@ -217,6 +217,6 @@ pub record ProgramFine (program : Program) (lists : Lists) (tables : Tables) : T
   pub functions : FunctionsFine program.functions lists tables program.functions
   pub names : lists.functions ≡ map (λ f. f.name) program.functions
   pub main : is_function main_name program.functions ≡ true
-  pub gives : (function_of main_name program.functions).gives_int ≡ true
-  pub ints : list_all (λ p. not p.is_array) (function_of main_name program.functions).params ≡ true
+  pub gives : (function_named main_name program.functions).gives_int ≡ true
+  pub ints : list_all (λ p. not p.is_array) (function_named main_name program.functions).params ≡ true
   pub reducers : are_apart lists.reducers ≡ true

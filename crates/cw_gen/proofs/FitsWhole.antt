@@ -7,14 +7,14 @@ use Rattle.std.proofs.lemmas.Option.{slice_get-get_or, slice_get_within}
 use Rattle.cw_model.specs.Syntax.{Function, Program}
 use Rattle.cw_model.specs.Answers.{main_name}
 use Rattle.cw_model.specs.Typing.{WithInt, Alone, block_returns}
-use Rattle.cw_model.specs.Meaning.{function_of}
+use Rattle.cw_model.specs.Meaning.{function_named}
 use Rattle.cw_tree.specs.Resolved.{Lists, Locals, locals_of}
 use Rattle.cw_loops.specs.Lowered.{lowered}
 use Rattle.cw_loops.specs.Slotted.{slotted_function, lowered_lists}
 use Rattle.cw_code.specs.declared.code.Func.{Func}
 use Rattle.cw_code.specs.declared.code.Instr.{Instr}
 use Rattle.cw_code.specs.Code.{Code}
-use Rattle.cw_code.specs.Fits.{gives_value, array_params_of, are_apart, names_well, Shape, first_shape, Leads, FitsFunc, LieFrom, Fits}
+use Rattle.cw_code.specs.Fits.{gives_value, array_params_of, are_apart, names_well, Shape, first_shape, FlowsInto, FitsFunc, LieFrom, Fits}
 use Rattle.cw_gen.specs.Emit.{Tables, first_list, most_jump, emitted_end, emitted_func, emitted_instrs, emitted_funcs}
 use Rattle.cw_gen.proofs.Codes.{main_locals}
 use Rattle.cw_gen.proofs.Entries.{ints_of, arrays_of, params_counted, as_counted, main_slot}
@@ -144,7 +144,7 @@ module _ (code : Code) (fs : List Function) (lists : Lists) (small : length code
         cases true e = absurd (true≢false (sym (fine.returns e) ∙ goes))
         cases false e = refl
 
-    closes : block_returns g.body ≡ false → Leads (table_of tab) (start + length body) (end_shape fs size [] locals [] g.body)
+    closes : block_returns g.body ≡ false → FlowsInto (table_of tab) (start + length body) (end_shape fs size [] locals [] g.body)
     closes goes =
         let here : StandsAt tab (start + length body) (end_shapes false) = subst (λ b. StandsAt tab (start + length body) (end_shapes b)) (no_value goes) at_end in
         exact tab (start + length body) (end_shape fs size [] locals [] g.body) (here.0 ∙ ap (λ r. Some (reached r (end_shape fs size [] locals [] g.body))) goes)
@@ -167,7 +167,7 @@ module _ (code : Code) (fs : List Function) (lists : Lists) (small : length code
         (block_fits setting (if g.gives_int then WithInt else Alone) 1 [] locals [] g.body start refl room tt (returning g.gives_int refl) fine_body short (stands_front tab start body_shapes (end_shapes g.gives_int) stands) closes)
         (ends g.gives_int refl (block_returns g.body))
 
-    starts : Leads (table_of tab) start (first_shape f)
+    starts : FlowsInto (table_of tab) start (first_shape f)
     starts =
         takes_less (table_of tab) start (first_shape f) (shape_at size [] locals [] 0)
         (block_enters setting (if g.gives_int then WithInt else Alone) 1 [] locals [] g.body start refl room tt fine_body (stands_front tab start body_shapes (end_shapes g.gives_int) stands) closes)
@@ -249,7 +249,7 @@ pub generated_fits : (program : Program) → is_function main_name program.funct
     ProgramFine (lowered program) (lowered_lists program) (tables_in (code_of program)) → are_apart (code_of program).tags ≡ true → Fits (code_of program)
 generated_fits program is_main small least functions fine apart =
     let code = code_of program in
-    let main = function_of main_name (lowered program).functions in
+    let main = function_named main_name (lowered program).functions in
     let entry = functions.entry main_name fine.main in
     let at : slice_get code.funcs code.main ≡ Some entry.0 = ap (slice_get code.funcs) (main_slot program is_main) ∙ entry.1 in
     let none_before : 0 + length code.instrs ≡ length code.instrs = omega arith in

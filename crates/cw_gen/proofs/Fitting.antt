@@ -2,14 +2,14 @@
 use Rattle.std.proofs.Common.{◌≡◌, ℕ, ◌+◌, ◌-◌, ◌≤◌, [], ◌∷◌, ◌++◌, length, true, false, ◌&&◌, not, nat_lt, Some, None, refl, sym, ap, ◌∙◌, subst, arith, append_assoc, length-append}
 use Rattle.std.specs.Prelude.{nat_le, option_map}
 use Rattle.cw_model.specs.Syntax.{Stmt, Declare, DeclareArray, Assign, AssignElement, AddTo, Call, Start, Begin, Sync, If, IfElse, While, Scope, Cut, Region, Print, Return, Block, End, Then}
-use Rattle.cw_model.specs.Meaning.{function_of}
+use Rattle.cw_model.specs.Meaning.{function_named}
 use Rattle.cw_model.specs.Typing.{Returns, Nowhere, surely_returns, block_returns}
 use Rattle.cw_model.specs.Ownership.{CutOf, Taken, freed, without, own_names, where_it_goes_on, Leaves}
 use Rattle.cw_tree.specs.Resolved.{Locals, slot_of, with_array, locals_after}
 use Rattle.cw_loops.specs.Slotted.{slotted_block}
 use Rattle.cw_code.specs.declared.code.BlockKind.TheVariants as block
 use Rattle.cw_code.specs.declared.code.Instr.TheVariants as instr
-use Rattle.cw_code.specs.Fits.{has_array, is_no_part, leaves, Leads}
+use Rattle.cw_code.specs.Fits.{has_array, is_no_part, leaves, FlowsInto}
 use Rattle.cw_gen.specs.Emit as emit
 use Rattle.cw_gen.specs.Emit.{Tables, first_list, most_jump, distance, emitted_arg, emitted_loads, callee_of, half_of, whole_of, half_list, whole_list, past}
 use Rattle.cw_gen.proofs.Held.{held_after, held_after_all, held_turn}
@@ -53,7 +53,7 @@ module _ (setting : Setting) where
     -- the places of a statement fit, where the place behind it takes what it leaves
     pub stmt_fits : (returns : Returns) (level : ℕ) (opened : Opened) (locals : Locals) (taken : Taken) (line : ℕ) (s : Stmt) (place : ℕ) → level ≡ depth_in opened → HasRoom setting locals → CutsOpen opened locals taken → Returning returns opened setting.f.gives_int → StmtFine setting.fs setting.lists (tables setting) (size setting) returns level locals taken s →
         length (stmt_code (first setting) setting.lists locals line s) ≤ most_jump → StandsAt setting.tab place (stmt_shapes setting.fs (size setting) opened locals taken s) →
-        (surely_returns s ≡ false → Leads (table setting) (place + length (stmt_code (first setting) setting.lists locals line s)) (made setting opened (locals_after locals s) (held_after setting.fs (depth_in opened) s taken) 0)) →
+        (surely_returns s ≡ false → FlowsInto (table setting) (place + length (stmt_code (first setting) setting.lists locals line s)) (made setting opened (locals_after locals s) (held_after setting.fs (depth_in opened) s taken) 0)) →
         AllFit setting place (stmt_shapes setting.fs (size setting) opened locals taken s) (stmt_code (first setting) setting.lists locals line s)
     stmt_fits returns level opened locals taken line (Declare x e) place at room cuts returning fine short stands leads =
         store_fits setting opened locals (locals_after locals (Declare x e)) taken room cuts e line place (length locals.ints) (below (length locals.ints) (size setting).ints fine.0) (next_is_full (size setting) opened locals taken (length locals.ints) 1 (omega arith) fine.0) fine.1 stands
@@ -70,7 +70,7 @@ module _ (setting : Setting) where
         valued_fits setting opened locals taken room cuts e line place (instr.NewArray i line) fine.1 stands (
           both_true (nat_lt i (size setting).arrays) (nat_le setting.f.array_params i) (below i (size setting).arrays fine.0) own,
           both_true (has_array shape i && nat_le 1 1) (is_no_part i (outers (size setting) opened locals taken)) (both_true (has_array shape i) (nat_le 1 1) (next_array_is_full (size setting) opened locals taken i 1 (omega arith) fine.0 cuts) refl) (no_part (size setting) opened locals locals taken taken i (omega arith) cuts),
-          (takes_less (table setting) (place + length ce + 1) (made setting opened locals taken 0) (made setting opened (with_array x locals) taken 0) (subst (λ p. Leads (table setting) p (made setting opened (with_array x locals) taken 0)) behind (leads refl)) refl (over_array (size setting) opened locals x taken 0 0), tt),
+          (takes_less (table setting) (place + length ce + 1) (made setting opened locals taken 0) (made setting opened (with_array x locals) taken 0) (subst (λ p. FlowsInto (table setting) p (made setting opened (with_array x locals) taken 0)) behind (leads refl)) refl (over_array (size setting) opened locals x taken 0 0), tt),
         )
     stmt_fits returns level opened locals taken line (AssignElement x d e) place at room cuts returning fine short stands leads =
         let cd = expr_code locals line d in
@@ -85,7 +85,7 @@ module _ (setting : Setting) where
         let behind : place + length (cd ++ (ce ++ i ∷ [])) ≡ place + length cd + length ce + 1 = omega (arith, length-append cd (ce ++ i ∷ []), length-append ce (i ∷ [])) in
         both_fit setting place sd (se ++ last) cd (ce ++ i ∷ []) (expr_fits setting opened locals taken room cuts d line place 0 fine.1 (stands_front setting.tab place sd (se ++ last) stands) (expr_enters setting opened locals taken room cuts e (place + length cd) 1 last fine.2 second))
         (both_fit setting (place + length cd) se last ce (i ∷ []) (expr_fits setting opened locals taken room cuts e line (place + length cd) 1 fine.2 (stands_front setting.tab (place + length cd) se last second) (exact setting.tab (place + length cd + length ce) shape top.0))
-        ((array_is_there setting opened locals taken room cuts x fine.0, both_true (has_array shape (slot_of x locals.arrays)) (nat_le 2 2) (array_is_full (size setting) opened locals taken x 2 room.1 fine.0 cuts) refl, (subst (λ p. Leads (table setting) p (made setting opened locals taken 0)) behind (leads refl), tt)), tt))
+        ((array_is_there setting opened locals taken room cuts x fine.0, both_true (has_array shape (slot_of x locals.arrays)) (nat_le 2 2) (array_is_full (size setting) opened locals taken x 2 room.1 fine.0 cuts) refl, (subst (λ p. FlowsInto (table setting) p (made setting opened locals taken 0)) behind (leads refl), tt)), tt))
     stmt_fits returns level opened locals taken line (Cut a e l r b) place at room cuts returning fine short stands leads = cut_fits setting level opened locals taken a l r e b line place at room cuts fine.0 fine.1 fine.2 fine.3 fine.4 stands (leads refl)
         (λ cuts' room' closes.
         let ce = expr_code locals line e in
@@ -106,11 +106,11 @@ module _ (setting : Setting) where
     stmt_fits returns level opened locals taken line (Call kind site target name es) place at room cuts returning fine short stands leads =
         let i = instr.Call kind (callee_of line site (option_map (λ x. slot_of x locals.ints) target) (slot_of name setting.lists.functions)) in
         let next = made setting opened locals (held_after setting.fs (depth_in opened) (Call kind site target name es) taken) 0 in
-        given_fits setting opened locals taken room cuts (function_of name setting.fs).params es line place i next fine.2 stands (λ h. call_fits setting opened locals taken room cuts kind site target name es line (place + length (args_code locals line es)) fine h) (leads refl)
+        given_fits setting opened locals taken room cuts (function_named name setting.fs).params es line place i next fine.2 stands (λ h. call_fits setting opened locals taken room cuts kind site target name es line (place + length (args_code locals line es)) fine h) (leads refl)
     stmt_fits returns level opened locals taken line (Start kind name es) place at room cuts returning fine short stands leads =
         let i = instr.Recur kind (half_of (first setting) kind (slot_of name setting.lists.functions)) in
         let next = made setting opened locals (held_after setting.fs (depth_in opened) (Start kind name es) taken) 0 in
-        given_fits setting opened locals taken room cuts (function_of name setting.fs).params es line place i next fine.2 stands (λ h. half_fits setting opened locals taken room cuts kind name es (place + length (args_code locals line es)) fine h) (leads refl)
+        given_fits setting opened locals taken room cuts (function_named name setting.fs).params es line place i next fine.2 stands (λ h. half_fits setting opened locals taken room cuts kind name es (place + length (args_code locals line es)) fine h) (leads refl)
     stmt_fits returns level opened locals taken line (Begin name from to captured over) place at room cuts returning fine short stands leads = range_fits setting opened locals taken room cuts name from to captured over line place fine stands (leads refl)
     stmt_fits returns level opened locals taken line Sync place at room cuts returning fine short stands leads =
         let after_it = freed (depth_in opened) taken in
@@ -132,11 +132,11 @@ module _ (setting : Setting) where
         let n_all : length (ce ++ i ∷ cb) ≡ length ce + 1 + length cb = omega (arith, length-append ce (i ∷ cb)) in
         let reach : distance (length cb) ≡ length cb = distance_is (length cb) (omega (arith, short, n_all)) in
         let second = stands_back setting.tab place (length ce) se (Some (made setting opened locals taken 1) ∷ sb) (expr_as_many (made setting opened locals taken) 0 locals line e) stands in
-        let exit : Leads (table setting) (place + length ce + 1 + length cb) (made setting opened locals after_it 0) = subst (λ p. Leads (table setting) p (made setting opened locals after_it 0)) (ap (λ m. place + m) n_all ∙ three place (length ce) (length cb)) (leads refl) in
-        let far : Leads (table setting) (place + length ce + 1 + distance (length cb)) (made setting opened locals taken 0) =
-        subst (λ m. Leads (table setting) (place + length ce + 1 + m) (made setting opened locals taken 0)) (sym reach)
+        let exit : FlowsInto (table setting) (place + length ce + 1 + length cb) (made setting opened locals after_it 0) = subst (λ p. FlowsInto (table setting) p (made setting opened locals after_it 0)) (ap (λ m. place + m) n_all ∙ three place (length ce) (length cb)) (leads refl) in
+        let far : FlowsInto (table setting) (place + length ce + 1 + distance (length cb)) (made setting opened locals taken 0) =
+        subst (λ m. FlowsInto (table setting) (place + length ce + 1 + m) (made setting opened locals taken 0)) (sym reach)
         (takes_less (table setting) (place + length ce + 1 + length cb) (made setting opened locals taken 0) (made setting opened locals after_it 0) exit refl (over_more (size setting) opened locals taken after_it 0 0 (λ d x h. holds_behind false d x (where_it_goes_on (block_returns b) after_b) taken h))) in
-        let ends : block_returns b ≡ false → Leads (table setting) (place + length ce + 1 + length cb) (end_shape setting.fs (size setting) opened locals taken b) = λ goes.
+        let ends : block_returns b ≡ false → FlowsInto (table setting) (place + length ce + 1 + length cb) (end_shape setting.fs (size setting) opened locals taken b) = λ goes.
         takes_less (table setting) (place + length ce + 1 + length cb) (end_shape setting.fs (size setting) opened locals taken b) (made setting opened locals after_it 0) exit refl
         (branch_covers setting opened locals taken after_it b free (λ d x h. holds_before false d x (where_it_goes_on (block_returns b) after_b) taken (ap (λ r. holds false d x (where_it_goes_on r after_b)) goes ∙ h))) in
         let near = block_enters setting returns level opened locals taken b (place + length ce + 1) at room cuts fine.1 second.1 ends in
@@ -172,13 +172,13 @@ module _ (setting : Setting) where
         let second = stands_back setting.tab place (length ce) se (one_part ++ sc) (expr_as_many (made setting opened locals taken) 0 locals line e) stands in
         let in_b : StandsAt setting.tab pb (sb ++ (last ∷ [] ++ sc)) = subst (λ ss. StandsAt setting.tab pb ss) (append_assoc sb (last ∷ []) sc) second.1 in
         let at_j = stands_back setting.tab pb (length cb) sb (last ∷ [] ++ sc) count_b in_b in
-        let exit : surely_returns (IfElse e b c) ≡ false → Leads (table setting) (pc + length other) (made setting opened locals both 0) = λ goes. subst (λ p. Leads (table setting) p (made setting opened locals both 0)) (ap (λ m. place + m) n_all ∙ five place (length ce) (length cb) (length other)) (leads goes) in
-        let ends_c : block_returns c ≡ false → Leads (table setting) (pc + length other) (end_shape setting.fs (size setting) opened locals taken c) = λ goes.
+        let exit : surely_returns (IfElse e b c) ≡ false → FlowsInto (table setting) (pc + length other) (made setting opened locals both 0) = λ goes. subst (λ p. FlowsInto (table setting) p (made setting opened locals both 0)) (ap (λ m. place + m) n_all ∙ five place (length ce) (length cb) (length other)) (leads goes) in
+        let ends_c : block_returns c ≡ false → FlowsInto (table setting) (pc + length other) (end_shape setting.fs (size setting) opened locals taken c) = λ goes.
         takes_less (table setting) (pc + length other) (end_shape setting.fs (size setting) opened locals taken c) (made setting opened locals both 0) (exit (second_false (block_returns b) (block_returns c) goes)) refl
         (branch_covers setting opened locals taken both c free_c (λ d x h. holds_behind false d x (where_it_goes_on (block_returns b) after_b) (where_it_goes_on (block_returns c) after_c) (ap (λ q. holds false d x (where_it_goes_on q after_c)) goes ∙ h))) in
         let enters_c = block_enters setting returns level opened locals taken c pc at room cuts fine.2.0 at_j.1 ends_c in
-        let far : Leads (table setting) (pb + distance (length (cb ++ j ∷ []))) (made setting opened locals taken 0) = subst (λ p. Leads (table setting) p (made setting opened locals taken 0)) (six place (length ce) (length cb) (distance (length (cb ++ j ∷ []))) reach) enters_c in
-        let closes : block_returns b ≡ false → Leads (table setting) pj (end_shape setting.fs (size setting) opened locals taken b) = λ goes.
+        let far : FlowsInto (table setting) (pb + distance (length (cb ++ j ∷ []))) (made setting opened locals taken 0) = subst (λ p. FlowsInto (table setting) p (made setting opened locals taken 0)) (six place (length ce) (length cb) (distance (length (cb ++ j ∷ []))) reach) enters_c in
+        let closes : block_returns b ≡ false → FlowsInto (table setting) pj (end_shape setting.fs (size setting) opened locals taken b) = λ goes.
         exact setting.tab pj (end_shape setting.fs (size setting) opened locals taken b) (at_j.0 ∙ ap (λ q. Some (reached q (end_shape setting.fs (size setting) opened locals taken b))) goes) in
         let near = block_enters setting returns level opened locals taken b pb at room cuts fine.1.0 (stands_front setting.tab pb sb (last ∷ [] ++ sc) in_b) closes in
         let jump : FitsAt setting pj last j =
@@ -215,16 +215,16 @@ module _ (setting : Setting) where
         let second = stands_back setting.tab place (length ce) se (Some (made setting opened locals all 1) ∷ (sb ++ last ∷ [])) (expr_as_many (made setting opened locals all) 0 locals line e) stands in
         let front = stands_front setting.tab pb sb (last ∷ []) second.1 in
         let top = (stands_back setting.tab pb (length cb) sb (last ∷ []) count_b second.1).0 in
-        let closes : block_returns b ≡ false → Leads (table setting) pj (end_shape setting.fs (size setting) opened locals all b) = λ goes. exact setting.tab pj (end_shape setting.fs (size setting) opened locals all b) (top ∙ ap (λ q. Some (reached q (end_shape setting.fs (size setting) opened locals all b))) goes) in
-        let home : Leads (table setting) place (made setting opened locals all 0) = expr_enters setting opened locals all room cuts_all e place 0 (Some (made setting opened locals all 1) ∷ (sb ++ last ∷ [])) fine_e stands in
-        let far : Leads (table setting) (pb + distance (length (cb ++ j ∷ []))) (made setting opened locals all 0) = subst (λ p. Leads (table setting) p (made setting opened locals all 0)) (ap (λ m. place + m) n_all ∙ four place (length ce) (length cb) (distance (length (cb ++ j ∷ []))) reach) (leads refl) in
+        let closes : block_returns b ≡ false → FlowsInto (table setting) pj (end_shape setting.fs (size setting) opened locals all b) = λ goes. exact setting.tab pj (end_shape setting.fs (size setting) opened locals all b) (top ∙ ap (λ q. Some (reached q (end_shape setting.fs (size setting) opened locals all b))) goes) in
+        let home : FlowsInto (table setting) place (made setting opened locals all 0) = expr_enters setting opened locals all room cuts_all e place 0 (Some (made setting opened locals all 1) ∷ (sb ++ last ∷ [])) fine_e stands in
+        let far : FlowsInto (table setting) (pb + distance (length (cb ++ j ∷ []))) (made setting opened locals all 0) = subst (λ p. FlowsInto (table setting) p (made setting opened locals all 0)) (ap (λ m. place + m) n_all ∙ four place (length ce) (length cb) (distance (length (cb ++ j ∷ []))) reach) (leads refl) in
         let near = block_enters setting returns level opened locals all b pb at room cuts_all fine_b front closes in
         let goes_back : pj - distance (length ce + 1 + length cb) ≡ place = omega (arith, reach_back) in
         let starts = (setting.within place home.there home.found).0 in
         let named : nat_le (setting.f.start + distance (length ce + 1 + length cb)) pj ≡ true = at_most (setting.f.start + distance (length ce + 1 + length cb)) pj (omega (arith, starts, reach_back)) in
         let jump : FitsAt setting pj last j =
         back_fits setting (block_returns b) pj (distance (length ce + 1 + length cb)) (end_shape setting.fs (size setting) opened locals all b) named
-        (λ goes. subst (λ p. Leads (table setting) p (end_shape setting.fs (size setting) opened locals all b)) (sym goes_back) (takes_less (table setting) place (end_shape setting.fs (size setting) opened locals all b) (made setting opened locals all 0) home refl
+        (λ goes. subst (λ p. FlowsInto (table setting) p (end_shape setting.fs (size setting) opened locals all b)) (sym goes_back) (takes_less (table setting) place (end_shape setting.fs (size setting) opened locals all b) (made setting opened locals all 0) home refl
         (branch_covers setting opened locals all all b free (λ d x h. held_by_turns false (held_turn setting.fs (depth_in opened) b) taken all (setting.least (depth_in opened) e b taken fine.3) d x (ap (λ q. holds false d x (where_it_goes_on q after_b)) goes ∙ h))))) in
         both_fit setting place se (Some (made setting opened locals all 1) ∷ (sb ++ last ∷ [])) ce (i ∷ (cb ++ j ∷ [])) (expr_fits setting opened locals all room cuts_all e line place 0 fine_e (stands_front setting.tab place se (Some (made setting opened locals all 1) ∷ (sb ++ last ∷ [])) stands) (exact setting.tab (place + length ce) (made setting opened locals all 1) second.0)) (
           (lies setting (pb + distance (length (cb ++ j ∷ []))) (made setting opened locals all 0) far, refl, (near, (far, tt))),
@@ -234,7 +234,7 @@ module _ (setting : Setting) where
         let cb = block_code (first setting) setting.lists locals b in
         let n_all : length (instr.Open block.Scope ∷ (cb ++ instr.Close ∷ [])) ≡ 1 + length cb + 1 = omega (arith, length-append cb (instr.Close ∷ [])) in
         let ss = block_shapes setting.fs (size setting) (None ∷ opened) locals taken b in
-        let exit = subst (λ m. Leads (table setting) (place + length (instr.Open block.Scope ∷ (cb ++ instr.Close ∷ []))) (made setting opened locals (freed (m + 1) (without (own_names b) (held_after_all setting.fs (m + 1) b taken))) 0)) (sym at) (leads refl) in
+        let exit = subst (λ m. FlowsInto (table setting) (place + length (instr.Open block.Scope ∷ (cb ++ instr.Close ∷ []))) (made setting opened locals (freed (m + 1) (without (own_names b) (held_after_all setting.fs (m + 1) b taken))) 0)) (sym at) (leads refl) in
         inside_fits setting level opened locals taken b block.Scope place at room cuts refl fine.0 fine.1 stands exit
         (λ closes. block_fits Nowhere (level + 1) (None ∷ opened) locals taken b (place + 1) (omega (arith, at)) room cuts tt fine.0 (omega (arith, short, n_all)) (stands_front setting.tab (place + 1) ss (reached (block_returns b) (end_shape setting.fs (size setting) (None ∷ opened) locals taken b) ∷ []) stands.1) closes)
     stmt_fits returns level opened locals taken line (Region tag b) place at room cuts returning fine short stands leads =
@@ -242,7 +242,7 @@ module _ (setting : Setting) where
         let kind = block.Region (slot_of tag setting.lists.tags) in
         let n_all : length (instr.Open kind ∷ (cb ++ instr.Close ∷ [])) ≡ 1 + length cb + 1 = omega (arith, length-append cb (instr.Close ∷ [])) in
         let ss = block_shapes setting.fs (size setting) (None ∷ opened) locals taken b in
-        let exit = subst (λ m. Leads (table setting) (place + length (instr.Open kind ∷ (cb ++ instr.Close ∷ []))) (made setting opened locals (freed (m + 1) (without (own_names b) (held_after_all setting.fs (m + 1) b taken))) 0)) (sym at) (leads refl) in
+        let exit = subst (λ m. FlowsInto (table setting) (place + length (instr.Open kind ∷ (cb ++ instr.Close ∷ []))) (made setting opened locals (freed (m + 1) (without (own_names b) (held_after_all setting.fs (m + 1) b taken))) 0)) (sym at) (leads refl) in
         inside_fits setting level opened locals taken b kind place at room cuts (index_there setting.code.tags setting.lists.tags tag setting.tags_are fine.0) fine.1 fine.2 stands exit
         (λ closes. block_fits Nowhere (level + 1) (None ∷ opened) locals taken b (place + 1) (omega (arith, at)) room cuts tt fine.1 (omega (arith, short, n_all)) (stands_front setting.tab (place + 1) ss (reached (block_returns b) (end_shape setting.fs (size setting) (None ∷ opened) locals taken b) ∷ []) stands.1) closes)
     stmt_fits returns level opened locals taken line (Return None) place at room cuts returning fine short stands leads =
@@ -256,7 +256,7 @@ module _ (setting : Setting) where
     -- so do those of a block
     pub block_fits : (returns : Returns) (level : ℕ) (opened : Opened) (locals : Locals) (taken : Taken) (b : Block) (place : ℕ) → level ≡ depth_in opened → HasRoom setting locals → CutsOpen opened locals taken → Returning returns opened setting.f.gives_int → BlockFine setting.fs setting.lists (tables setting) (size setting) returns level locals taken b →
         length (block_code (first setting) setting.lists locals b) ≤ most_jump → StandsAt setting.tab place (block_shapes setting.fs (size setting) opened locals taken b) →
-        (block_returns b ≡ false → Leads (table setting) (place + length (block_code (first setting) setting.lists locals b)) (end_shape setting.fs (size setting) opened locals taken b)) →
+        (block_returns b ≡ false → FlowsInto (table setting) (place + length (block_code (first setting) setting.lists locals b)) (end_shape setting.fs (size setting) opened locals taken b)) →
         AllFit setting place (block_shapes setting.fs (size setting) opened locals taken b) (block_code (first setting) setting.lists locals b)
     block_fits returns level opened locals taken End place at room cuts returning fine short stands leads = tt
     block_fits returns level opened locals taken (Then line s End) place at room cuts returning fine short stands leads =
@@ -265,7 +265,7 @@ module _ (setting : Setting) where
         let n_all : length (cs ++ []) ≡ length cs = length-append cs [] ∙ plus_zero (length cs) in
         both_fit setting place ss [] cs []
         (stmt_fits returns level opened locals taken line s place at room cuts returning fine.0 (omega (arith, short, n_all)) (stands_front setting.tab place ss [] stands)
-        (λ goes. subst (λ m. Leads (table setting) (place + m) (made setting opened (locals_after locals s) (held_after setting.fs (depth_in opened) s taken) 0)) n_all (leads goes)))
+        (λ goes. subst (λ m. FlowsInto (table setting) (place + m) (made setting opened (locals_after locals s) (held_after setting.fs (depth_in opened) s taken) 0)) n_all (leads goes)))
         tt
     block_fits returns level opened locals taken (Then line s (Then line' s' b')) place at room cuts returning fine short stands leads =
         let b = Then line' s' b' in
@@ -280,10 +280,10 @@ module _ (setting : Setting) where
         let second = stands_back setting.tab place (length cs) ss sb (stmt_as_many setting.fs setting.lists (tables setting) (size setting) returns level opened locals taken line s at fine.0) stands in
         let n_all : length (cs ++ cb) ≡ length cs + length cb = length-append cs cb in
         let two : place + length (cs ++ cb) ≡ place + length cs + length cb = omega (arith, n_all) in
-        let ends : surely_returns s ≡ false → block_returns b ≡ false → Leads (table setting) (place + length cs + length cb) (end_shape setting.fs (size setting) opened (locals_after locals s) taken' b) = λ goes more.
-        subst (λ p. Leads (table setting) p (end_shape setting.fs (size setting) opened (locals_after locals s) taken' b)) two (leads (both_go_on line s b goes more)) in
+        let ends : surely_returns s ≡ false → block_returns b ≡ false → FlowsInto (table setting) (place + length cs + length cb) (end_shape setting.fs (size setting) opened (locals_after locals s) taken' b) = λ goes more.
+        subst (λ p. FlowsInto (table setting) p (end_shape setting.fs (size setting) opened (locals_after locals s) taken' b)) two (leads (both_go_on line s b goes more)) in
         both_fit setting place ss sb cs cb
         (stmt_fits returns level opened locals taken line s place at room cuts returning fine.0 (omega (arith, short, n_all)) (stands_front setting.tab place ss sb stands)
         (λ goes. block_enters setting returns level opened (locals_after locals s) taken' b (place + length cs) at room' cuts' fine' second (ends goes)))
         (block_fits returns level opened (locals_after locals s) taken' (Then line' s' b') (place + length cs) at room' cuts' returning fine' (omega (arith, short, n_all)) second
-        (λ more. subst (λ p. Leads (table setting) p (end_shape setting.fs (size setting) opened (locals_after locals s) taken' b)) two (leads more)))
+        (λ more. subst (λ p. FlowsInto (table setting) p (end_shape setting.fs (size setting) opened (locals_after locals s) taken' b)) two (leads more)))

@@ -7,7 +7,7 @@ use Rattle.cw_model.specs.declared.syntax.CallKind.TheVariants.{Plain, Spawned}
 use Rattle.cw_model.specs.Syntax.{Name, Expr, Call, Param}
 use Rattle.cw_model.specs.Names.{same_name, is_among, differ}
 use Rattle.std.proofs.lemmas.List.{length-map}
-use Rattle.cw_model.specs.Meaning.{function_of}
+use Rattle.cw_model.specs.Meaning.{function_named}
 use Rattle.cw_model.specs.Sites.{Of}
 use Rattle.cw_model.specs.Typing.{Nowhere}
 use Rattle.cw_model.specs.Ownership.{SpawnIn, Taken, taken_by, target_names}
@@ -18,7 +18,7 @@ use Rattle.std.proofs.lemmas.Slice.Eq.{bytes_eq-Decides}
 use Rattle.cw_code.specs.declared.code.Callee.{Callee}
 use Rattle.cw_code.specs.declared.code.Instr.TheVariants as instr
 use Rattle.cw_code.specs.Run.{slots_named, passed_by}
-use Rattle.cw_code.specs.Fits.{params_of, array_params_of, gives_value, is_kind, is_site, names_target, is_none_of, names_arrays, names_passed, names_callee, has_array, has_arrays, has_target, has_arguments, with_target, with_gone, with_passed, leaves, Covers, CoversEach, Leads}
+use Rattle.cw_code.specs.Fits.{params_of, array_params_of, gives_value, is_kind, is_site, names_target, is_none_of, names_arrays, names_passed, names_callee, has_array, has_arrays, has_target, has_arguments, with_target, with_gone, with_passed, leaves, Covers, CoversEach, FlowsInto}
 use Rattle.cw_gen.specs.Emit.{callee_of}
 use Rattle.cw_gen.proofs.Held.{held_after}
 use Rattle.cw_gen.proofs.Decided.{both_true, first_true, second_true, at_most, below, equal}
@@ -110,7 +110,7 @@ module _ (setting : Setting) where
 
   -- a call names a function that is there, and an array slot of the caller for each array that it takes
   pub passed_named : (locals : Locals) (taken : Taken) (name : Name) (passed : List ℕ) (xs : List Name) → HasRoom setting locals → is_function name setting.fs ≡ true → AllUsable locals.arrays taken xs → differ xs ≡ true → passed ≡ slots_for locals.arrays xs →
-      length xs ≡ length (locals_of (function_of name setting.fs).params).arrays → names_passed setting.code setting.f (slot_of name setting.lists.functions) passed ≡ true
+      length xs ≡ length (locals_of (function_named name setting.fs).params).arrays → names_passed setting.code setting.f (slot_of name setting.lists.functions) passed ≡ true
   passed_named locals taken name passed xs room is us apart same many =
       let index = slot_of name setting.lists.functions in
       let callee = slice_get setting.code.funcs index in
@@ -134,10 +134,10 @@ module _ (setting : Setting) where
 
   -- the instruction of a call
   pub call_fits : (opened : Opened) (locals : Locals) (taken : Taken) → HasRoom setting locals → CutsOpen opened locals taken → (kind : CallKind) (site : ℕ) (target : Option Name) (name : Name) (es : List Expr) (line place : ℕ) → StmtFine setting.fs setting.lists (tables setting) (size setting) Nowhere (depth_in opened) locals taken (Call kind site target name es) →
-      Leads (table setting) (place + 1) (made setting opened locals (held_after setting.fs (depth_in opened) (Call kind site target name es) taken) 0) →
-      FitsAt setting place (Some (made setting opened locals taken (args_after 0 (function_of name setting.fs).params es))) (instr.Call kind (callee_of line site (option_map (λ x. slot_of x locals.ints) target) (slot_of name setting.lists.functions)))
+      FlowsInto (table setting) (place + 1) (made setting opened locals (held_after setting.fs (depth_in opened) (Call kind site target name es) taken) 0) →
+      FitsAt setting place (Some (made setting opened locals taken (args_after 0 (function_named name setting.fs).params es))) (instr.Call kind (callee_of line site (option_map (λ x. slot_of x locals.ints) target) (slot_of name setting.lists.functions)))
   call_fits opened locals taken room cuts kind site target name es line place fine leads =
-      let g = function_of name setting.fs in
+      let g = function_named name setting.fs in
       let c = callee_of line site (option_map (λ x. slot_of x locals.ints) target) (slot_of name setting.lists.functions) in
       let entry = setting.functions.entry name fine.0 in
       let fn = entry.0 in
@@ -173,12 +173,12 @@ module _ (setting : Setting) where
       c : Option Name → Callee
       c t = callee_of line site (option_map (λ x. slot_of x locals.ints) t) (slot_of name setting.lists.functions)
 
-      target_named : (target : Option Name) → gives_value (slice_get setting.code.funcs (slot_of name setting.lists.functions)) ≡ (function_of name setting.fs).gives_int → TargetFine locals taken (function_of name setting.fs) target → names_target setting.code setting.f (c target) (c target).target ≡ true
+      target_named : (target : Option Name) → gives_value (slice_get setting.code.funcs (slot_of name setting.lists.functions)) ≡ (function_named name setting.fs).gives_int → TargetFine locals taken (function_named name setting.fs) target → names_target setting.code setting.f (c target) (c target).target ≡ true
       target_named None gives h = refl
       target_named (Some x) gives h =
           both_true (nat_lt (slot_of x locals.ints) (size setting).ints) (gives_value (slice_get setting.code.funcs (slot_of name setting.lists.functions))) (slot_is_there setting opened locals taken room cuts x h.0) (gives ∙ h.1)
 
-      target_ready : (many : ℕ) (target : Option Name) → TargetFine locals taken (function_of name setting.fs) target → has_target (made setting opened locals taken many) (c target).target ≡ true
+      target_ready : (many : ℕ) (target : Option Name) → TargetFine locals taken (function_named name setting.fs) target → has_target (made setting opened locals taken many) (c target).target ≡ true
       target_ready many None h = refl
       target_ready many (Some x) h = slot_is_full (size setting) opened locals taken x many room.0 h.0
 
@@ -188,7 +188,7 @@ module _ (setting : Setting) where
       more : (target : Option Name) (d : ℕ) (y : Name) → holds false d y taken ≡ true → holds false d y (taken_by (depth_in opened) (names target) taken) ≡ true
       more target = spawn_keeps (depth_in opened) (names target) taken
 
-      covered : (kind : CallKind) (target : Option Name) → TargetFine locals taken (function_of name setting.fs) target →
+      covered : (kind : CallKind) (target : Option Name) → TargetFine locals taken (function_named name setting.fs) target →
           Covers (row (size setting).ints (depth_in opened) locals.ints (held_after setting.fs (depth_in opened) (Call kind site target name es) taken)) (with_target kind (c target).target (row (size setting).ints (depth_in opened) locals.ints taken))
       covered Plain target h = covers_itself (row (size setting).ints (depth_in opened) locals.ints taken)
       covered Spawned None h = row_more (size setting).ints (depth_in opened) locals.ints taken (taken_by (depth_in opened) (ownership.given setting.fs name es) taken) (more None (depth_in opened))

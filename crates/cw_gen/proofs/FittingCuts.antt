@@ -10,7 +10,7 @@ use Rattle.cw_tree.specs.Resolved.{Locals, slot_of, with_array}
 use Rattle.cw_tree.specs.lemmas.NamedSlots.{slot_stays, slot_in}
 use Rattle.std.proofs.lemmas.Slice.Eq.{bytes_eq-Decides}
 use Rattle.cw_code.specs.declared.code.Instr.TheVariants as instr
-use Rattle.cw_code.specs.Fits.{names_halves, gone_rows, is_full_in, full_in_all, has_array, has_arrays, is_no_part, are_no_parts, is_ready, leaves, Covers, CoversEach, Leads}
+use Rattle.cw_code.specs.Fits.{names_halves, gone_rows, is_full_in, full_in_all, has_array, has_arrays, is_no_part, are_no_parts, is_ready, leaves, Covers, CoversEach, FlowsInto}
 use Rattle.cw_loops.specs.lemmas.Naming.{among_left}
 use Rattle.cw_gen.proofs.Held.{held_after, held_after_all}
 use Rattle.cw_gen.proofs.Decided.{both_true, at_most, below}
@@ -30,8 +30,8 @@ module _ (setting : Setting) where
   -- the end of a cut
   pub cut_closes : (opened : Opened) (locals : Locals) (taken : Taken) (a l r : Name) (b : Block) (next_place : ℕ) → HasRoom setting locals → CutsOpen opened locals taken → IsUsable locals.arrays taken a → PartsFine (size setting) locals l r →
       ((x : Name) → is_among x (l ∷ r ∷ own_names b) ≡ true → is_taken (freed (suc (depth_in opened)) (held_after_all setting.fs (suc (depth_in opened)) b ((a, CutOf) ∷ taken))) x ≡ false) →
-      Leads (table setting) next_place (made setting opened locals (cut_ended a (freed (depth_in opened + 1) (without (l ∷ r ∷ own_names b) (held_after_all setting.fs (depth_in opened + 1) b ((a, CutOf) ∷ taken))))) 0) →
-      (true ≡ true) × (is_ready setting.code (end_shape setting.fs (size setting) (Some (halves_at locals a) ∷ opened) (with_array r (with_array l locals)) ((a, CutOf) ∷ taken) b) instr.EndCut ≡ true) × (Leads (table setting) next_place (leaves setting.code (end_shape setting.fs (size setting) (Some (halves_at locals a) ∷ opened) (with_array r (with_array l locals)) ((a, CutOf) ∷ taken) b) instr.EndCut) × Unit {0})
+      FlowsInto (table setting) next_place (made setting opened locals (cut_ended a (freed (depth_in opened + 1) (without (l ∷ r ∷ own_names b) (held_after_all setting.fs (depth_in opened + 1) b ((a, CutOf) ∷ taken))))) 0) →
+      (true ≡ true) × (is_ready setting.code (end_shape setting.fs (size setting) (Some (halves_at locals a) ∷ opened) (with_array r (with_array l locals)) ((a, CutOf) ∷ taken) b) instr.EndCut ≡ true) × (FlowsInto (table setting) next_place (leaves setting.code (end_shape setting.fs (size setting) (Some (halves_at locals a) ∷ opened) (with_array r (with_array l locals)) ((a, CutOf) ∷ taken) b) instr.EndCut) × Unit {0})
   cut_closes opened locals taken a l r b next_place room cuts usable parts free leads =
       let inner = with_array r (with_array l locals) in
       let inner_taken = (a, CutOf) ∷ taken in
@@ -47,7 +47,7 @@ module _ (setting : Setting) where
       let within_a = slot_in a locals.arrays usable.declared in
       let plus : depth_in opened + 1 ≡ level = omega arith in
       let left = cut_ended a (freed level (without own after_it)) in
-      let leads' : Leads (table setting) next_place (made setting opened locals left 0) = subst (λ m. Leads (table setting) next_place (made setting opened locals (cut_ended a (freed m (without own (held_after_all setting.fs m b inner_taken)))) 0)) plus leads in
+      let leads' : FlowsInto (table setting) next_place (made setting opened locals left 0) = subst (λ m. FlowsInto (table setting) next_place (made setting opened locals (cut_ended a (freed m (without own (held_after_all setting.fs m b inner_taken)))) 0)) plus leads in
       let same : extended inner ext.ints ext.arrays ≡ extended locals ext.ints (l ∷ r ∷ ext.arrays) = same_locals (locals.ints ++ ext.ints) (locals.ints ++ ext.ints) (inner.arrays ++ ext.arrays) (locals.arrays ++ l ∷ r ∷ ext.arrays) refl
       (append_assoc (locals.arrays ++ l ∷ []) (r ∷ []) ext.arrays ∙ append_assoc locals.arrays (l ∷ []) (r ∷ ext.arrays)) in
       let last = locals_after_all inner b in
@@ -93,9 +93,9 @@ module _ (setting : Setting) where
   -- a cut, the block that has its parts, and its end
   pub cut_fits : (level : ℕ) (opened : Opened) (locals : Locals) (taken : Taken) (a l r : Name) (e : Expr) (b : Block) (line place : ℕ) → level ≡ depth_in opened → HasRoom setting locals → CutsOpen opened locals taken → IsUsable locals.arrays taken a → ExprFine locals taken e → PartsFine (size setting) locals l r →
       BlockFine setting.fs setting.lists (tables setting) (size setting) Nowhere (level + 1) (with_array r (with_array l locals)) ((a, CutOf) ∷ taken) b → FreeAtEnd setting.fs (level + 1) Joins ((a, CutOf) ∷ taken) (l ∷ r ∷ own_names b) b →
-      StandsAt setting.tab place (stmt_shapes setting.fs (size setting) opened locals taken (Cut a e l r b)) → Leads (table setting) (place + length (stmt_code (first setting) setting.lists locals line (Cut a e l r b))) (made setting opened locals (held_after setting.fs (depth_in opened) (Cut a e l r b) taken) 0) →
+      StandsAt setting.tab place (stmt_shapes setting.fs (size setting) opened locals taken (Cut a e l r b)) → FlowsInto (table setting) (place + length (stmt_code (first setting) setting.lists locals line (Cut a e l r b))) (made setting opened locals (held_after setting.fs (depth_in opened) (Cut a e l r b) taken) 0) →
       (CutsOpen (Some (halves_at locals a) ∷ opened) (with_array r (with_array l locals)) ((a, CutOf) ∷ taken) → HasRoom setting (with_array r (with_array l locals)) →
-      (block_returns b ≡ false → Leads (table setting) (place + length (expr_code locals line e) + 1 + length (block_code (first setting) setting.lists (with_array r (with_array l locals)) b)) (end_shape setting.fs (size setting) (Some (halves_at locals a) ∷ opened) (with_array r (with_array l locals)) ((a, CutOf) ∷ taken) b)) →
+      (block_returns b ≡ false → FlowsInto (table setting) (place + length (expr_code locals line e) + 1 + length (block_code (first setting) setting.lists (with_array r (with_array l locals)) b)) (end_shape setting.fs (size setting) (Some (halves_at locals a) ∷ opened) (with_array r (with_array l locals)) ((a, CutOf) ∷ taken) b)) →
       AllFit setting (place + length (expr_code locals line e) + 1) (block_shapes setting.fs (size setting) (Some (halves_at locals a) ∷ opened) (with_array r (with_array l locals)) ((a, CutOf) ∷ taken) b) (block_code (first setting) setting.lists (with_array r (with_array l locals)) b)) →
       AllFit setting place (stmt_shapes setting.fs (size setting) opened locals taken (Cut a e l r b)) (stmt_code (first setting) setting.lists locals line (Cut a e l r b))
   cut_fits level opened locals taken a l r e b line place at room cuts usable fine parts block free stands leads inner_fits =
@@ -127,7 +127,7 @@ module _ (setting : Setting) where
       let second = stands_back setting.tab place (length ce) se (Some shape ∷ (ss ++ last ∷ [])) (expr_as_many (made setting opened locals taken) 0 locals line e) stands in
       let front = stands_front setting.tab pb ss (last ∷ []) second.1 in
       let top = (stands_back setting.tab pb (length cb) ss (last ∷ []) count second.1).0 in
-      let closes : block_returns b ≡ false → Leads (table setting) pj end = λ goes. exact setting.tab pj end (top ∙ ap (λ q. Some (reached q end)) goes) in
+      let closes : block_returns b ≡ false → FlowsInto (table setting) pj end = λ goes. exact setting.tab pj end (top ∙ ap (λ q. Some (reached q end)) goes) in
       let enters = block_enters setting Nowhere (level + 1) inside inner inner_taken b pb deeper room' cuts' block front closes in
       let grown : Covers (row (size setting).arrays (depth_in opened) inner.arrays inner_taken) (row (size setting).arrays (depth_in opened) locals.arrays taken) =
       covers_after (row (size setting).arrays (depth_in opened) inner.arrays inner_taken) (row (size setting).arrays (depth_in opened) inner.arrays taken) (row (size setting).arrays (depth_in opened) locals.arrays taken)
@@ -138,7 +138,7 @@ module _ (setting : Setting) where
       each_covers_after (outers (size setting) opened inner inner_taken) (outers (size setting) opened inner taken) (outers (size setting) opened locals taken)
       (outers_more (size setting) opened inner taken inner_taken (λ d x le q. holds_behind false d x ((a, CutOf) ∷ []) taken q))
       (each_covers_after (outers (size setting) opened inner taken) (outers (size setting) opened (with_array l locals) taken) (outers (size setting) opened locals taken) (outers_array (size setting) opened (with_array l locals) r taken) (outers_array (size setting) opened locals l taken)) in
-      let opens : Leads (table setting) pb (leaves setting.code shape i) =
+      let opens : FlowsInto (table setting) pb (leaves setting.code shape i) =
       takes_less (table setting) pb (leaves setting.code shape i) (made setting inside inner inner_taken 0) enters refl (
         covers_none (row (size setting).ints (suc (depth_in opened)) locals.ints inner_taken) (length (row (size setting).ints (depth_in opened) locals.ints taken)) (length-row (size setting).ints (suc (depth_in opened)) locals.ints inner_taken ∙ sym (length-row (size setting).ints (depth_in opened) locals.ints taken)),
         covers_none (row (size setting).arrays (suc (depth_in opened)) inner.arrays inner_taken) (length (row (size setting).arrays (depth_in opened) locals.arrays taken)) (length-row (size setting).arrays (suc (depth_in opened)) inner.arrays inner_taken ∙ sym (length-row (size setting).arrays (depth_in opened) locals.arrays taken)),
@@ -155,7 +155,7 @@ module _ (setting : Setting) where
       (both_true (is_no_part h.left (outers (size setting) opened locals taken)) (is_no_part h.right (outers (size setting) opened locals taken)) (no_part (size setting) opened locals locals taken taken h.left (omega arith) cuts) (no_part (size setting) opened locals locals taken taken h.right (omega (arith, next)) cuts)) in
       let behind : place + length (ce ++ i ∷ (cb ++ instr.EndCut ∷ [])) ≡ pj + 1 = omega (arith, length-append ce (i ∷ (cb ++ instr.EndCut ∷ [])), length-append cb (instr.EndCut ∷ [])) in
       let after_it = held_after setting.fs (depth_in opened) (Cut a e l r b) taken in
-      let leads' : Leads (table setting) (pj + 1) (made setting opened locals after_it 0) = subst (λ p. Leads (table setting) p (made setting opened locals after_it 0)) behind leads in
+      let leads' : FlowsInto (table setting) (pj + 1) (made setting opened locals after_it 0) = subst (λ p. FlowsInto (table setting) p (made setting opened locals after_it 0)) behind leads in
       both_fit setting place se (Some shape ∷ (ss ++ last ∷ [])) ce (i ∷ (cb ++ instr.EndCut ∷ [])) (expr_fits setting opened locals taken room cuts e line place 0 fine (stands_front setting.tab place se (Some shape ∷ (ss ++ last ∷ [])) stands) (exact setting.tab (place + length ce) shape second.0))
       ((named, ready, (opens, tt)), both_fit setting pb ss (last ∷ []) cb (instr.EndCut ∷ []) (inner_fits cuts' room' closes) (closing (block_returns b) leads', tt))
     where
@@ -176,7 +176,7 @@ module _ (setting : Setting) where
           three_named true true true false false false true true a1 a2 a3 a4 a5 a6 a7 a8 = refl
           three_named p q s t u v w z a1 a2 a3 a4 a5 a6 a7 a8 = cc
 
-      closing : (q : Bool) → Leads (table setting) (place + length (expr_code locals line e) + 1 + length (block_code (first setting) setting.lists (with_array r (with_array l locals)) b) + 1) (made setting opened locals (held_after setting.fs (depth_in opened) (Cut a e l r b) taken) 0) →
+      closing : (q : Bool) → FlowsInto (table setting) (place + length (expr_code locals line e) + 1 + length (block_code (first setting) setting.lists (with_array r (with_array l locals)) b) + 1) (made setting opened locals (held_after setting.fs (depth_in opened) (Cut a e l r b) taken) 0) →
           FitsAt setting (place + length (expr_code locals line e) + 1 + length (block_code (first setting) setting.lists (with_array r (with_array l locals)) b)) (reached q (end_shape setting.fs (size setting) (Some (halves_at locals a) ∷ opened) (with_array r (with_array l locals)) ((a, CutOf) ∷ taken) b)) instr.EndCut
       closing true h = refl
       closing false h = cut_closes opened locals taken a l r b (place + length (expr_code locals line e) + 1 + length (block_code (first setting) setting.lists (with_array r (with_array l locals)) b) + 1) room cuts usable parts free' h

@@ -10,7 +10,7 @@ use Rattle.cw_loops.specs.Slotted.{slotted_argument}
 use Rattle.cw_code.specs.declared.code.UnaryOperator.TheVariants as unary
 use Rattle.cw_code.specs.declared.code.Instr.{Instr}
 use Rattle.cw_code.specs.declared.code.Instr.TheVariants as instr
-use Rattle.cw_code.specs.Fits.{Shape, has_array, Leads}
+use Rattle.cw_code.specs.Fits.{Shape, has_array, FlowsInto}
 use Rattle.cw_gen.specs.Emit.{emitted_arg}
 use Rattle.cw_gen.proofs.Decided.{both_true, at_most, below}
 use Rattle.cw_gen.proofs.Fine.{IsUsable, ExprFine, ArgFine, ArgsFine}
@@ -34,7 +34,7 @@ module _ (setting : Setting) where
     array_is_there x u = below (slot_of x locals.arrays) (size setting).arrays (omega (arith, slot_in x locals.arrays u.declared, room.1))
 
     -- the first place of an expression takes what comes to it
-    pub expr_enters : (e : Expr) (place n : ℕ) (more : Shapes) → ExprFine locals taken e → StandsAt setting.tab place (expr_shapes here n e ++ more) → Leads (table setting) place (here n)
+    pub expr_enters : (e : Expr) (place n : ℕ) (more : Shapes) → ExprFine locals taken e → StandsAt setting.tab place (expr_shapes here n e ++ more) → FlowsInto (table setting) place (here n)
     expr_enters (Number v) place n more fine h = exact setting.tab place (here n) h.0
     expr_enters (Variable x) place n more fine h = exact setting.tab place (here n) h.0
     expr_enters (Length x) place n more fine h = exact setting.tab place (here n) h.0
@@ -45,7 +45,7 @@ module _ (setting : Setting) where
         expr_enters d place n ((expr_shapes here (n + 1) e ++ Some (here (n + 1 + 1)) ∷ []) ++ more) fine.0 (subst (λ ss. StandsAt setting.tab place ss) (append_assoc (expr_shapes here n d) (expr_shapes here (n + 1) e ++ Some (here (n + 1 + 1)) ∷ []) more) h)
 
     -- an expression leaves one operand more
-    pub expr_fits : (e : Expr) (line place n : ℕ) → ExprFine locals taken e → StandsAt setting.tab place (expr_shapes here n e) → Leads (table setting) (place + length (expr_code locals line e)) (here (n + 1)) → AllFit setting place (expr_shapes here n e) (expr_code locals line e)
+    pub expr_fits : (e : Expr) (line place n : ℕ) → ExprFine locals taken e → StandsAt setting.tab place (expr_shapes here n e) → FlowsInto (table setting) (place + length (expr_code locals line e)) (here (n + 1)) → AllFit setting place (expr_shapes here n e) (expr_code locals line e)
     expr_fits (Number v) line place n fine stands leads = ((refl, refl, (leads, tt)), tt)
     expr_fits (Variable x) line place n fine stands leads = ((slot_is_there x fine, slot_is_full (size setting) opened locals taken x n room.0 fine, (leads, tt)), tt)
     expr_fits (Element x e) line place n fine stands leads =
@@ -55,7 +55,7 @@ module _ (setting : Setting) where
         let top = stands_back setting.tab place (length ce) ss (Some (here (n + 1)) ∷ []) (expr_as_many here n locals line e) stands in
         let at : place + length (ce ++ i ∷ []) ≡ place + length ce + 1 = omega (arith, length-append ce (i ∷ [])) in
         both_fit setting place ss (Some (here (n + 1)) ∷ []) ce (i ∷ []) (expr_fits e line place n fine.1 (stands_front setting.tab place ss (Some (here (n + 1)) ∷ []) stands) (exact setting.tab (place + length ce) (here (n + 1)) top.0))
-        ((array_is_there x fine.0, both_true (has_array (here (n + 1)) (slot_of x locals.arrays)) (nat_le 1 (n + 1)) (array_is_full (size setting) opened locals taken x (n + 1) room.1 fine.0 cuts) (at_most 1 (n + 1) (omega arith)), (subst (λ p. Leads (table setting) p (here (n + 1))) at leads, tt)), tt)
+        ((array_is_there x fine.0, both_true (has_array (here (n + 1)) (slot_of x locals.arrays)) (nat_le 1 (n + 1)) (array_is_full (size setting) opened locals taken x (n + 1) room.1 fine.0 cuts) (at_most 1 (n + 1) (omega arith)), (subst (λ p. FlowsInto (table setting) p (here (n + 1))) at leads, tt)), tt)
     expr_fits (Length x) line place n fine stands leads = ((array_is_there x fine, array_is_full (size setting) opened locals taken x n room.1 fine cuts, (leads, tt)), tt)
     expr_fits (Negative e) line place n fine stands leads =
         let ce = expr_code locals line e in
@@ -64,7 +64,7 @@ module _ (setting : Setting) where
         let top = stands_back setting.tab place (length ce) ss (Some (here (n + 1)) ∷ []) (expr_as_many here n locals line e) stands in
         let at : place + length (ce ++ i ∷ []) ≡ place + length ce + 1 = omega (arith, length-append ce (i ∷ [])) in
         both_fit setting place ss (Some (here (n + 1)) ∷ []) ce (i ∷ []) (expr_fits e line place n fine (stands_front setting.tab place ss (Some (here (n + 1)) ∷ []) stands) (exact setting.tab (place + length ce) (here (n + 1)) top.0))
-        ((refl, at_most 1 (n + 1) (omega arith), (subst (λ p. Leads (table setting) p (here (n + 1))) at leads, tt)), tt)
+        ((refl, at_most 1 (n + 1) (omega arith), (subst (λ p. FlowsInto (table setting) p (here (n + 1))) at leads, tt)), tt)
     expr_fits (Not e) line place n fine stands leads =
         let ce = expr_code locals line e in
         let i = instr.Unary unary.Not line in
@@ -72,7 +72,7 @@ module _ (setting : Setting) where
         let top = stands_back setting.tab place (length ce) ss (Some (here (n + 1)) ∷ []) (expr_as_many here n locals line e) stands in
         let at : place + length (ce ++ i ∷ []) ≡ place + length ce + 1 = omega (arith, length-append ce (i ∷ [])) in
         both_fit setting place ss (Some (here (n + 1)) ∷ []) ce (i ∷ []) (expr_fits e line place n fine (stands_front setting.tab place ss (Some (here (n + 1)) ∷ []) stands) (exact setting.tab (place + length ce) (here (n + 1)) top.0))
-        ((refl, at_most 1 (n + 1) (omega arith), (subst (λ p. Leads (table setting) p (here (n + 1))) at leads, tt)), tt)
+        ((refl, at_most 1 (n + 1) (omega arith), (subst (λ p. FlowsInto (table setting) p (here (n + 1))) at leads, tt)), tt)
     expr_fits (Binary operator d e) line place n fine stands leads =
         let cd = expr_code locals line d in
         let ce = expr_code locals line e in
@@ -86,7 +86,7 @@ module _ (setting : Setting) where
         let less : n + 1 ≡ n + 1 + 1 - 1 = omega arith in
         both_fit setting place sd (se ++ last) cd (ce ++ i ∷ []) (expr_fits d line place n fine.0 (stands_front setting.tab place sd (se ++ last) stands) (expr_enters e (place + length cd) (n + 1) last fine.1 second))
         (both_fit setting (place + length cd) se last ce (i ∷ []) (expr_fits e line (place + length cd) (n + 1) fine.1 (stands_front setting.tab (place + length cd) se last second) (exact setting.tab (place + length cd + length ce) (here (n + 1 + 1)) top.0))
-        ((refl, at_most 2 (n + 1 + 1) (omega arith), (subst (λ m. Leads (table setting) (place + length cd + length ce + 1) (here m)) less (subst (λ p. Leads (table setting) p (here (n + 1))) at leads), tt)), tt))
+        ((refl, at_most 2 (n + 1 + 1) (omega arith), (subst (λ m. FlowsInto (table setting) (place + length cd + length ce + 1) (here m)) less (subst (λ p. FlowsInto (table setting) p (here (n + 1))) at leads), tt)), tt))
 
     -- an expression and an instruction on its value
     pub valued_fits : (e : Expr) (line place : ℕ) (i : Instr) → ExprFine locals taken e → StandsAt setting.tab place (expr_shapes here 0 e ++ Some (here 1) ∷ []) → FitsAt setting (place + length (expr_code locals line e)) (Some (here 1)) i → AllFit setting place (expr_shapes here 0 e ++ Some (here 1) ∷ []) (expr_code locals line e ++ i ∷ [])
@@ -97,23 +97,23 @@ module _ (setting : Setting) where
         both_fit setting place ss (Some (here 1) ∷ []) ce (i ∷ []) (expr_fits e line place 0 fine (stands_front setting.tab place ss (Some (here 1) ∷ []) stands) (exact setting.tab (place + length ce) (here 1) top.0)) (last, tt)
 
     -- the first place of an expression before an instruction on its value
-    pub valued_enters : (e : Expr) (place : ℕ) (more : Shapes) → ExprFine locals taken e → StandsAt setting.tab place ((expr_shapes here 0 e ++ Some (here 1) ∷ []) ++ more) → Leads (table setting) place (here 0)
+    pub valued_enters : (e : Expr) (place : ℕ) (more : Shapes) → ExprFine locals taken e → StandsAt setting.tab place ((expr_shapes here 0 e ++ Some (here 1) ∷ []) ++ more) → FlowsInto (table setting) place (here 0)
     valued_enters e place more fine h = expr_enters e place 0 (Some (here 1) ∷ [] ++ more) fine (subst (λ ss. StandsAt setting.tab place ss) (append_assoc (expr_shapes here 0 e) (Some (here 1) ∷ []) more) h)
 
     -- the first place of arguments, or the place behind where they are none, takes what comes to it
-    pub args_enters : (ps : List Param) (es : List Expr) (line place n : ℕ) (more : Shapes) → ArgsFine locals taken ps es → StandsAt setting.tab place (args_shapes here n ps es ++ more) → Leads (table setting) (place + length (args_code locals line es)) (here (args_after n ps es)) → Leads (table setting) place (here n)
-    args_enters [] [] line place n more fine stands leads = let e : place + 0 ≡ place = omega arith in subst (λ p. Leads (table setting) p (here n)) e leads
+    pub args_enters : (ps : List Param) (es : List Expr) (line place n : ℕ) (more : Shapes) → ArgsFine locals taken ps es → StandsAt setting.tab place (args_shapes here n ps es ++ more) → FlowsInto (table setting) (place + length (args_code locals line es)) (here (args_after n ps es)) → FlowsInto (table setting) place (here n)
+    args_enters [] [] line place n more fine stands leads = let e : place + 0 ≡ place = omega arith in subst (λ p. FlowsInto (table setting) p (here n)) e leads
     args_enters [] (e ∷ es) line place n more fine stands leads = absurd fine
     args_enters (p ∷ ps) [] line place n more fine stands leads = absurd fine
     args_enters (p ∷ ps) (e ∷ es) line place n more fine stands leads = one (λ h k. args_enters ps es line place n more fine.1 h k) p.is_array fine.0 stands leads
       where
-        one : (StandsAt setting.tab place (args_shapes here n ps es ++ more) → Leads (table setting) (place + length (args_code locals line es)) (here (args_after n ps es)) → Leads (table setting) place (here n)) → (b : Bool) → ArgFine b locals taken e →
-            StandsAt setting.tab place ((arg_shapes b here n e ++ args_shapes here (after_arg b n) ps es) ++ more) → Leads (table setting) (place + length (args_code locals line (e ∷ es))) (here (args_after (after_arg b n) ps es)) → Leads (table setting) place (here n)
-        one rest true fine' h k = rest h (subst (λ q. Leads (table setting) (place + q) (here (args_after n ps es))) (ap (λ is. length (is ++ args_code locals line es)) (array_code locals taken line e fine')) k)
+        one : (StandsAt setting.tab place (args_shapes here n ps es ++ more) → FlowsInto (table setting) (place + length (args_code locals line es)) (here (args_after n ps es)) → FlowsInto (table setting) place (here n)) → (b : Bool) → ArgFine b locals taken e →
+            StandsAt setting.tab place ((arg_shapes b here n e ++ args_shapes here (after_arg b n) ps es) ++ more) → FlowsInto (table setting) (place + length (args_code locals line (e ∷ es))) (here (args_after (after_arg b n) ps es)) → FlowsInto (table setting) place (here n)
+        one rest true fine' h k = rest h (subst (λ q. FlowsInto (table setting) (place + q) (here (args_after n ps es))) (ap (λ is. length (is ++ args_code locals line es)) (array_code locals taken line e fine')) k)
         one rest false fine' h k = expr_enters e place n (args_shapes here (n + 1) ps es ++ more) fine'.0 (subst (λ ss. StandsAt setting.tab place ss) (append_assoc (expr_shapes here n e) (args_shapes here (n + 1) ps es) more) h)
 
     -- arguments leave an operand for each integer
-    pub args_fit : (ps : List Param) (es : List Expr) (line place n : ℕ) → ArgsFine locals taken ps es → StandsAt setting.tab place (args_shapes here n ps es) → Leads (table setting) (place + length (args_code locals line es)) (here (args_after n ps es)) → AllFit setting place (args_shapes here n ps es) (args_code locals line es)
+    pub args_fit : (ps : List Param) (es : List Expr) (line place n : ℕ) → ArgsFine locals taken ps es → StandsAt setting.tab place (args_shapes here n ps es) → FlowsInto (table setting) (place + length (args_code locals line es)) (here (args_after n ps es)) → AllFit setting place (args_shapes here n ps es) (args_code locals line es)
     args_fit [] [] line place n fine stands leads = tt
     args_fit [] (e ∷ es) line place n fine stands leads = absurd fine
     args_fit (p ∷ ps) [] line place n fine stands leads = absurd fine
@@ -122,11 +122,11 @@ module _ (setting : Setting) where
         ces : List Instr
         ces = args_code locals line es
 
-        one : ((q m : ℕ) → StandsAt setting.tab q (args_shapes here m ps es) → Leads (table setting) (q + length ces) (here (args_after m ps es)) → AllFit setting q (args_shapes here m ps es) ces) → (b : Bool) → ArgFine b locals taken e →
-            StandsAt setting.tab place (arg_shapes b here n e ++ args_shapes here (after_arg b n) ps es) → Leads (table setting) (place + length (args_code locals line (e ∷ es))) (here (args_after (after_arg b n) ps es)) → AllFit setting place (arg_shapes b here n e ++ args_shapes here (after_arg b n) ps es) (args_code locals line (e ∷ es))
+        one : ((q m : ℕ) → StandsAt setting.tab q (args_shapes here m ps es) → FlowsInto (table setting) (q + length ces) (here (args_after m ps es)) → AllFit setting q (args_shapes here m ps es) ces) → (b : Bool) → ArgFine b locals taken e →
+            StandsAt setting.tab place (arg_shapes b here n e ++ args_shapes here (after_arg b n) ps es) → FlowsInto (table setting) (place + length (args_code locals line (e ∷ es))) (here (args_after (after_arg b n) ps es)) → AllFit setting place (arg_shapes b here n e ++ args_shapes here (after_arg b n) ps es) (args_code locals line (e ∷ es))
         one rest true fine' h k =
             let none = array_code locals taken line e fine' in
-            subst (λ is. AllFit setting place (args_shapes here n ps es) (is ++ ces)) (sym none) (rest place n h (subst (λ q. Leads (table setting) (place + q) (here (args_after n ps es))) (ap (λ is. length (is ++ ces)) none) k))
+            subst (λ is. AllFit setting place (args_shapes here n ps es) (is ++ ces)) (sym none) (rest place n h (subst (λ q. FlowsInto (table setting) (place + q) (here (args_after n ps es))) (ap (λ is. length (is ++ ces)) none) k))
         one rest false fine' h k =
             let ce = expr_code locals line e in
             let same : emitted_arg line (slotted_argument locals e) ≡ ce = arg_code locals line e fine'.1 in
@@ -134,14 +134,14 @@ module _ (setting : Setting) where
             let more = args_shapes here (n + 1) ps es in
             let second = stands_back setting.tab place (length ce) ss more (expr_as_many here n locals line e) h in
             let at : place + length (emitted_arg line (slotted_argument locals e) ++ ces) ≡ place + length ce + length ces = omega (arith, length-append (emitted_arg line (slotted_argument locals e)) ces, ap length same) in
-            let leads' : Leads (table setting) (place + length ce + length ces) (here (args_after (n + 1) ps es)) = subst (λ q. Leads (table setting) q (here (args_after (n + 1) ps es))) at k in
+            let leads' : FlowsInto (table setting) (place + length ce + length ces) (here (args_after (n + 1) ps es)) = subst (λ q. FlowsInto (table setting) q (here (args_after (n + 1) ps es))) at k in
             subst (λ is. AllFit setting place (ss ++ more) (is ++ ces)) (sym same)
             (both_fit setting place ss more ce ces (expr_fits e line place n fine'.0 (stands_front setting.tab place ss more h) (args_enters ps es line (place + length ce) (n + 1) [] fine.1 (subst (λ ss'. StandsAt setting.tab (place + length ce) ss') (sym (append-nil more)) second) leads'))
             (rest (place + length ce) (n + 1) second leads'))
 
     -- arguments and an instruction that takes them
     pub given_fits : (ps : List Param) (es : List Expr) (line place : ℕ) (i : Instr) (next : Shape) → ArgsFine locals taken ps es → StandsAt setting.tab place (args_shapes here 0 ps es ++ Some (here (args_after 0 ps es)) ∷ []) →
-        (Leads (table setting) (place + length (args_code locals line es) + 1) next → FitsAt setting (place + length (args_code locals line es)) (Some (here (args_after 0 ps es))) i) → Leads (table setting) (place + length (args_code locals line es ++ i ∷ [])) next →
+        (FlowsInto (table setting) (place + length (args_code locals line es) + 1) next → FitsAt setting (place + length (args_code locals line es)) (Some (here (args_after 0 ps es))) i) → FlowsInto (table setting) (place + length (args_code locals line es ++ i ∷ [])) next →
         AllFit setting place (args_shapes here 0 ps es ++ Some (here (args_after 0 ps es)) ∷ []) (args_code locals line es ++ i ∷ [])
     given_fits ps es line place i next fine stands last leads =
         let ces = args_code locals line es in
@@ -150,4 +150,4 @@ module _ (setting : Setting) where
         let top = stands_back setting.tab place (length ces) ss (Some shape ∷ []) (args_as_many here 0 locals taken line ps es fine) stands in
         let behind : place + length (ces ++ i ∷ []) ≡ place + length ces + 1 = omega (arith, length-append ces (i ∷ [])) in
         both_fit setting place ss (Some shape ∷ []) ces (i ∷ []) (args_fit ps es line place 0 fine (stands_front setting.tab place ss (Some shape ∷ []) stands) (exact setting.tab (place + length ces) shape top.0))
-        (last (subst (λ p. Leads (table setting) p next) behind leads), tt)
+        (last (subst (λ p. FlowsInto (table setting) p next) behind leads), tt)

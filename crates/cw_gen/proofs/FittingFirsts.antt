@@ -1,11 +1,11 @@
 -- The first place of a statement takes what comes to it.
 use Rattle.std.proofs.Common.{◌≡◌, ℕ, ◌+◌, List, [], ◌∷◌, ◌++◌, length, false, Some, None, refl, sym, subst, arith, append_assoc, length-append}
 use Rattle.cw_model.specs.Syntax.{Expr, Stmt, Declare, DeclareArray, Assign, AssignElement, AddTo, Call, Start, Begin, Sync, If, IfElse, While, Scope, Cut, Region, Print, Return, Block, End, Then, Param}
-use Rattle.cw_model.specs.Meaning.{function_of}
+use Rattle.cw_model.specs.Meaning.{function_named}
 use Rattle.cw_model.specs.Typing.{Returns, Nowhere, WithInt, Alone, block_returns}
 use Rattle.cw_model.specs.Ownership.{Taken, without, own_names, where_it_goes_on}
 use Rattle.cw_tree.specs.Resolved.{Locals, locals_after}
-use Rattle.cw_code.specs.Fits.{Leads}
+use Rattle.cw_code.specs.Fits.{FlowsInto}
 use Rattle.cw_gen.proofs.Held.{held_after, held_after_all}
 use Rattle.cw_gen.proofs.Fine.{ExprFine, ArgsFine, ReturnFine, StmtFine, BlockFine}
 use Rattle.cw_gen.proofs.Takens.{holds_before}
@@ -25,7 +25,7 @@ module _ (setting : Setting) where
 
   -- arguments and the instruction of their call
   args_enter_call : (opened : Opened) (locals : Locals) (taken : Taken) (ps : List Param) (es : List Expr) (place : ℕ) (more : Shapes) → HasRoom setting locals → CutsOpen opened locals taken → ArgsFine locals taken ps es →
-      StandsAt setting.tab place ((args_shapes (made setting opened locals taken) 0 ps es ++ Some (made setting opened locals taken (args_after 0 ps es)) ∷ []) ++ more) → Leads (table setting) place (made setting opened locals taken 0)
+      StandsAt setting.tab place ((args_shapes (made setting opened locals taken) 0 ps es ++ Some (made setting opened locals taken (args_after 0 ps es)) ∷ []) ++ more) → FlowsInto (table setting) place (made setting opened locals taken 0)
   args_enter_call opened locals taken ps es place more room cuts fine h =
       let shape = made setting opened locals taken (args_after 0 ps es) in
       let last = Some shape ∷ [] in
@@ -37,7 +37,7 @@ module _ (setting : Setting) where
       args_enters setting opened locals taken room cuts ps es 1 place 0 (last ++ more) fine h' (exact setting.tab (place + n) shape end)
 
   -- the first place of a statement takes what comes to it
-  pub stmt_enters : (returns : Returns) (level : ℕ) (opened : Opened) (locals : Locals) (taken : Taken) (s : Stmt) (place : ℕ) (more : Shapes) → level ≡ depth_in opened → HasRoom setting locals → CutsOpen opened locals taken → StmtFine setting.fs setting.lists (tables setting) (size setting) returns level locals taken s → StandsAt setting.tab place (stmt_shapes setting.fs (size setting) opened locals taken s ++ more) → Leads (table setting) place (made setting opened locals taken 0)
+  pub stmt_enters : (returns : Returns) (level : ℕ) (opened : Opened) (locals : Locals) (taken : Taken) (s : Stmt) (place : ℕ) (more : Shapes) → level ≡ depth_in opened → HasRoom setting locals → CutsOpen opened locals taken → StmtFine setting.fs setting.lists (tables setting) (size setting) returns level locals taken s → StandsAt setting.tab place (stmt_shapes setting.fs (size setting) opened locals taken s ++ more) → FlowsInto (table setting) place (made setting opened locals taken 0)
   stmt_enters returns level opened locals taken (Declare x e) place more at room cuts fine h = valued_enters setting opened locals taken room cuts e place more fine.1 h
   stmt_enters returns level opened locals taken (DeclareArray x e) place more at room cuts fine h = valued_enters setting opened locals taken room cuts e place more fine.1 h
   stmt_enters returns level opened locals taken (AssignElement x i e) place more at room cuts fine h =
@@ -48,9 +48,9 @@ module _ (setting : Setting) where
   stmt_enters returns level opened locals taken (AddTo s e) place more at room cuts fine h = valued_enters setting opened locals taken room cuts e place more fine.1 h
   stmt_enters returns level opened locals taken (Print e) place more at room cuts fine h = valued_enters setting opened locals taken room cuts e place more fine h
   stmt_enters returns level opened locals taken (Call kind site target name es) place more at room cuts fine h =
-      args_enter_call opened locals taken (function_of name setting.fs).params es place more room cuts fine.2 h
+      args_enter_call opened locals taken (function_named name setting.fs).params es place more room cuts fine.2 h
   stmt_enters returns level opened locals taken (Start kind name es) place more at room cuts fine h =
-      args_enter_call opened locals taken (function_of name setting.fs).params es place more room cuts fine.2 h
+      args_enter_call opened locals taken (function_named name setting.fs).params es place more room cuts fine.2 h
   stmt_enters returns level opened locals taken (Begin name from to captured over) place more at room cuts fine h =
       expr_enters setting opened locals taken room cuts from place 0 _ fine.2 (subst (λ ss. StandsAt setting.tab place ss) (append_assoc (expr_shapes (made setting opened locals taken) 0 from) _ more) h)
   stmt_enters returns level opened locals taken Sync place more at room cuts fine h = exact setting.tab place (made setting opened locals taken 0) h.0
@@ -77,8 +77,8 @@ module _ (setting : Setting) where
 
   -- so does that of a block, or the place behind an empty one
   pub block_enters : (returns : Returns) (level : ℕ) (opened : Opened) (locals : Locals) (taken : Taken) (b : Block) (place : ℕ) → level ≡ depth_in opened → HasRoom setting locals → CutsOpen opened locals taken → BlockFine setting.fs setting.lists (tables setting) (size setting) returns level locals taken b → StandsAt setting.tab place (block_shapes setting.fs (size setting) opened locals taken b) →
-      (block_returns b ≡ false → Leads (table setting) (place + length (block_code (first setting) setting.lists locals b)) (end_shape setting.fs (size setting) opened locals taken b)) → Leads (table setting) place (made setting opened locals taken 0)
-  block_enters returns level opened locals taken End place at room cuts fine h leads = let e : place + 0 ≡ place = omega arith in subst (λ p. Leads (table setting) p (made setting opened locals taken 0)) e (leads refl)
+      (block_returns b ≡ false → FlowsInto (table setting) (place + length (block_code (first setting) setting.lists locals b)) (end_shape setting.fs (size setting) opened locals taken b)) → FlowsInto (table setting) place (made setting opened locals taken 0)
+  block_enters returns level opened locals taken End place at room cuts fine h leads = let e : place + 0 ≡ place = omega arith in subst (λ p. FlowsInto (table setting) p (made setting opened locals taken 0)) e (leads refl)
   block_enters returns level opened locals taken (Then line s b) place at room cuts fine h leads = stmt_enters returns level opened locals taken s place (block_shapes setting.fs (size setting) opened (locals_after locals s) (held_after setting.fs (depth_in opened) s taken) b) at room cuts fine.0 h
 
   -- cuts stay open where a statement goes on

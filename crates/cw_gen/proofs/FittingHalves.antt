@@ -4,14 +4,14 @@ use Rattle.std.specs.Prelude.{slice_get}
 use Rattle.cw_model.specs.declared.syntax.CallKind.{CallKind}
 use Rattle.cw_model.specs.declared.syntax.CallKind.TheVariants.{Plain, Spawned}
 use Rattle.cw_model.specs.Syntax.{Name, Expr, Start}
-use Rattle.cw_model.specs.Meaning.{function_of}
+use Rattle.cw_model.specs.Meaning.{function_named}
 use Rattle.cw_model.specs.Typing.{Nowhere}
 use Rattle.cw_model.specs.Ownership.{Taken}
 use Rattle.cw_model.specs.Ownership as ownership
 use Rattle.cw_tree.specs.Resolved.{Locals, slot_of, locals_of}
 use Rattle.cw_code.specs.declared.code.Instr.TheVariants as instr
 use Rattle.cw_code.specs.Run.{slots_named, passed_by}
-use Rattle.cw_code.specs.Fits.{params_of, has_arrays, has_arguments, with_passed, leaves, Covers, CoversEach, Leads}
+use Rattle.cw_code.specs.Fits.{params_of, has_arrays, has_arguments, with_passed, leaves, Covers, CoversEach, FlowsInto}
 use Rattle.cw_gen.specs.Emit.{half_of}
 use Rattle.cw_gen.proofs.Held.{held_after}
 use Rattle.cw_gen.proofs.Decided.{both_true}
@@ -25,10 +25,10 @@ use Rattle.cw_gen.proofs.FittingCalls.{as_many_args, slots_full, passed_named, a
 module _ (setting : Setting) where
   -- the instruction of a call on a half
   pub half_fits : (opened : Opened) (locals : Locals) (taken : Taken) → HasRoom setting locals → CutsOpen opened locals taken → (kind : CallKind) (name : Name) (es : List Expr) (place : ℕ) → StmtFine setting.fs setting.lists (tables setting) (size setting) Nowhere (depth_in opened) locals taken (Start kind name es) →
-      Leads (table setting) (place + 1) (made setting opened locals (held_after setting.fs (depth_in opened) (Start kind name es) taken) 0) →
-      FitsAt setting place (Some (made setting opened locals taken (args_after 0 (function_of name setting.fs).params es))) (instr.Recur kind (half_of (first setting) kind (slot_of name setting.lists.functions)))
+      FlowsInto (table setting) (place + 1) (made setting opened locals (held_after setting.fs (depth_in opened) (Start kind name es) taken) 0) →
+      FitsAt setting place (Some (made setting opened locals taken (args_after 0 (function_named name setting.fs).params es))) (instr.Recur kind (half_of (first setting) kind (slot_of name setting.lists.functions)))
   half_fits opened locals taken room cuts kind name es place fine leads =
-      let g = function_of name setting.fs in
+      let g = function_named name setting.fs in
       let c = half_of (first setting) kind (slot_of name setting.lists.functions) in
       let entry = setting.functions.entry name fine.0 in
       let xs = ownership.given setting.fs name es in

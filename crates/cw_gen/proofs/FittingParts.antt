@@ -9,7 +9,7 @@ use Rattle.cw_tree.specs.Resolved.{Locals, slot_of}
 use Rattle.cw_code.specs.declared.code.BlockKind.{BlockKind}
 use Rattle.cw_code.specs.declared.code.Instr.{Instr}
 use Rattle.cw_code.specs.declared.code.Instr.TheVariants as instr
-use Rattle.cw_code.specs.Fits.{names_tag, Shape, has_slot, none_open, leaves, Leads}
+use Rattle.cw_code.specs.Fits.{names_tag, Shape, has_slot, none_open, leaves, FlowsInto}
 use Rattle.cw_gen.specs.Emit.{distance, past}
 use Rattle.cw_gen.proofs.Held.{held_after_all}
 use Rattle.cw_gen.proofs.Decided.{both_true, below}
@@ -28,25 +28,25 @@ index_there ks names x e h = below (slot_of x names) (length ks) (omega (arith, 
 
 module _ (setting : Setting) where
   -- the jump over the second branch
-  pub jump_fits : (returns : Bool) (place n : ℕ) (shape next : Shape) → Leads (table setting) (place + 1) next → (returns ≡ false → Leads (table setting) (place + 1 + n) shape) → distance n ≡ n → (r : Bool) → r ≡ returns → FitsAt setting place (reached returns shape) (instr.Skip (past r n))
+  pub jump_fits : (returns : Bool) (place n : ℕ) (shape next : Shape) → FlowsInto (table setting) (place + 1) next → (returns ≡ false → FlowsInto (table setting) (place + 1 + n) shape) → distance n ≡ n → (r : Bool) → r ≡ returns → FitsAt setting place (reached returns shape) (instr.Skip (past r n))
   jump_fits true place n shape next enters leads reach r e =
       let zero_more : place + 1 ≡ place + 1 + past r n = omega (arith, ap (λ q. past q n) e) in
-      lies setting (place + 1 + past r n) next (subst (λ p. Leads (table setting) p next) zero_more enters)
+      lies setting (place + 1 + past r n) next (subst (λ p. FlowsInto (table setting) p next) zero_more enters)
   jump_fits false place n shape next enters leads reach r e =
       let at : place + 1 + n ≡ place + 1 + past r n = omega (arith, ap (λ q. past q n) e, reach) in
-      let there = subst (λ p. Leads (table setting) p shape) at (leads refl) in
+      let there = subst (λ p. FlowsInto (table setting) p shape) at (leads refl) in
       (lies setting (place + 1 + past r n) shape there, refl, (there, tt))
 
   -- the jump back to a test
-  pub back_fits : (returns : Bool) (place n : ℕ) (shape : Shape) → nat_le (setting.f.start + n) place ≡ true → (returns ≡ false → Leads (table setting) (place - n) shape) → FitsAt setting place (reached returns shape) (instr.GoBack n)
+  pub back_fits : (returns : Bool) (place n : ℕ) (shape : Shape) → nat_le (setting.f.start + n) place ≡ true → (returns ≡ false → FlowsInto (table setting) (place - n) shape) → FitsAt setting place (reached returns shape) (instr.GoBack n)
   back_fits true place n shape named leads = named
   back_fits false place n shape named leads = (named, refl, (leads refl, tt))
 
   -- a block between an instruction that opens it and one that closes it
   pub inside_fits : (level : ℕ) (opened : Opened) (locals : Locals) (taken : Taken) (b : Block) (kind : BlockKind) (place : ℕ) → level ≡ depth_in opened → HasRoom setting locals → CutsOpen opened locals taken → names_tag setting.code kind ≡ true → BlockFine setting.fs setting.lists (tables setting) (size setting) Nowhere (level + 1) locals taken b → EndsFree setting.fs (level + 1) Joins taken b →
       StandsAt setting.tab place (Some (made setting opened locals taken 0) ∷ (block_shapes setting.fs (size setting) (None ∷ opened) locals taken b ++ reached (block_returns b) (end_shape setting.fs (size setting) (None ∷ opened) locals taken b) ∷ [])) →
-      Leads (table setting) (place + length (instr.Open kind ∷ (block_code (first setting) setting.lists locals b ++ instr.Close ∷ []))) (made setting opened locals (freed (level + 1) (without (own_names b) (held_after_all setting.fs (level + 1) b taken))) 0) →
-      ((block_returns b ≡ false → Leads (table setting) (place + 1 + length (block_code (first setting) setting.lists locals b)) (end_shape setting.fs (size setting) (None ∷ opened) locals taken b)) → AllFit setting (place + 1) (block_shapes setting.fs (size setting) (None ∷ opened) locals taken b) (block_code (first setting) setting.lists locals b)) →
+      FlowsInto (table setting) (place + length (instr.Open kind ∷ (block_code (first setting) setting.lists locals b ++ instr.Close ∷ []))) (made setting opened locals (freed (level + 1) (without (own_names b) (held_after_all setting.fs (level + 1) b taken))) 0) →
+      ((block_returns b ≡ false → FlowsInto (table setting) (place + 1 + length (block_code (first setting) setting.lists locals b)) (end_shape setting.fs (size setting) (None ∷ opened) locals taken b)) → AllFit setting (place + 1) (block_shapes setting.fs (size setting) (None ∷ opened) locals taken b) (block_code (first setting) setting.lists locals b)) →
       AllFit setting place (Some (made setting opened locals taken 0) ∷ (block_shapes setting.fs (size setting) (None ∷ opened) locals taken b ++ reached (block_returns b) (end_shape setting.fs (size setting) (None ∷ opened) locals taken b) ∷ [])) (instr.Open kind ∷ (block_code (first setting) setting.lists locals b ++ instr.Close ∷ []))
   inside_fits level opened locals taken b kind place at room cuts tag fine free stands leads inner =
       let cb = block_code (first setting) setting.lists locals b in
@@ -56,20 +56,20 @@ module _ (setting : Setting) where
       let count : length ss ≡ length cb = block_as_many setting.fs setting.lists (tables setting) (size setting) Nowhere (level + 1) (None ∷ opened) locals taken b deeper fine in
       let top = (stands_back setting.tab (place + 1) (length cb) ss (last ∷ []) count stands.1).0 in
       let front = stands_front setting.tab (place + 1) ss (last ∷ []) stands.1 in
-      let closes : block_returns b ≡ false → Leads (table setting) (place + 1 + length cb) (end_shape setting.fs (size setting) (None ∷ opened) locals taken b) = λ goes.
+      let closes : block_returns b ≡ false → FlowsInto (table setting) (place + 1 + length cb) (end_shape setting.fs (size setting) (None ∷ opened) locals taken b) = λ goes.
       exact setting.tab (place + 1 + length cb) (end_shape setting.fs (size setting) (None ∷ opened) locals taken b) (top ∙ ap (λ r. Some (reached r (end_shape setting.fs (size setting) (None ∷ opened) locals taken b))) goes) in
       let enters = block_enters setting Nowhere (level + 1) (None ∷ opened) locals taken b (place + 1) deeper room cuts fine front closes in
-      let begins : Leads (table setting) (place + 1) (leaves setting.code (made setting opened locals taken 0) (instr.Open kind)) =
+      let begins : FlowsInto (table setting) (place + 1) (leaves setting.code (made setting opened locals taken 0) (instr.Open kind)) =
       takes_less (table setting) (place + 1) (leaves setting.code (made setting opened locals taken 0) (instr.Open kind)) (made setting (None ∷ opened) locals taken 0) enters refl (
         covers_none (row (size setting).ints (suc (depth_in opened)) locals.ints taken) (length (row (size setting).ints (depth_in opened) locals.ints taken)) (length-row (size setting).ints (suc (depth_in opened)) locals.ints taken ∙ sym (length-row (size setting).ints (depth_in opened) locals.ints taken)),
         covers_none (row (size setting).arrays (suc (depth_in opened)) locals.arrays taken) (length (row (size setting).arrays (depth_in opened) locals.arrays taken)) (length-row (size setting).arrays (suc (depth_in opened)) locals.arrays taken ∙ sym (length-row (size setting).arrays (depth_in opened) locals.arrays taken)),
         (covers_itself (row (size setting).ints (depth_in opened) locals.ints taken), covers_itself (row (size setting).arrays (depth_in opened) locals.arrays taken), refl, each_covers_itself (outers (size setting) opened locals taken)),
       ) in
       let behind : place + length (instr.Open kind ∷ (cb ++ instr.Close ∷ [])) ≡ place + 1 + length cb + 1 = omega (arith, length-append cb (instr.Close ∷ [])) in
-      let leads' = subst (λ p. Leads (table setting) p (made setting opened locals (freed (level + 1) (without (own_names b) (held_after_all setting.fs (level + 1) b taken))) 0)) behind leads in
+      let leads' = subst (λ p. FlowsInto (table setting) p (made setting opened locals (freed (level + 1) (without (own_names b) (held_after_all setting.fs (level + 1) b taken))) 0)) behind leads in
       ((tag, refl, (begins, tt)), both_fit setting (place + 1) ss (last ∷ []) cb (instr.Close ∷ []) (inner closes) (closing (block_returns b) leads', tt))
     where
-      closing : (r : Bool) → Leads (table setting) (place + 1 + length (block_code (first setting) setting.lists locals b) + 1) (made setting opened locals (freed (level + 1) (without (own_names b) (held_after_all setting.fs (level + 1) b taken))) 0) → FitsAt setting (place + 1 + length (block_code (first setting) setting.lists locals b)) (reached r (end_shape setting.fs (size setting) (None ∷ opened) locals taken b)) instr.Close
+      closing : (r : Bool) → FlowsInto (table setting) (place + 1 + length (block_code (first setting) setting.lists locals b) + 1) (made setting opened locals (freed (level + 1) (without (own_names b) (held_after_all setting.fs (level + 1) b taken))) 0) → FitsAt setting (place + 1 + length (block_code (first setting) setting.lists locals b)) (reached r (end_shape setting.fs (size setting) (None ∷ opened) locals taken b)) instr.Close
       closing true h = refl
       closing false h = (refl, refl, (takes_less (table setting) (place + 1 + length (block_code (first setting) setting.lists locals b) + 1) (leaves setting.code (end_shape setting.fs (size setting) (None ∷ opened) locals taken b) instr.Close) (made setting opened locals (freed (level + 1) (without (own_names b) (held_after_all setting.fs (level + 1) b taken))) 0) h refl (inside_covers setting opened locals taken b level (omega (arith, at)) free), tt))
 
@@ -92,19 +92,19 @@ module _ (setting : Setting) where
 
   -- an expression and the store of its value
   pub store_fits : (opened : Opened) (locals locals' : Locals) (taken : Taken) → HasRoom setting locals → CutsOpen opened locals taken → (e : Expr) (line place a : ℕ) → nat_lt a (size setting).ints ≡ true → has_slot (made setting opened locals taken 1) a ≡ true → ExprFine locals taken e → StandsAt setting.tab place (expr_shapes (made setting opened locals taken) 0 e ++ Some (made setting opened locals taken 1) ∷ []) →
-      Over (made setting opened locals' taken 0) (made setting opened locals taken 0) → Leads (table setting) (place + length (expr_code locals line e ++ instr.Store a ∷ [])) (made setting opened locals' taken 0) →
+      Over (made setting opened locals' taken 0) (made setting opened locals taken 0) → FlowsInto (table setting) (place + length (expr_code locals line e ++ instr.Store a ∷ [])) (made setting opened locals' taken 0) →
       AllFit setting place (expr_shapes (made setting opened locals taken) 0 e ++ Some (made setting opened locals taken 1) ∷ []) (expr_code locals line e ++ instr.Store a ∷ [])
   store_fits opened locals locals' taken room cuts e line place a there slot fine stands covers leads =
       let ce = expr_code locals line e in
       let behind : place + length (ce ++ instr.Store a ∷ []) ≡ place + length ce + 1 = omega (arith, length-append ce (instr.Store a ∷ [])) in
       valued_fits setting opened locals taken room cuts e line place (instr.Store a) fine stands
-      (there, both_true (has_slot (made setting opened locals taken 1) a) true slot refl, (takes_less (table setting) (place + length ce + 1) (made setting opened locals taken 0) (made setting opened locals' taken 0) (subst (λ p. Leads (table setting) p (made setting opened locals' taken 0)) behind leads) refl covers, tt))
+      (there, both_true (has_slot (made setting opened locals taken 1) a) true slot refl, (takes_less (table setting) (place + length ce + 1) (made setting opened locals taken 0) (made setting opened locals' taken 0) (subst (λ p. FlowsInto (table setting) p (made setting opened locals' taken 0)) behind leads) refl covers, tt))
 
   -- an expression and an instruction that takes its value
   pub tell_fits : (opened : Opened) (locals : Locals) (taken : Taken) → HasRoom setting locals → CutsOpen opened locals taken → (e : Expr) (line place : ℕ) (i : Instr) → ExprFine locals taken e → StandsAt setting.tab place (expr_shapes (made setting opened locals taken) 0 e ++ Some (made setting opened locals taken 1) ∷ []) →
-      (Leads (table setting) (place + length (expr_code locals line e) + 1) (made setting opened locals taken 0) → FitsAt setting (place + length (expr_code locals line e)) (Some (made setting opened locals taken 1)) i) → Leads (table setting) (place + length (expr_code locals line e ++ i ∷ [])) (made setting opened locals taken 0) →
+      (FlowsInto (table setting) (place + length (expr_code locals line e) + 1) (made setting opened locals taken 0) → FitsAt setting (place + length (expr_code locals line e)) (Some (made setting opened locals taken 1)) i) → FlowsInto (table setting) (place + length (expr_code locals line e ++ i ∷ [])) (made setting opened locals taken 0) →
       AllFit setting place (expr_shapes (made setting opened locals taken) 0 e ++ Some (made setting opened locals taken 1) ∷ []) (expr_code locals line e ++ i ∷ [])
   tell_fits opened locals taken room cuts e line place i fine stands last leads =
       let ce = expr_code locals line e in
       let behind : place + length (ce ++ i ∷ []) ≡ place + length ce + 1 = omega (arith, length-append ce (i ∷ [])) in
-      valued_fits setting opened locals taken room cuts e line place i fine stands (last (subst (λ p. Leads (table setting) p (made setting opened locals taken 0)) behind leads))
+      valued_fits setting opened locals taken room cuts e line place i fine stands (last (subst (λ p. FlowsInto (table setting) p (made setting opened locals taken 0)) behind leads))

@@ -3,14 +3,14 @@ use Rattle.std.proofs.Common.{◌≡◌, ℕ, ◌+◌, ◌-◌, List, [], ◌∷
 use Rattle.std.specs.Prelude.{slice_get, map, nat_le}
 use Rattle.cw_model.specs.Syntax.{Name, Expr, Begin}
 use Rattle.std.proofs.lemmas.List.{append-nil}
-use Rattle.cw_model.specs.Meaning.{function_of}
+use Rattle.cw_model.specs.Meaning.{function_named}
 use Rattle.cw_model.specs.Typing.{Nowhere}
 use Rattle.cw_model.specs.Ownership.{Taken}
 use Rattle.cw_tree.specs.Resolved.{Locals, slot_of, locals_of}
 use Rattle.cw_code.specs.declared.code.Instr.{Instr}
 use Rattle.cw_code.specs.declared.code.Instr.TheVariants as instr
 use Rattle.cw_code.specs.Run.{slots_named, passed_by}
-use Rattle.cw_code.specs.Fits.{params_of, names_passed, Shape, has_arrays, leaves, Leads}
+use Rattle.cw_code.specs.Fits.{params_of, names_passed, Shape, has_arrays, leaves, FlowsInto}
 use Rattle.cw_gen.specs.Emit.{emitted_loads, whole_of}
 use Rattle.cw_gen.proofs.Decided.{both_true, at_most}
 use Rattle.cw_gen.proofs.Fine.{AllUsable, StmtFine}
@@ -40,25 +40,25 @@ module _ (setting : Setting) (opened : Opened) (locals : Locals) (taken : Taken)
   loads_code xs = emitted_loads (map (λ x. slot_of x locals.ints) xs)
 
   -- the first place of the loads takes what comes to it
-  loads_enter : (xs : List Name) (place n : ℕ) (more : Shapes) → StandsAt setting.tab place (loads_shapes here n xs ++ more) → Leads (table setting) (place + length (loads_code xs)) (here (loads_after n xs)) → Leads (table setting) place (here n)
-  loads_enter [] place n more stands leads = let e : place + 0 ≡ place = omega arith in subst (λ p. Leads (table setting) p (here n)) e leads
+  loads_enter : (xs : List Name) (place n : ℕ) (more : Shapes) → StandsAt setting.tab place (loads_shapes here n xs ++ more) → FlowsInto (table setting) (place + length (loads_code xs)) (here (loads_after n xs)) → FlowsInto (table setting) place (here n)
+  loads_enter [] place n more stands leads = let e : place + 0 ≡ place = omega arith in subst (λ p. FlowsInto (table setting) p (here n)) e leads
   loads_enter (x ∷ xs) place n more stands leads = exact setting.tab place (here n) stands.0
 
   -- the loads fit
-  loads_fit : (xs : List Name) (place n : ℕ) → AllUsable locals.ints taken xs → StandsAt setting.tab place (loads_shapes here n xs) → Leads (table setting) (place + length (loads_code xs)) (here (loads_after n xs)) → AllFit setting place (loads_shapes here n xs) (loads_code xs)
+  loads_fit : (xs : List Name) (place n : ℕ) → AllUsable locals.ints taken xs → StandsAt setting.tab place (loads_shapes here n xs) → FlowsInto (table setting) (place + length (loads_code xs)) (here (loads_after n xs)) → AllFit setting place (loads_shapes here n xs) (loads_code xs)
   loads_fit [] place n us stands leads = tt
   loads_fit (x ∷ xs) place n us stands leads =
       let e : place + length (loads_code (x ∷ xs)) ≡ place + 1 + length (loads_code xs) = omega arith in
-      let leads' : Leads (table setting) (place + 1 + length (loads_code xs)) (here (loads_after (n + 1) xs)) = subst (λ p. Leads (table setting) p (here (loads_after (n + 1) xs))) e leads in
+      let leads' : FlowsInto (table setting) (place + 1 + length (loads_code xs)) (here (loads_after (n + 1) xs)) = subst (λ p. FlowsInto (table setting) p (here (loads_after (n + 1) xs))) e leads in
       let more = stands.1 in
       let next = loads_enter xs (place + 1) (n + 1) [] (subst (λ ss. StandsAt setting.tab (place + 1) ss) (sym (append-nil (loads_shapes here (n + 1) xs))) more) leads' in
       ((slot_is_there setting opened locals taken room cuts x us.0, slot_is_full (size setting) opened locals taken x n room.0 us.0, (next, tt)), loads_fit xs (place + 1) (n + 1) us.1 more leads')
 
   -- the instruction of a first call
-  begin_fits : (name : Name) (from to : Expr) (captured over : List Name) (line place : ℕ) → StmtFine setting.fs setting.lists (tables setting) (size setting) Nowhere (depth_in opened) locals taken (Begin name from to captured over) → Leads (table setting) (place + 1) (here 0) →
+  begin_fits : (name : Name) (from to : Expr) (captured over : List Name) (line place : ℕ) → StmtFine setting.fs setting.lists (tables setting) (size setting) Nowhere (depth_in opened) locals taken (Begin name from to captured over) → FlowsInto (table setting) (place + 1) (here 0) →
       FitsAt setting place (Some (here (loads_after 2 captured))) (instr.Start (whole_of (first setting) (slot_of name setting.lists.functions)) line)
   begin_fits name from to captured over line place fine leads =
-      let g = function_of name setting.fs in
+      let g = function_named name setting.fs in
       let c = whole_of (first setting) (slot_of name setting.lists.functions) in
       let entry = setting.functions.entry name fine.0 in
       let slots = passed_by setting.code c.passed in
@@ -78,7 +78,7 @@ module _ (setting : Setting) (opened : Opened) (locals : Locals) (taken : Taken)
 
   -- a first call with what it is given
   pub range_fits : (name : Name) (from to : Expr) (captured over : List Name) (line place : ℕ) → StmtFine setting.fs setting.lists (tables setting) (size setting) Nowhere (depth_in opened) locals taken (Begin name from to captured over) → StandsAt setting.tab place (range_shapes here from to captured) →
-      Leads (table setting) (place + length (stmt_code (first setting) setting.lists locals line (Begin name from to captured over))) (here 0) →
+      FlowsInto (table setting) (place + length (stmt_code (first setting) setting.lists locals line (Begin name from to captured over))) (here 0) →
       AllFit setting place (range_shapes here from to captured) (stmt_code (first setting) setting.lists locals line (Begin name from to captured over))
   range_fits name from to captured over line place fine stands leads =
       let cf = expr_code locals line from in
@@ -96,9 +96,9 @@ module _ (setting : Setting) (opened : Opened) (locals : Locals) (taken : Taken)
       let second = stands_back setting.tab place (length cf) sf (st ++ (sl ++ last)) (expr_as_many here 0 locals line from) stands in
       let third = stands_back setting.tab pt (length ct) st (sl ++ last) (expr_as_many here 1 locals line to) second in
       let top = stands_back setting.tab pl (length cl) sl last (loads_as_many here 2 locals captured) third in
-      let ends : Leads (table setting) pi shape = exact setting.tab pi shape top.0 in
+      let ends : FlowsInto (table setting) pi shape = exact setting.tab pi shape top.0 in
       let behind : place + length (cf ++ (ct ++ (cl ++ i ∷ []))) ≡ pi + 1 = omega (arith, length-append cf (ct ++ (cl ++ i ∷ [])), length-append ct (cl ++ i ∷ []), length-append cl (i ∷ [])) in
-      let leads' : Leads (table setting) (pi + 1) (here 0) = subst (λ p. Leads (table setting) p (here 0)) behind leads in
+      let leads' : FlowsInto (table setting) (pi + 1) (here 0) = subst (λ p. FlowsInto (table setting) p (here 0)) behind leads in
       both_fit setting place sf (st ++ (sl ++ last)) cf (ct ++ (cl ++ i ∷ []))
       (expr_fits setting opened locals taken room cuts from line place 0 fine.2 (stands_front setting.tab place sf (st ++ (sl ++ last)) stands) (expr_enters setting opened locals taken room cuts to pt 1 (sl ++ last) fine.3 second))
       (both_fit setting pt st (sl ++ last) ct (cl ++ i ∷ [])

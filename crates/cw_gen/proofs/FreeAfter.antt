@@ -6,7 +6,7 @@ use Rattle.cw_model.specs.declared.syntax.CallKind.TheVariants.{Plain, Spawned}
 use Rattle.cw_model.specs.Lines.{unless}
 use Rattle.cw_model.specs.Syntax.{Name, Expr, Stmt, Declare, DeclareArray, Assign, AssignElement, AddTo, Call, Start, Begin, Sync, If, IfElse, While, For, Scope, Cut, Region, Print, Return, Block, End, Then, Function, Program}
 use Rattle.cw_model.specs.Names.{is_among}
-use Rattle.cw_model.specs.Meaning.{function_of}
+use Rattle.cw_model.specs.Meaning.{function_named}
 use Rattle.cw_model.specs.Typing.{Known, Returns, Nowhere, is_fine, is_int, is_array, is_call, called, is_cut, surely_returns, block_returns, declares, ends_block, faults_in, faults_in_block}
 use Rattle.cw_model.specs.Ownership.{SpawnIn, CutOf, Taken, freed, without, own_names, where_it_goes_on, target_names, arrays_given, given, may_read, may_write, Around, Closing, Joins, Leaves, Declared, declared_by, known_after, taken_after, taken_after_all, owner_faults, owner_faults_in}
 use Rattle.cw_model.specs.WhileLaw.{WhilesAreLeast}
@@ -31,11 +31,11 @@ goes_same over k b held =
     ap (λ r. where_it_goes_on r (without (own_names (lower_block over k b)) held)) (returns_same over b k) ∙ ap (λ o. where_it_goes_on (block_returns b) (without o held)) (own_same over b k)
 
 -- the same arrays are given to a call, source and lowered
-pub call_same : (fs gs : List Function) (over : List Name) (known : Known) (target : Option Name) (f : Name) (es : List Expr) → (function_of f gs).params ≡ (function_of f fs).params → CallKept fs known target f es →
+pub call_same : (fs gs : List Function) (over : List Name) (known : Known) (target : Option Name) (f : Name) (es : List Expr) → (function_named f gs).params ≡ (function_named f fs).params → CallKept fs known target f es →
     given gs f (lower_exprs over es) ≡ given fs f es
-call_same fs gs over known target f es e k = ap (λ ps. arrays_given ps (lower_exprs over es)) e ∙ given_same over known (function_of f fs).params es k.arguments
+call_same fs gs over known target f es e k = ap (λ ps. arrays_given ps (lower_exprs over es)) e ∙ given_same over known (function_named f fs).params es k.arguments
 
-module _ (program : Program) (least : WhilesAreLeast) (gs : List Function) (same_params : (g : Name) → is_plain g ≡ true → (function_of g gs).params ≡ (function_of g program.functions).params) where
+module _ (program : Program) (least : WhilesAreLeast) (gs : List Function) (same_params : (g : Name) → is_plain g ≡ true → (function_named g gs).params ≡ (function_named g program.functions).params) where
   abbrev StmtCarries : Stmt → Type 0
   StmtCarries s = (over : List Name) (k : ℕ) (known : Known) (owners : List Name) (around : Around) → SameKnown known owners → (returns : Returns) (line depth source shift : ℕ) → source ≡ depth + shift → (held taken : Taken) →
       is_source_stmt s ≡ true → faults_in program returns known line s ≡ [] → owner_faults program.functions around owners source taken line s ≡ [] → AllCarried shift depth owners held taken →

@@ -5,7 +5,7 @@ use Rattle.std.specs.List.{list_all}
 use Rattle.std.proofs.lemmas.Bool.{eq-eqb, eqb-true}
 use Rattle.cw_model.specs.Syntax.{Name, Expr, Variable, Stmt, Declare, DeclareArray, Block, Then, Param, Function}
 use Rattle.cw_model.specs.Names.{is_among}
-use Rattle.cw_model.specs.Meaning.{function_of}
+use Rattle.cw_model.specs.Meaning.{function_named}
 use Rattle.cw_model.specs.Typing.{Known, is_int, is_array, is_argument, are_arguments, is_target}
 use Rattle.cw_model.specs.Ownership.{Holder, SpawnIn, CutOf, Taken, is_taken, is_spawn_in, is_cut_of, freed, cut_ended, without, own_names, where_it_goes_on, target_names, arrays_given, given, names_in, Closing, Joins, Leaves, at_end, known_after}
 use Rattle.cw_loops.specs.Lowered.{is_plain}
@@ -209,8 +209,8 @@ pub call_plain : (fs : List Function) (known : Known) (owners : List Name) → S
 call_plain fs known owners same target f es k st se x o = go (side x (target_names target) (given fs f es) o)
   where
     go : Side x (target_names target) (given fs f es) → (is_plain x ≡ true) × (is_among x owners ≡ true)
-    go (in_first p) = let r = target_plain known (function_of f fs) target k.target_fine st x p in (r.0, same x ∙ either_left (is_int known x) (is_array known x) r.1)
-    go (in_second p) = let r = arrays_plain known (function_of f fs).params es k.arguments se x p in (r.0, same x ∙ either_right (is_int known x) (is_array known x) r.1)
+    go (in_first p) = let r = target_plain known (function_named f fs) target k.target_fine st x p in (r.0, same x ∙ either_left (is_int known x) (is_array known x) r.1)
+    go (in_second p) = let r = arrays_plain known (function_named f fs).params es k.arguments se x p in (r.0, same x ∙ either_right (is_int known x) (is_array known x) r.1)
 
 -- names behind those that a statement declares
 pub then_names : (s : Stmt) (line : ℕ) (b : Block) (owners : List Name) (x : Name) → is_among x (own_names b ++ known_after owners s) ≡ true → is_among x (own_names (Then line s b) ++ owners) ≡ true

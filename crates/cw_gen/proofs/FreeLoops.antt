@@ -4,7 +4,7 @@ use Rattle.std.specs.Prelude.{map, not, if◌then◌else◌}
 use Rattle.cw_model.specs.declared.syntax.Operator.TheVariants.{Less}
 use Rattle.cw_model.specs.Syntax.{Name, Expr, Variable, Binary, While, Scope, Block, Function}
 use Rattle.cw_model.specs.Names.{same_name, is_among, differ}
-use Rattle.cw_model.specs.Meaning.{function_of}
+use Rattle.cw_model.specs.Meaning.{function_named}
 use Rattle.cw_model.specs.Ownership.{Holder, SpawnIn, CutOf, Taken, is_taken, own_names, given, arrays_given, taken_by, Joins, Leaves}
 use Rattle.cw_loops.specs.Lowered.{is_plain, low, high, middle, left_part, right_part, int_params, array_params, variables, leaf_turn, leaf_block, left_arguments, right_arguments, both_halves, in_cuts, node_block, loop_function}
 use Rattle.cw_loops.specs.lemmas.Tests.{both_true, not_true, all_of}
@@ -89,7 +89,7 @@ spawn_free : (depth : ℕ) (xs : List Name) (held : Taken) (x : Name) → is_amo
 spawn_free depth xs held x n free =
     not_in x (taken_by depth xs held) (λ k i. either_way (in_append (x, k) (map (λ y. (y, SpawnIn depth)) xs) held i) (λ j. true≢false (sym (by_spawn depth xs (x, k) j).0 ∙ n)) (λ j. true≢false (sym (in_taken (x, k) held j) ∙ free)))
 
-module _ (gs : List Function) (name : Name) (line : ℕ) (x : Name) (grain : ℕ) (ints over : List Name) (body : Block) (found : function_of name gs ≡ loop_function name line x grain ints over body)
+module _ (gs : List Function) (name : Name) (line : ℕ) (x : Name) (grain : ℕ) (ints over : List Name) (body : Block) (found : function_named name gs ≡ loop_function name line x grain ints over body)
     (ints_plain : (y : Name) → is_among y ints ≡ true → is_plain y ≡ true) (over_plain : (a : Name) → is_among a over ≡ true → is_plain a ≡ true) (no_int : (y : Name) → is_among y ints ≡ true → is_among y over ≡ false) (apart : differ over ≡ true)
     (body_free : (held : Taken) → Nothing held → BlockFree gs 2 held body × EndsFree gs 2 Joins held body) where
   -- the turns of a leaf

@@ -7,7 +7,7 @@ use Rattle.cw_model.specs.Lines.{unless}
 use Rattle.cw_model.specs.Syntax.{Name, Expr, Stmt, Declare, DeclareArray, Assign, AssignElement, AddTo, Call, Start, Begin, Sync, If, IfElse, While, For, Scope, Cut, Region, Print, Return, Block, End, Then, Function, Program}
 use Rattle.cw_model.specs.Names.{is_among, differ}
 use Rattle.cw_model.specs.Captured.{captured, read_by, read_in_block, declared_in_block}
-use Rattle.cw_model.specs.Meaning.{function_of}
+use Rattle.cw_model.specs.Meaning.{function_named}
 use Rattle.cw_model.specs.Typing.{Known, Returns, Nowhere, WithInt, Alone, is_fine, is_int, is_array, is_call, called, is_cut, is_head, is_head_of_loop, surely_returns, declares, ends_block, known_of, faults_in, faults_in_block, faults_of}
 use Rattle.cw_model.specs.Ownership.{Holder, CutOf, Taken, is_taken, freed, own_names, target_names, given, names_in, are_free, are_inner, keeps_loop, may_read, may_write, may_index, for_head, Around, NoLoop, InLoop, Closing, Joins, Leaves, Declared, declared_by, known_after, taken_after, taken_after_all, owner_faults, owner_faults_in, owner_faults_of}
 use Rattle.cw_model.specs.WhileLaw.{WhilesAreLeast}
@@ -70,7 +70,7 @@ module _ (shift depth : ℕ) (owners : List Name) (held taken : Taken) (all : Al
   write_free : (around : Around) (x : Name) → may_write around taken (x ∷ []) ≡ true → is_taken held x ≡ false
   write_free around x h = free_carried shift depth owners held taken all x (free_each taken (x ∷ []) (both_true (are_free taken (x ∷ [])) (are_inner around (x ∷ [])) h).0 x (front_among x []))
 
-module _ (program : Program) (least : WhilesAreLeast) (gs : List Function) (same_params : (g : Name) → is_plain g ≡ true → (function_of g gs).params ≡ (function_of g program.functions).params) where
+module _ (program : Program) (least : WhilesAreLeast) (gs : List Function) (same_params : (g : Name) → is_plain g ≡ true → (function_named g gs).params ≡ (function_named g program.functions).params) where
   abbrev StmtFrees : Stmt → Type 0
   StmtFrees s = (over : List Name) (k : ℕ) (known : Known) (owners : List Name) (around : Around) → SameKnown known owners → (returns : Returns) (line depth source shift : ℕ) → 1 ≤ source → source ≡ depth + shift → (held taken : Taken) →
       is_source_stmt s ≡ true → faults_in program returns known line s ≡ [] → owner_faults program.functions around owners source taken line s ≡ [] → AllCarried shift depth owners held taken → Found gs (made_by line k s) →

@@ -2,7 +2,7 @@
 use Rattle.std.specs.Prelude.{◌≡◌, map, ℕ, ◌+◌, if◌then◌else◌, Bool, true, false, ◌++◌, List, [], ◌∷◌, Option, Some, None}
 use Rattle.cw_model.specs.Syntax.{Name, Expr, Number, Variable, Element, Length, Negative, Not, Binary, Stmt, Declare, DeclareArray, Assign, AssignElement, AddTo, Call, Start, Begin, Sync, If, IfElse, While, Scope, Cut, Region, Print, Return, Block, End, Then, Param, Function}
 use Rattle.cw_model.specs.Names.{is_among, differ}
-use Rattle.cw_model.specs.Meaning.{function_of}
+use Rattle.cw_model.specs.Meaning.{function_named}
 use Rattle.cw_model.specs.Typing.{Returns, Nowhere, WithInt, Alone, block_returns}
 use Rattle.cw_model.specs.Ownership.{Taken, CutOf, is_taken, given, own_names, names_in, target_names, Joins, Leaves, are_free}
 use Rattle.cw_tree.specs.Resolved.{Locals, with_array, locals_after, locals_of}
@@ -56,11 +56,11 @@ abbrev mutual
   StmtKnown fs given_arrays returns locals (Assign x e) = (is_among x locals.ints ≡ true) × ExprKnown locals e
   StmtKnown fs given_arrays returns locals (AddTo s e) = ExprKnown locals e
   StmtKnown fs given_arrays returns locals (Call kind site target f es) =
-      (is_function f fs ≡ true) × TargetKnown locals (function_of f fs) target × ArgsKnown locals (function_of f fs).params es
+      (is_function f fs ≡ true) × TargetKnown locals (function_named f fs) target × ArgsKnown locals (function_named f fs).params es
   StmtKnown fs given_arrays returns locals (Start kind f es) =
-      (is_function f fs ≡ true) × ((function_of f fs).gives_int ≡ false) × ArgsKnown locals (function_of f fs).params es
+      (is_function f fs ≡ true) × ((function_named f fs).gives_int ≡ false) × ArgsKnown locals (function_named f fs).params es
   StmtKnown fs given_arrays returns locals (Begin f from to captured over) =
-      (is_function f fs ≡ true) × TakesRange (function_of f fs) captured over
+      (is_function f fs ≡ true) × TakesRange (function_named f fs) captured over
       × ExprKnown locals from × ExprKnown locals to × AllKnown locals.ints captured × AllKnown locals.arrays over × (differ over ≡ true)
   StmtKnown fs given_arrays returns locals Sync = Unit {0}
   StmtKnown fs given_arrays returns locals (If e b) = ExprKnown locals e × BlockKnown fs given_arrays returns locals b

@@ -4,7 +4,7 @@ use Rattle.std.specs.Prelude.{if◌then◌else◌}
 use Rattle.std.specs.List.{list_all}
 use Rattle.cw_model.specs.Syntax.{Name, Stmt, If, IfElse, While, For, Scope, Cut, Region, Block, End, Then, Function}
 use Rattle.cw_model.specs.Names.{same_name}
-use Rattle.cw_model.specs.Meaning.{function_of}
+use Rattle.cw_model.specs.Meaning.{function_named}
 use Rattle.cw_model.specs.Captured.{captured}
 use Rattle.cw_model.specs.Typing.{called}
 use Rattle.cw_loops.specs.Lowered.{is_plain, loop_name, loop_function, loop_count, loop_count_in, lower_block, lower_function, lower_functions, made_by, made_in, made_of}
@@ -16,7 +16,7 @@ use Rattle.cw_gen.proofs.Fine.{is_function}
 -- a function is the one of its name
 pub record Found (fs : List Function) (g : Function) : Type 0 where
   pub there : is_function g.name fs ≡ true
-  pub is : function_of g.name fs ≡ g
+  pub is : function_named g.name fs ≡ g
 
 -- each of these functions is
 abbrev pub AllFound : List Function → List Function → Type 0
@@ -34,12 +34,12 @@ found_second fs (x ∷ xs) ys h = found_second fs xs ys h.1
 
 -- behind functions of other names
 
-past_function : (name : Name) (before behind : List Function) → is_function name before ≡ false → function_of name (before ++ behind) ≡ function_of name behind
+past_function : (name : Name) (before behind : List Function) → is_function name before ≡ false → function_named name (before ++ behind) ≡ function_named name behind
 past_function name [] behind h = refl
 past_function name (f ∷ before) behind h = go (same_name name f.name) h (past_function name before behind)
   where
-    go : (b : Bool) → (if b then true else is_function name before) ≡ false → (is_function name before ≡ false → function_of name (before ++ behind) ≡ function_of name behind) →
-        (if b then f else function_of name (before ++ behind)) ≡ function_of name behind
+    go : (b : Bool) → (if b then true else is_function name before) ≡ false → (is_function name before ≡ false → function_named name (before ++ behind) ≡ function_named name behind) →
+        (if b then f else function_named name (before ++ behind)) ≡ function_named name behind
     go true g more = absurd cc
     go false g more = more g
 
@@ -119,7 +119,7 @@ found_behind before [] k j below numbered = tt
 found_behind before (g ∷ ms) k j below numbered = (
   record {
     there = past_is_function g.name before (g ∷ ms) none ∙ ap (λ b. if b then true else is_function g.name ms) itself;
-    is = past_function g.name before (g ∷ ms) none ∙ ap (λ b. if b then g else function_of g.name ms) itself;
+    is = past_function g.name before (g ∷ ms) none ∙ ap (λ b. if b then g else function_named g.name ms) itself;
   },
   subst (λ fs. AllFound fs ms) (append_assoc before (g ∷ []) ms) (found_behind (before ++ g ∷ []) ms (suc k) j (below_next k before g numbered.0 below) numbered.1),
 )
@@ -146,8 +146,8 @@ loops_found all fs h = found_behind (lower_functions 0 fs) (made_of 0 fs) 0 (0 +
 -- a function of the source, as it is found where loops are lowered
 pub record CallFound (all : List Function) (f : Name) (g : Function) : Type 0 where
   pub there : is_function f all ≡ true
-  pub params : (function_of f all).params ≡ g.params
-  pub gives : (function_of f all).gives_int ≡ g.gives_int
+  pub params : (function_named f all).params ≡ g.params
+  pub gives : (function_named f all).gives_int ≡ g.gives_int
 
 -- each function that types find is found
 pub call_found : (k : ℕ) (fs ms : List Function) (f : Name) (g : Function) → called f fs ≡ Some g → CallFound (lower_functions k fs ++ ms) f g
@@ -162,13 +162,13 @@ call_found k (p ∷ fs) ms f g h = go (same_name f p.name) refl h (call_found (k
         let same : p ≡ g = cc in
         record {
           there = ap (λ b. if b then true else is_function f rest) e;
-          params = ap (λ b. (if b then lower_function k p else function_of f rest).params) e ∙ ap (λ (q : Function). q.params) same;
-          gives = ap (λ b. (if b then lower_function k p else function_of f rest).gives_int) e ∙ ap (λ (q : Function). q.gives_int) same;
+          params = ap (λ b. (if b then lower_function k p else function_named f rest).params) e ∙ ap (λ (q : Function). q.params) same;
+          gives = ap (λ b. (if b then lower_function k p else function_named f rest).gives_int) e ∙ ap (λ (q : Function). q.gives_int) same;
         }
     go false e h' more =
         let r = more h' in
         record {
           there = ap (λ b. if b then true else is_function f rest) e ∙ r.there;
-          params = ap (λ b. (if b then lower_function k p else function_of f rest).params) e ∙ r.params;
-          gives = ap (λ b. (if b then lower_function k p else function_of f rest).gives_int) e ∙ r.gives;
+          params = ap (λ b. (if b then lower_function k p else function_named f rest).params) e ∙ r.params;
+          gives = ap (λ b. (if b then lower_function k p else function_named f rest).gives_int) e ∙ r.gives;
         }

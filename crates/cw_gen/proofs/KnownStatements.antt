@@ -2,12 +2,12 @@
 use Rattle.std.proofs.Common.{◌≡◌, ℕ, suc, ◌+◌, ◌==◌, Bool, true, false, List, [], ◌∷◌, ◌++◌, length, Option, Some, None, refl, sym, ◌∙◌, ap, subst, append_assoc}
 use Rattle.std.specs.Prelude.{if◌then◌else◌, nat_le, not, ◌&&◌, ◌||◌}
 use Rattle.std.specs.List.{list_all}
-use Rattle.cw_model.specs.Limits.{most_grain}
+use Rattle.cw_model.specs.declared.limits.TheConstants.{MOST_GRAIN}
 use Rattle.cw_model.specs.Lines.{unless}
 use Rattle.cw_model.specs.Syntax.{Name, Expr, Stmt, Declare, DeclareArray, Assign, AssignElement, AddTo, Call, Start, Begin, Sync, If, IfElse, While, For, Scope, Cut, Region, Print, Return, Block, End, Then, Function, Program}
 use Rattle.cw_model.specs.Names.{same_name, is_among, differ}
 use Rattle.cw_model.specs.Answers.{main_name}
-use Rattle.cw_model.specs.Meaning.{function_of}
+use Rattle.cw_model.specs.Meaning.{function_named}
 use Rattle.cw_model.specs.Captured.{captured}
 use Rattle.cw_model.specs.Typing.{Returns, Nowhere, Known, is_int, is_array, is_new, is_fine, are_arguments, is_target, is_call, is_reducer, is_cut, is_head_of_loop, called, surely_returns, block_returns, ends_block, declares, faults_in, faults_in_block}
 use Rattle.cw_model.specs.lemmas.Kept.{kept, left_none, right_none}
@@ -131,7 +131,7 @@ pub record HeadKept (known : Known) (x : Name) (from to : Expr) : Type 0 where
 pub head_kept : (program : Program) (known : Known) (x y z : Name) (from to : Expr) (grain : ℕ) (over : List Name) → is_head_of_loop program known x y z from to grain over ≡ true → HeadKept known x from to
 head_kept program known x y z from to grain over h =
     let seven = (both_true _ (list_all (λ a. is_array known a) over) h).0 in
-    let six = (both_true _ (nat_le grain most_grain) seven).0 in
+    let six = (both_true _ (nat_le grain MOST_GRAIN) seven).0 in
     let five = (both_true _ (nat_le 1 grain) six).0 in
     let four = both_true _ (is_fine known to) five in
     let three = both_true _ (is_fine known from) four.0 in
@@ -209,7 +209,7 @@ takes_range name line x grain ints over b = record { ints = ap (λ l. suc (suc (
 module _ (program : Program) (all : List Function) (calls : (f : Name) (g : Function) → called f program.functions ≡ Some g → CallFound all f g) where
   call_known : (c : Surroundings) (ints arrays : List Name) (known : Known) (locals : Locals) → Agree c ints arrays known locals → (target : Option Name) (f : Name) (es : List Expr) (o : Option Function) → called f program.functions ≡ o → is_call known target o es ≡ true →
       can_target c target ≡ true → can_pass_all c es ≡ true →
-      (is_function f all ≡ true) × TargetKnown locals (function_of f all) target × ArgsKnown locals (function_of f all).params (lower_exprs c.over es)
+      (is_function f all ≡ true) × TargetKnown locals (function_named f all) target × ArgsKnown locals (function_named f all).params (lower_exprs c.over es)
   call_known c ints arrays known locals agree target f es None e typed can_t can_p = absurd cc
   call_known c ints arrays known locals agree target f es (Some g) e typed can_t can_p =
       let is = calls f g e in
@@ -220,7 +220,7 @@ module _ (program : Program) (all : List Function) (calls : (f : Name) (g : Func
         subst (λ ps. ArgsKnown locals ps (lower_exprs c.over es)) (sym is.params) (args_known agree g.params es two.1 can_p),
       )
     where
-      gives : (target : Option Name) → (function_of f all).gives_int ≡ g.gives_int → TargetKnown locals g target → TargetKnown locals (function_of f all) target
+      gives : (target : Option Name) → (function_named f all).gives_int ≡ g.gives_int → TargetKnown locals g target → TargetKnown locals (function_named f all) target
       gives None same h = tt
       gives (Some x) same h = (h.0, same ∙ h.1)
 
@@ -245,7 +245,7 @@ module _ (program : Program) (all : List Function) (calls : (f : Name) (g : Func
         expr_known agree e (both_true (is_reducer program s) (is_fine known e) (kept _ line typed)).1 can
     stmt_known given returns c ints arrays known locals agree begins line k (Call kind site target f es) typed can found =
         let one = both_true (is_plain f) _ can in
-        let two = both_true (length es == length (function_of f c.functions).params) _ one.1 in
+        let two = both_true (length es == length (function_named f c.functions).params) _ one.1 in
         let three = both_true (can_target c target) (can_pass_all c es) two.1 in
         call_known c ints arrays known locals agree target f es (called f program.functions) refl (kept _ line typed) three.0 three.1
     stmt_known given returns c ints arrays known locals agree begins line k (Start kind f es) typed can found = absurd cc

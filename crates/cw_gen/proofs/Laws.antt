@@ -3,7 +3,7 @@ use Rattle.std.proofs.Common.{◌≡◌, ℕ, zero, suc, ◌+◌, ◌-◌, ◌�
 use Rattle.std.specs.Prelude.{replicate}
 use Rattle.std.proofs.lemmas.List.{length-replicate, length-map}
 use Rattle.cw_model.specs.declared.trap.Trap.TheVariants as trap
-use Rattle.cw_model.specs.Limits.{most_depth}
+use Rattle.cw_model.specs.declared.limits.TheConstants.{MOST_DEPTH}
 use Rattle.cw_model.specs.Syntax.{Function}
 use Rattle.cw_model.specs.Frames.{Frame, no_frame}
 use Rattle.cw_model.specs.Outcome.{Trapped, then_do, Piece}
@@ -95,7 +95,7 @@ module _ (code : Code) (fs : List Function) (lists : Lists) (small : length code
         one code (here inner around end [] st u) instr.Return there.0 l' ∙ k None g (settled st.arrived st.arrays) l' (synced u) nothing (gives_back size (locals_after_all params f.body) (held_after_all fs 1 f.body []) g st [] refl begins ag) (omega arith)))
         (λ v g arrays l u may gives le. k v g arrays l u (given_by f v f.gives_int refl may) gives le ∙ ap (next (v, g) l) (sym (joined_quiet u)))
         ∙ sym (resume_then t (run_all f.body fs calls given left) (λ way. end_of_call way) next)
-        ∙ sym (ap (λ (piece : Piece Returned). resume t (piece left) next) (not_taken (nat_lt most_depth inner) (λ left'. Trapped trap.TooDeep line []) (λ left'. then_do (run_all f.body fs calls given left') (λ way. end_of_call way)) h));
+        ∙ sym (ap (λ (piece : Piece Returned). resume t (piece left) next) (not_taken (nat_lt MOST_DEPTH inner) (λ left'. Trapped trap.TooDeep line []) (λ left'. then_do (run_all f.body fs calls given left') (λ way. end_of_call way)) h));
     traps = λ h f given line left below.
-        ap (λ (piece : Piece Returned). piece left) (taken (nat_lt most_depth (depth + 1)) (λ left'. Trapped trap.TooDeep line []) (λ left'. then_do (run_all f.body fs (λ e g given' line' left''. call bound (depth + 1) fs e g given' line' left'') given left') (λ way. end_of_call way)) h);
+        ap (λ (piece : Piece Returned). piece left) (taken (nat_lt MOST_DEPTH (depth + 1)) (λ left'. Trapped trap.TooDeep line []) (λ left'. then_do (run_all f.body fs (λ e g given' line' left''. call bound (depth + 1) fs e g given' line' left'') given left') (λ way. end_of_call way)) h);
   }

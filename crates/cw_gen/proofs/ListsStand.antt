@@ -7,7 +7,7 @@ use Rattle.std.proofs.lemmas.Bool.Decides.{nat_tests}
 use Rattle.std.proofs.lemmas.List.{length-map, length-replicate}
 use Rattle.cw_model.specs.declared.syntax.CallKind.{CallKind}
 use Rattle.cw_model.specs.declared.syntax.CallKind.TheVariants.{Plain, Spawned}
-use Rattle.cw_model.specs.Limits.{most_call_statements}
+use Rattle.cw_model.specs.declared.limits.TheConstants.{MOST_CALL_STATEMENTS}
 use Rattle.cw_model.specs.Syntax.{Name, Stmt, Declare, DeclareArray, Assign, AssignElement, AddTo, Call, Start, Begin, Sync, If, IfElse, While, For, Scope, Cut, Region, Print, Return, Block, End, Then, Function, Program}
 use Rattle.cw_model.specs.Names.{same_name}
 use Rattle.cw_model.specs.Sites.{CallSite, call_sites, are_numbered}
@@ -282,7 +282,7 @@ module _ (program : Program) (source_like : list_all is_source_function program.
       total = used_of first (lowered_lists program) key (lowered program).functions ∙ lowered_weigh here program.functions source_like
 
 -- each call of a lowered program has its list at its number
-pub all_pass : (program : Program) → IsOwnedSource program → are_numbered 0 (call_sites program) ≡ true → length (call_sites program) ≤ most_call_statements → length (lowered program).functions ≤ 8192 →
+pub all_pass : (program : Program) → IsOwnedSource program → are_numbered 0 (call_sites program) ≡ true → length (call_sites program) ≤ MOST_CALL_STATEMENTS → length (lowered program).functions ≤ 8192 →
     length (emitted_sites_of (resolved program).functions) ≡ length (call_sites program) → AllPass (lowered_lists program) (tables_in (code_of program)) (lowered program).functions
 all_pass program owned numbered few_sites few_functions as_many_sites =
     passes_of (lowered_lists program) (tables_in (code_of program)) (lowered program).functions

@@ -6,7 +6,7 @@ use Rattle.std.proofs.lemmas.Slice.Eq.{bytes_eq-Decides}
 use Rattle.cw_model.specs.Syntax.{Name, Param, Function, Reducer, Program}
 use Rattle.cw_model.specs.Names.{same_name, is_among}
 use Rattle.cw_model.specs.Lines.{unless}
-use Rattle.cw_model.specs.Meaning.{function_of}
+use Rattle.cw_model.specs.Meaning.{function_named}
 use Rattle.cw_model.specs.Answers.{main_name}
 use Rattle.cw_model.specs.Sites.{call_sites, are_numbered}
 use Rattle.cw_model.specs.Typing.{is_head, faults_of, repeated, repeated_names, type_faults}
@@ -30,8 +30,8 @@ use Rattle.cw_gen.proofs.Told.{AllPass}
 
 -- main gives an integer, and takes integers
 record MainFine (fs : List Function) : Type 0 where
-  pub gives : (function_of main_name fs).gives_int ≡ true
-  pub ints : list_all (λ p. not p.is_array) (function_of main_name fs).params ≡ true
+  pub gives : (function_named main_name fs).gives_int ≡ true
+  pub ints : list_all (λ p. not p.is_array) (function_named main_name fs).params ≡ true
 
 -- parameters that are all integers
 all_ints : (ps : List Param) → list_any (λ p. p.is_array) ps ≡ false → list_all (λ p. not p.is_array) ps ≡ true
@@ -59,21 +59,21 @@ main_fine program (f ∷ fs) typed h = test (main_fine program fs (right_none (f
     test more true e h' =
         let two = both ((bytes_eq-Decides f.name main_name).1 (sym ((bytes_eq-Decides main_name f.name).0 e))) in
         record {
-          gives = ap (λ b. (if b then f else function_of main_name fs).gives_int) e ∙ first_true f.gives_int (not (list_any (λ p. p.is_array) f.params)) two;
-          ints = ap (λ b. list_all (λ p. not p.is_array) (if b then f else function_of main_name fs).params) e ∙ all_ints f.params (not_true (list_any (λ p. p.is_array) f.params) (second_true f.gives_int (not (list_any (λ p. p.is_array) f.params)) two));
+          gives = ap (λ b. (if b then f else function_named main_name fs).gives_int) e ∙ first_true f.gives_int (not (list_any (λ p. p.is_array) f.params)) two;
+          ints = ap (λ b. list_all (λ p. not p.is_array) (if b then f else function_named main_name fs).params) e ∙ all_ints f.params (not_true (list_any (λ p. p.is_array) f.params) (second_true f.gives_int (not (list_any (λ p. p.is_array) f.params)) two));
         }
     test more false e h' =
         let rest = more h' in
         record {
-          gives = ap (λ b. (if b then f else function_of main_name fs).gives_int) e ∙ rest.gives;
-          ints = ap (λ b. list_all (λ p. not p.is_array) (if b then f else function_of main_name fs).params) e ∙ rest.ints;
+          gives = ap (λ b. (if b then f else function_named main_name fs).gives_int) e ∙ rest.gives;
+          ints = ap (λ b. list_all (λ p. not p.is_array) (if b then f else function_named main_name fs).params) e ∙ rest.ints;
         }
 
 -- a function of the source is found in the lowered program, with what its head says
 pub record SameHead (name : Name) (fs gs : List Function) : Type 0 where
   pub there : is_function name gs ≡ true
-  pub gives : (function_of name gs).gives_int ≡ (function_of name fs).gives_int
-  pub params : (function_of name gs).params ≡ (function_of name fs).params
+  pub gives : (function_named name gs).gives_int ≡ (function_named name fs).gives_int
+  pub params : (function_named name gs).params ≡ (function_named name fs).params
 
 -- lowering changes no head
 pub same_head : (name : Name) (k : ℕ) (fs more : List Function) → is_function name fs ≡ true → SameHead name fs (lower_functions k fs ++ more)
@@ -84,10 +84,10 @@ same_head name k (f ∷ fs) more h = test (same_head name (k + loop_count_in f.b
     rest = lower_functions (k + loop_count_in f.body) fs ++ more
 
     here : Bool → Function
-    here b = if b then lower_function k f else function_of name rest
+    here b = if b then lower_function k f else function_named name rest
 
     source : Bool → Function
-    source b = if b then f else function_of name fs
+    source b = if b then f else function_named name fs
 
     test : (is_function name fs ≡ true → SameHead name fs rest) → (b : Bool) → same_name name f.name ≡ b → (if b then true else is_function name fs) ≡ true → SameHead name (f ∷ fs) (lower_functions k (f ∷ fs) ++ more)
     test next true e h' = record {

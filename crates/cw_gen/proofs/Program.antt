@@ -6,7 +6,7 @@ use Rattle.cw_model.specs.Syntax.{Name, Stmt, If, IfElse, While, For, Scope, Cut
 use Rattle.cw_model.specs.Names.{same_name, is_among}
 use Rattle.cw_model.specs.Frames.{no_frame}
 use Rattle.cw_model.specs.Outcome.{Outcome, Done, Trapped, Over, quiet}
-use Rattle.cw_model.specs.Meaning.{Returned, Deeper, function_of, call}
+use Rattle.cw_model.specs.Meaning.{Returned, Deeper, function_named, call}
 use Rattle.cw_model.specs.Answers.{Ended, sum_to, int_given, answer_of, main_frame, main_name, serial_answer}
 use Rattle.cw_model.specs.Trees.{Marked, Invocation, tree_of, normal}
 use Rattle.cw_tree.specs.Resolved.{Lists, slot_of, locals_of, function_names, reducer_names}
@@ -17,7 +17,7 @@ use Rattle.cw_loops.specs.lemmas.Numbering.{names_stay}
 use Rattle.cw_code.specs.declared.code.Func.{Func}
 use Rattle.cw_code.specs.declared.code.Instr.{Instr}
 use Rattle.cw_code.specs.Code.{Code}
-use Rattle.cw_code.specs.Run.{Ran, On, Stuck, first_state, reducers_of, go_on, steps, first_went, code_serial}
+use Rattle.cw_code.specs.Run.{RunOutcome, On, Stuck, first_state, reducers_of, go_on, steps, first_transition, code_serial}
 use Rattle.cw_code.specs.Fits.{params_of, main_params}
 use Rattle.cw_gen.specs.Emit.{most_jump, first_list, count_ints, count_arrays, ints_in_block, arrays_in_block, emitted_instrs, emitted_funcs}
 use Rattle.cw_gen.specs.Generates.{main_count}
@@ -96,7 +96,7 @@ module _ (code : Code) (all : List Function) (lists : Lists) where
 
   -- a function of this name has its entry and its code
   abbrev Entry : (start : ℕ) → List Function → Name → Type 0
-  Entry start fs name = (fn : Func) × (slice_get (funcs_from start fs) (slot_of name (function_names fs)) ≡ Some fn) × Compiled code all lists (function_of name fs) fn
+  Entry start fs name = (fn : Func) × (slice_get (funcs_from start fs) (slot_of name (function_names fs)) ≡ Some fn) × Compiled code all lists (function_named name fs) fn
 
   -- each function has
   pub entries : (pre : List Instr) (fs : List Function) → code.instrs ≡ pre ++ codes fs → FunctionsFine all lists (tables_in code) fs → (name : Name) → is_function name fs ≡ true → Entry (length pre) fs name
@@ -106,7 +106,7 @@ module _ (code : Code) (all : List Function) (lists : Lists) where
       test (λ h'. subst (λ n. Entry n fs name) (length-append pre here) (entries (pre ++ here) fs (e ∙ sym (append_assoc pre here (codes fs))) fine.1 name h')) (same_name name f.name) h
     where
       test : (is_function name fs ≡ true → Entry (length pre + length (function_code first lists f)) fs name) → (b : Bool) → (if b then true else is_function name fs) ≡ true →
-          (fn : Func) × (slice_get (funcs_from (length pre) (f ∷ fs)) (if b then 0 else suc (slot_of name (function_names fs))) ≡ Some fn) × Compiled code all lists (if b then f else function_of name fs) fn
+          (fn : Func) × (slice_get (funcs_from (length pre) (f ∷ fs)) (if b then 0 else suc (slot_of name (function_names fs))) ≡ Some fn) × Compiled code all lists (if b then f else function_named name fs) fn
       test more true h' = (
         entry_of (length pre) f (count_ints (map (λ p. p.is_array) f.params)) (count_arrays (map (λ p. p.is_array) f.params)),
         refl,
@@ -179,12 +179,12 @@ main_place program h =
     sym (slot_stays main_name (function_names program.functions) (function_names (made_of 0 program.functions)) (main_there program h)) ∙ sym (ap (slot_of main_name) (names_are program))
 
 -- the function of a name that is there has the parameters of that in the source
-same_head : (name : Name) (k : ℕ) (fs made : List Function) → is_among name (function_names fs) ≡ true → (function_of name (lower_functions k fs ++ made)).params ≡ (function_of name fs).params
+same_head : (name : Name) (k : ℕ) (fs made : List Function) → is_among name (function_names fs) ≡ true → (function_named name (lower_functions k fs ++ made)).params ≡ (function_named name fs).params
 same_head name k [] made h = cc
 same_head name k (f ∷ fs) made h = test (same_head name (k + loop_count_in f.body) fs made) (same_name name f.name) h
   where
-    test : (is_among name (function_names fs) ≡ true → (function_of name (lower_functions (k + loop_count_in f.body) fs ++ made)).params ≡ (function_of name fs).params) → (b : Bool) → (if b then true else is_among name (function_names fs)) ≡ true →
-        (if b then lower_function k f else function_of name (lower_functions (k + loop_count_in f.body) fs ++ made)).params ≡ (if b then f else function_of name fs).params
+    test : (is_among name (function_names fs) ≡ true → (function_named name (lower_functions (k + loop_count_in f.body) fs ++ made)).params ≡ (function_named name fs).params) → (b : Bool) → (if b then true else is_among name (function_names fs)) ≡ true →
+        (if b then lower_function k f else function_named name (lower_functions (k + loop_count_in f.body) fs ++ made)).params ≡ (if b then f else function_named name fs).params
     test more true h' = refl
     test more false h' = more h'
 
@@ -211,7 +211,7 @@ same_run program small least fine args m n =
     let code = code_of program in
     let fs = (lowered program).functions in
     let lists = lowered_lists program in
-    let main = function_of main_name fs in
+    let main = function_named main_name fs in
     let table = table_of program fine in
     let entry = table.entry main_name fine.main in
     let fn = entry.0 in
@@ -222,10 +222,10 @@ same_run program small least fine args m n =
     let fits : (nat_eq (length args) fn.params && (nat_le fn.params fn.slots && nat_eq fn.array_params 0)) ≡ true =
     both_true (nat_eq (length args) fn.params) (nat_le fn.params fn.slots && nat_eq fn.array_params 0) (equal (length args) fn.params many)
     (both_true (nat_le fn.params fn.slots) (nat_eq fn.array_params 0) (at_most fn.params fn.slots entry.2.room) (equal fn.array_params 0 (sym none))) in
-    let answer = λ (o : Ran). option_map (λ o'. answer_of (reducers_of code) o') o in
+    let answer = λ (o : RunOutcome). option_map (λ o'. answer_of (reducers_of code) o') o in
     let given = main_frame main.params args no_frame in
-    ap (λ i. answer (go_on (first_went (slice_get code.funcs i) args) n (λ s. steps code n s))) (main_place program fine.main)
-    ∙ ap (λ o. answer (go_on (first_went o args) n (λ s. steps code n s))) entry.1
+    ap (λ i. answer (go_on (first_transition (slice_get code.funcs i) args) n (λ s. steps code n s))) (main_place program fine.main)
+    ∙ ap (λ o. answer (go_on (first_transition o args) n (λ s. steps code n s))) entry.1
     ∙ ap (λ w. answer (go_on w n (λ s. steps code n s))) (taken (nat_eq (length args) fn.params && (nat_le fn.params fn.slots && nat_eq fn.array_params 0)) begin Stuck fits)
     ∙ ap answer ((calls_run code fs lists small least table refl refl (suc n) 0).enters Deeper refl main fn entry.2 args [] given many none (bound_main main.params args no_frame fine.ints m) [] main.line n quiet (λ r l u. Some (Done (r.0, no_frame) l u)) (omega arith) (λ v g arrays l u gives_int gives le. refl))
     ∙ same_answer program (call (suc n) 0 fs Deeper main (main_frame main.params args no_frame) main.line n)
@@ -235,4 +235,4 @@ pub same_params : (program : Program) → length (code_of program).instrs ≤ mo
 same_params program small fine =
     let entry = (table_of program fine).entry main_name fine.main in
     ap (λ i. params_of (slice_get (code_of program).funcs i)) (main_place program fine.main)
-    ∙ ap params_of entry.1 ∙ entry.2.params ∙ (main_locals (function_of main_name (lowered program).functions).params fine.ints).0
+    ∙ ap params_of entry.1 ∙ entry.2.params ∙ (main_locals (function_named main_name (lowered program).functions).params fine.ints).0

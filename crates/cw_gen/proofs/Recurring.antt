@@ -4,19 +4,19 @@ use Rattle.std.specs.Prelude.{slice_get, reverse, map, option_map}
 use Rattle.cw_model.specs.Names.{differ}
 use Rattle.std.proofs.lemmas.List.{append-nil, length-reverse, length-map}
 use Rattle.cw_model.specs.declared.trap.Trap.TheVariants as trap
-use Rattle.cw_model.specs.Limits.{most_depth}
+use Rattle.cw_model.specs.declared.limits.TheConstants.{MOST_DEPTH}
 use Rattle.cw_model.specs.declared.syntax.CallKind.{CallKind}
 use Rattle.cw_model.specs.Syntax.{Name, Expr, Function}
 use Rattle.cw_model.specs.Frames.{Frame, no_frame, array_of, set_result}
 use Rattle.cw_model.specs.Outcome.{Trapped, Trace, then_do, joined_up, pay}
-use Rattle.cw_model.specs.Meaning.{Completion, Calls, Deeper, going, SameDepth, call_event, start_event, function_of, returned_arrays}
+use Rattle.cw_model.specs.Meaning.{Completion, Calls, Deeper, going, SameDepth, call_event, start_event, function_named, returned_arrays}
 use Rattle.cw_model.specs.Ownership.{Holder, SpawnIn, CutOf, Taken, IsLeastClosed, arrays_given, target_names, cut_ended, is_taken, taken_by, freed, without, own_names, where_it_goes_on, Joins, Leaves}
 use Rattle.cw_model.specs.Ownership as ownership
 use Rattle.cw_tree.specs.Resolved.{Lists, Locals, slot_of, locals_of}
 use Rattle.cw_code.specs.declared.code.Func.{Func}
 use Rattle.cw_code.specs.declared.code.Instr.TheVariants as instr
 use Rattle.cw_code.specs.Code.{Code}
-use Rattle.cw_code.specs.Run.{Around, State, On, Stops, Ran, ticked, inside, arrays_in, Whole, slot_taken, begins, call_of, on_arrays, arguments_of, enter, recur, passed_by, given_back, rejoined, go_on, steps}
+use Rattle.cw_code.specs.Run.{Around, State, On, Stops, RunOutcome, ticked, inside, arrays_in, Whole, slot_taken, begins, call_of, on_arrays, arguments_of, enter, recur, passed_by, given_back, rejoined, go_on, steps}
 use Rattle.cw_gen.specs.Emit.{half_list, callee_of, half_of}
 use Rattle.cw_gen.proofs.Fine.{ArgsFine, TargetFine, Room}
 use Rattle.cw_gen.proofs.Traces.{resume, resume_then, resume_one}
@@ -31,10 +31,10 @@ use Rattle.cw_gen.proofs.Calling.{taken_on, Hands, CallsRun, can_take, entering,
 module _ (code : Code) (fs : List Function) (lists : Lists) where
   -- what the arguments of a call hand over
   hands_for : (locals : Locals) (taken' : Taken) (frame : Frame) (name : Name) (es : List Expr) (fn : Func) (vs : List ℤ) (given : Frame) →
-      Compiled code fs lists (function_of name fs) fn → length vs ≡ fn.params → Bound (function_of name fs).params vs (map (λ a. array_of frame a) (ownership.given fs name es)) no_frame given →
-      ArgsFine locals taken' (function_of name fs).params es → differ (ownership.given fs name es) ≡ true → Hands locals taken' frame (function_of name fs) fn
+      Compiled code fs lists (function_named name fs) fn → length vs ≡ fn.params → Bound (function_named name fs).params vs (map (λ a. array_of frame a) (ownership.given fs name es)) no_frame given →
+      ArgsFine locals taken' (function_named name fs).params es → differ (ownership.given fs name es) ≡ true → Hands locals taken' frame (function_named name fs) fn
   hands_for locals taken' frame name es fn vs given compiled n bound_frame args_fine apart =
-      let f = function_of name fs in
+      let f = function_named name fs in
       let xs = ownership.given fs name es in
       let qs = (locals_of f.params).arrays in
       let many : length xs ≡ length qs = as_many_arrays locals taken' f.params es args_fine in
@@ -68,9 +68,9 @@ module _ (code : Code) (fs : List Function) (lists : Lists) where
     at around pc ops store t = here depth around pc ops store t
 
     -- a call that would be too deep traps, and any other begins
-    deep_or_not : (around : List Around) (locals : Locals) (taken' : Taken) (level : ℕ) (kind : CallKind) (site : ℕ) (target : Option Name) (line pc : ℕ) (size : Room) (f : Function) (fn : Func) (frame : Frame) (h : Hands locals taken' frame f fn) (store : Store) (outer : Outside) (u : Trace) (l : ℕ) (next : Completion → ℕ → Trace → Ran) →
+    deep_or_not : (around : List Around) (locals : Locals) (taken' : Taken) (level : ℕ) (kind : CallKind) (site : ℕ) (target : Option Name) (line pc : ℕ) (size : Room) (f : Function) (fn : Func) (frame : Frame) (h : Hands locals taken' frame f fn) (store : Store) (outer : Outside) (u : Trace) (l : ℕ) (next : Completion → ℕ → Trace → RunOutcome) →
         level ≡ suc (length outer) → Compiled code fs lists f fn → TargetFine locals taken' f target → Agrees locals taken' frame store outer → Fills store size → l < bound →
-        Onwards code depth around locals (taken_on kind level target h.names taken') (pc + 1) outer size l next → (b : Bool) → nat_lt most_depth (depth + 1) ≡ b →
+        Onwards code depth around locals (taken_on kind level target h.names taken') (pc + 1) outer size l next → (b : Bool) → nat_lt MOST_DEPTH (depth + 1) ≡ b →
         go_on (if b then Stops trap.TooDeep line u.lines else On (entered code fs lists depth around pc store kind (Some site) (option_map (λ x. slot_of x locals.ints) target) (depth + 1) (slots_for locals.arrays h.names) h.outs fn h.ints h.arrays u)) l (λ s. steps code l s)
         ≡ resume (inside (ticked u)) (calls Deeper f h.given line l) (λ r l' u'. resume (rejoined (call_event kind site) (ticked u).events u') (going (set_result target r.0 (h.returned r.1)) l') next)
     deep_or_not around locals taken' level kind site target line pc size f fn frame h store outer u l next at_level compiled target_fine agrees m below on true deep =
@@ -80,24 +80,24 @@ module _ (code : Code) (fs : List Function) (lists : Lists) where
         inside_runs code fs lists depth bound calls run_calls around locals taken' level kind Deeper (Some site) target line pc size f fn frame h store outer u l next shallow at_level compiled target_fine agrees m below on
 
     -- the instruction of a call statement
-    pub call_runs : (around : List Around) (locals : Locals) (taken' : Taken) (level : ℕ) (kind : CallKind) (site line pc : ℕ) (size : Room) (target : Option Name) (name : Name) (es : List Expr) (fn : Func) (vs : List ℤ) (given_frame : Frame) (store : Store) (outer : Outside) (frame : Frame) (u : Trace) (left : ℕ) (next : Completion → ℕ → Trace → Ran) →
+    pub call_runs : (around : List Around) (locals : Locals) (taken' : Taken) (level : ℕ) (kind : CallKind) (site line pc : ℕ) (size : Room) (target : Option Name) (name : Name) (es : List Expr) (fn : Func) (vs : List ℤ) (given_frame : Frame) (store : Store) (outer : Outside) (frame : Frame) (u : Trace) (left : ℕ) (next : Completion → ℕ → Trace → RunOutcome) →
         slice_get code.instrs pc ≡ Some (instr.Call kind (callee_of line site (option_map (λ x. slot_of x locals.ints) target) (slot_of name lists.functions))) → slice_get code.funcs (slot_of name lists.functions) ≡ Some fn → passed_by code site ≡ slots_for locals.arrays (ownership.given fs name es) →
-        level ≡ suc (length outer) → Compiled code fs lists (function_of name fs) fn →
-        length vs ≡ fn.params → Bound (function_of name fs).params vs (map (λ a. array_of frame a) (ownership.given fs name es)) no_frame given_frame →
-        TargetFine locals taken' (function_of name fs) target → ArgsFine locals taken' (function_of name fs).params es → differ (ownership.given fs name es) ≡ true → Agrees locals taken' frame store outer → Fills store size → left ≤ bound →
+        level ≡ suc (length outer) → Compiled code fs lists (function_named name fs) fn →
+        length vs ≡ fn.params → Bound (function_named name fs).params vs (map (λ a. array_of frame a) (ownership.given fs name es)) no_frame given_frame →
+        TargetFine locals taken' (function_named name fs) target → ArgsFine locals taken' (function_named name fs).params es → differ (ownership.given fs name es) ≡ true → Agrees locals taken' frame store outer → Fills store size → left ≤ bound →
         Onwards code depth around locals (taken_on kind level target (ownership.given fs name es) taken') (pc + 1) outer size left next →
-        steps code left (at around pc (reverse vs) store u) ≡ resume u (then_do (pay 1 left) (λ _ left'. then_do (joined_up (call_event kind site) (calls Deeper (function_of name fs) given_frame line left')) (leaves target (function_of name fs).params es frame))) next
+        steps code left (at around pc (reverse vs) store u) ≡ resume u (then_do (pay 1 left) (λ _ left'. then_do (joined_up (call_event kind site) (calls Deeper (function_named name fs) given_frame line left')) (leaves target (function_named name fs).params es frame))) next
     unfolding hands_for
     call_runs around locals taken' level kind site line pc size target name es fn vs given_frame store outer frame u left next has found passed_is at_level compiled n bound_frame target_fine args_fine apart agrees m within on =
         let s = at around pc (reverse vs) store u in
-        let f = function_of name fs in
+        let f = function_named name fs in
         let xs = ownership.given fs name es in
         let passed = slots_for locals.arrays xs in
         let outs = map (λ a. Whole a) passed in
         let xss = map (λ a. array_of frame a) xs in
         let slot = option_map (λ x. slot_of x locals.ints) target in
         let c = callee_of line site slot (slot_of name lists.functions) in
-        let deep = nat_lt most_depth (depth + 1) in
+        let deep = nat_lt MOST_DEPTH (depth + 1) in
         let hands = hands_for locals taken' frame name es fn vs given_frame compiled n bound_frame args_fine apart in
         let arrays_are : arrays_in passed store.arrays ≡ Some xss = arrays_found locals.arrays taken' frame.arrays store.arrays (store.arrived ∷ array_waits outer) xs agrees.arrays hands.usable apart in
         let many : length (reverse vs) ≡ fn.params = length-reverse vs ∙ n in
@@ -115,17 +115,17 @@ module _ (code : Code) (fs : List Function) (lists : Lists) where
         ∙ sym (resume_then u (pay 1 left) (λ _ left'. then_do (joined_up (call_event kind site) (calls Deeper f given_frame line left')) (leaves target f.params es frame)) next)
 
     -- the instruction of a call on one half: it is as deep as its caller, and at no site
-    pub recur_runs : (around : List Around) (locals : Locals) (taken' : Taken) (level : ℕ) (kind : CallKind) (first line pc : ℕ) (size : Room) (name : Name) (es : List Expr) (fn : Func) (vs : List ℤ) (given_frame : Frame) (store : Store) (outer : Outside) (frame : Frame) (u : Trace) (left : ℕ) (next : Completion → ℕ → Trace → Ran) →
-        nat_lt most_depth depth ≡ false → slice_get code.instrs pc ≡ Some (instr.Recur kind (half_of first kind (slot_of name lists.functions))) → slice_get code.funcs (slot_of name lists.functions) ≡ Some fn → passed_by code (half_list first kind (slot_of name lists.functions)) ≡ slots_for locals.arrays (ownership.given fs name es) →
-        level ≡ suc (length outer) → Compiled code fs lists (function_of name fs) fn →
-        length vs ≡ fn.params → Bound (function_of name fs).params vs (map (λ a. array_of frame a) (ownership.given fs name es)) no_frame given_frame →
-        ArgsFine locals taken' (function_of name fs).params es → differ (ownership.given fs name es) ≡ true → Agrees locals taken' frame store outer → Fills store size → left ≤ bound →
+    pub recur_runs : (around : List Around) (locals : Locals) (taken' : Taken) (level : ℕ) (kind : CallKind) (first line pc : ℕ) (size : Room) (name : Name) (es : List Expr) (fn : Func) (vs : List ℤ) (given_frame : Frame) (store : Store) (outer : Outside) (frame : Frame) (u : Trace) (left : ℕ) (next : Completion → ℕ → Trace → RunOutcome) →
+        nat_lt MOST_DEPTH depth ≡ false → slice_get code.instrs pc ≡ Some (instr.Recur kind (half_of first kind (slot_of name lists.functions))) → slice_get code.funcs (slot_of name lists.functions) ≡ Some fn → passed_by code (half_list first kind (slot_of name lists.functions)) ≡ slots_for locals.arrays (ownership.given fs name es) →
+        level ≡ suc (length outer) → Compiled code fs lists (function_named name fs) fn →
+        length vs ≡ fn.params → Bound (function_named name fs).params vs (map (λ a. array_of frame a) (ownership.given fs name es)) no_frame given_frame →
+        ArgsFine locals taken' (function_named name fs).params es → differ (ownership.given fs name es) ≡ true → Agrees locals taken' frame store outer → Fills store size → left ≤ bound →
         Onwards code depth around locals (taken_on kind level None (ownership.given fs name es) taken') (pc + 1) outer size left next →
-        steps code left (at around pc (reverse vs) store u) ≡ resume u (then_do (pay 1 left) (λ _ left'. then_do (joined_up (start_event kind) (calls SameDepth (function_of name fs) given_frame line left')) (leaves None (function_of name fs).params es frame))) next
+        steps code left (at around pc (reverse vs) store u) ≡ resume u (then_do (pay 1 left) (λ _ left'. then_do (joined_up (start_event kind) (calls SameDepth (function_named name fs) given_frame line left')) (leaves None (function_named name fs).params es frame))) next
     unfolding hands_for
     recur_runs around locals taken' level kind first line pc size name es fn vs given_frame store outer frame u left next shallow has found passed_is at_level compiled n bound_frame args_fine apart agrees m within on =
         let s = at around pc (reverse vs) store u in
-        let f = function_of name fs in
+        let f = function_named name fs in
         let xs = ownership.given fs name es in
         let passed = slots_for locals.arrays xs in
         let outs = map (λ a. Whole a) passed in

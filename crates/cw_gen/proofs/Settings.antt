@@ -8,7 +8,7 @@ use Rattle.cw_tree.specs.Resolved.{Lists, Locals}
 use Rattle.cw_code.specs.declared.code.Func.{Func}
 use Rattle.cw_code.specs.declared.code.Instr.{Instr}
 use Rattle.cw_code.specs.Code.{Code}
-use Rattle.cw_code.specs.Fits.{names_well, Shape, is_ready, leaves, nexts, Table, Leads, AllLead}
+use Rattle.cw_code.specs.Fits.{names_well, Shape, is_ready, leaves, nexts, Table, FlowsInto, FlowsIntoEach}
 use Rattle.cw_gen.specs.Emit.{Tables, first_list}
 use Rattle.cw_gen.proofs.Decided.{below}
 use Rattle.cw_gen.proofs.Fine.{Room}
@@ -44,11 +44,11 @@ abbrev pub table_of : Shapes → Table
 table_of tab = λ place. flat (slice_get tab place)
 
 -- a place takes the shape that stands there
-pub exact : (tab : Shapes) (place : ℕ) (shape : Shape) → slice_get tab place ≡ Some (Some shape) → Leads (table_of tab) place shape
+pub exact : (tab : Shapes) (place : ℕ) (shape : Shape) → slice_get tab place ≡ Some (Some shape) → FlowsInto (table_of tab) place shape
 exact tab place shape e = record { there = shape; found = ap flat e; as_many = refl; covers = (over_itself shape).0; covers_gone = (over_itself shape).1; covers_outer = (over_itself shape).2 }
 
 -- a place that takes a shape takes one of which less is empty
-pub takes_less : (table : Table) (place : ℕ) (few many : Shape) → Leads table place many → many.operands ≡ few.operands → Over many few → Leads table place few
+pub takes_less : (table : Table) (place : ℕ) (few many : Shape) → FlowsInto table place many → many.operands ≡ few.operands → Over many few → FlowsInto table place few
 takes_less table place few many h e over =
     let all = over_after h.there many few (h.covers, h.covers_gone, h.covers_outer) over in
     record { there = h.there; found = h.found; as_many = h.as_many ∙ e; covers = all.0; covers_gone = all.1; covers_outer = all.2 }
@@ -95,7 +95,7 @@ module _ (setting : Setting) where
   -- an instruction of a place that finds a shape, or that is not reached
   abbrev pub FitsAt : ℕ → Option Shape → Instr → Type 0
   FitsAt place None i = names_well setting.code setting.f place i ≡ true
-  FitsAt place (Some shape) i = (names_well setting.code setting.f place i ≡ true) × (is_ready setting.code shape i ≡ true) × AllLead table (leaves setting.code shape i) (nexts place i)
+  FitsAt place (Some shape) i = (names_well setting.code setting.f place i ≡ true) × (is_ready setting.code shape i ≡ true) × FlowsIntoEach table (leaves setting.code shape i) (nexts place i)
 
   abbrev pub AllFit : ℕ → Shapes → List Instr → Type 0
   AllFit place [] [] = Unit {0}
@@ -112,7 +112,7 @@ module _ (setting : Setting) where
       (h.0, both_fit (place + 1) a b x y h.1 (subst (λ n. AllFit n b y) e k))
 
   -- a place that takes a shape lies in the function
-  pub lies : (place : ℕ) (shape : Shape) → Leads table place shape → nat_lt place setting.f.end ≡ true
+  pub lies : (place : ℕ) (shape : Shape) → FlowsInto table place shape → nat_lt place setting.f.end ≡ true
   lies place shape h = below place setting.f.end (setting.within place h.there h.found).1
 
   abbrev pub made : Opened → Locals → Taken → ℕ → Shape

@@ -2,7 +2,7 @@
 use Rattle.std.proofs.Common.{◌≡◌, ℕ, suc, ◌+◌, List, [], ◌∷◌, ◌++◌, length, Bool, true, false, if◌then◌else◌, Option, Some, None, refl, sym, ap, ◌∙◌, subst, arith, length-append}
 use Rattle.std.specs.Prelude.{map}
 use Rattle.cw_model.specs.Syntax.{Name, Expr, Number, Variable, Element, Length, Negative, Not, Binary, Stmt, Declare, DeclareArray, Assign, AssignElement, AddTo, Call, Start, Begin, Sync, If, IfElse, While, Scope, Cut, Region, Print, Return, Block, End, Then, Param, Function}
-use Rattle.cw_model.specs.Meaning.{function_of}
+use Rattle.cw_model.specs.Meaning.{function_named}
 use Rattle.cw_model.specs.Typing.{Returns, Nowhere, block_returns}
 use Rattle.cw_model.specs.Ownership.{CutOf, Taken}
 use Rattle.cw_tree.specs.Resolved.{Lists, Locals, slot_of, with_array, locals_after}
@@ -85,8 +85,8 @@ abbrev mutual
   stmt_shapes fs size opened locals taken (Assign x e) = valued_shapes (shape_at size opened locals taken) e
   stmt_shapes fs size opened locals taken (AddTo s e) = valued_shapes (shape_at size opened locals taken) e
   stmt_shapes fs size opened locals taken (Print e) = valued_shapes (shape_at size opened locals taken) e
-  stmt_shapes fs size opened locals taken (Call kind site target f es) = args_shapes (shape_at size opened locals taken) 0 (function_of f fs).params es ++ Some (shape_at size opened locals taken (args_after 0 (function_of f fs).params es)) ∷ []
-  stmt_shapes fs size opened locals taken (Start kind f es) = args_shapes (shape_at size opened locals taken) 0 (function_of f fs).params es ++ Some (shape_at size opened locals taken (args_after 0 (function_of f fs).params es)) ∷ []
+  stmt_shapes fs size opened locals taken (Call kind site target f es) = args_shapes (shape_at size opened locals taken) 0 (function_named f fs).params es ++ Some (shape_at size opened locals taken (args_after 0 (function_named f fs).params es)) ∷ []
+  stmt_shapes fs size opened locals taken (Start kind f es) = args_shapes (shape_at size opened locals taken) 0 (function_named f fs).params es ++ Some (shape_at size opened locals taken (args_after 0 (function_named f fs).params es)) ∷ []
   stmt_shapes fs size opened locals taken (Begin f from to captured over) = range_shapes (shape_at size opened locals taken) from to captured
   stmt_shapes fs size opened locals taken Sync = Some (shape_at size opened locals taken 0) ∷ []
   stmt_shapes fs size opened locals taken (If e b) = expr_shapes (shape_at size opened locals taken) 0 e ++ Some (shape_at size opened locals taken 1) ∷ block_shapes fs size opened locals taken b
@@ -168,8 +168,8 @@ module _ (fs : List Function) (lists : Lists) (tables : Tables) (size : Room) wh
     stmt_as_many returns level opened locals taken line (Assign x e) at fine = last_one (expr_shapes _ 0 e) _ (expr_code locals line e) _ (expr_as_many _ 0 locals line e)
     stmt_as_many returns level opened locals taken line (AddTo s e) at fine = last_one (expr_shapes _ 0 e) _ (expr_code locals line e) _ (expr_as_many _ 0 locals line e)
     stmt_as_many returns level opened locals taken line (Print e) at fine = last_one (expr_shapes _ 0 e) _ (expr_code locals line e) _ (expr_as_many _ 0 locals line e)
-    stmt_as_many returns level opened locals taken line (Call kind site target f es) at fine = last_one (args_shapes _ 0 (function_of f fs).params es) _ (args_code locals line es) _ (args_as_many _ 0 locals taken line (function_of f fs).params es fine.2)
-    stmt_as_many returns level opened locals taken line (Start kind f es) at fine = last_one (args_shapes _ 0 (function_of f fs).params es) _ (args_code locals line es) _ (args_as_many _ 0 locals taken line (function_of f fs).params es fine.2)
+    stmt_as_many returns level opened locals taken line (Call kind site target f es) at fine = last_one (args_shapes _ 0 (function_named f fs).params es) _ (args_code locals line es) _ (args_as_many _ 0 locals taken line (function_named f fs).params es fine.2)
+    stmt_as_many returns level opened locals taken line (Start kind f es) at fine = last_one (args_shapes _ 0 (function_named f fs).params es) _ (args_code locals line es) _ (args_as_many _ 0 locals taken line (function_named f fs).params es fine.2)
     stmt_as_many returns level opened locals taken line (Begin f from to captured over) at fine =
         let slots = map (λ x. slot_of x locals.ints) captured in
         both_as_many (expr_shapes _ 0 from) _ (expr_code locals line from) _ (expr_as_many _ 0 locals line from)

@@ -13,7 +13,7 @@ use Rattle.cw_tree.specs.Resolved.{Locals}
 use Rattle.cw_code.specs.declared.code.Instr.{Instr}
 use Rattle.cw_code.specs.declared.code.Instr.TheVariants as instr
 use Rattle.cw_code.specs.Code.{Code}
-use Rattle.cw_code.specs.Run.{Slots, Around, State, On, Stuck, Ran, ticked, is_full, set_array, back, act, go_on, steps}
+use Rattle.cw_code.specs.Run.{Slots, Around, State, On, Stuck, RunOutcome, ticked, is_full, set_array, back, act, go_on, steps}
 use Rattle.cw_gen.specs.Emit.{returns}
 use Rattle.cw_gen.proofs.Decided.{taken}
 use Rattle.cw_gen.proofs.Fine.{ExprFine, Room}
@@ -31,17 +31,17 @@ module _ (code : Code) (depth : ℕ) where
   at around pc ops store t = here depth around pc ops store t
 
   -- from a place on, with these names, the rest is what comes next
-  abbrev pub Onwards : List Around → Locals → Taken → ℕ → Outside → (size : Room) (left : ℕ) → (Completion → ℕ → Trace → Ran) → Type 0
+  abbrev pub Onwards : List Around → Locals → Taken → ℕ → Outside → (size : Room) (left : ℕ) → (Completion → ℕ → Trace → RunOutcome) → Type 0
   Onwards around locals taken' pc outer size left next =
       (frame : Frame) (store : Store) (l : ℕ) (u : Trace) → Agrees locals taken' frame store outer → Fills store size → l ≤ left → steps code l (at around pc [] store u) ≡ next (Normal frame) l u
 
   -- where the call returns, its caller goes on
-  abbrev pub Backs : Returns → Room → List Around → (left : ℕ) → (Completion → ℕ → Trace → Ran) → Type 0
+  abbrev pub Backs : Returns → Room → List Around → (left : ℕ) → (Completion → ℕ → Trace → RunOutcome) → Type 0
   Backs returns size around left next =
       (v : Option ℤ) (frame : Frame) (arrays : Slots (List ℤ)) (l : ℕ) (u : Trace) → MayGive returns v → GivesBack size.given frame arrays → l ≤ left → go_on (back around v arrays u) l (λ s. steps code l s) ≡ next (ByReturn v frame) l u
 
   -- an expression and a store
-  pub store_runs : (around : List Around) (locals locals' : Locals) (taken' : Taken) (e : Expr) (line pc a : ℕ) (size : Room) (store : Store) (outer : Outside) (frame : Frame) (made : ℤ → Frame) (t : Trace) (left : ℕ) (next : Completion → ℕ → Trace → Ran) →
+  pub store_runs : (around : List Around) (locals locals' : Locals) (taken' : Taken) (e : Expr) (line pc a : ℕ) (size : Room) (store : Store) (outer : Outside) (frame : Frame) (made : ℤ → Frame) (t : Trace) (left : ℕ) (next : Completion → ℕ → Trace → RunOutcome) →
       HasAt code.instrs pc (expr_code locals line e ++ instr.Store a ∷ []) → ExprFine locals taken' e → Agrees locals taken' frame store outer → Fills store size →
       is_full (slice_get store.slots a) ≡ true →
       ((v : ℤ) → Agrees locals' taken' (made v) (with_slot a (Some v) store) outer) →
@@ -61,7 +61,7 @@ module _ (code : Code) (depth : ℕ) where
       ∙ sym (resume_then t (pay_for (evaluate e frame) line left) (λ v left'. then_do (pay 1 left') (λ _. going (made v))) next)
 
   -- an expression and what is told of its value
-  pub tells_runs : (around : List Around) (locals : Locals) (taken' : Taken) (e : Expr) (line pc : ℕ) (size : Room) (i : Instr) (store : Store) (outer : Outside) (frame : Frame) (told : ℤ → Trace) (t : Trace) (left : ℕ) (next : Completion → ℕ → Trace → Ran) →
+  pub tells_runs : (around : List Around) (locals : Locals) (taken' : Taken) (e : Expr) (line pc : ℕ) (size : Room) (i : Instr) (store : Store) (outer : Outside) (frame : Frame) (told : ℤ → Trace) (t : Trace) (left : ℕ) (next : Completion → ℕ → Trace → RunOutcome) →
       HasAt code.instrs pc (expr_code locals line e ++ i ∷ []) → ExprFine locals taken' e → Agrees locals taken' frame store outer → Fills store size →
       ((v : ℤ) (place : ℕ) (u : Trace) → act code (at around place (v ∷ []) store u) (Some i) ≡ On (at around (place + 1) [] store (joined (ticked u) (told v)))) →
       Onwards around locals taken' (pc + length (expr_code locals line e ++ i ∷ [])) outer size left next →
@@ -84,7 +84,7 @@ module _ (code : Code) (depth : ℕ) where
       ∙ sym (resume_then t (pay_for (evaluate e frame) line left) (λ v left'. then_do (pay 1 left') (λ _ l. then_do (show (told v) l) (λ _. going frame))) next)
 
   -- an expression, and an array made with its value
-  pub value_runs : (around : List Around) (locals locals' : Locals) (taken' : Taken) (e : Expr) (line pc a : ℕ) (ops : List ℤ) (size : Room) (i : Instr) (store : Store) (outer : Outside) (frame : Frame) (make : ℤ → List ℤ) (op : ℤ → Result) (made : ℤ → Frame) (t : Trace) (left : ℕ) (next : Completion → ℕ → Trace → Ran) →
+  pub value_runs : (around : List Around) (locals locals' : Locals) (taken' : Taken) (e : Expr) (line pc a : ℕ) (ops : List ℤ) (size : Room) (i : Instr) (store : Store) (outer : Outside) (frame : Frame) (make : ℤ → List ℤ) (op : ℤ → Result) (made : ℤ → Frame) (t : Trace) (left : ℕ) (next : Completion → ℕ → Trace → RunOutcome) →
       HasAt code.instrs pc (expr_code locals line e ++ i ∷ []) → ExprFine locals taken' e → Agrees locals taken' frame store outer → Fills store size →
       ((v : ℤ) (place : ℕ) (u : Trace) → act code (at around place (v ∷ ops) store u) (Some i) ≡ set_array (at around place (v ∷ ops) store u) a line [] make (op v)) →
       ((v : ℤ) → Agrees locals' taken' (made v) (with_array_slot a (Some (make v)) store) outer) →
@@ -94,7 +94,7 @@ module _ (code : Code) (depth : ℕ) where
       let ce = expr_code locals line e in
       let place : pc + length ce + 1 ≡ pc + length (ce ++ i ∷ []) = omega (arith, length-append ce (i ∷ [])) in
       let there = (has_back code.instrs pc ce (i ∷ []) has).0 in
-      let next' : ℤ → ℕ → Trace → Ran = λ v l u. resume u (going (made v) l) next in
+      let next' : ℤ → ℕ → Trace → RunOutcome = λ v l u. resume u (going (made v) l) next in
       expr_runs code depth around locals taken' e line pc ops store outer frame t left (λ v l u. resume u (pay_for (done_at 1 (op v)) line l) next')
       (has_front code.instrs pc ce (i ∷ []) has) fine agrees
       (λ v l u le.
@@ -111,14 +111,14 @@ module _ (code : Code) (depth : ℕ) where
       ∙ sym (resume_then t (pay_for (and_then (evaluate e frame) op) line left) (λ v. going (made v)) next)
 
   -- one code of two ways on
-  pub either : (around : List Around) (z : Bool) (far near : ℕ) (store : Store) (zero_way other_way : ℕ → Outcome Completion) (l : ℕ) (u : Trace) (next : Completion → ℕ → Trace → Ran) →
+  pub either : (around : List Around) (z : Bool) (far near : ℕ) (store : Store) (zero_way other_way : ℕ → Outcome Completion) (l : ℕ) (u : Trace) (next : Completion → ℕ → Trace → RunOutcome) →
       steps code l (at around far [] store u) ≡ resume u (zero_way l) next → steps code l (at around near [] store u) ≡ resume u (other_way l) next →
       steps code l (at around (if z then far else near) [] store u) ≡ resume u ((if z then zero_way else other_way) l) next
   either around true far near store zero_way other_way l u next h k = h
   either around false far near store zero_way other_way l u next h k = k
 
   -- an expression and a test
-  pub test_runs : (around : List Around) (locals : Locals) (taken' : Taken) (e : Expr) (line pc n : ℕ) (store : Store) (outer : Outside) (frame : Frame) (go : ℤ → ℕ → Outcome Completion) (t : Trace) (left : ℕ) (next : Completion → ℕ → Trace → Ran) →
+  pub test_runs : (around : List Around) (locals : Locals) (taken' : Taken) (e : Expr) (line pc n : ℕ) (store : Store) (outer : Outside) (frame : Frame) (go : ℤ → ℕ → Outcome Completion) (t : Trace) (left : ℕ) (next : Completion → ℕ → Trace → RunOutcome) →
       HasAt code.instrs pc (expr_code locals line e ++ instr.SkipIfZero n ∷ []) → ExprFine locals taken' e → Agrees locals taken' frame store outer →
       ((v : ℤ) (l : ℕ) (u : Trace) → l ≤ left → steps code l (at around (if is_zero v then pc + length (expr_code locals line e) + 1 + n else pc + length (expr_code locals line e) + 1) [] store u) ≡ resume u (go v l) next) →
       steps code left (at around pc [] store t) ≡ resume t (then_do (pay_for (evaluate e frame) line left) (λ v left'. then_do (pay 1 left') (λ _ l. go v l))) next

@@ -3,7 +3,7 @@ use Rattle.std.proofs.Common.{◌≡◌, ℕ, ◌≤◌, ◌<◌, Bool, true, fa
 use Rattle.std.specs.Prelude.{nat_le, map}
 use Rattle.std.proofs.lemmas.Bool.Decides.{nat_tests}
 use Rattle.std.proofs.lemmas.List.{length-map}
-use Rattle.cw_model.specs.Limits.{most_instructions, most_call_statements}
+use Rattle.cw_model.specs.declared.limits.TheConstants.{MOST_INSTRUCTIONS, MOST_CALL_STATEMENTS}
 use Rattle.cw_model.specs.Lines.{unless, IsLeastLine}
 use Rattle.cw_model.specs.Sites.{call_sites, are_numbered}
 use Rattle.cw_model.specs.Sizes.{static_size, call_count, limit_faults, loop_faults, program_faults}
@@ -90,13 +90,13 @@ module _ (least : WhilesAreLeast) (lowerable : OwnedIsLowerable) (answers : Lowe
   site_count sites is = sym (length-map sites site_view) ∙ ap length is ∙ ap (λ t. length (emitted_sites_of t.functions)) same_tree ∙ as_many_sites program
 
   -- the program has more call statements than the limit
-  pub too_many_sites : (sites : List Site) → map site_view sites ≡ emitted_sites_of (resolved_of tree).functions → most_call_statements < length sites → IsLeastLine (program_faults program) 1
+  pub too_many_sites : (sites : List Site) → map site_view sites ≡ emitted_sites_of (resolved_of tree).functions → MOST_CALL_STATEMENTS < length sites → IsLeastLine (program_faults program) 1
   too_many_sites sites is h =
       let count = site_count sites is in
-      second_passed (nat_le (static_size program) most_instructions) (nat_le (call_count program) most_call_statements) (beyond (call_count program) most_call_statements (omega (arith, count, h)))
+      second_passed (nat_le (static_size program) MOST_INSTRUCTIONS) (nat_le (call_count program) MOST_CALL_STATEMENTS) (beyond (call_count program) MOST_CALL_STATEMENTS (omega (arith, count, h)))
 
-  module _ (sites : List Site) (sites_are : map site_view sites ≡ emitted_sites_of (resolved_of tree).functions) (few_sites : length sites ≤ most_call_statements) (made : declared.Code) (is : code_view made ≡ emitted (resolved_of tree) (functions_of tree bodies)) where
-    few_calls : length (call_sites program) ≤ most_call_statements
+  module _ (sites : List Site) (sites_are : map site_view sites ≡ emitted_sites_of (resolved_of tree).functions) (few_sites : length sites ≤ MOST_CALL_STATEMENTS) (made : declared.Code) (is : code_view made ≡ emitted (resolved_of tree) (functions_of tree bodies)) where
+    few_calls : length (call_sites program) ≤ MOST_CALL_STATEMENTS
     few_calls = omega (arith, site_count sites sites_are, few_sites)
 
     -- what the code relies on
@@ -114,11 +114,11 @@ module _ (least : WhilesAreLeast) (lowerable : OwnedIsLowerable) (answers : Lowe
     size = ap (λ (c : Code). length c.instrs) code_is ∙ code_count program fine ∙ sizes program owned_source
 
     -- it has more instructions than the limit
-    pub too_long : most_instructions < length made.instrs.items → IsLeastLine (program_faults program) 1
-    too_long h = first_passed (nat_le (static_size program) most_instructions) (nat_le (call_count program) most_call_statements) (beyond (static_size program) most_instructions (omega (arith, size, h)))
+    pub too_long : MOST_INSTRUCTIONS < length made.instrs.items → IsLeastLine (program_faults program) 1
+    too_long h = first_passed (nat_le (static_size program) MOST_INSTRUCTIONS) (nat_le (call_count program) MOST_CALL_STATEMENTS) (beyond (static_size program) MOST_INSTRUCTIONS (omega (arith, size, h)))
 
     -- the code is what the generator promises
-    pub generated : length made.instrs.items ≤ most_instructions → Generates program (code_view made)
+    pub generated : length made.instrs.items ≤ MOST_INSTRUCTIONS → Generates program (code_view made)
     generated h =
         let closes = turns_close program least in
         let short : IsShort program = omega (arith, code_count program fine, sizes program owned_source, size, h) in
@@ -132,5 +132,5 @@ module _ (least : WhilesAreLeast) (lowerable : OwnedIsLowerable) (answers : Lowe
           main_line = head_is (lists_of program) program.functions main_name (source_main program typed);
           reducers = refl;
           tags = tags_are_told program;
-          small = none_passed (nat_le (static_size program) most_instructions) (nat_le (call_count program) most_call_statements) (within (static_size program) most_instructions (omega (arith, size, h))) (within (call_count program) most_call_statements few_calls);
+          small = none_passed (nat_le (static_size program) MOST_INSTRUCTIONS) (nat_le (call_count program) MOST_CALL_STATEMENTS) (within (static_size program) MOST_INSTRUCTIONS (omega (arith, size, h))) (within (call_count program) MOST_CALL_STATEMENTS few_calls);
         })

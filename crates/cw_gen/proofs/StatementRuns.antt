@@ -1,7 +1,7 @@
 -- The code of each statement and of each block does what it does, where calls do.
 use Rattle.std.proofs.Common.{◌≡◌, ℕ, suc, ◌+◌, ◌<◌, ◌≤◌, List, [], ◌∷◌, ◌++◌, length, false, if◌then◌else◌, nat_lt, Option, Some, None, refl, sym, ap, ◌∙◌, subst, arith, append_assoc, length-append, ℤ, pos}
 use Rattle.std.specs.Prelude.{slice_get, slice_set, replicate, option_map}
-use Rattle.cw_model.specs.Limits.{most_depth}
+use Rattle.cw_model.specs.declared.limits.TheConstants.{MOST_DEPTH}
 use Rattle.cw_model.specs.Ints.{is_zero, natural}
 use Rattle.cw_model.specs.declared.syntax.CallKind.{CallKind}
 use Rattle.cw_model.specs.declared.syntax.CallKind.TheVariants.{Plain, Spawned}
@@ -11,7 +11,7 @@ use Rattle.cw_model.specs.Frames.{Frame, no_frame, int_of, array_of, new_int, ne
 use Rattle.cw_model.specs.Frames as frames
 use Rattle.cw_model.specs.Expressions.{evaluate, and_then, written}
 use Rattle.cw_model.specs.Outcome.{Outcome, Trace, shows, joined, after, then_do, joined_up, pay, gives, pay_for}
-use Rattle.cw_model.specs.Meaning.{Returned, Completion, Normal, ByReturn, Calls, Deeper, going, onward, scoped, turns, Entry, SameDepth, depth_of, call_event, start_event, given_array, function_of, arguments, new_length, cut_place, uncut, returned_arrays, end_of_call, run_all, call}
+use Rattle.cw_model.specs.Meaning.{Returned, Completion, Normal, ByReturn, Calls, Deeper, going, onward, scoped, turns, Entry, SameDepth, depth_of, call_event, start_event, given_array, function_named, arguments, new_length, cut_place, uncut, returned_arrays, end_of_call, run_all, call}
 use Rattle.cw_model.specs.Meaning as meaning
 use Rattle.cw_model.specs.Typing.{Returns, Nowhere, WithInt, Alone, surely_returns, block_returns}
 use Rattle.cw_model.specs.Ownership.{Holder, SpawnIn, CutOf, Taken, IsLeastClosed, arrays_given, target_names, cut_ended, is_taken, taken_by, freed, without, own_names, where_it_goes_on, Joins, Leaves}
@@ -21,7 +21,7 @@ use Rattle.cw_loops.specs.Slotted.{slotted_block}
 use Rattle.cw_code.specs.declared.code.BlockKind.TheVariants as block
 use Rattle.cw_code.specs.declared.code.Instr.TheVariants as instr
 use Rattle.cw_code.specs.Code.{Code}
-use Rattle.cw_code.specs.Run.{Around, State, On, Ran, ticked, synced, on_slot, set_array, settled, slots_named, opened_region, adds, steps}
+use Rattle.cw_code.specs.Run.{Around, State, On, RunOutcome, ticked, synced, on_slot, set_array, settled, slots_named, opened_region, adds, steps}
 use Rattle.cw_gen.specs.Emit.{most_jump, distance, first_list, half_list, whole_list, emitted_arg, emitted_loads, callee_of, half_of, halves_of, whole_of, past, emitted_end}
 use Rattle.cw_gen.proofs.Held.{held_after, held_after_all}
 use Rattle.cw_gen.proofs.Decided.{first_false, second_false}
@@ -45,7 +45,7 @@ use Rattle.cw_gen.proofs.Beginning.{begin_runs}
 use Rattle.cw_gen.proofs.Bodies.{scoped_runs, inside_block, cut_runs, in_reach, while_runs}
 
 module _ (code : Code) (fs : List Function) (lists : Lists) (small : length code.instrs ≤ most_jump) (least : TurnsClose fs) (table : Table code fs lists) (reducers_are : code.reducers ≡ lists.reducers) (tags_are : code.tags ≡ lists.tags)
-    (depth : ℕ) (shallow : nat_lt most_depth depth ≡ false) (bound : ℕ) (calls : Calls) (run_calls : CallsRun code fs lists bound depth calls) where
+    (depth : ℕ) (shallow : nat_lt MOST_DEPTH depth ≡ false) (bound : ℕ) (calls : Calls) (run_calls : CallsRun code fs lists bound depth calls) where
   abbrev at : List Around → ℕ → List ℤ → Store → Trace → State
   at around pc ops store t = here depth around pc ops store t
 
@@ -93,7 +93,7 @@ module _ (code : Code) (fs : List Function) (lists : Lists) (small : length code
 
   mutual
     -- a statement
-    pub stmt_runs : (around : List Around) (returns : Returns) (level : ℕ) (locals : Locals) (taken' : Taken) (s : Stmt) (line pc : ℕ) (size : Room) (store : Store) (outer : Outside) (frame : Frame) (t : Trace) (left : ℕ) (next : Completion → ℕ → Trace → Ran) →
+    pub stmt_runs : (around : List Around) (returns : Returns) (level : ℕ) (locals : Locals) (taken' : Taken) (s : Stmt) (line pc : ℕ) (size : Room) (store : Store) (outer : Outside) (frame : Frame) (t : Trace) (left : ℕ) (next : Completion → ℕ → Trace → RunOutcome) →
         level ≡ suc (length outer) → Outermost returns outer → left ≤ bound → HasAt code.instrs pc (stmt_code (first_list code.sites) lists locals line s) → StmtFine fs lists (tables_in code) size returns level locals taken' s → Agrees locals taken' frame store outer → Fills store size →
         (surely_returns s ≡ false → Onwards code depth around (locals_after locals s) (held_after fs level s taken') (pc + length (stmt_code (first_list code.sites) lists locals line s)) outer size left next) → Backs code depth returns size around left next →
         steps code left (at around pc [] store t) ≡ resume t (meaning.run s line fs calls frame left) next
@@ -140,7 +140,7 @@ module _ (code : Code) (fs : List Function) (lists : Lists) (small : length code
         tells_runs code depth around locals taken' e line pc size instr.Print store outer frame (λ v. record { lines = v ∷ []; additions = []; events = [] }) t left next has fine a n
         (λ v place u. ap (λ q. On (at around (place + 1) [] store q)) (told_after u (v ∷ []) [])) (on refl)
     stmt_runs around returns level locals taken' (Call kind site target name es) line pc size store outer frame t left next at_level out within has fine a n on backs =
-        let f = function_of name fs in
+        let f = function_named name fs in
         let i = instr.Call kind (callee_of line site (option_map (λ x. slot_of x locals.ints) target) (slot_of name lists.functions)) in
         let ces = args_code locals line es in
         let entry = table.entry name fine.0 in
@@ -153,7 +153,7 @@ module _ (code : Code) (fs : List Function) (lists : Lists) (small : length code
         (λ g st l' u' ag ln le'. ap (λ q. steps code l' (at around q [] st u')) place ∙ on refl g st l' u' (subst (λ q. Agrees locals q g st outer) (call_holds kind site target name es level taken') ag) ln (omega arith)))
         ∙ sym (resume_then t (arguments f.params es frame line no_frame left) (λ given l. then_do (pay 1 l) (λ _ l'. then_do (joined_up (call_event kind site) (calls Deeper f given line l')) (leaves target f.params es frame))) next)
     stmt_runs around returns level locals taken' (Start kind name es) line pc size store outer frame t left next at_level out within has fine a n on backs =
-        let f = function_of name fs in
+        let f = function_named name fs in
         let first = first_list code.sites in
         let i = instr.Recur kind (half_of first kind (slot_of name lists.functions)) in
         let ces = args_code locals line es in
@@ -276,7 +276,7 @@ module _ (code : Code) (fs : List Function) (lists : Lists) (small : length code
     stmt_runs around returns level locals taken' _ line pc size store outer frame t left next at_level out within has fine a n on backs = absurd fine
 
     -- the statements of a block
-    pub block_runs : (around : List Around) (returns : Returns) (level : ℕ) (locals : Locals) (taken' : Taken) (b : Block) (pc : ℕ) (size : Room) (store : Store) (outer : Outside) (frame : Frame) (t : Trace) (left : ℕ) (next : Completion → ℕ → Trace → Ran) →
+    pub block_runs : (around : List Around) (returns : Returns) (level : ℕ) (locals : Locals) (taken' : Taken) (b : Block) (pc : ℕ) (size : Room) (store : Store) (outer : Outside) (frame : Frame) (t : Trace) (left : ℕ) (next : Completion → ℕ → Trace → RunOutcome) →
         level ≡ suc (length outer) → Outermost returns outer → left ≤ bound → HasAt code.instrs pc (block_code (first_list code.sites) lists locals b) → BlockFine fs lists (tables_in code) size returns level locals taken' b → Agrees locals taken' frame store outer → Fills store size →
         (block_returns b ≡ false → Onwards code depth around (locals_after_all locals b) (held_after_all fs level b taken') (pc + length (block_code (first_list code.sites) lists locals b)) outer size left next) → Backs code depth returns size around left next →
         steps code left (at around pc [] store t) ≡ resume t (run_all b fs calls frame left) next

@@ -9,7 +9,7 @@ use Rattle.cw_model.specs.Expressions.{done_at}
 use Rattle.cw_model.specs.Outcome.{Outcome, Done, Trapped, Over, Trace, shows, after, then_do, pay, gives, pay_for}
 use Rattle.cw_code.specs.declared.code.Instr.{Instr}
 use Rattle.cw_code.specs.Code.{Code}
-use Rattle.cw_code.specs.Run.{State, Went, Stops, Ran, ticked, synced, operated, act, go_on, steps}
+use Rattle.cw_code.specs.Run.{State, Transition, Stops, RunOutcome, ticked, synced, operated, act, go_on, steps}
 use Rattle.cw_gen.proofs.Decided.{not_below}
 use Rattle.cw_gen.proofs.Traces.{resume, joined_quiet, resume_then, paid_one}
 use Rattle.cw_gen.proofs.Stores.{Store}
@@ -21,14 +21,14 @@ module _ (code : Code) where
   one s i h l = ap (λ o. go_on (act code s o) l (λ s'. steps code l s')) h
 
   -- an instruction that pays
-  pub pays : {A : Type 0} (a : A) (s : State) (u : Trace) (left : ℕ) (next : A → ℕ → Trace → Ran) →
+  pub pays : {A : Type 0} (a : A) (s : State) (u : Trace) (left : ℕ) (next : A → ℕ → Trace → RunOutcome) →
       ((l : ℕ) → l < left → steps code (suc l) s ≡ next a l (ticked u)) →
       steps code left s ≡ resume u (if nat_lt left 1 then Over else Done a (left - 1) (shows (works 1))) next
   pays a s u zero next h = refl
   pays a s u (suc l) next h = h l (omega arith) ∙ sym (ap (λ o. resume u o next) (paid_one a l (shows (works 1))))
 
   -- an instruction that pays and is the last
-  pub pays_last : {A : Type 0} (a : A) (s : State) (u : Trace) (left : ℕ) (next : A → ℕ → Trace → Ran) →
+  pub pays_last : {A : Type 0} (a : A) (s : State) (u : Trace) (left : ℕ) (next : A → ℕ → Trace → RunOutcome) →
       ((l : ℕ) → l < left → steps code (suc l) s ≡ next a l (ticked u)) →
       steps code left s ≡ resume u (then_do (pay 1 left) (λ _. gives a)) next
   pays_last a s u left next h =
@@ -36,7 +36,7 @@ module _ (code : Code) where
       ∙ sym (resume_then u (pay 1 left) (λ _. gives a) next)
 
   -- a join with its instruction
-  pub syncs : {A : Type 0} (a : A) (s : State) (u : Trace) (left : ℕ) (next : A → ℕ → Trace → Ran) →
+  pub syncs : {A : Type 0} (a : A) (s : State) (u : Trace) (left : ℕ) (next : A → ℕ → Trace → RunOutcome) →
       ((l : ℕ) → l < left → steps code (suc l) s ≡ next a l (synced u)) →
       steps code left s ≡ resume u (after (shows (Join ∷ [])) (then_do (pay 1 left) (λ _. gives a))) next
   syncs a s u zero next h = refl
@@ -48,7 +48,7 @@ module _ (code : Code) where
   store_at s = record { slots = s.slots; arrays = s.arrays; results = s.results; arrived = s.arrived }
 
   -- an operator's instruction
-  pub operates : (s : State) (line : ℕ) (rest : List ℤ) (r : Result) (i : Instr) (left : ℕ) (next : ℤ → ℕ → Trace → Ran) →
+  pub operates : (s : State) (line : ℕ) (rest : List ℤ) (r : Result) (i : Instr) (left : ℕ) (next : ℤ → ℕ → Trace → RunOutcome) →
       slice_get code.instrs s.place ≡ Some i → act code s (Some i) ≡ operated s line rest r →
       ((v : ℤ) (l : ℕ) → l < left → steps code l (here s.depth s.around (s.place + 1) (v ∷ rest) (store_at s) (ticked s.trace)) ≡ next v l (ticked s.trace)) →
       steps code left s ≡ resume s.trace (pay_for (done_at 1 r) line left) next
@@ -65,7 +65,7 @@ module _ (code : Code) where
       over_int = Over
 
   -- an instruction that traps, or goes on with a value
-  pub does : (s : State) (line : ℕ) (r : Result) (i : Instr) (left : ℕ) (next : ℤ → ℕ → Trace → Ran) (go : ℤ → Went) →
+  pub does : (s : State) (line : ℕ) (r : Result) (i : Instr) (left : ℕ) (next : ℤ → ℕ → Trace → RunOutcome) (go : ℤ → Transition) →
       slice_get code.instrs s.place ≡ Some i → ((v : ℤ) → r ≡ Value v → act code s (Some i) ≡ go v) → ((trap' : Trap) → r ≡ Fails trap' → act code s (Some i) ≡ Stops trap' line s.trace.lines) →
       ((v : ℤ) (l : ℕ) → l < left → go_on (go v) l (λ s'. steps code l s') ≡ next v l (ticked s.trace)) →
       steps code left s ≡ resume s.trace (pay_for (done_at 1 r) line left) next

@@ -5,7 +5,7 @@ use Rattle.std.proofs.lemmas.List.{map-append}
 use Rattle.std.specs.Prelude.{map, flat_map, slice_get}
 use Rattle.cw_model.specs.Syntax.{Name, Stmt, Declare, DeclareArray, Assign, AssignElement, AddTo, Call, Start, Begin, Sync, If, IfElse, While, For, Scope, Cut, Region, Print, Return, Block, End, Then, Function, Program}
 use Rattle.cw_model.specs.Names.{same_name, is_among, new_names}
-use Rattle.cw_model.specs.Meaning.{function_of}
+use Rattle.cw_model.specs.Meaning.{function_named}
 use Rattle.cw_model.specs.Report.{tags_in, tags_in_block}
 use Rattle.cw_model.specs.Report as report
 use Rattle.cw_model.specs.Sizes.{first_places, regions_in, regions_in_block}
@@ -100,11 +100,11 @@ tags_are_apart program =
     ∙ new_are_apart (map (λ d. d.0) (flat_map (λ f. regions_in_block f.body) program.functions)) []
 
 -- the line of the head of a function that is there
-pub head_is : (lists : Lists) (fs : List Function) (name : Name) → is_function name fs ≡ true → head_line (slice_get (map (resolved_function lists) fs) (slot_of name (function_names fs))) ≡ (function_of name fs).line
+pub head_is : (lists : Lists) (fs : List Function) (name : Name) → is_function name fs ≡ true → head_line (slice_get (map (resolved_function lists) fs) (slot_of name (function_names fs))) ≡ (function_named name fs).line
 head_is lists [] name h = cc
 head_is lists (f ∷ fs) name h = test (λ h'. head_is lists fs name h') (same_name name f.name) h
   where
-    test : (is_function name fs ≡ true → head_line (slice_get (map (resolved_function lists) fs) (slot_of name (function_names fs))) ≡ (function_of name fs).line) → (b : Bool) → (if b then true else is_function name fs) ≡ true →
-        head_line (slice_get (map (resolved_function lists) (f ∷ fs)) (if b then 0 else suc (slot_of name (function_names fs)))) ≡ (if b then f else function_of name fs).line
+    test : (is_function name fs ≡ true → head_line (slice_get (map (resolved_function lists) fs) (slot_of name (function_names fs))) ≡ (function_named name fs).line) → (b : Bool) → (if b then true else is_function name fs) ≡ true →
+        head_line (slice_get (map (resolved_function lists) (f ∷ fs)) (if b then 0 else suc (slot_of name (function_names fs)))) ≡ (if b then f else function_named name fs).line
     test more true h' = refl
     test more false h' = more h'

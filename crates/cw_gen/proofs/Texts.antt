@@ -2,7 +2,7 @@
 use Rattle.std.specs.Prelude.{◌≡◌, ℕ, ◌≤◌, true, if◌then◌else◌, List, [], ◌++◌, length, map, Some, slice_get}
 use Rattle.cw_model.specs.Syntax.{Name, Expr, While, Stmt, Block, Function, Program}
 use Rattle.cw_model.specs.Names.{differ}
-use Rattle.cw_model.specs.Meaning.{function_of}
+use Rattle.cw_model.specs.Meaning.{function_named}
 use Rattle.cw_model.specs.Typing.{Returns, WithInt, Alone, block_returns}
 use Rattle.cw_model.specs.Ownership.{Taken, IsLeastClosed}
 use Rattle.cw_tree.specs.Resolved.{Lists, Locals, slot_of, locals_of, resolved}
@@ -59,7 +59,7 @@ module _ (code : Code) (fs : List Function) (lists : Lists) where
   -- each function that is called has its code
   pub record Table : Type 0 where
     pub entry : (name : Name) → is_function name fs ≡ true →
-        (fn : Func) × (slice_get code.funcs (slot_of name lists.functions) ≡ Some fn) × Compiled (function_of name fs) fn
+        (fn : Func) × (slice_get code.funcs (slot_of name lists.functions) ≡ Some fn) × Compiled (function_named name fs) fn
 
 -- the code of a program: that of its lowered functions, each name looked up
 abbrev pub code_of : Program → Code

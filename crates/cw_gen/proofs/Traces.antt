@@ -4,10 +4,10 @@ use Rattle.std.proofs.lemmas.List.{append-nil}
 use Rattle.std.proofs.lemmas.Bool.Decides.{nat_tests}
 use Rattle.cw_model.specs.Trees.{Tree, Event}
 use Rattle.cw_model.specs.Outcome.{Outcome, Done, Trapped, Over, Trace, quiet, joined, after, then_do, joined_up}
-use Rattle.cw_code.specs.Run.{Ran, inside, rejoined}
+use Rattle.cw_code.specs.Run.{RunOutcome, inside, rejoined}
 
 -- an outcome, and what comes next, after a trace
-abbrev pub resume : {A : Type 0} → Trace → Outcome A → (A → ℕ → Trace → Ran) → Ran
+abbrev pub resume : {A : Type 0} → Trace → Outcome A → (A → ℕ → Trace → RunOutcome) → RunOutcome
 resume t (Done a left u) next = next a left (joined t u)
 resume t (Trapped trap line lines) next = Some (Trapped trap line (t.lines ++ lines))
 resume t Over next = Some Over
@@ -25,19 +25,19 @@ joined_joined t u v =
 pub joined_quiet : (t : Trace) → joined t quiet ≡ t
 joined_quiet t = same_trace _ _ (append-nil t.lines) (append-nil t.additions) (append-nil t.events)
 
-pub resume_after : {B : Type 0} (t u : Trace) (o : Outcome B) (next : B → ℕ → Trace → Ran) → resume t (after u o) next ≡ resume (joined t u) o next
+pub resume_after : {B : Type 0} (t u : Trace) (o : Outcome B) (next : B → ℕ → Trace → RunOutcome) → resume t (after u o) next ≡ resume (joined t u) o next
 resume_after t u (Done b l v) next = ap (next b l) (sym (joined_joined t u v))
 resume_after t u (Trapped trap line lines) next = ap (λ l. Some (Trapped trap line l)) (sym (append_assoc t.lines u.lines lines))
 resume_after t u Over next = refl
 
 -- a piece, and what goes on from there
-pub resume_then : {A B : Type 0} (t : Trace) (o : Outcome A) (go : A → ℕ → Outcome B) (next : B → ℕ → Trace → Ran) → resume t (then_do o go) next ≡ resume t o (λ a l u. resume u (go a l) next)
+pub resume_then : {A B : Type 0} (t : Trace) (o : Outcome A) (go : A → ℕ → Outcome B) (next : B → ℕ → Trace → RunOutcome) → resume t (then_do o go) next ≡ resume t o (λ a l u. resume u (go a l) next)
 resume_then t (Done a left u) go next = resume_after t u (go a left) next
 resume_then t (Trapped trap line lines) go next = refl
 resume_then t Over go next = refl
 
 -- a piece whose events stand as one
-pub resume_one : {A : Type 0} (part : Tree → Event) (t : Trace) (o : Outcome A) (next : A → ℕ → Trace → Ran) → resume t (joined_up part o) next ≡ resume (inside t) o (λ a l u. next a l (rejoined part t.events u))
+pub resume_one : {A : Type 0} (part : Tree → Event) (t : Trace) (o : Outcome A) (next : A → ℕ → Trace → RunOutcome) → resume t (joined_up part o) next ≡ resume (inside t) o (λ a l u. next a l (rejoined part t.events u))
 resume_one part t (Done a left u) next = refl
 resume_one part t (Trapped trap line lines) next = refl
 resume_one part t Over next = refl

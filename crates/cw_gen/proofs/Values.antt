@@ -18,7 +18,7 @@ use Rattle.cw_code.specs.declared.code.UnaryOperator.TheVariants as unary
 use Rattle.cw_code.specs.declared.code.Instr.{Instr}
 use Rattle.cw_code.specs.declared.code.Instr.TheVariants as instr
 use Rattle.cw_code.specs.Code.{Code}
-use Rattle.cw_code.specs.Run.{Around, State, Ran, ticked, on_slot, onto, operated, go_on, steps}
+use Rattle.cw_code.specs.Run.{Around, State, RunOutcome, ticked, on_slot, onto, operated, go_on, steps}
 use Rattle.cw_gen.specs.Emit.{emitted_arg}
 use Rattle.cw_gen.proofs.Fine.{ExprFine, ArgFine, ArgsFine}
 use Rattle.cw_gen.proofs.Traces.{resume, joined_quiet, resume_then}
@@ -34,7 +34,7 @@ module _ (code : Code) (depth : ℕ) where
   at around pc ops store t = here depth around pc ops store t
 
   -- the code of an expression gives its value, or traps as it does
-  pub expr_runs : (around : List Around) (locals : Locals) (taken' : Taken) (e : Expr) (line pc : ℕ) (ops : List ℤ) (store : Store) (outer : Outside) (frame : Frame) (t : Trace) (left : ℕ) (next : ℤ → ℕ → Trace → Ran) →
+  pub expr_runs : (around : List Around) (locals : Locals) (taken' : Taken) (e : Expr) (line pc : ℕ) (ops : List ℤ) (store : Store) (outer : Outside) (frame : Frame) (t : Trace) (left : ℕ) (next : ℤ → ℕ → Trace → RunOutcome) →
       HasAt code.instrs pc (expr_code locals line e) → ExprFine locals taken' e → Agrees locals taken' frame store outer →
       ((v : ℤ) (l : ℕ) (u : Trace) → l ≤ left → steps code l (at around (pc + length (expr_code locals line e)) (v ∷ ops) store u) ≡ next v l u) →
       steps code left (at around pc ops store t) ≡ resume t (pay_for (evaluate e frame) line left) next
@@ -107,13 +107,13 @@ module _ (code : Code) (depth : ℕ) where
   -- what arguments do, from any place
   abbrev ArgsRun : (around : List Around) (locals : Locals) (ps : List Param) (es : List Expr) (line : ℕ) (store : Store) (frame : Frame) → Type 0
   ArgsRun around locals ps es line store frame =
-      (pc : ℕ) (ops : List ℤ) (given : Frame) (t : Trace) (left : ℕ) (next : Frame → ℕ → Trace → Ran) → HasAt code.instrs pc (args_code locals line es) →
+      (pc : ℕ) (ops : List ℤ) (given : Frame) (t : Trace) (left : ℕ) (next : Frame → ℕ → Trace → RunOutcome) → HasAt code.instrs pc (args_code locals line es) →
       ((vs : List ℤ) (after_it : Frame) (l : ℕ) (u : Trace) → length vs ≡ length (locals_of ps).ints → Bound ps vs (map (λ a. array_of frame a) (arrays_given ps es)) given after_it → l ≤ left →
       steps code l (at around (pc + length (args_code locals line es)) (reverse_aux vs ops) store u) ≡ next after_it l u) →
       steps code left (at around pc ops store t) ≡ resume t (arguments ps es frame line given left) next
 
   -- the code of arguments gives the frame of a call, its integers among the operands
-  pub args_run : (around : List Around) (locals : Locals) (taken' : Taken) (ps : List Param) (es : List Expr) (line pc : ℕ) (ops : List ℤ) (store : Store) (outer : Outside) (frame given : Frame) (t : Trace) (left : ℕ) (next : Frame → ℕ → Trace → Ran) →
+  pub args_run : (around : List Around) (locals : Locals) (taken' : Taken) (ps : List Param) (es : List Expr) (line pc : ℕ) (ops : List ℤ) (store : Store) (outer : Outside) (frame given : Frame) (t : Trace) (left : ℕ) (next : Frame → ℕ → Trace → RunOutcome) →
       HasAt code.instrs pc (args_code locals line es) → ArgsFine locals taken' ps es → Agrees locals taken' frame store outer →
       ((vs : List ℤ) (after_it : Frame) (l : ℕ) (u : Trace) → length vs ≡ length (locals_of ps).ints → Bound ps vs (map (λ a. array_of frame a) (arrays_given ps es)) given after_it → l ≤ left →
       steps code l (at around (pc + length (args_code locals line es)) (reverse_aux vs ops) store u) ≡ next after_it l u) →

@@ -4,7 +4,7 @@ use Rattle.std.specs.List.{list_all}
 use Rattle.cw_model.specs.Ints as ints
 use Rattle.cw_model.specs.Syntax.{Program}
 use Rattle.cw_model.specs.Lines.{IsLeastLine}
-use Rattle.cw_model.specs.Meaning.{function_of}
+use Rattle.cw_model.specs.Meaning.{function_named}
 use Rattle.cw_model.specs.Answers.{main_name, serial_answer}
 use Rattle.cw_model.specs.Report.{tags_of}
 use Rattle.cw_model.specs.Sites.{call_sites, root_site}
@@ -21,7 +21,7 @@ use Rattle.cw_code.specs.Fits.{main_params, Fits}
 
 -- how many arguments the main of a program takes
 abbrev pub main_count : Program → ℕ
-main_count program = length (function_of main_name program.functions).params
+main_count program = length (function_named main_name program.functions).params
 
 -- on all arguments of 64 bits and within all limits the code gives the serial answer of the program, tree included; it fits, it
 -- takes the arguments of the program's main, it carries the program's call statements, the line of main's head, reducers and tags, and the
@@ -37,10 +37,10 @@ pub record Generates (program : Program) (code : Code) : Type 0 where
   pub small : program_faults program ≡ []
 
 -- why there is no code: the program is too large, or memory ran out
-abbrev pub Why : Program → Fault → Type 0
-Why program (fault.Size place) = IsLeastLine (program_faults program) place.line
-Why program fault.Memory = Unit {0}
-Why program _ = ⊥
+abbrev pub IsRefusal : Program → Fault → Type 0
+IsRefusal program (fault.Size place) = IsLeastLine (program_faults program) place.line
+IsRefusal program fault.Memory = Unit {0}
+IsRefusal program _ = ⊥
 
 -- the program that a lowered program was made from
 abbrev pub source_of : Core → Program
@@ -48,4 +48,4 @@ source_of core = program_of core.source.typed.tree
 
 -- the answer is the code of the program, or why there is none
 abbrev pub Answers : Program → Result made_code.Code Fault → Type 0
-Answers program r = MatchResult r (λ code. Generates program (code_view code)) (Why program)
+Answers program r = MatchResult r (λ code. Generates program (code_view code)) (IsRefusal program)

@@ -11,14 +11,9 @@ use cw_code::code::Code;
 use cw_loops::Core;
 use cw_loops::laws::{core_is_lowered, core_is_small, lowering_keeps_answers, owned_is_lowerable};
 use cw_model::laws::while_is_least;
+use cw_model::limits::{MOST_CALL_STATEMENTS, MOST_INSTRUCTIONS};
 use cw_text::{Fault, Place};
 use std::alloc::Global;
-
-/// The greatest static size of a program, in instructions: 2^20.
-const MOST_INSTRUCTIONS: usize = 1_048_576;
-
-/// The most call statements of a program.
-const MOST_CALL_STATEMENTS: usize = 65_535;
 
 /// The code of a program whose loops are lowered: on all arguments of 64 bits and within all limits it gives the serial
 /// answer of the source, it never gets stuck, and it has the source's call sites, reducers and tags, by place. A call names

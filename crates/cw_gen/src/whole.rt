@@ -6,7 +6,7 @@ ghost use Rattle.cw_gen.specs.Emit as spec;
 ghost use Rattle.cw_gen.specs.Written.{all_code, all_funcs, all_lists, code_of_core, lists_of};
 ghost use Rattle.cw_gen.specs.Written.{names_of_reducers, seen_sites, sites_of};
 ghost use Rattle.cw_loops.specs.Small.{IsSmallTree};
-ghost use Rattle.cw_model.specs.Limits.{most_call_statements};
+ghost use Rattle.cw_model.specs.declared.limits.TheConstants.{MOST_CALL_STATEMENTS};
 ghost use Rattle.cw_tree.specs.ResolvedView as view;
 
 use crate::functions::{functions_with, loop_functions};
@@ -21,7 +21,7 @@ use std::alloc::{AllocError, Global};
 pub(crate) fn emit(alloc: Global, core: &Core, sites: Vec<Site>) -> Result<Code, AllocError>
     requires small { IsSmallTree core.now.source.typed.tree core.now.tree }
     requires sites { seen_sites sites.items ≡ sites_of core.now.source.typed.tree.functions.items }
-    requires few { length sites.items ≤ most_call_statements }
+    requires few { length sites.items ≤ MOST_CALL_STATEMENTS }
     ensures { IfOk result (λ made. code.code_view made ≡ code_of_core core.now) }
 {
     let source = &core.source.typed.tree;
@@ -72,7 +72,7 @@ fn lists(
     lowered: &tree::Tree,
 ) -> Result<Vec<Vec<u32>>, AllocError>
     requires small { IsSmallTree source.now lowered.now }
-    requires first { first ≤ most_call_statements + 1 }
+    requires first { first ≤ MOST_CALL_STATEMENTS + 1 }
     ensures { IfOk result (λ lists. lists_of lists.items ≡ all_lists first source.now lowered.now) }
 {
     let index = source.functions.len() as u32;

@@ -4,8 +4,8 @@ use Rattle.std.specs.Prelude.{is_some}
 use Rattle.std.proofs.lemmas.Bool.{eqb-true, or_cases, or_left, or_right}
 use Rattle.cw_model.specs.declared.token.Kind.{Kind}
 use Rattle.cw_model.specs.declared.token.Kind.TheVariants as kind
-use Rattle.cw_model.specs.Limits.{most_name_bytes, most_number}
-use Rattle.cw_model.specs.Pieces.{is_separator, is_digit, is_letter, one_byte, two_bytes, symbol, is_comment, is_word, is_number, is_piece, value_of}
+use Rattle.cw_model.specs.declared.limits.TheConstants.{MOST_NAME_BYTES, MOST_NUMBER}
+use Rattle.cw_model.specs.Pieces.{is_separator, is_digit, is_letter, one_byte, two_bytes, symbol, is_comment, is_word, is_number, is_piece, decimal_value}
 use Rattle.cw_model.specs.Tokens.{IsSpelled, word, number, mark, word_kind}
 use Rattle.cw_lex.proofs.Longest.{and_both, letter_no_digit, symbol_none, comment_none}
 
@@ -99,13 +99,13 @@ spelled_no_comment bs (number n small) c = number_no_comment bs n c
 spelled_no_comment bs (mark {k = k} s) c = symbol_no_comment bs k s c
 
 -- no number that is too great spells a token
-pub spelled_no_large : {k : Kind} (bs : List ℕ) → IsSpelled k bs → is_number bs ≡ true → most_number < value_of bs → ⊥
+pub spelled_no_large : {k : Kind} (bs : List ℕ) → IsSpelled k bs → is_number bs ≡ true → MOST_NUMBER < decimal_value bs → ⊥
 spelled_no_large bs (word w short) n large = word_no_number bs w n
 spelled_no_large bs (number m small) n large = omega arith
 spelled_no_large bs (mark {k = k} s) n large = number_no_symbol bs k n s
 
 -- no name that is too long spells a token
-pub spelled_no_long : {k : Kind} (bs : List ℕ) → IsSpelled k bs → is_word bs ≡ true → word_kind bs ≡ kind.Name → most_name_bytes < length bs → ⊥
+pub spelled_no_long : {k : Kind} (bs : List ℕ) → IsSpelled k bs → is_word bs ≡ true → word_kind bs ≡ kind.Name → MOST_NAME_BYTES < length bs → ⊥
 spelled_no_long bs (word w short) v name long = let l = short name in omega arith
 spelled_no_long bs (number n small) v name long = word_no_number bs v n
 spelled_no_long bs (mark {k = k} s) v name long = word_no_symbol bs k v s

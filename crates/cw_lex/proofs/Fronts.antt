@@ -6,30 +6,30 @@ use Rattle.std.specs.List.{list_all, prefix_len}
 use Rattle.cw_model.specs.declared.token.Kind.{Kind}
 use Rattle.cw_model.specs.declared.token.Kind.TheVariants as kind
 use Rattle.cw_lex.specs.declared.front.Front.TheVariants as front
-use Rattle.cw_model.specs.Limits.{most_name_bytes, most_number}
-use Rattle.cw_model.specs.Pieces.{is_separator, is_digit, is_letter, is_word_byte, is_inner, one_byte, two_bytes, is_empty, is_number, value_of}
+use Rattle.cw_model.specs.declared.limits.TheConstants.{MOST_NAME_BYTES, MOST_NUMBER}
+use Rattle.cw_model.specs.Pieces.{is_separator, is_digit, is_letter, is_word_byte, is_inner, one_byte, two_bytes, is_empty, is_number, decimal_value}
 use Rattle.cw_model.specs.Tokens.{IsLongest, IsSpelled, word, number, mark, word_kind, HasLongName}
 use Rattle.cw_lex.specs.Front.{IsFront}
 use Rattle.cw_lex.proofs.Longest.{and_both, word_longest, comment_longest, NoComment, two_longest, one_longest, starts_nothing}
 
 module _ (bs : List ℕ) (len : ℕ) (some : 0 < length bs) (letter : is_letter (get_or bs 0 0) ≡ true) (is : len ≡ prefix_len is_word_byte bs) where
-  pub long_word : word_kind (take len bs) ≡ kind.Name → most_name_bytes < len → HasLongName bs
+  pub long_word : word_kind (take len bs) ≡ kind.Name → MOST_NAME_BYTES < len → HasLongName bs
   long_word name long =
       let w = word_longest bs some letter in
       record { len = len; longest = rw is w.0; word = rw is w.1; name = name; long = long }
 
-  pub token_word : (k : Kind) → k ≡ word_kind (take len bs) → (word_kind (take len bs) ≡ kind.Name → len ≤ most_name_bytes) → IsFront bs (front.Token k len)
+  pub token_word : (k : Kind) → k ≡ word_kind (take len bs) → (word_kind (take len bs) ≡ kind.Name → len ≤ MOST_NAME_BYTES) → IsFront bs (front.Token k len)
   token_word k k-is short =
       let w = word_longest bs some letter in
       let spelled : IsSpelled (word_kind (take len bs)) (take len bs) = word (rw is w.1) (λ e. let l = short e in omega (arith, length-take len bs)) in
       (rw is w.2, rw is w.0, rw k-is spelled)
 
-pub token_number : (bs : List ℕ) (len n : ℕ) → 0 < len → IsLongest bs len → is_number (take len bs) ≡ true → n ≡ value_of (take len bs) → n ≤ most_number → IsFront bs (front.Token (kind.Number n) len)
+pub token_number : (bs : List ℕ) (len n : ℕ) → 0 < len → IsLongest bs len → is_number (take len bs) ≡ true → n ≡ decimal_value (take len bs) → n ≤ MOST_NUMBER → IsFront bs (front.Token (kind.Number n) len)
 token_number bs len n some longest h n-is small =
-    let spelled : IsSpelled (kind.Number (value_of (take len bs))) (take len bs) = number h (omega arith) in
+    let spelled : IsSpelled (kind.Number (decimal_value (take len bs))) (take len bs) = number h (omega arith) in
     (some, longest, rw n-is spelled)
 
-pub large_number : (bs : List ℕ) (len : ℕ) → IsLongest bs len → is_number (take len bs) ≡ true → most_number < value_of (take len bs) → IsFront bs front.Faulty
+pub large_number : (bs : List ℕ) (len : ℕ) → IsLongest bs len → is_number (take len bs) ≡ true → MOST_NUMBER < decimal_value (take len bs) → IsFront bs front.Faulty
 large_number bs len longest h large = inr (record { len = len; longest = longest; number = h; large = large })
 
 pub comment_front : (bs : List ℕ) (len : ℕ) → get_or bs 0 0 ≡ 47 → get_or bs 1 0 ≡ 47 → len ≡ prefix_len is_inner bs → IsFront bs (front.Comment len)

@@ -2,7 +2,7 @@
 use Rattle.std.proofs.Common.{◌≡◌, ℕ, zero, suc, ◌+◌, ◌-◌, ◌*◌, ◌<◌, ◌≤◌, List, [], ◌∷◌, length, get_or, take, arith}
 use Rattle.std.specs.Prelude.{fold}
 use Rattle.std.proofs.lemmas.List.Sums.{fold_more}
-use Rattle.cw_model.specs.Pieces.{value_of}
+use Rattle.cw_model.specs.Pieces.{decimal_value}
 
 abbrev more : ℕ → ℕ → ℕ
 more n b = 10 * n + (b - 48)
@@ -16,8 +16,8 @@ grows_on n zero bs = grows n bs
 grows_on n (suc i) [] = omega arith
 grows_on n (suc i) (b ∷ bs) = grows_on (more n b) i bs
 
-pub value_of-take : (i : ℕ) (bs : List ℕ) → value_of (take i bs) ≤ value_of bs
+pub value_of-take : (i : ℕ) (bs : List ℕ) → decimal_value (take i bs) ≤ decimal_value bs
 value_of-take i bs = grows_on 0 i bs
 
-pub value_of-more : (bs : List ℕ) (i : ℕ) → i < length bs → value_of (take (i + 1) bs) ≡ 10 * value_of (take i bs) + (get_or bs i 0 - 48)
+pub value_of-more : (bs : List ℕ) (i : ℕ) → i < length bs → decimal_value (take (i + 1) bs) ≡ 10 * decimal_value (take i bs) + (get_or bs i 0 - 48)
 value_of-more bs i h = fold_more more 0 bs i 0 h

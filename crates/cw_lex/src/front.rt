@@ -8,10 +8,8 @@ ghost use Rattle.cw_lex.specs.Front.{IsFront};
 use crate::bytes::{Class, is_digit, is_letter, is_separator, run};
 use crate::numbers::value_of_digits;
 use crate::tables::{one_byte, two_bytes, word_kind};
+use cw_model::limits::MOST_NAME_BYTES;
 use cw_model::token::Kind;
-
-/// The most bytes of a name.
-const MOST_NAME_BYTES: usize = 64;
 
 /// What stands at the front of a text.
 #[derive(Clone, Copy, Debug)]

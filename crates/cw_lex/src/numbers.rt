@@ -1,17 +1,15 @@
 //! The value of a number.
 
 ghost use Rattle.std.specs.Prelude.{◌≡◌, ◌<◌, ◌≤◌, ℕ, length, slice_index, true, IfSome, IfNone};
-ghost use Rattle.cw_model.specs.Limits.{most_number};
-ghost use Rattle.cw_model.specs.Pieces.{is_digit, value_of};
+ghost use Rattle.cw_model.specs.Pieces.{is_digit, decimal_value};
 
-/// The greatest number that a source can write.
-const MOST_NUMBER: u64 = i64::MAX as u64;
+use cw_model::limits::MOST_NUMBER;
 
 /// The number that decimal digits stand for, if it is at most `MOST_NUMBER`. No digits stand for 0.
 pub fn value_of_digits(digits: &[u8]) -> Option<u64>
     requires { (k : ℕ) → k < length digits.now → is_digit (slice_index digits.now k) ≡ true }
-    ensures some { IfSome result (λ n. (n ≡ value_of digits.now) × (n ≤ most_number)) }
-    ensures none { IfNone result (most_number < value_of digits.now) }
+    ensures some { IfSome result (λ n. (n ≡ decimal_value digits.now) × (n ≤ MOST_NUMBER)) }
+    ensures none { IfNone result (MOST_NUMBER < decimal_value digits.now) }
 {
     let mut value = 0u64;
     for digit in digits {

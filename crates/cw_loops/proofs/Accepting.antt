@@ -5,7 +5,7 @@ use Rattle.std.specs.List.{list_all, list_any}
 use Rattle.cw_model.specs.Lines.{unless}
 use Rattle.cw_model.specs.Syntax.{Name, Param, Function, Program}
 use Rattle.cw_model.specs.Names.{same_name, is_among, differ}
-use Rattle.cw_model.specs.Meaning.{function_of}
+use Rattle.cw_model.specs.Meaning.{function_named}
 use Rattle.cw_model.specs.Answers.{main_name}
 use Rattle.cw_model.specs.Typing.{known_of, is_head, Returns, WithInt, Alone, faults_of, IsWellTyped}
 use Rattle.cw_model.specs.Ownership.{NoLoop, Joins, owner_faults_of, KeepsOwnership}
@@ -70,7 +70,7 @@ module _ (program : Program) where
       let n = none_of p.is_array (list_any (λ p. p.is_array) ps) (not_true _ h) in
       all_of (not p.is_array) _ (ap not n.0) (no_array ps (ap not n.1))
 
-  main_among : (gs : List Function) → flat_map (faults_of program) gs ≡ [] → is_among main_name (map (λ f. f.name) gs) ≡ true → list_all (λ p. not p.is_array) (function_of main_name gs).params ≡ true
+  main_among : (gs : List Function) → flat_map (faults_of program) gs ≡ [] → is_among main_name (map (λ f. f.name) gs) ≡ true → list_all (λ p. not p.is_array) (function_named main_name gs).params ≡ true
   main_among [] types there = absurd cc
   main_among (g ∷ gs) types there = go (same_name main_name g.name) refl there (head_of program g (left_none _ _ types)).main (λ o. main_among gs (right_none _ _ types) o)
     where
@@ -78,7 +78,7 @@ module _ (program : Program) where
       here e h = no_array g.params (both_true g.gives_int (not (list_any (λ p. p.is_array) g.params)) (ap (λ s. not s || (g.gives_int && not (list_any (λ p. p.is_array) g.params))) (sym (same_turned g.name main_name ∙ e)) ∙ h)).1
 
       go : (s : Bool) → same_name main_name g.name ≡ s → (if s then true else is_among main_name (map (λ f. f.name) gs)) ≡ true → (not (same_name g.name main_name) || (g.gives_int && not (list_any (λ p. p.is_array) g.params))) ≡ true →
-          (is_among main_name (map (λ f. f.name) gs) ≡ true → list_all (λ p. not p.is_array) (function_of main_name gs).params ≡ true) → list_all (λ p. not p.is_array) (if s then g else function_of main_name gs).params ≡ true
+          (is_among main_name (map (λ f. f.name) gs) ≡ true → list_all (λ p. not p.is_array) (function_named main_name gs).params ≡ true) → list_all (λ p. not p.is_array) (if s then g else function_named main_name gs).params ≡ true
       go true e o h more = here e h
       go false e o h more = more o
 

@@ -10,7 +10,7 @@ use Rattle.cw_model.specs.Syntax.{Name, Expr, Number, Variable, Element, Length,
 use Rattle.cw_model.specs.Syntax as model
 use Rattle.cw_model.specs.Lines.{unless}
 use Rattle.cw_model.specs.Names.{same_name, is_among}
-use Rattle.cw_model.specs.Meaning.{function_of}
+use Rattle.cw_model.specs.Meaning.{function_named}
 use Rattle.cw_model.specs.Captured.{captured}
 use Rattle.cw_model.specs.Typing.{Known, is_int, is_array, is_fine, is_new, is_head_of_loop, faults_in, faults_in_block, declares, ends_block, surely_returns, Returns, Nowhere}
 use Rattle.cw_model.specs.lemmas.Kept.{left_none, right_none, kept}
@@ -593,7 +593,7 @@ module _ (program : Program) (fs fs' rs ts : List Name) (n total : ℕ) (few_loo
       ∙ ap (λ g. slotted.Call kind site (option_map (λ x. slot_of x (c.given ++ ints)) target) (slot_of f fs') g) (arguments_moved m c here.tracks ints arrays here.few_ints here.few_arrays es three.1))
     where
       three : (can_target c target ≡ true) × (can_pass_all c es ≡ true)
-      three = both_true (can_target c target) _ (both_true (length es == length (function_of f c.functions).params) _ (both_true (is_plain f) _ can).1).1
+      three = both_true (can_target c target) _ (both_true (length es == length (function_named f c.functions).params) _ (both_true (is_plain f) _ can).1).1
 
       known_callee : nat_lt (slot_of f fs) counts.functions ≡ true
       known_callee = (both_true _ (nat_lt (slot_of f fs) counts.functions) (both_true _ _ fits).0).1

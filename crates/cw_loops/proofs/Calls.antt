@@ -10,7 +10,7 @@ use Rattle.cw_model.specs.Names.{is_among, find}
 use Rattle.cw_model.specs.Frames.{Frame, no_frame, array_of, new_int, new_array, set_array, set_result}
 use Rattle.cw_model.specs.Expressions.{evaluate}
 use Rattle.cw_model.specs.Outcome.{Outcome, Done, then_do, quiet, pay, pay_for, joined_up}
-use Rattle.cw_model.specs.Meaning.{Completion, Normal, Returned, Deeper, Calls, function_of, given_array, arguments, returned_array, returned_arrays, call_event, run}
+use Rattle.cw_model.specs.Meaning.{Completion, Normal, Returned, Deeper, Calls, function_named, given_array, arguments, returned_array, returned_arrays, call_event, run}
 use Rattle.cw_loops.specs.Lowered.{lower_expr, lower_exprs}
 use Rattle.cw_loops.specs.Lowerable.{Surroundings, can_evaluate, can_pass, can_pass_all, can_target, can_read, is_local, integers_of, arrays_of}
 use Rattle.cw_loops.specs.lemmas.Tests.{both_true}
@@ -193,8 +193,8 @@ module _ (c : Surroundings) (fo go : List (Name × ℤ)) (Slot : (fa ga : List (
       goes (rel_set_int c fo go Slot w ints arrays loc' fa' ga' la' slot' ki' ka' good' x v can fit) (kept_same (fa ++ la) (fa' ++ la') s)
 
   pub call_alike : (kind : CallKind) (site : ℕ) (target' : Option Name) (callee : Name) (es : List Expr) → can_target c target' ≡ true → can_pass_all c es ≡ true →
-      (fs fs' : List Function) (calls calls' : Calls) (limit : ℕ) → length es ≡ length (function_of callee fs).params → (function_of callee fs').params ≡ (function_of callee fs).params → Fresh [] (arrays_of (function_of callee fs).params) →
-      ((given : Frame) (line left : ℕ) → left < limit → Good given → given.sliced ≡ [] → keys given.ints ≡ integers_of (function_of callee fs).params → keys given.arrays ≡ arrays_of (function_of callee fs).params → Whole (CallSame given) left (calls Deeper (function_of callee fs) given line left) (calls' Deeper (function_of callee fs') given line left)) →
+      (fs fs' : List Function) (calls calls' : Calls) (limit : ℕ) → length es ≡ length (function_named callee fs).params → (function_named callee fs').params ≡ (function_named callee fs).params → Fresh [] (arrays_of (function_named callee fs).params) →
+      ((given : Frame) (line left : ℕ) → left < limit → Good given → given.sliced ≡ [] → keys given.ints ≡ integers_of (function_named callee fs).params → keys given.arrays ≡ arrays_of (function_named callee fs).params → Whole (CallSame given) left (calls Deeper (function_named callee fs) given line left) (calls' Deeper (function_named callee fs') given line left)) →
       (line left : ℕ) → left ≤ limit → Alike (Out c fo go Slot ints arrays f0) left (run (Call kind site target' callee es) line fs calls f0 left) (run (Call kind site target' callee (lower_exprs c.over es)) line fs' calls' g0 left)
   call_alike kind site target' callee es can_t can_e fs fs' calls calls' limit as_many same_params once deeper line left le =
       alike_right (ap (λ ps. lowered_call ps) same_params)
@@ -203,10 +203,10 @@ module _ (c : Surroundings) (fo go : List (Name × ℤ)) (Slot : (fa ga : List (
       (λ ret ret' l2 same le2. alike_done l2 (after_call given r.matches same))))))
     where
       ps0 : List Param
-      ps0 = (function_of callee fs).params
+      ps0 = (function_named callee fs).params
 
       lowered_call : List Param → Outcome Completion
-      lowered_call ps = then_do (arguments ps (lower_exprs c.over es) g0 line no_frame left) (λ given l. then_do (pay 1 l) (λ _ l. then_do (joined_up (call_event kind site) (calls' Deeper (function_of callee fs') given line l))
+      lowered_call ps = then_do (arguments ps (lower_exprs c.over es) g0 line no_frame left) (λ given l. then_do (pay 1 l) (λ _ l. then_do (joined_up (call_event kind site) (calls' Deeper (function_named callee fs') given line l))
           (λ returned l. Done (Normal (set_result target' returned.0 (returned_arrays ps (lower_exprs c.over es) returned.1 g0))) l quiet)))
 
       after_call : (given : Frame) → Matches ps0 es f0 given.arrays → {ret ret' : Returned} → CallSame given ret ret' →

@@ -13,7 +13,7 @@ use Rattle.cw_model.specs.Names.{is_among, find, put}
 use Rattle.cw_model.specs.Frames.{Frame, no_frame, new_int, new_array, int_of, array_of, set_array, leave}
 use Rattle.cw_model.specs.Expressions.{Gives, evaluate, also, and_then, done_at, apply}
 use Rattle.cw_model.specs.Outcome.{Outcome, Done, then_do, ◌>>=◌, quiet, pay, pay_for, joined_up}
-use Rattle.cw_model.specs.Meaning.{Completion, Normal, onward, going, frame_of, scoped, Returned, SameDepth, Calls, function_of, arguments, returned_arrays, start_event, cut_place, uncut, run, run_all}
+use Rattle.cw_model.specs.Meaning.{Completion, Normal, onward, going, frame_of, scoped, Returned, SameDepth, Calls, function_named, arguments, returned_arrays, start_event, cut_place, uncut, run, run_all}
 use Rattle.cw_loops.specs.Lowered.{low, high, middle, left_part, right_part, int_params, array_params, variables, left_arguments, right_arguments, both_halves, in_cuts}
 use Rattle.cw_loops.proofs.Alike.{Alike, Whole, fork_keeps, series_keeps, alike_one, alike_pay, alike_then, both_done, as_whole, then_then, then_same, then_gives, after_quiet, value_pays, pay_pay, same_events}
 use Rattle.cw_loops.proofs.Lags.{Lags, lag_none, lag_pay, lag_one, lag_map, lag_left, lag_right}
@@ -34,7 +34,7 @@ alike_first_right {R = R} {given = given} {o = o} e go h = subst (λ x. Alike R 
 
 -- a start: its arguments, and the call
 start_runs : (kind : _) (name : Name) (es : List Expr) (line : ℕ) (fs : List Function) (calls : Calls) (frame given : Frame) (f : Function) (cost left : ℕ) →
-    function_of name fs ≡ f → arguments f.params es frame line no_frame left ≡ then_do (pay cost left) (λ _ l. Done given l quiet) →
+    function_named name fs ≡ f → arguments f.params es frame line no_frame left ≡ then_do (pay cost left) (λ _ l. Done given l quiet) →
     run (Start kind name es) line fs calls frame left
     ≡ then_do (pay (cost + 1) left) (λ _ l. then_do (joined_up (start_event kind) (calls SameDepth f given line l)) (λ returned l. Done (Normal (returned_arrays f.params es returned.1 frame)) l quiet))
 start_runs kind name es line fs calls frame given f cost left found paid = rw found (rw paid
@@ -129,7 +129,7 @@ Long h s (a ∷ rest) = (h ≤ length (s a)) × Long h s rest
 
 module _ (name : Name) (line : ℕ) (f : Function) (over : List Name) (fs' : List Function) (cs : List (Name × ℤ))
     (params : f.params ≡ record { name = low; is_array = false } ∷ record { name = high; is_array = false } ∷ (int_params (keys cs) ++ array_params over))
-    (found : function_of name fs' ≡ f) (calls : Calls) (lo m hi : ℤ) (h : ℕ)
+    (found : function_named name fs' ≡ f) (calls : Calls) (lo m hi : ℤ) (h : ℕ)
     (fresh_ints : Fresh (low ∷ high ∷ []) (keys cs)) (no_middle : is_among middle (keys cs) ≡ false) where
   abbrev node_ints : List (Name × ℤ)
   node_ints = ((low, lo) ∷ (high, hi) ∷ cs) ++ (middle, m) ∷ []

@@ -3,7 +3,7 @@ use Rattle.std.proofs.Common.{◌≡◌, ℕ, zero, suc, ◌+◌, ◌≤◌, ◌
 use Rattle.std.specs.Prelude.{if◌then◌else◌, not, ◌&&◌, nat_lt, int_le, map}
 use Rattle.std.proofs.lemmas.Bool.{leb-true}
 use Rattle.std.proofs.lemmas.List.{length-take-le}
-use Rattle.cw_model.specs.Limits.{most_depth}
+use Rattle.cw_model.specs.declared.limits.TheConstants.{MOST_DEPTH}
 use Rattle.cw_model.specs.Ints.{Result, Value, Fails, natural, fits}
 use Rattle.cw_model.specs.Trees.{Series}
 use Rattle.cw_model.specs.Syntax.{Name, Block, Function}
@@ -13,7 +13,7 @@ use Rattle.cw_model.specs.Expressions.{done_at}
 use Rattle.cw_model.specs.Outcome.{Done, then_do, quiet, joined_up}
 use Rattle.cw_model.specs.Loops.{lies_within, halves}
 use Rattle.cw_model.specs.LoopLaws.{for_body}
-use Rattle.cw_model.specs.Meaning.{Normal, Returned, SameDepth, Calls, function_of, loop_frame, with_slice, slices_back, call}
+use Rattle.cw_model.specs.Meaning.{Normal, Returned, SameDepth, Calls, function_named, loop_frame, with_slice, slices_back, call}
 use Rattle.cw_loops.specs.Lowered.{is_plain, low, high, loop_function}
 use Rattle.cw_loops.specs.Lowerable.{Surroundings, can_read, is_local, can_capture, can_slice, can_loop}
 use Rattle.cw_loops.specs.lemmas.Tests.{both_true, not_true}
@@ -137,9 +137,9 @@ loop_tests c ints arrays x taken over h =
 
 module _ (c : Surroundings) (fo go : List (Name × ℤ)) (Slot : (fa ga : List (Name × List ℤ)) → Type 0) (w : World c fo go Slot) (ints arrays : List Name)
     (loc : List (Name × ℤ)) (fa ga la : List (Name × List ℤ)) (slot : Slot fa ga) (ki : keys loc ≡ ints) (ka : keys la ≡ arrays) (good : Good (source c fo loc fa la))
-    (fs fs' : List Function) (calls : Calls) (depth : ℕ) (shallow : nat_lt most_depth depth ≡ false) (limit : ℕ)
+    (fs fs' : List Function) (calls : Calls) (depth : ℕ) (shallow : nat_lt MOST_DEPTH depth ≡ false) (limit : ℕ)
     (line : ℕ) (x : Name) (grain : ℕ) (taken over : List Name) (b b' : Block) (name : Name) (some_grain : 1 ≤ grain) (tests : LoopTests c ints arrays x taken over)
-    (found : function_of name fs' ≡ loop_function name line x grain taken over b') where
+    (found : function_named name fs' ≡ loop_function name line x grain taken over b') where
   abbrev f0 : Frame
   f0 = source c fo loc fa la
 
@@ -253,12 +253,12 @@ module _ (c : Surroundings) (fo go : List (Name × ℤ)) (Slot : (fa ga : List (
     pub begun : (lo : ℤ) (n : ℕ) → n < 2 ^ 63 → fits lo ≡ true → fits (lo +ℤ pos n) ≡ true → (1 ≤ n → lies_within lo (lo +ℤ pos n) (map (λ a. find [] a (fa ++ la)) over) ≡ true) → (l bound : ℕ) → l ≤ limit → l < bound →
         Alike (Out c fo go Slot ints arrays f0) l
         (then_do (joined_up Series (halves (suc n) grain (length taken) (length over) n lo (for_body x over b fs calls) f0 l)) (λ f l. Done (Normal f) l quiet))
-        (then_do (joined_up Series (call bound depth fs' SameDepth (function_of name fs') (loop_frame (function_of name fs').params (lo ∷ (lo +ℤ pos n) ∷ map (int_of g0) taken) (map (λ a. take n (drop (natural lo) (array_of g0 a))) over) no_frame) line l))
+        (then_do (joined_up Series (call bound depth fs' SameDepth (function_named name fs') (loop_frame (function_named name fs').params (lo ∷ (lo +ℤ pos n) ∷ map (int_of g0) taken) (map (λ a. take n (drop (natural lo) (array_of g0 a))) over) no_frame) line l))
         (λ r l. Done (Normal (slices_back over (natural lo) r.1 g0)) l quiet))
     begun lo n small lo_fits hi_fits lies l bound h1 h2 =
         let s : Name → List ℤ = λ a. take n (drop (natural lo) (find [] a (ga ++ la))) in
         let agrees : Agrees over i0 arrays0 c.sliced lo n f0 s = starts lo n lies in
-        let found' : function_of name fs' ≡ loop_function name line x grain (keys cs) over b' = found ∙ ap (λ t. loop_function name line x grain t over b') (sym cs_names) in
+        let found' : function_named name fs' ≡ loop_function name line x grain (keys cs) over b' = found ∙ ap (λ t. loop_function name line x grain t over b') (sym cs_names) in
         let same_length : length taken ≡ length cs = taken_length taken in
         alike_left (ap (λ k. then_do (joined_up Series (halves (suc n) grain k (length over) n lo (for_body x over b fs calls) f0 l)) (λ f l. Done (Normal f) l quiet)) same_length)
         (alike_right (ap (λ fn. then_do (joined_up Series (call bound depth fs' SameDepth fn (loop_frame fn.params (lo ∷ (lo +ℤ pos n) ∷ map (int_of g0) taken) (map (λ a. take n (drop (natural lo) (array_of g0 a))) over) no_frame) line l)) (λ r l. Done (Normal (slices_back over (natural lo) r.1 g0)) l quiet)) found)

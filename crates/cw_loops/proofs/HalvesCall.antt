@@ -3,7 +3,7 @@ use Rattle.std.proofs.Common.{◌≡◌, ℕ, zero, suc, ◌+◌, ◌-◌, ◌*�
 use Rattle.std.specs.Prelude.{nat_lt, nat_le, if◌then◌else◌, None}
 use Rattle.std.proofs.Math.Seq.{take-append_seam}
 use Rattle.std.proofs.lemmas.Bool.{leb-false}
-use Rattle.cw_model.specs.Limits.{most_depth}
+use Rattle.cw_model.specs.declared.limits.TheConstants.{MOST_DEPTH}
 use Rattle.cw_model.specs.Ints.{Value, Fails, fits, exact}
 use Rattle.cw_model.specs.declared.trap.Trap.TheVariants as trap
 use Rattle.cw_model.specs.declared.syntax.Operator.TheVariants.{AtMost, Plus, Divide}
@@ -15,7 +15,7 @@ use Rattle.cw_model.specs.Expressions.{Gives, evaluate, also, done_at, apply}
 use Rattle.cw_model.specs.Outcome.{Outcome, Done, then_do, quiet, shows, pay, joined_up, after}
 use Rattle.cw_model.specs.Loops.{node_start, halves}
 use Rattle.cw_model.specs.LoopLaws.{for_body}
-use Rattle.cw_model.specs.Meaning.{Completion, frame_of, SameDepth, Calls, function_of, run_all, call}
+use Rattle.cw_model.specs.Meaning.{Completion, frame_of, SameDepth, Calls, function_named, run_all, call}
 use Rattle.cw_loops.specs.Lowered.{is_plain, low, high, middle, range, leaf_block, node_block, in_cuts, both_halves, left_arguments, right_arguments, loop_function}
 use Rattle.cw_loops.proofs.Alike.{Whole, then_then, after_quiet, then_same, pay_pay}
 use Rattle.cw_loops.proofs.Chained.{whole_pay}
@@ -79,8 +79,8 @@ middle_gives lo n cs arrays small e =
     ∙ ap (λ b. done_at 7 (if b then Value (lo +ℤ pos (n / 2)) else Fails trap.Overflow)) e
 
 module _ (name : Name) (line : ℕ) (x : Name) (grain : ℕ) (cs : List (Name × ℤ)) (over : List Name) (b b' : Block) (fs fs' : List Function) (calls : Calls) (depth : ℕ)
-    (plain : is_plain x ≡ true) (shallow : nat_lt most_depth depth ≡ false) (away : is_among x (keys cs) ≡ false) (some_grain : 1 ≤ grain)
-    (found : function_of name fs' ≡ loop_function name line x grain (keys cs) over b')
+    (plain : is_plain x ≡ true) (shallow : nat_lt MOST_DEPTH depth ≡ false) (away : is_among x (keys cs) ≡ false) (some_grain : 1 ≤ grain)
+    (found : function_named name fs' ≡ loop_function name line x grain (keys cs) over b')
     (fresh_ints : Fresh (low ∷ high ∷ []) (keys cs)) (no_middle : is_among middle (keys cs) ≡ false) (fresh_pairs : FreshPairs over over) (once : Fresh [] over) (cutting : Cutting [] over)
     (limit : ℕ) (Agrees : ℤ → ℕ → Frame → (Name → List ℤ) → Type 0) (Put : ℤ → ℕ → Frame → Frame → (Name → List ℤ) → Type 0) (slicing : Slicing over Agrees Put)
     (each : (lo : ℤ) (n : ℕ) (lo_fits : fits lo ≡ true) (hi_fits : fits (lo +ℤ pos n) ≡ true) → n < 2 ^ 63 → (frame : Frame) (s : Name → List ℤ) → Agrees lo n frame s →

@@ -3,7 +3,7 @@ use Rattle.std.proofs.Common.{◌≡◌, ℕ, zero, suc, ◌-◌, ◌≤◌, ◌
 use Rattle.std.specs.Prelude.{nat_lt, nat_le, if◌then◌else◌, None}
 use Rattle.std.proofs.Math.Seq.{take-length, take-append_seam}
 use Rattle.std.proofs.Math.IntN.{+ℤ_idr}
-use Rattle.cw_model.specs.Limits.{most_depth}
+use Rattle.cw_model.specs.declared.limits.TheConstants.{MOST_DEPTH}
 use Rattle.cw_model.specs.Ints.{Value, Fails, fits, exact}
 use Rattle.cw_model.specs.declared.trap.Trap.TheVariants as trap
 use Rattle.cw_model.specs.declared.syntax.Operator.TheVariants.{AtMost}
@@ -58,7 +58,7 @@ pub record Gone (Near : Frame → List (Name × List ℤ) → Type 0) (last : Li
   pub gives : returned ≡ (None, last arrays)
   pub near : Near frame arrays
 
-module _ (name : Name) (line : ℕ) (x : Name) (grain : ℕ) (ints over : List Name) (b b' : Block) (fs fs' : List Function) (calls : Calls) (depth : ℕ) (plain : is_plain x ≡ true) (shallow : nat_lt most_depth depth ≡ false)
+module _ (name : Name) (line : ℕ) (x : Name) (grain : ℕ) (ints over : List Name) (b b' : Block) (fs fs' : List Function) (calls : Calls) (depth : ℕ) (plain : is_plain x ≡ true) (shallow : nat_lt MOST_DEPTH depth ≡ false)
     (cs : List (Name × ℤ)) (away : is_among x (keys cs) ≡ false) (limit : ℕ) where
   module _ (lo : ℤ) (n : ℕ) (lo_fits : fits lo ≡ true) (hi_fits : fits (lo +ℤ pos n) ≡ true) (small : n < 2 ^ 63)
       (Near : Frame → List (Name × List ℤ) → Type 0) (q : ℕ) (counted : (frame : Frame) (arrays : List (Name × List ℤ)) → Near frame arrays → length arrays ≡ q)

@@ -5,7 +5,7 @@ use Rattle.std.proofs.lemmas.Bool.{ltb-false}
 use Rattle.std.proofs.lemmas.Int.{ints}
 use Rattle.std.proofs.Math.IntN.{+ℤ_idr}
 use lib.Signed.{◌<ℤ◌}
-use Rattle.cw_model.specs.Limits.{most_turns}
+use Rattle.cw_model.specs.declared.limits.TheConstants.{MOST_TURNS}
 use Rattle.cw_model.specs.Ints.{Result, Value, Fails, natural, fits}
 use Rattle.cw_model.specs.declared.trap.Trap.TheVariants as trap
 use Rattle.cw_model.specs.Expressions.{Evaluated, Gives, Traps, done_at}
@@ -44,14 +44,14 @@ ResultSuch P (Fails trap) = Unit {0}
 above : (lo hi : ℤ) → int_le hi lo ≡ false → lo <ℤ hi
 above lo hi e = grind (arith, ints)
 
-at_most : (z : ℤ) → int_lt (pos most_turns) z ≡ false → natural z ≤ most_turns
-at_most (pos n) e = ltb-false most_turns n e
+at_most : (z : ℤ) → int_lt (pos MOST_TURNS) z ≡ false → natural z ≤ MOST_TURNS
+at_most (pos n) e = ltb-false MOST_TURNS n e
 at_most (negsuc n) e = omega arith
 
 pub turns_counted : (lo hi : ℤ) (arrays : List (List ℤ)) → fits lo ≡ true → fits hi ≡ true → ResultSuch (Counted lo hi arrays) (loop_turns lo hi arrays)
-turns_counted lo hi arrays f g = go (int_le hi lo) (int_lt (pos most_turns) (hi -ℤ lo)) (lies_within lo hi arrays) refl refl refl
+turns_counted lo hi arrays f g = go (int_le hi lo) (int_lt (pos MOST_TURNS) (hi -ℤ lo)) (lies_within lo hi arrays) refl refl refl
   where
-    go : (x y z : Bool) → int_le hi lo ≡ x → int_lt (pos most_turns) (hi -ℤ lo) ≡ y → lies_within lo hi arrays ≡ z →
+    go : (x y z : Bool) → int_le hi lo ≡ x → int_lt (pos MOST_TURNS) (hi -ℤ lo) ≡ y → lies_within lo hi arrays ≡ z →
         ResultSuch (Counted lo hi arrays) (if x then Value (pos 0) else (if y then Fails trap.TooManyTurns else (if z then Value (hi -ℤ lo) else Fails trap.OutOfBounds)))
     go true y z e e' e'' = record { count = 0; is = refl; small = omega arith; end_fits = rw (+ℤ_idr lo) f; lies = λ h. absurd (omega arith) }
     go false true z e e' e'' = tt
@@ -60,7 +60,7 @@ turns_counted lo hi arrays f g = go (int_le hi lo) (int_lt (pos most_turns) (hi 
         let up : lo <ℤ hi = above lo hi e in
         let is : hi -ℤ lo ≡ pos (natural (hi -ℤ lo)) = difference (hi -ℤ lo) (omega (arith, ints)) in
         let end : lo +ℤ pos (natural (hi -ℤ lo)) ≡ hi = ap (λ z. lo +ℤ z) (sym is) ∙ omega (arith, ints) in
-        let most : natural (hi -ℤ lo) ≤ most_turns = at_most (hi -ℤ lo) e' in
+        let most : natural (hi -ℤ lo) ≤ MOST_TURNS = at_most (hi -ℤ lo) e' in
         record { count = natural (hi -ℤ lo); is = is; small = omega arith; end_fits = rw end g; lies = λ h. rw end e'' }
       where
         difference : (z : ℤ) → pos 0 <ℤ z → z ≡ pos (natural z)

@@ -7,7 +7,7 @@ use Rattle.cw_model.specs.declared.syntax.CallKind.{CallKind}
 use Rattle.cw_model.specs.Lines.{unless}
 use Rattle.cw_model.specs.Syntax.{Name, Expr, Number, Variable, Element, Length, Negative, Not, Binary, Stmt, Declare, DeclareArray, Assign, AssignElement, AddTo, Call, Start, Begin, Sync, If, IfElse, While, For, Scope, Cut, Region, Print, Return, Block, End, Then, Param, Function, Program}
 use Rattle.cw_model.specs.Names.{same_name, is_among, differ}
-use Rattle.cw_model.specs.Meaning.{function_of}
+use Rattle.cw_model.specs.Meaning.{function_named}
 use Rattle.cw_model.specs.Captured.{captured, read_by, read_by_all, read_in, read_in_block, declared_in_block}
 use Rattle.cw_model.specs.Typing.{Known, is_int, is_array, is_fine, is_new, is_argument, are_arguments, is_call, is_head_of_loop, called, may_return, ends_block, surely_returns, faults_in, faults_in_block, declares, Returns, Nowhere}
 use Rattle.cw_model.specs.Ownership.{Around, InLoop, for_head, is_outer, may_index, keeps_loop, may_read, may_write, are_free, are_inner, names_in, arrays_given, target_names, known_after, Taken, Declared, Closing, Leaves, Joins, CutOf, taken_after, declared_by, owner_faults, owner_faults_in}
@@ -206,9 +206,9 @@ module _ (program : Program) (fs : List Function) (fs_is : program.functions ≡
       let t = both_true (is_plain f) (list_all is_source_expr es) s.1 in
       let k : CallKept fs known target f es = call_kept fs known target f es (ap (λ w. is_call known target (called f w) es) (sym fs_is) ∙ kept _ line types) in
       let g : GivenKept around taken fs target f es = given_kept around taken fs target f es (kept _ line owns) in
-      let count : (length es == length (function_of f c.functions).params) ≡ true = same_number _ _ (one_each known (function_of f fs).params es k.arguments ∙ ap (λ w. length (function_of f w).params) (sym here)) in
-      all_of (is_plain f) _ t.0 (all_of (length es == length (function_of f c.functions).params) _ count
-      (all_of (can_target c target) _ (target_can agree target s.0 g.targets) (arguments_can agree taken (function_of f fs).params es t.1 k.arguments g.reads g.arrays well)))
+      let count : (length es == length (function_named f c.functions).params) ≡ true = same_number _ _ (one_each known (function_named f fs).params es k.arguments ∙ ap (λ w. length (function_named f w).params) (sym here)) in
+      all_of (is_plain f) _ t.0 (all_of (length es == length (function_named f c.functions).params) _ count
+      (all_of (can_target c target) _ (target_can agree target s.0 g.targets) (arguments_can agree taken (function_named f fs).params es t.1 k.arguments g.reads g.arrays well)))
 
   for_can : (x y z : Name) (from to : Expr) (grain : ℕ) (over : List Name) (b : Block) → BlockCan b → StmtCan (For x y z from to grain over b)
   for_can x y z from to grain over b more c ints arrays known owners around returns here agree depth line taken source types owns well =

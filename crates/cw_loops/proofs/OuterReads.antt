@@ -3,7 +3,7 @@ use Rattle.std.proofs.Common.{◌≡◌, ℕ, nat_lt, Bool, true, false, List, [
 use Rattle.std.specs.Prelude.{if◌then◌else◌, nat_le, ◌==◌, not, ◌&&◌, ◌||◌, Some, None}
 use Rattle.cw_model.specs.Syntax.{Name, Expr, Number, Variable, Element, Length, Negative, Not, Binary, Stmt, Declare, DeclareArray, Assign, AssignElement, AddTo, Call, Start, Begin, Sync, If, IfElse, While, For, Scope, Cut, Region, Print, Return, Block, End, Then}
 use Rattle.cw_model.specs.Names.{same_name, is_among, new_names}
-use Rattle.cw_model.specs.Meaning.{function_of}
+use Rattle.cw_model.specs.Meaning.{function_named}
 use Rattle.cw_loops.specs.Lowered.{is_plain}
 use Rattle.cw_model.specs.Captured.{captured, read_by, read_by_all, read_in, read_in_block, declared_in, declared_in_block}
 use Rattle.cw_tree.specs.Resolved.{Lists, Locals, Use, slot_of, use_of, resolved_expr, resolved_argument, resolved_stmt, resolved_block, with_int, with_array, locals_after, reads, argument_reads, arguments_read, reads_in, reads_in_block, captured_in}
@@ -277,7 +277,7 @@ mutual
   stmt_reads (Call kind site target f es) c ints0 arrays0 x total declared over can lists ints arrays here all own arrays_own =
       let t = Inner c ints0 arrays0 x total declared over in
       let g = both_true (is_plain f) _ here in
-      let g2 = both_true (length es == length (function_of f t.functions).params) _ g.1 in
+      let g2 = both_true (length es == length (function_named f t.functions).params) _ g.1 in
       arguments_in c ints0 arrays0 x total declared over can es ints arrays (both_true (can_target t target) (can_pass_all t es) g2.1).1 all arrays_own
   stmt_reads (Start kind f es) c ints0 arrays0 x total declared over can lists ints arrays here all own arrays_own = absurd cc
   stmt_reads (Begin f from to captured' over') c ints0 arrays0 x total declared over can lists ints arrays here all own arrays_own = absurd cc

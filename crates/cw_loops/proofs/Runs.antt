@@ -1,7 +1,7 @@
 -- What the statements of a generated function do, an equation for each.
 use Rattle.std.proofs.Common.{◌≡◌, ℕ, suc, ◌+◌, true, false, ℤ, List, refl, ◌∙◌}
 use Rattle.std.specs.Prelude.{nat_lt, if◌then◌else◌}
-use Rattle.cw_model.specs.Limits.{most_depth}
+use Rattle.cw_model.specs.declared.limits.TheConstants.{MOST_DEPTH}
 use Rattle.cw_model.specs.Ints.{is_zero}
 use Rattle.cw_model.specs.Syntax.{Name, Expr, Stmt, Declare, Assign, IfElse, Block, Then, Function}
 use Rattle.cw_model.specs.Frames.{Frame, new_int, set_int}
@@ -71,7 +71,7 @@ no_more_turn bound test line body frame left k v h z =
     value_and_pay (test frame) v k line left (λ v l. (if is_zero v then going frame
     else ◌>>=◌ (body frame) (λ way. onward way (λ frame'. ◌>>=◌ (pay 1) (λ _. turns bound test line body frame')))) l) h ∙ rw z refl
 
-pub call_runs : (bound depth : ℕ) (fs : List Function) (f : Function) (given : Frame) (line left : ℕ) → nat_lt most_depth depth ≡ false →
+pub call_runs : (bound depth : ℕ) (fs : List Function) (f : Function) (given : Frame) (line left : ℕ) → nat_lt MOST_DEPTH depth ≡ false →
     call (suc bound) depth fs SameDepth f given line left ≡ then_do (run_all f.body fs (call bound depth fs) given left) (λ way l. end_of_call way l)
 unfolding call
 call_runs bound depth fs f given line left e = rw e refl

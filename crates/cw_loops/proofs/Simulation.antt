@@ -2,7 +2,7 @@
 use Rattle.std.proofs.Common.{◌≡◌, ℕ, ◌+◌, ◌-◌, ◌≤◌, ◌<◌, true, false, ℤ, pos, List, [], ◌∷◌, ◌++◌, length, arith, ◌∙◌, ap, append_assoc, append-nil}
 use Rattle.std.specs.Prelude.{not, ◌&&◌, ◌==◌, nat_lt, nat_le, map, Some, None}
 use Rattle.std.proofs.lemmas.Bool.{leb-true, eqb-true}
-use Rattle.cw_model.specs.Limits.{most_depth}
+use Rattle.cw_model.specs.declared.limits.TheConstants.{MOST_DEPTH}
 use Rattle.cw_model.specs.Syntax.{Name, Expr, Stmt, Declare, DeclareArray, Assign, AssignElement, AddTo, Call, Start, Begin, Sync, If, IfElse, While, For, Scope, Cut, Region, Print, Return, Block, End, Then, Function}
 use Rattle.cw_model.specs.Names.{same_name, is_among}
 use Rattle.cw_model.specs.Captured.{captured}
@@ -10,7 +10,7 @@ use Rattle.cw_model.specs.Frames.{Frame, array_of, int_of}
 use Rattle.cw_model.specs.Expressions.{evaluate, and_then, Gives}
 use Rattle.cw_model.specs.Outcome.{Outcome}
 use Rattle.cw_model.specs.Loops.{loop_turns}
-use Rattle.cw_model.specs.Meaning.{Completion, Deeper, Calls, function_of, run, run_all, call}
+use Rattle.cw_model.specs.Meaning.{Completion, Deeper, Calls, function_named, run, run_all, call}
 use Rattle.cw_loops.specs.Lowered.{is_plain, lower_expr, lower_stmt, lower_block, loop_count, loop_count_in, made_by, made_in, loop_function, loop_name}
 use Rattle.cw_loops.specs.Lowerable.{Surroundings, can_evaluate, can_lower, can_lower_all, can_loop, can_target, can_pass_all, can_write, is_local, new_integers, new_arrays, integers_of, arrays_of}
 use Rattle.cw_loops.specs.lemmas.Finding.{Found, found_left, found_right}
@@ -35,9 +35,9 @@ no_more : {c : Surroundings} {fo go : List (Name × ℤ)} {Slot : (fa ga : List 
     Alike (Out c fo go Slot ints arrays before) given o o' → Alike (Out c fo go Slot (ints ++ []) (arrays ++ []) before) given o o'
 no_more {ints = ints} {arrays = arrays} h = rw (append-nil ints, append-nil arrays) h
 
-module _ (fs fs' : List Function) (calls : Calls) (depth : ℕ) (shallow : nat_lt most_depth depth ≡ false) (limit : ℕ)
-    (params_same : (g : Name) → is_plain g ≡ true → (function_of g fs').params ≡ (function_of g fs).params) (params_once : (g : Name) → is_plain g ≡ true → Fresh [] (arrays_of (function_of g fs).params))
-    (deeper : (g : Name) → is_plain g ≡ true → (given : Frame) (line left bound : ℕ) → left < limit → left < bound → Good given → given.sliced ≡ [] → keys given.ints ≡ integers_of (function_of g fs).params → keys given.arrays ≡ arrays_of (function_of g fs).params → Whole (CallSame given) left (calls Deeper (function_of g fs) given line left) (call bound depth fs' Deeper (function_of g fs') given line left)) where
+module _ (fs fs' : List Function) (calls : Calls) (depth : ℕ) (shallow : nat_lt MOST_DEPTH depth ≡ false) (limit : ℕ)
+    (params_same : (g : Name) → is_plain g ≡ true → (function_named g fs').params ≡ (function_named g fs).params) (params_once : (g : Name) → is_plain g ≡ true → Fresh [] (arrays_of (function_named g fs).params))
+    (deeper : (g : Name) → is_plain g ≡ true → (given : Frame) (line left bound : ℕ) → left < limit → left < bound → Good given → given.sliced ≡ [] → keys given.ints ≡ integers_of (function_named g fs).params → keys given.arrays ≡ arrays_of (function_named g fs).params → Whole (CallSame given) left (calls Deeper (function_named g fs) given line left) (call bound depth fs' Deeper (function_named g fs') given line left)) where
   -- a statement, wherever it may stand
   abbrev StmtAlike : Stmt → Type 1
   StmtAlike s = (c : Surroundings) (fo go : List (Name × ℤ)) (Slot : (fa ga : List (Name × List ℤ)) → Type 0) → World c fo go Slot → c.functions ≡ fs → (ints arrays : List Name) → can_lower c ints arrays s ≡ true → (k line : ℕ) → Found fs' (made_by line k s) →
@@ -91,8 +91,8 @@ module _ (fs fs' : List Function) (calls : Calls) (depth : ℕ) (shallow : nat_l
         no_more (add_alike c fo go Slot w ints arrays loc fa ga la slot ki ka good s e can line left fs fs' calls (call bound depth fs'))
     stmt_alike (Call kind site target' callee es) c fo go Slot w fine ints arrays can k line found f g (related loc fa ga la slot ki ka good) left bound h1 h2 =
         let n = both_true (is_plain callee) _ can in
-        let n2 = both_true (length es == length (function_of callee c.functions).params) (can_target c target' && can_pass_all c es) n.1 in
-        let as_many : length es ≡ length (function_of callee fs).params = eqb-true (length es) (length (function_of callee c.functions).params) n2.0 ∙ ap (λ t. length (function_of callee t).params) fine in
+        let n2 = both_true (length es == length (function_named callee c.functions).params) (can_target c target' && can_pass_all c es) n.1 in
+        let as_many : length es ≡ length (function_named callee fs).params = eqb-true (length es) (length (function_named callee c.functions).params) n2.0 ∙ ap (λ t. length (function_named callee t).params) fine in
         let p = both_true (can_target c target') (can_pass_all c es) n2.1 in
         no_more (call_alike c fo go Slot w ints arrays loc fa ga la slot ki ka good kind site target' callee es p.0 p.1 fs fs' calls (call bound depth fs') left as_many (params_same callee n.0) (params_once callee n.0)
         (λ given line l e good' ks ki' ka'. deeper callee n.0 given line l bound (omega arith) (omega arith) good' ks ki' ka') line left (omega arith))

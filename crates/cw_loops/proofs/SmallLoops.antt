@@ -4,7 +4,7 @@ use Rattle.std.specs.Prelude.{if◌then◌else◌, nat_le, ◌&&◌}
 use Rattle.std.specs.List.{list_all}
 use Rattle.std.proofs.lemmas.Bool.Decides.{nat_tests}
 use Rattle.std.proofs.lemmas.List.{length-map}
-use Rattle.cw_model.specs.Limits.{most_functions, most_grain, most_loops}
+use Rattle.cw_model.specs.declared.limits.TheConstants.{MOST_FUNCTIONS, MOST_GRAIN, MOST_LOOPS}
 use Rattle.cw_model.specs.Lines.{unless}
 use Rattle.cw_model.specs.Syntax.{Name, Expr, Stmt, Declare, DeclareArray, Assign, AssignElement, AddTo, Call, Start, Begin, Sync, If, IfElse, While, For, Scope, Cut, Region, Print, Return, Block, End, Then, Param, Function, Program}
 use Rattle.cw_model.specs.Names.{is_among, differ}
@@ -101,11 +101,11 @@ small_last : (loops : List Loop) (l : Loop) → AreSmallLoops loops → IsSmallL
 small_last [] l h one = (one, h)
 small_last (k ∷ loops) l h one = (h.0, small_last loops l h.1 one)
 
-grain_kept : (program : Program) (known : Known) (x y z : Name) (from to : Expr) (grain : ℕ) (over : List Name) → is_head_of_loop program known x y z from to grain over ≡ true → grain ≤ most_grain
+grain_kept : (program : Program) (known : Known) (x y z : Name) (from to : Expr) (grain : ℕ) (over : List Name) → is_head_of_loop program known x y z from to grain over ≡ true → grain ≤ MOST_GRAIN
 grain_kept program known x y z from to grain over h =
     let a = both_true _ (list_all (λ a. is_array known a) over) h in
-    let b = both_true _ (nat_le grain most_grain) a.0 in
-    no_greater grain most_grain b.1
+    let b = both_true _ (nat_le grain MOST_GRAIN) a.0 in
+    no_greater grain MOST_GRAIN b.1
 
 loop_small : (program : Program) (l : Locals) (known : Known) (line : ℕ) (x y z : Name) (from to : Expr) (grain : ℕ) (over : List Name) (body : source.Block) {b : slotted.Block} → length l.ints ≤ 256 → length known ≤ 256 →
     is_head_of_loop program known x y z from to grain over ≡ true → differ over ≡ true → IsSmallLoop (loop_with line (head_with l x from to grain over body) b)
@@ -278,8 +278,8 @@ module _ (program : Program) (lists : Lists) (n : ℕ) where
 -- a body for each function, and few functions and loops, each of them small
 pub record AreSmallBodies (tree : Resolved) (made : Bodies) : Type 0 where
   pub bodies : length made.blocks ≡ length tree.functions
-  pub functions : length tree.functions ≤ most_functions
-  pub loops : length made.loops ≤ most_loops
+  pub functions : length tree.functions ≤ MOST_FUNCTIONS
+  pub loops : length made.loops ≤ MOST_LOOPS
   pub each : AreSmallLoops made.loops
 
 program_small : (program : Program) → IsWellTyped program → KeepsOwnership program → limit_faults program ≡ [] → loop_faults program ≡ [] → AreSmallBodies (resolved program) (made_of_tree (resolved program))

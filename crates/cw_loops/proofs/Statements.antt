@@ -3,7 +3,7 @@ use Rattle.std.proofs.Common.{◌≡◌, ℕ, zero, suc, ◌+◌, ◌-◌, ◌�
 use Rattle.std.specs.Prelude.{nat_lt, if◌then◌else◌, Option, Some, None, slice_set, replicate}
 use Rattle.std.proofs.lemmas.Bool.{ltb-true}
 use Rattle.std.proofs.lemmas.List.{length-replicate, length-set}
-use Rattle.cw_model.specs.Limits.{most_elements}
+use Rattle.cw_model.specs.declared.limits.TheConstants.{MOST_ELEMENTS}
 use Rattle.cw_model.specs.Ints.{Result, Value, Fails, fits, natural}
 use Rattle.cw_model.specs.declared.trap.Trap.TheVariants as trap
 use Rattle.cw_model.specs.Trees.{Join}
@@ -82,7 +82,7 @@ length-keys (e ∷ t) = ap (λ n. suc n) (length-keys t)
 
 new_length_fits : (v : ℤ) → fits v ≡ true → ValueFits (new_length v)
 new_length_fits (negsuc n) h = tt
-new_length_fits (pos n) h = go (nat_lt most_elements n)
+new_length_fits (pos n) h = go (nat_lt MOST_ELEMENTS n)
   where
     go : (b : Bool) → ValueFits (if b then Fails trap.BadLength else Value (pos n))
     go true = tt

@@ -2,7 +2,7 @@
 use Rattle.std.proofs.Common.{◌≡◌, ℕ, zero, suc, ◌+◌, ◌-◌, ◌<◌, Bool, true, false, ℤ, pos, List, [], ◌∷◌, ◌++◌, length, arith, refl, sym, ◌∙◌, ap, append_assoc, append-nil, subst}
 use Rattle.std.specs.Prelude.{if◌then◌else◌, not, nat_lt, map, None}
 use Rattle.std.specs.List.{list_all}
-use Rattle.cw_model.specs.Limits.{most_depth}
+use Rattle.cw_model.specs.declared.limits.TheConstants.{MOST_DEPTH}
 use Rattle.cw_model.specs.Ints.{fits}
 use Rattle.cw_model.specs.declared.trap.Trap.TheVariants as trap
 use Rattle.cw_model.specs.Trees.{Join, tree_of, normal, Marked, Invocation}
@@ -12,7 +12,7 @@ use Rattle.cw_model.specs.Syntax.{Name, Param, Function, Reducer, Program}
 use Rattle.cw_model.specs.Names.{differ}
 use Rattle.cw_model.specs.Frames.{Frame, no_frame, new_int}
 use Rattle.cw_model.specs.Outcome.{Outcome, Trapped, then_do, Piece, shows}
-use Rattle.cw_model.specs.Meaning.{Completion, Returned, Deeper, function_of, run_all, end_of_call, call}
+use Rattle.cw_model.specs.Meaning.{Completion, Returned, Deeper, function_named, run_all, end_of_call, call}
 use Rattle.cw_model.specs.Answers.{Ended, TrappedAt, sum_to, int_given, answer_of, main_frame, main_name, serial_answer}
 use Rattle.cw_loops.specs.Lowered.{is_plain, loop_count_in, lower_block, made_in, lower_function, lower_functions, made_of, lowered}
 use Rattle.cw_loops.specs.Lowerable.{nothing_around, integers_of, arrays_of, can_lower_all, can_lower_function, is_lowerable}
@@ -34,7 +34,7 @@ use Rattle.cw_model.specs.Sizes.{function_size, static_size}
 use Rattle.cw_loops.proofs.Sizes.{size_block}
 use Rattle.cw_loops.proofs.Simulation.{block_alike}
 
-params_once : (fs : List Function) → list_all (can_lower_function fs) fs ≡ true → (g : Name) → is_plain g ≡ true → Fresh [] (arrays_of (function_of g fs).params)
+params_once : (fs : List Function) → list_all (can_lower_function fs) fs ≡ true → (g : Name) → is_plain g ≡ true → Fresh [] (arrays_of (function_named g fs).params)
 params_once fs can g plain =
     let l = looked fs can g plain in
     let n = both_true (is_plain l.f.name) _ l.can in
@@ -46,7 +46,7 @@ deep_or b line piece = if b then (λ left. Trapped trap.TooDeep line []) else pi
 
 call_deeper : (bound depth : ℕ) (fs : List Function) (f : Function) (given : Frame) (line left : ℕ) →
     call (suc bound) depth fs Deeper f given line left
-    ≡ deep_or (nat_lt most_depth (depth + 1)) line (λ left. then_do (run_all f.body fs (call bound (depth + 1) fs) given left) (λ way l. end_of_call way l)) left
+    ≡ deep_or (nat_lt MOST_DEPTH (depth + 1)) line (λ left. then_do (run_all f.body fs (call bound (depth + 1) fs) given left) (λ way l. end_of_call way l)) left
 unfolding call
 call_deeper bound depth fs f given line left = refl
 
@@ -79,8 +79,8 @@ top_world fs = record {
 module _ (fs : List Function) (can : list_all (can_lower_function fs) fs ≡ true) where
   abbrev CallOk : ℕ → Type 0
   CallOk n = (g : Name) → is_plain g ≡ true → (depth : ℕ) (given : Frame) (line left bound bound' : ℕ) → left < n → left < bound → left < bound' → Good given → given.sliced ≡ [] →
-      keys given.ints ≡ integers_of (function_of g fs).params → keys given.arrays ≡ arrays_of (function_of g fs).params →
-      Whole (CallSame given) left (call bound depth fs Deeper (function_of g fs) given line left) (call bound' depth (fs' fs can) Deeper (function_of g (fs' fs can)) given line left)
+      keys given.ints ≡ integers_of (function_named g fs).params → keys given.arrays ≡ arrays_of (function_named g fs).params →
+      Whole (CallSame given) left (call bound depth fs Deeper (function_named g fs) given line left) (call bound' depth (fs' fs can) Deeper (function_named g (fs' fs can)) given line left)
 
   ended : (given : Frame) {way way' : Completion} (l : ℕ) (is as' : List Name) → Out (nothing_around fs) [] [] TopSlot is as' given way way' → Alike (CallSame given) l (end_of_call way l) (end_of_call way' l)
   ended given l is as' (returns r fit g kept) = alike_done l (same_call fit g kept)
@@ -93,7 +93,7 @@ module _ (fs : List Function) (can : list_all (can_lower_function fs) fs ≡ tru
       Good given → given.sliced ≡ [] → keys given.ints ≡ integers_of f.params → keys given.arrays ≡ arrays_of f.params →
       Whole (CallSame given) left (call (suc bound) depth fs Deeper f given line left) (call (suc bound') depth (fs' fs can) Deeper (lower_function k f) given line left)
   one_call n more f k can_f made depth given line left bound bound' h h1 h2 good ks ki ka =
-      whole_left (call_deeper bound depth fs f given line left) (whole_right (call_deeper bound' depth (fs' fs can) (lower_function k f) given line left) (by_test (nat_lt most_depth (depth + 1)) refl))
+      whole_left (call_deeper bound depth fs f given line left) (whole_right (call_deeper bound' depth (fs' fs can) (lower_function k f) given line left) (by_test (nat_lt MOST_DEPTH (depth + 1)) refl))
     where
       given_is : source (nothing_around fs) [] given.ints [] given.arrays ≡ given
       given_is = ap (λ t. record { ints = given.ints; arrays = given.arrays; sliced = t }) (sym ks)
@@ -104,7 +104,7 @@ module _ (fs : List Function) (can : list_all (can_lower_function fs) fs ≡ tru
           related given.ints [] [] given.arrays (refl, refl) ki ka (subst Good (sym given_is) good) in
           subst (λ f'. Rel (nothing_around fs) [] [] TopSlot (integers_of f.params) (arrays_of f.params) f' f') given_is r
 
-      by_test : (b : Bool) → nat_lt most_depth (depth + 1) ≡ b →
+      by_test : (b : Bool) → nat_lt MOST_DEPTH (depth + 1) ≡ b →
           Whole (CallSame given) left (deep_or b line (λ left. then_do (run_all f.body fs (call bound (depth + 1) fs) given left) (λ way l. end_of_call way l)) left)
           (deep_or b line (λ left. then_do (run_all (lower_block [] k f.body) (fs' fs can) (call bound' (depth + 1) (fs' fs can)) given left) (λ way l. end_of_call way l)) left)
       by_test true e = whole_trapped refl
@@ -165,15 +165,15 @@ same_answer reducers (whole_trapped {trap = trap} {line = line} e) = ap (Trapped
 same_answer reducers whole_over = refl
 
 -- a lowered program answers as its source, on as many arguments of 64 bits as main has parameters
-pub lowered_answers : (p : Program) (args : List ℤ) (limit : ℕ) → is_lowerable p ≡ true → list_all fits args ≡ true → length args ≡ length (function_of main_name p.functions).params → list_all (λ q. not q.is_array) (function_of main_name p.functions).params ≡ true →
+pub lowered_answers : (p : Program) (args : List ℤ) (limit : ℕ) → is_lowerable p ≡ true → list_all fits args ≡ true → length args ≡ length (function_named main_name p.functions).params → list_all (λ q. not q.is_array) (function_named main_name p.functions).params ≡ true →
     serial_answer (lowered p) args limit ≡ serial_answer p args limit
 unfolding serial_answer
 lowered_answers p args limit can args_fit as_many no_arrays =
     let fs : List Function = p.functions in
     let l = looked fs can main_name refl in
-    let main : Function = function_of main_name fs in
+    let main : Function = function_named main_name fs in
     let given : Frame = main_frame main.params args no_frame in
-    let main' : Function = function_of main_name (fs' fs can) in
+    let main' : Function = function_named main_name (fs' fs can) in
     let params : main'.params ≡ main.params = params_same fs can main_name refl in
     let lines : main'.line ≡ main.line = ap (λ (f : Function). f.line) l.is' ∙ sym (ap (λ (f : Function). f.line) l.is) in
     let whole : Whole (CallSame given) limit (call (suc limit) 0 fs Deeper main given main.line limit) (call (suc limit) 0 (fs' fs can) Deeper main' given main.line limit) =
@@ -185,7 +185,7 @@ lowered_answers p args limit can args_fit as_many no_arrays =
 
 -- the sizes
 
-sizes_add : (all0 fs all : List Function) (k : ℕ) → ((g : Name) → is_plain g ≡ true → (function_of g all).params ≡ (function_of g all0).params) → list_all (can_lower_function all0) fs ≡ true → Found all (made_of k fs) →
+sizes_add : (all0 fs all : List Function) (k : ℕ) → ((g : Name) → is_plain g ≡ true → (function_named g all).params ≡ (function_named g all0).params) → list_all (can_lower_function all0) fs ≡ true → Found all (made_of k fs) →
     sum_by (function_size all) (lower_functions k fs) + sum_by (function_size all) (made_of k fs) ≡ sum_by (function_size all0) fs
 sizes_add all0 [] all k keep h found = omega arith
 sizes_add all0 (f ∷ fs) all k keep h found =

@@ -4,7 +4,7 @@ use Rattle.std.specs.Prelude.{if◌then◌else◌, not, nat_le, ◌&&◌, filter
 use Rattle.std.specs.List.{list_all}
 use Rattle.std.proofs.lemmas.Bool.Decides.{nat_tests}
 use Rattle.std.proofs.lemmas.List.{map-append, length-map}
-use Rattle.cw_model.specs.Limits.{most_declared}
+use Rattle.cw_model.specs.declared.limits.TheConstants.{MOST_DECLARED}
 use Rattle.cw_model.specs.Lines.{unless}
 use Rattle.cw_model.specs.Syntax.{Name, Stmt, Declare, DeclareArray, Assign, AssignElement, AddTo, Call, Start, Begin, Sync, If, IfElse, While, For, Scope, Cut, Region, Print, Return, Block, End, Then, Param, Function, Program}
 use Rattle.cw_model.specs.Names.{same_name, is_among, differ}
@@ -206,8 +206,8 @@ module _ (program : Program) (can : is_lowerable program ≡ true) (within : lim
   head_here g h =
       let few = small_head g h.limits in
       let kinds = few_kinds g.params in
-      let fit = both_true (nat_le (resolved_function (lists_of program) g).ints most_declared && nat_le (resolved_function (lists_of program) g).arrays most_declared) _ h.fit in
-      let two = both_true (nat_le (resolved_function (lists_of program) g).ints most_declared) (nat_le (resolved_function (lists_of program) g).arrays most_declared) fit.0 in
+      let fit = both_true (nat_le (resolved_function (lists_of program) g).ints MOST_DECLARED && nat_le (resolved_function (lists_of program) g).arrays MOST_DECLARED) _ h.fit in
+      let two = both_true (nat_le (resolved_function (lists_of program) g).ints MOST_DECLARED) (nat_le (resolved_function (lists_of program) g).arrays MOST_DECLARED) fit.0 in
       record {
         tracks = tracks_outside program.functions;
         few_ints = omega (arith, few, kinds);
@@ -218,7 +218,7 @@ module _ (program : Program) (can : is_lowerable program ≡ true) (within : lim
         functions_are = length-map program.functions (resolved_function (lists_of program));
       }
     where
-      at_most : (k : ℕ) → nat_le k most_declared ≡ true → k ≤ 256
+      at_most : (k : ℕ) → nat_le k MOST_DECLARED ≡ true → k ≤ 256
       at_most k e = grind (arith, nat_tests, e)
 
   abbrev body_of : List Loop → Function → MadeAll
@@ -245,7 +245,7 @@ module _ (program : Program) (can : is_lowerable program ≡ true) (within : lim
           (both_true (differ (arrays_of g.params)) (can_lower_all (nothing_around program.functions) (integers_of g.params) (arrays_of g.params) g.body) (both_true (is_plain g.name) _ h.can).1).1
 
       body_fits : fits_block (counts_of (resolved program) (resolved_function (lists_of program) g)) (resolved_function (lists_of program) g).body ≡ true
-      body_fits = (both_true (nat_le (resolved_function (lists_of program) g).ints most_declared && nat_le (resolved_function (lists_of program) g).arrays most_declared) _ h.fit).1
+      body_fits = (both_true (nat_le (resolved_function (lists_of program) g).ints MOST_DECLARED && nat_le (resolved_function (lists_of program) g).arrays MOST_DECLARED) _ h.fit).1
 
   whole : Function → slotted.Block → slotted.Function
   whole g b = record { gives_int = g.gives_int; params = map (λ (p : Param). p.is_array) g.params; body = b }

@@ -1,6 +1,6 @@
 -- The lines of the loops in the code of a source.
 use Rattle.std.specs.Prelude.{ℕ, List, map, flat_map}
-use Rattle.cw_model.specs.Limits.{most_loops}
+use Rattle.cw_model.specs.declared.limits.TheConstants.{MOST_LOOPS}
 use Rattle.cw_model.specs.Sizes.{lines_beyond, loops_in, loops_in_block}
 use Rattle.cw_tree.specs.declared.resolved.Function.{Function}
 use Rattle.cw_tree.specs.declared.resolved.Line.{Line}
@@ -22,4 +22,4 @@ lines_in_all functions = flat_map (λ f. loops_in_block f.body) (map plain_funct
 
 -- the lines of the loops in functions behind the most of them
 abbrev pub loops_past : List Function → List ℕ
-loops_past functions = lines_beyond most_loops (lines_in_all functions)
+loops_past functions = lines_beyond MOST_LOOPS (lines_in_all functions)

@@ -5,7 +5,7 @@ use Rattle.cw_model.specs.Ints.{fits}
 use Rattle.cw_model.specs.Syntax.{Name, Expr, Number, Variable, Element, Length, Negative, Not, Binary, Stmt, Declare, DeclareArray, Assign, AssignElement, AddTo, Call, Start, Begin, Sync, If, IfElse, While, For, Scope, Cut, Region, Print, Return, Block, End, Then, Param, Function, Program}
 use Rattle.cw_model.specs.Names.{same_name, is_among, differ}
 use Rattle.cw_model.specs.Captured.{captured}
-use Rattle.cw_model.specs.Meaning.{function_of}
+use Rattle.cw_model.specs.Meaning.{function_named}
 use Rattle.cw_loops.specs.Lowered.{is_plain, low, high}
 
 -- what stands outside the turn of the innermost loop around: the integers of the source's frame, those of the function's
@@ -115,7 +115,7 @@ abbrev mutual
       (if is_among a c.over then is_variable c i else (is_local c a && can_evaluate c i)) && can_evaluate c e
   can_lower c ints arrays (AddTo s e) = can_evaluate c e
   can_lower c ints arrays (Call kind site target f es) =
-      is_plain f && (length es == length (function_of f c.functions).params && (can_target c target && can_pass_all c es))
+      is_plain f && (length es == length (function_named f c.functions).params && (can_target c target && can_pass_all c es))
   can_lower c ints arrays (Start kind f es) = false
   can_lower c ints arrays (Begin f from to taken over) = false
   can_lower c ints arrays Sync = true

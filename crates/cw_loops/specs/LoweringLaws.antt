@@ -6,7 +6,7 @@ use Rattle.cw_model.specs.declared.token.Token.{Token}
 use Rattle.cw_model.specs.Tokens.{IsTokenCut}
 use Rattle.cw_model.specs.Grammar.{Derives}
 use Rattle.cw_model.specs.Syntax.{Function, Program}
-use Rattle.cw_model.specs.Meaning.{function_of}
+use Rattle.cw_model.specs.Meaning.{function_named}
 use Rattle.cw_model.specs.Answers.{main_name, serial_answer}
 use Rattle.cw_model.specs.Sizes.{loops_in_block, call_count, static_size}
 use Rattle.cw_model.specs.Typing.{IsWellTyped}
@@ -17,7 +17,7 @@ use Rattle.cw_loops.specs.Lowerable.{is_lowerable}
 
 -- the function that a run of a program begins with
 abbrev pub main_of : Program → Function
-main_of program = function_of main_name program.functions
+main_of program = function_named main_name program.functions
 
 -- on as many arguments of 64 bits as its main has parameters, and within each limit, the lowered program answers as
 -- the program: value, printed lines, sums, tree, trap with its line, and over the limit

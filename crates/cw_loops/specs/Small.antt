@@ -1,6 +1,6 @@
 -- How many functions a lowered tree has, and how great the numbers are that a loop's function is written out from.
 use Rattle.std.specs.Prelude.{◌≡◌, ◌≤◌, List, [], ◌∷◌, length}
-use Rattle.cw_model.specs.Limits.{most_functions, most_grain, most_declared, most_loops}
+use Rattle.cw_model.specs.declared.limits.TheConstants.{MOST_FUNCTIONS, MOST_GRAIN, MOST_DECLARED, MOST_LOOPS}
 use Rattle.cw_tree.specs.declared.resolved.Tree as source_code
 use Rattle.cw_tree.specs.ResolvedView.{resolved_of}
 use Rattle.cw_loops.specs.declared.tree.Tree.{Tree}
@@ -9,9 +9,9 @@ use Rattle.cw_loops.specs.Lowers.{bodies_of}
 
 -- the numbers of a loop
 pub record IsSmallLoop (l : Loop) : Type 0 where
-  pub grain : l.grain ≤ most_grain
-  pub captured : l.captured ≤ most_declared
-  pub over : l.over ≤ most_declared
+  pub grain : l.grain ≤ MOST_GRAIN
+  pub captured : l.captured ≤ MOST_DECLARED
+  pub over : l.over ≤ MOST_DECLARED
 
 abbrev pub AreSmallLoops : List Loop → Type 0
 AreSmallLoops [] = Unit {0}
@@ -20,6 +20,6 @@ AreSmallLoops (l ∷ loops) = IsSmallLoop l × AreSmallLoops loops
 -- a body for each function of the source, and few functions and loops, each of them small
 pub record IsSmallTree (source : source_code.Tree) (tree : Tree) : Type 0 where
   pub bodies : length (bodies_of tree).blocks ≡ length (resolved_of source).functions
-  pub functions : length (resolved_of source).functions ≤ most_functions
-  pub loops : length (bodies_of tree).loops ≤ most_loops
+  pub functions : length (resolved_of source).functions ≤ MOST_FUNCTIONS
+  pub loops : length (bodies_of tree).loops ≤ MOST_LOOPS
   pub each : AreSmallLoops (bodies_of tree).loops

@@ -7,11 +7,9 @@ ghost use Rattle.cw_text.specs.Noted.{Noted, TakesRoom};
 ghost use Rattle.cw_tree.specs.ResolvedView.{program_of};
 ghost use Rattle.cw_loops.specs.LoopLines.{lines_in, lines_in_block, loops_past};
 
+use cw_model::limits::MOST_LOOPS;
 use cw_text::LeastLine;
 use cw_tree::resolved::{Function, Line, Stmt, Tree};
-
-/// The most loops of a program.
-const MOST_LOOPS: usize = 4_096;
 
 /// The least line of the loops past the limit: by place, the 4,097th and those behind it.
 pub(crate) fn limits(tree: &Tree) -> LeastLine

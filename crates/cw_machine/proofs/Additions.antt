@@ -5,7 +5,7 @@ use Rattle.std.specs.Int.{w128}
 use Rattle.std.proofs.lemmas.List.{append-nil}
 use Rattle.std.proofs.lemmas.Int.{ints, int_wrap_fits, fits_signed_from_abs}
 use Rattle.cw_model.specs.declared.trap.Trap.TheVariants as trap
-use Rattle.cw_model.specs.Limits.{most_depth, most_limit}
+use Rattle.cw_model.specs.declared.limits.TheConstants.{MOST_DEPTH, MOST_LIMIT}
 use Rattle.cw_model.specs.Syntax.{Name, Reducer}
 use Rattle.cw_model.specs.Names.{same_name}
 use Rattle.cw_model.specs.Ints.{Result, Value, Fails, is_zero, natural}
@@ -24,12 +24,12 @@ use Rattle.cw_code.specs.declared.code.Halves.{Halves}
 use Rattle.cw_code.specs.declared.code.Instr.{Instr}
 use Rattle.cw_code.specs.declared.code.Instr.TheVariants as instr
 use Rattle.cw_code.specs.Code.{Code}
-use Rattle.cw_code.specs.Run.{Slots, Results, Around, Caller, Block, Opened, State, Went, On, Ends, Stops, Stuck, synced, is_full, on_top, on_two, stored, operated, set_array, apply_unary, jumped, onto, prints, adds, settled, put_in, Entering, Whole, arguments_of, may_begin, begun, begins, call_of, on_arrays, arrays_in, enter, recur, parts_of, looped, start, given, awaited, result_of, event_of, rejoined, going_on, returns_to, given_back, back, opened, opened_region, opens, cut_arrays, may_cut, cuts, resumes, closed, uncut_arrays, uncut, cut_ends, passed_by, act, step, go_on, steps, reducers_of}
+use Rattle.cw_code.specs.Run.{Slots, Results, Around, Caller, Block, Opened, State, Transition, On, Ends, Stops, Stuck, synced, is_full, on_top, on_two, stored, operated, set_array, apply_unary, jumped, onto, prints, adds, settled, put_in, Entering, Whole, arguments_of, may_begin, begun, begins, call_of, on_arrays, arrays_in, enter, recur, parts_of, looped, start, given, awaited, result_of, event_of, rejoined, going_on, returns_to, given_back, back, opened, opened_region, opens, cut_arrays, may_cut, cuts, resumes, closed, uncut_arrays, resumes_uncut, cut_ends, passed_by, act, step, go_on, steps, reducers_of}
 use Rattle.cw_machine.specs.Shows.{wrapped, AllFit, HoldsSums}
 use Rattle.cw_machine.proofs.Going as going
 
 -- after a move no more values were added than these
-abbrev pub Within : ℕ → Went → Type 0
+abbrev pub Within : ℕ → Transition → Type 0
 Within k (On s) = length s.trace.additions ≤ k
 Within k (Ends v arrays t) = length t.additions ≤ k
 Within k (Stops trap line lines) = Unit {0}
@@ -60,7 +60,7 @@ module _ (k : ℕ) where
     calls : (kind : CallKind) (c : Callee) (passed : List ℕ) (o : Option Func) → Within k (enter s kind c passed o)
     calls kind c passed None = tt
     calls kind c passed (Some f) =
-        going.either (Within k) tt (nat_lt most_depth (s.depth + 1)) (Stops trap.TooDeep c.line s.trace.lines) (on_arrays (arrays_in passed s.arrays) (λ xs. begins s (call_of s kind c passed f xs)))
+        going.either (Within k) tt (nat_lt MOST_DEPTH (s.depth + 1)) (Stops trap.TooDeep c.line s.trace.lines) (on_arrays (arrays_in passed s.arrays) (λ xs. begins s (call_of s kind c passed f xs)))
         tt (going.arrays_go (Within k) tt (arrays_in passed s.arrays) (λ xs. begins s (call_of s kind c passed f xs)) (λ xs. enters (call_of s kind c passed f xs)))
 
     calls_itself : (kind : CallKind) (passed : List ℕ) (o : Option Func) → Within k (recur s kind passed o)
@@ -98,7 +98,7 @@ module _ (k : ℕ) where
     closes (Caller w ∷ around) = tt
     closes (Block o ∷ around) = going.either (Within k) tt (is_none o.cut) (resumes s o around) Stuck (nothing_more s.trace.additions h) tt
 
-    uncuts : (o : Opened) (around : List Around) (cut : Option Halves) → Within k (uncut s o around cut)
+    uncuts : (o : Opened) (around : List Around) (cut : Option Halves) → Within k (resumes_uncut s o around cut)
     uncuts o around None = tt
     uncuts o around (Some c) = going.slot_goes (Within k) tt (slice_get s.arrays c.left) _ (λ left. going.slot_goes (Within k) tt (slice_get s.arrays c.right) (λ right. resumes (record s { arrays = uncut_arrays c left right s.arrays }) o around) (λ right. nothing_more s.trace.additions h))
 
@@ -178,7 +178,7 @@ pub counted : (code : Code) (n : ℕ) (s : State) (r : Returned) (left : ℕ) (t
 counted code zero s r left t e = cc
 counted code (suc n) s r left t e = cases (step code s) (adds_one code s (slice_get code.instrs s.place)) (λ s'. counted code n s' r left t) e
   where
-    cases : (w : Went) → Within (suc (length s.trace.additions)) w → ((s' : State) → steps code n s' ≡ Some (Done r left t) → length t.additions ≤ length s'.trace.additions + n) →
+    cases : (w : Transition) → Within (suc (length s.trace.additions)) w → ((s' : State) → steps code n s' ≡ Some (Done r left t) → length t.additions ≤ length s'.trace.additions + n) →
         go_on w n (λ s'. steps code n s') ≡ Some (Done r left t) → length t.additions ≤ length s.trace.additions + suc n
     cases (On s') h from e = let le = from s' e in omega (arith, h, le)
     cases (Ends v arrays u) h from e = let same : u ≡ t = cc in let is = ap (λ x. length x.additions) same in omega (arith, h, is)
@@ -206,11 +206,11 @@ bounded name (a ∷ ts) h = cases (same_name name a.0) (bounded name ts h.1)
     cases false le = omega (arith, le)
 
 -- the sums of so many values are within 128 bits
-pub unwrapped : (name : Name) (ts : List (Name × ℤ)) → AllFit ts → length ts ≤ most_limit → wrapped (sum_to name ts) ≡ sum_to name ts
+pub unwrapped : (name : Name) (ts : List (Name × ℤ)) → AllFit ts → length ts ≤ MOST_LIMIT → wrapped (sum_to name ts) ≡ sum_to name ts
 unwrapped name ts h le = int_wrap_fits w128 (sum_to name ts) (fits_signed_from_abs w128 (sum_to name ts) (let b = bounded name ts h in omega (arith, b, le)))
 
 -- the sums that a machine has are those of its run
-pub sums_are : (code : Code) (sums : List ℤ) (ts : List (Name × ℤ)) → HoldsSums code sums ts → length ts ≤ most_limit → map (λ (r : Reducer). sum_to r.name ts) (reducers_of code) ≡ sums
+pub sums_are : (code : Code) (sums : List ℤ) (ts : List (Name × ℤ)) → HoldsSums code sums ts → length ts ≤ MOST_LIMIT → map (λ (r : Reducer). sum_to r.name ts) (reducers_of code) ≡ sums
 sums_are code sums ts h le = each code.reducers sums h.as_many h.are
   where
     each : (names : List Name) (sums : List ℤ) → length sums ≡ length names → ((k : ℕ) (name : Name) → slice_get names k ≡ Some name → slice_get sums k ≡ Some (wrapped (sum_to name ts))) →

@@ -10,18 +10,13 @@ use crate::machine::Moved;
 use crate::run::Run;
 use cw_code::code::Code;
 use cw_meter::Readings;
+use cw_model::limits::{MOST_BURDEN, MOST_LIMIT};
 use cw_regions::RegionRow;
 use cw_sites::table::SiteRow;
 use cw_text::Fault;
 use cw_verify::verified::Verified;
 use std::alloc::{AllocError, Global};
 use std::sync::Arc;
-
-/// The greatest limit of a run, in instructions: 2^62.
-pub const MOST_LIMIT: u64 = 4_611_686_018_427_387_904;
-
-/// The greatest burden of a spawn, in instructions.
-pub const MOST_BURDEN: u64 = 1_000_000_000;
 
 /// How a run ended that neither trapped nor passed its limit.
 #[derive(Debug, Drop)]

@@ -7,11 +7,12 @@ ghost use Rattle.cw_machine.specs.Shows.{blocks_of, HasReviewed, StaysBut, IsAt,
 
 use crate::machine::{Machine, Moved, View};
 use cw_code::code::Halves;
+use cw_model::limits::MOST_ELEMENTS;
 use cw_model::trap::Trap;
 use cw_verify::verified::Verified;
 
-/// The most elements of an array: 2^24.
-const MOST_ELEMENTS: i64 = 16_777_216;
+// The greatest length of an array, as an operand.
+const GREATEST_LENGTH: i64 = MOST_ELEMENTS as i64;
 
 // Whether an index is one of so many elements.
 #[inline(always)]
@@ -26,7 +27,7 @@ fn is_within(i: i64, len: usize) -> bool
 fn new_length(n: i64) -> Result<usize, Trap>
     ensures { arrays.IsNewLength n result }
 {
-    if n < 0 || n > MOST_ELEMENTS {
+    if n < 0 || n > GREATEST_LENGTH {
         return Err(Trap::BadLength);
     }
     Ok(n as usize)

@@ -1,7 +1,7 @@
 -- A part of a run ends, and the tables are told of it.
 use Rattle.std.specs.Prelude.{◌≡◌, ℕ, ◌≤◌, Bool, true, false, List, [], ◌∷◌, Option, Some, None, refl}
 use Rattle.std.proofs.Common.{sym, ◌∙◌, subst}
-use Rattle.cw_model.specs.Limits.{most_limit, most_burden}
+use Rattle.cw_model.specs.declared.limits.TheConstants.{MOST_LIMIT, MOST_BURDEN}
 use Rattle.cw_model.specs.Trees.{Mark, Invocation, Execution, Event, Series, Fork, tree_of}
 use Rattle.cw_measure.specs.declared.burdened_path.BurdenedPath.{BurdenedPath}
 use Rattle.cw_measure.specs.OpenParts.{Open, marked, closed, has_spawned}
@@ -67,7 +67,7 @@ call_closed t s p count part leaves notes e = λ burden tags o os es is joined s
     }))
 
 -- the path of a spawned part that ends
-child_path : (burden : ℕ) (tags : Tags) (count : ℕ) (mark : Option Mark) (before : List Event) (os : List Open) (es : List Event) (t : Tables) (p : BurdenedPath) → EndsChildWeight t.path p count t.burden → t.spawned ≡ false → count ≤ most_limit → burden ≤ most_burden → TablesTell burden tags count (opened true mark before os) es t → TellsWeight burden os (closed (record { spawned = true; mark = mark; outer = before }) es) p
+child_path : (burden : ℕ) (tags : Tags) (count : ℕ) (mark : Option Mark) (before : List Event) (os : List Open) (es : List Event) (t : Tables) (p : BurdenedPath) → EndsChildWeight t.path p count t.burden → t.spawned ≡ false → count ≤ MOST_LIMIT → burden ≤ MOST_BURDEN → TablesTell burden tags count (opened true mark before os) es t → TellsWeight burden os (closed (record { spawned = true; mark = mark; outer = before }) es) p
 child_path burden tags count mark before os es t p ends joined small light h =
     let here = opened true mark before os in
     let o : Open = record { spawned = true; mark = mark; outer = before } in

@@ -3,7 +3,7 @@ use Rattle.std.specs.Prelude.{◌≡◌, ℕ, ◌+◌, ◌*◌, ◌≤◌, Bool,
 use Rattle.std.proofs.Common.{add-one, ap, ◌∙◌, arith}
 use Rattle.std.proofs.lemmas.Nat.{mul-le}
 use Rattle.std.proofs.Math.Nat.{suc-mul}
-use Rattle.cw_model.specs.Limits.{most_limit, most_burden}
+use Rattle.cw_model.specs.declared.limits.TheConstants.{MOST_LIMIT, MOST_BURDEN}
 use Rattle.cw_model.specs.Trees.{Mark, Event, Work, Series, Fork, Join, tree_of}
 use Rattle.cw_model.specs.Rows.{is_site, is_tag}
 use Rattle.cw_measure.specs.OpenParts.{Open, closed}
@@ -90,19 +90,19 @@ active_at_most : (picks : Mark → Bool) (os : List Open) → active_in picks 0 
 active_at_most picks [] = omega arith
 active_at_most picks (o ∷ os) = let a = active_at_most picks os in let b = one_at_most (is_counted picks o.mark) in omega arith
 
-pub small_run : (burden count : ℕ) (os : List Open) (es : List Event) → count ≤ most_limit → IsCounted burden count os es → Small nothing_open os es
+pub small_run : (burden count : ℕ) (os : List Open) (es : List Event) → count ≤ MOST_LIMIT → IsCounted burden count os es → Small nothing_open os es
 small_run burden count os es small k = record {
   work = let a = k.work in omega arith;
   calls = λ site. let a = k.calls site in omega arith;
   active = λ site. let a = k.opened in let b = active_at_most (is_site site) os in omega arith;
 }
 
-pub fits_run : (burden count : ℕ) (os : List Open) (es : List Event) → count ≤ most_limit → burden ≤ most_burden → IsCounted burden count os es → FitsRun burden os es
+pub fits_run : (burden count : ℕ) (os : List Open) (es : List Event) → count ≤ MOST_LIMIT → burden ≤ MOST_BURDEN → IsCounted burden count os es → FitsRun burden os es
 fits_run burden count os es small light k =
-    let more : burden + 1 ≤ most_burden + 1 = omega arith in
-    let a = k.burdened in let b = mul-le count (burden + 1) most_limit (most_burden + 1) small more in omega arith
+    let more : burden + 1 ≤ MOST_BURDEN + 1 = omega arith in
+    let a = k.burdened in let b = mul-le count (burden + 1) MOST_LIMIT (MOST_BURDEN + 1) small more in omega arith
 
-pub small_tags : (burden : ℕ) (tags : Tags) (count : ℕ) (os : List Open) (es : List Event) → count ≤ most_limit → burden ≤ most_burden → IsCounted burden count os es → SmallRegions burden tags nothing_open os es
+pub small_tags : (burden : ℕ) (tags : Tags) (count : ℕ) (os : List Open) (es : List Event) → count ≤ MOST_LIMIT → burden ≤ MOST_BURDEN → IsCounted burden count os es → SmallRegions burden tags nothing_open os es
 small_tags burden tags count os es small light k = record {
   work = let a = k.work in omega arith;
   burdened = fits_run burden count os es small light k;

@@ -2,7 +2,7 @@
 use Rattle.std.specs.Prelude.{◌≡◌, ℕ, ◌+◌, ◌≤◌, ◌<◌, Bool, false, List, [], ◌∷◌, ◌++◌, length, reverse, Option, Some, refl}
 use Rattle.std.proofs.Common.{sym, ◌∙◌, ap, subst, arith}
 use Rattle.std.proofs.lemmas.List.{reverse-append}
-use Rattle.cw_model.specs.Limits.{most_limit, most_burden}
+use Rattle.cw_model.specs.declared.limits.TheConstants.{MOST_LIMIT, MOST_BURDEN}
 use Rattle.cw_model.specs.Trees.{Mark, Invocation, Execution, Event, Work, Join}
 use Rattle.cw_model.specs.Rows.{is_site}
 use Rattle.cw_measure.specs.declared.burdened_path.BurdenedPath.{BurdenedPath}
@@ -91,12 +91,12 @@ part_stacked : (burden : ℕ) (tags : Tags) (count : ℕ) (spawned : Bool) (mark
 part_stacked burden tags count spawned mark os es old mid k stacks is h parts =
     parts_pushed tags (record { spawned = spawned; mark = mark; outer = ticked es }) os (part_in k old.tables) old.parts.items mid.parts.items stacks.pushed (record { kind = is; site = h.sites.here_is; spawned = h.spawned_is ∙ sym (has_spawned-work es 1) }) parts
 
-pub meter_begins : (old mid : Meter) (t : Tables) (count next : ℕ) (k : PartKind) (spawned : Bool) (mark : Option Mark) → Stacks old mid k → Opens mid.tables t next spawned mark → ((tags : Tags) (outer : List Event) → IsOfKind tags (record { spawned = spawned; mark = mark; outer = outer }) k) → (count < most_limit → next ≡ count + 1) → Begins old (record { tables = t; parts = mid.parts }) count spawned mark
+pub meter_begins : (old mid : Meter) (t : Tables) (count next : ℕ) (k : PartKind) (spawned : Bool) (mark : Option Mark) → Stacks old mid k → Opens mid.tables t next spawned mark → ((tags : Tags) (outer : List Event) → IsOfKind tags (record { spawned = spawned; mark = mark; outer = outer }) k) → (count < MOST_LIMIT → next ≡ count + 1) → Begins old (record { tables = t; parts = mid.parts }) count spawned mark
 meter_begins old mid t count next k spawned mark stacks opens is sat = λ burden tags os es small light h.
     let N : ℕ → Type 0 = λ x. Opens mid.tables t x spawned mark in
     let T : Tables → Type 0 = λ x. Opens x t (count + 1) spawned mark in
     let opens_old = subst T stacks.tables (subst N (sat small) opens) in
-    let within : count + 1 ≤ most_limit = omega arith in
+    let within : count + 1 ≤ MOST_LIMIT = omega arith in
     record {
       told_open = opened spawned mark (ticked h.told) h.told_open;
       told = [];
@@ -106,13 +106,13 @@ meter_begins old mid t count next k spawned mark stacks opens is sat = λ burden
       parts = part_stacked burden tags count spawned mark h.told_open h.told old mid k stacks (is tags (ticked h.told)) h.tables h.parts;
     }
 
-pub meter_begins_region : (old mid : Meter) (t : Tables) (count next tag : ℕ) → Stacks old mid (kind.Region tag) → OpensRegion mid.tables t next tag → (count < most_limit → next ≡ count + 1) → BeginsRegion old (record { tables = t; parts = mid.parts }) count tag
+pub meter_begins_region : (old mid : Meter) (t : Tables) (count next tag : ℕ) → Stacks old mid (kind.Region tag) → OpensRegion mid.tables t next tag → (count < MOST_LIMIT → next ≡ count + 1) → BeginsRegion old (record { tables = t; parts = mid.parts }) count tag
 meter_begins_region old mid t count next tag stacks opens sat = λ burden tags os es known small light h.
     let N : ℕ → Type 0 = λ x. OpensRegion mid.tables t x tag in
     let T : Tables → Type 0 = λ x. OpensRegion x t (count + 1) tag in
     let mark : Option Mark = Some (Execution (tags.name tag)) in
     let opens_old = subst T stacks.tables (subst N (sat small) opens) in
-    let within : count + 1 ≤ most_limit = omega arith in
+    let within : count + 1 ≤ MOST_LIMIT = omega arith in
     record {
       told_open = opened false mark (ticked h.told) h.told_open;
       told = [];
@@ -132,7 +132,7 @@ same_parts tags os old new e h = let P : List Part → Type 0 = λ x. AreParts t
 
 pub meter_syncs : (old new : Meter) (count : ℕ) → JoinsBlock old new count → new.parts.items ≡ old.parts.items → Syncs old new count
 meter_syncs old new count joins e = λ burden tags os es small light h.
-    let within : count ≤ most_limit = omega arith in
+    let within : count ≤ MOST_LIMIT = omega arith in
     record {
       told_open = h.told_open;
       told = ticked (h.told ++ Join ∷ []);
@@ -143,7 +143,7 @@ meter_syncs old new count joins e = λ burden tags os es small light h.
     }
 
 -- the innermost part ends
-pub part_closed : (old : Meter) (left : List Part) (part : Part) (t : Tables) (count : ℕ) → Closes old.tables t count part → old.parts.items ≡ left ++ part ∷ [] → (burden : ℕ) (tags : Tags) (o : Open) (os : List Open) (es : List Event) → old.tables.spawned ≡ false → AreParts tags (o ∷ os) (reverse old.parts.items) → count ≤ most_limit → burden ≤ most_burden → TablesTell burden tags count (o ∷ os) es old.tables → TablesTell burden tags count os (closed o es) t × AreParts tags os (reverse left)
+pub part_closed : (old : Meter) (left : List Part) (part : Part) (t : Tables) (count : ℕ) → Closes old.tables t count part → old.parts.items ≡ left ++ part ∷ [] → (burden : ℕ) (tags : Tags) (o : Open) (os : List Open) (es : List Event) → old.tables.spawned ≡ false → AreParts tags (o ∷ os) (reverse old.parts.items) → count ≤ MOST_LIMIT → burden ≤ MOST_BURDEN → TablesTell burden tags count (o ∷ os) es old.tables → TablesTell burden tags count os (closed o es) t × AreParts tags os (reverse left)
 part_closed old left part t count closes e = λ burden tags o os es joined parts small light h.
     let a = parts_popped tags o os part old.parts.items left e parts in (closes burden tags o os es a.0 joined small light h, a.1)
 
@@ -154,10 +154,10 @@ none_of (p ∷ parts) e = absurd (omega arith)
 pub nothing_closed : (old new : Meter) (count : ℕ) → length old.parts.items ≡ 0 → ClosesPart old new count
 nothing_closed old new count e = λ burden tags o os es joined parts small light h. absurd (no_parts tags o os old.parts.items (none_of old.parts.items e) parts)
 
-ended_in : (old mid new : Meter) (count : ℕ) → JoinsBlock old mid count → mid.tables.spawned ≡ false → mid.parts.items ≡ old.parts.items → ClosesPart mid new count → (burden : ℕ) (tags : Tags) (o : Open) (os : List Open) (es : List Event) (opens : List Open) (events : List Event) → count < most_limit → burden ≤ most_burden → AreOpenAlike (o ∷ os) opens → AreAlike es events → TablesTell burden tags count opens events old.tables → AreParts tags opens (reverse old.parts.items) → Meters burden tags (count + 1) os (ticked (closed o es)) new
+ended_in : (old mid new : Meter) (count : ℕ) → JoinsBlock old mid count → mid.tables.spawned ≡ false → mid.parts.items ≡ old.parts.items → ClosesPart mid new count → (burden : ℕ) (tags : Tags) (o : Open) (os : List Open) (es : List Event) (opens : List Open) (events : List Event) → count < MOST_LIMIT → burden ≤ MOST_BURDEN → AreOpenAlike (o ∷ os) opens → AreAlike es events → TablesTell burden tags count opens events old.tables → AreParts tags opens (reverse old.parts.items) → Meters burden tags (count + 1) os (ticked (closed o es)) new
 ended_in old mid new count joins joined e closes burden tags o os es [] events small light alike_open alike h parts = absurd alike_open
 ended_in old mid new count joins joined e closes burden tags o os es (p ∷ ps) events small light alike_open alike h parts =
-    let within : count ≤ most_limit = omega arith in
+    let within : count ≤ MOST_LIMIT = omega arith in
     let c = closes burden tags p ps (events ++ Join ∷ []) joined (same_parts tags (p ∷ ps) old.parts.items mid.parts.items e parts) within light (joins burden tags (p ∷ ps) events within light h) in
     record {
       told_open = ps;
@@ -172,11 +172,11 @@ pub meter_ends : (old mid new : Meter) (count : ℕ) → JoinsBlock old mid coun
 meter_ends old mid new count joins joined e closes = λ burden tags o os es series small light h.
     ended_in old mid new count joins joined e closes burden tags o os es h.told_open h.told small light h.open_alike h.alike h.tables h.parts
 
-returned_in : (old mid new : Meter) (count : ℕ) → JoinsBlock old mid count → mid.tables.spawned ≡ false → mid.parts.items ≡ old.parts.items → ClosesPart mid new (count + 1) → (burden : ℕ) (tags : Tags) (o : Open) (os : List Open) (es : List Event) (opens : List Open) (events : List Event) → count < most_limit → burden ≤ most_burden → AreOpenAlike (o ∷ os) opens → AreAlike es events → TablesTell burden tags count opens events old.tables → AreParts tags opens (reverse old.parts.items) → Meters burden tags (count + 1) os (closed o (synced es)) new
+returned_in : (old mid new : Meter) (count : ℕ) → JoinsBlock old mid count → mid.tables.spawned ≡ false → mid.parts.items ≡ old.parts.items → ClosesPart mid new (count + 1) → (burden : ℕ) (tags : Tags) (o : Open) (os : List Open) (es : List Event) (opens : List Open) (events : List Event) → count < MOST_LIMIT → burden ≤ MOST_BURDEN → AreOpenAlike (o ∷ os) opens → AreAlike es events → TablesTell burden tags count opens events old.tables → AreParts tags opens (reverse old.parts.items) → Meters burden tags (count + 1) os (closed o (synced es)) new
 returned_in old mid new count joins joined e closes burden tags o os es [] events small light alike_open alike h parts = absurd alike_open
 returned_in old mid new count joins joined e closes burden tags o os es (p ∷ ps) events small light alike_open alike h parts =
-    let before : count ≤ most_limit = omega arith in
-    let within : count + 1 ≤ most_limit = omega arith in
+    let before : count ≤ MOST_LIMIT = omega arith in
+    let within : count + 1 ≤ MOST_LIMIT = omega arith in
     let all = ticked (events ++ Join ∷ []) in
     let c = closes burden tags p ps all joined (same_parts tags (p ∷ ps) old.parts.items mid.parts.items e parts) within light (tables_ticked burden tags count (p ∷ ps) (events ++ Join ∷ []) mid.tables (joins burden tags (p ∷ ps) events before light h)) in
     record {
@@ -188,7 +188,7 @@ returned_in old mid new count joins joined e closes burden tags o os es (p ∷ p
       parts = c.1;
     }
 
-pub meter_returns : (old mid new : Meter) (count next : ℕ) → JoinsBlock old mid count → mid.tables.spawned ≡ false → mid.parts.items ≡ old.parts.items → ClosesPart mid new next → (count < most_limit → next ≡ count + 1) → Returns old new count
+pub meter_returns : (old mid new : Meter) (count next : ℕ) → JoinsBlock old mid count → mid.tables.spawned ≡ false → mid.parts.items ≡ old.parts.items → ClosesPart mid new next → (count < MOST_LIMIT → next ≡ count + 1) → Returns old new count
 meter_returns old mid new count next joins joined e closes sat = λ burden tags o os es small light h.
     let N : ℕ → Type 0 = λ x. ClosesPart mid new x in
     returned_in old mid new count joins joined e (subst N (sat small) closes) burden tags o os es h.told_open h.told small light h.open_alike h.alike h.tables h.parts

@@ -1,7 +1,7 @@
 -- The tables of a run are told of it together.
 use Rattle.std.specs.Prelude.{◌≡◌, ℕ, ◌+◌, ◌-◌, ◌≤◌, Bool, true, false, not, List, [], ◌∷◌, ◌++◌, Option, Some, None, refl}
 use Rattle.std.proofs.Common.{sym, ◌∙◌, ap, subst, arith}
-use Rattle.cw_model.specs.Limits.{most_limit, most_burden}
+use Rattle.cw_model.specs.declared.limits.TheConstants.{MOST_LIMIT, MOST_BURDEN}
 use Rattle.cw_model.specs.Trees.{Mark, Invocation, Execution, Event, Work, Series, Fork, Join}
 use Rattle.cw_measure.specs.declared.burdened_path.BurdenedPath.{BurdenedPath}
 use Rattle.cw_measure.specs.OpenParts.{Open, closed, has_spawned, IsSince, Since, work_in}
@@ -122,13 +122,13 @@ sites_since burden tags count os es t h = let P : ℕ → Type 0 = λ x. Since x
 pub path_since : (burden : ℕ) (tags : Tags) (count : ℕ) (os : List Open) (es : List Event) (t : Tables) (h : TablesTell burden tags count os es t) → Since t.path.noted count h.told h.since
 path_since burden tags count os es t h = let P : ℕ → Type 0 = λ x. Since x count h.told h.since in subst P (sym h.path.noted_is) h.waits
 
-pub told_small : (burden : ℕ) (tags : Tags) (count : ℕ) (os : List Open) (es : List Event) (t : Tables) (h : TablesTell burden tags count os es t) → count ≤ most_limit → Small nothing_open os (h.told ++ h.since)
+pub told_small : (burden : ℕ) (tags : Tags) (count : ℕ) (os : List Open) (es : List Event) (t : Tables) (h : TablesTell burden tags count os es t) → count ≤ MOST_LIMIT → Small nothing_open os (h.told ++ h.since)
 told_small burden tags count os es t h small = let P : List Event → Type 0 = λ x. Small nothing_open os x in subst P (sym h.all) (small_run burden count os es small h.counted)
 
-pub told_fits : (burden : ℕ) (tags : Tags) (count : ℕ) (os : List Open) (es : List Event) (t : Tables) (h : TablesTell burden tags count os es t) → count ≤ most_limit → burden ≤ most_burden → FitsRun burden os (h.told ++ h.since)
+pub told_fits : (burden : ℕ) (tags : Tags) (count : ℕ) (os : List Open) (es : List Event) (t : Tables) (h : TablesTell burden tags count os es t) → count ≤ MOST_LIMIT → burden ≤ MOST_BURDEN → FitsRun burden os (h.told ++ h.since)
 told_fits burden tags count os es t h small light = let P : List Event → Type 0 = λ x. FitsRun burden os x in subst P (sym h.all) (fits_run burden count os es small light h.counted)
 
-pub path_told : (burden : ℕ) (tags : Tags) (count : ℕ) (os : List Open) (es : List Event) (t : Tables) (p : BurdenedPath) → NotesWeight t.path p count → count ≤ most_limit → burden ≤ most_burden → TablesTell burden tags count os es t → TellsWeight burden os es p
+pub path_told : (burden : ℕ) (tags : Tags) (count : ℕ) (os : List Open) (es : List Event) (t : Tables) (p : BurdenedPath) → NotesWeight t.path p count → count ≤ MOST_LIMIT → burden ≤ MOST_BURDEN → TablesTell burden tags count os es t → TellsWeight burden os es p
 path_told burden tags count os es t p notes small light h =
     let P : List Event → Type 0 = λ x. TellsWeight burden os x p in
     subst P h.all (notes burden os h.told h.since (path_since burden tags count os es t h) (told_fits burden tags count os es t h small light) h.path)
@@ -173,7 +173,7 @@ not_twice true = refl
 not_twice false = refl
 
 -- a spawned part begins, by a table's own rule
-spawned_path : (burden : ℕ) (tags : Tags) (count : ℕ) (os : List Open) (es : List Event) (t : Tables) (p : BurdenedPath) (mark : Option Mark) → SpawnsWeight t.path p count (not t.spawned) → count ≤ most_limit → burden ≤ most_burden → TablesTell burden tags count os es t → TellsWeight burden (opened true mark es os) [] p
+spawned_path : (burden : ℕ) (tags : Tags) (count : ℕ) (os : List Open) (es : List Event) (t : Tables) (p : BurdenedPath) (mark : Option Mark) → SpawnsWeight t.path p count (not t.spawned) → count ≤ MOST_LIMIT → burden ≤ MOST_BURDEN → TablesTell burden tags count os es t → TellsWeight burden (opened true mark es os) [] p
 spawned_path burden tags count os es t p mark spawns small light h =
     let P : List Event → Type 0 = λ x. TellsWeight burden (opened true mark x os) [] p in
     subst P h.all (spawns burden mark os h.told h.since (path_since burden tags count os es t h) (told_fits burden tags count os es t h small light) (told_spawned burden tags count os es t h ∙ sym (not_twice t.spawned)) h.path)

@@ -1,6 +1,6 @@
 -- What a meter tells of a run so far, and what each call on it does.
 use Rattle.std.specs.Prelude.{◌≡◌, ℕ, ◌+◌, ◌*◌, ◌≤◌, ◌<◌, Bool, false, List, [], ◌∷◌, ◌++◌, length, reverse, Option, Some}
-use Rattle.cw_model.specs.Limits.{most_limit, most_burden}
+use Rattle.cw_model.specs.declared.limits.TheConstants.{MOST_LIMIT, MOST_BURDEN}
 use Rattle.cw_model.specs.Trees.{Mark, Invocation, Execution, Event, Work, Join}
 use Rattle.cw_measure.specs.OpenParts.{Open, closed, has_spawned, Since, work_in}
 use Rattle.cw_measure.specs.BlockWeights.{weight_in, burdened_work_in}
@@ -83,7 +83,7 @@ begun spawned mark es os = record { spawned = spawned; mark = mark; outer = tick
 -- what a meter tells goes from one run so far to another, where an instruction more is within the greatest limit
 abbrev pub Tells : (old new : Meter) → (count : ℕ) → (burden : ℕ) → Tags → (os os' : List Open) → (es es' : List Event) → Type 0
 Tells old new count burden tags os os' es es' =
-    count < most_limit → burden ≤ most_burden → Meters burden tags count os es old → Meters burden tags (count + 1) os' es' new
+    count < MOST_LIMIT → burden ≤ MOST_BURDEN → Meters burden tags count os es old → Meters burden tags (count + 1) os' es' new
 
 -- the meter of a run that begins
 abbrev pub Starts : (burden : ℕ) → Meter → Type 0

@@ -1,6 +1,6 @@
 -- What the parts of a call on a meter do.
 use Rattle.std.specs.Prelude.{◌≡◌, ℕ, ◌≤◌, false, List, [], ◌∷◌, ◌++◌, length, reverse, Some, slice_get}
-use Rattle.cw_model.specs.Limits.{most_limit, most_burden}
+use Rattle.cw_model.specs.declared.limits.TheConstants.{MOST_LIMIT, MOST_BURDEN}
 use Rattle.cw_model.specs.Trees.{Event, Join}
 use Rattle.cw_measure.specs.OpenParts.{Open, closed}
 use Rattle.cw_sites.specs.declared.table.SiteRow.{SiteRow}
@@ -33,7 +33,7 @@ JoinsBlock old new count =
 abbrev pub ClosesPart : (old new : Meter) → (count : ℕ) → Type 0
 ClosesPart old new count =
     (burden : ℕ) (tags : Tags) (o : Open) (os : List Open) (es : List Event) → old.tables.spawned ≡ false
-    → AreParts tags (o ∷ os) (reverse old.parts.items) → count ≤ most_limit → burden ≤ most_burden
+    → AreParts tags (o ∷ os) (reverse old.parts.items) → count ≤ MOST_LIMIT → burden ≤ MOST_BURDEN
     → TablesTell burden tags count (o ∷ os) es old.tables
     → TablesTell burden tags count os (closed o es) new.tables × AreParts tags os (reverse new.parts.items)
 

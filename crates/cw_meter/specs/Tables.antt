@@ -1,6 +1,6 @@
 -- What each call on the tables of a run does.
 use Rattle.std.specs.Prelude.{◌≡◌, ℕ, ◌≤◌, ◌<◌, Bool, true, false, List, [], ◌∷◌, ◌++◌, Option, Some}
-use Rattle.cw_model.specs.Limits.{most_limit, most_burden}
+use Rattle.cw_model.specs.declared.limits.TheConstants.{MOST_LIMIT, MOST_BURDEN}
 use Rattle.cw_model.specs.Trees.{Mark, Execution, Event, Join}
 use Rattle.cw_measure.specs.OpenParts.{Open, closed}
 use Rattle.cw_regions.specs.Regions.{Tags}
@@ -12,7 +12,7 @@ use Rattle.cw_meter.specs.Parts.{IsPart}
 -- what tables tell goes from one run so far to another, within the greatest limit
 abbrev pub TellOf : (old new : Tables) → (count burden : ℕ) → Tags → (os os' : List Open) → (es es' : List Event) → Type 0
 TellOf old new count burden tags os os' es es' =
-    count ≤ most_limit → burden ≤ most_burden → TablesTell burden tags count os es old → TablesTell burden tags count os' es' new
+    count ≤ MOST_LIMIT → burden ≤ MOST_BURDEN → TablesTell burden tags count os es old → TablesTell burden tags count os' es' new
 
 -- the tables of a run that begins
 abbrev pub StartsTables : (burden : ℕ) → Tables → Type 0
@@ -21,7 +21,7 @@ StartsTables burden t = (tags : Tags) → TablesTell burden tags 0 main_open [] 
 -- all of a run so far is told
 abbrev pub Settles : (old new : Tables) → (count : ℕ) → Type 0
 Settles old new count =
-    (burden : ℕ) (tags : Tags) (os : List Open) (es : List Event) → count ≤ most_limit → burden ≤ most_burden
+    (burden : ℕ) (tags : Tags) (os : List Open) (es : List Event) → count ≤ MOST_LIMIT → burden ≤ MOST_BURDEN
     → TablesTell burden tags count os es old → AreTold burden tags count os es new
 
 -- one more part is open

@@ -1,6 +1,6 @@
 -- What a meter says of a whole run.
 use Rattle.std.specs.Prelude.{◌≡◌, ℕ, ◌≤◌, List, [], ◌∷◌, length, Some, slice_get}
-use Rattle.cw_model.specs.Limits.{most_limit, most_burden}
+use Rattle.cw_model.specs.declared.limits.TheConstants.{MOST_LIMIT, MOST_BURDEN}
 use Rattle.cw_model.specs.Syntax.{Name}
 use Rattle.cw_model.specs.Trees.{Tree, Marked, Invocation, Event, Series, normal, tree_of, work, span, burdened_span}
 use Rattle.cw_model.specs.Rows.{site_row, region_row}
@@ -44,6 +44,6 @@ pub record AreMeasures (burden count : ℕ) (names : List Name) (t : Tree) (all 
 -- a meter, at the end of a run, says what is read off the tree of the run
 abbrev pub Reads : Meter → (count sites tags : ℕ) → Measures → Type 0
 Reads m count sites tags all =
-    (burden : ℕ) (by_number : Tags) (names : List Name) (es : List Event) → count ≤ most_limit → burden ≤ most_burden
+    (burden : ℕ) (by_number : Tags) (names : List Name) (es : List Event) → count ≤ MOST_LIMIT → burden ≤ MOST_BURDEN
     → HasNames by_number names → length names ≡ tags → Meters burden by_number count [] (Series (Marked (Invocation 0) (tree_of es)) ∷ []) m
     → AreMeasures burden sites names (normal (Marked (Invocation 0) (tree_of es))) all

@@ -6,7 +6,7 @@ use Rattle.cw_model.specs.declared.trap.Trap.{Trap}
 use Rattle.cw_model.specs.Captured.{captured}
 use Rattle.cw_model.specs.LoopLaws.{IsBody, for_body, for_turn}
 use Rattle.cw_model.specs.Ints.{is_zero, natural}
-use Rattle.cw_model.specs.Limits.{most_depth}
+use Rattle.cw_model.specs.declared.limits.TheConstants.{MOST_DEPTH}
 use Rattle.cw_model.specs.Trees.{Execution, Tree, Marked, Event, Work, Series, Fork, Join, works, tree_of, work}
 use Rattle.cw_model.specs.declared.syntax.CallKind.{CallKind}
 use Rattle.cw_model.specs.declared.syntax.CallKind.TheVariants.{Plain, Spawned}
@@ -15,7 +15,7 @@ use Rattle.cw_model.specs.Frames.{Frame, no_frame, leave, inside_loop, new_array
 use Rattle.cw_model.specs.Expressions.{Evaluated, Gives, Traps, evaluate}
 use Rattle.cw_model.specs.Outcome.{Trace, shows, Outcome, Done, Trapped, Over, then_do, Piece, ◌>>=◌, gives, show, pay, pay_for, joined_up, as_one}
 use Rattle.cw_model.specs.Loops.{turn_start, turn_end, leaf_start, leaf_end, node_start, node_call, node_end, leaf_turns, halves}
-use Rattle.cw_model.specs.Meaning.{Completion, Normal, ByReturn, onward, frame_of, scoped, Returned, Entry, Deeper, SameDepth, Calls, function_of, given_array, arguments, call_event, start_event, turns, run, run_all, end_of_call, call, depth_of}
+use Rattle.cw_model.specs.Meaning.{Completion, Normal, ByReturn, onward, frame_of, scoped, Returned, Entry, Deeper, SameDepth, Calls, function_named, given_array, arguments, call_event, start_event, turns, run, run_all, end_of_call, call, depth_of}
 use Rattle.cw_model.proofs.Endings.{Ends, at_end, at_trap, at_limit, weaken, then_ends, one_ends, when_done}
 
 -- the work of the tree of some events
@@ -149,14 +149,14 @@ module _ (fs : List Function) (calls : Calls) (spend : (entry : Entry) (f : Func
         spends_then (spends_value _ line) (λ v. spends_then (spends_pay 1) (λ _.
         spends_then (spends_in_view (record { lines = []; additions = (s, v) ∷ []; events = [] }) refl) (λ _. spends_nothing (Normal frame))))
     spends_stmt (Call kind site target callee es) line frame =
-        spends_then (spends_arguments (function_of callee fs).params es frame line no_frame) (λ given. spends_then (spends_pay 1) (λ _.
-        spends_then (spends_as_one (call_event kind site) (call_is_work kind site) (spend Deeper (function_of callee fs) given line)) (λ returned. spends_nothing _)))
+        spends_then (spends_arguments (function_named callee fs).params es frame line no_frame) (λ given. spends_then (spends_pay 1) (λ _.
+        spends_then (spends_as_one (call_event kind site) (call_is_work kind site) (spend Deeper (function_named callee fs) given line)) (λ returned. spends_nothing _)))
     spends_stmt (Start kind callee es) line frame =
-        spends_then (spends_arguments (function_of callee fs).params es frame line no_frame) (λ given. spends_then (spends_pay 1) (λ _.
-        spends_then (spends_as_one (start_event kind) (start_is_work kind) (spend SameDepth (function_of callee fs) given line)) (λ returned. spends_nothing _)))
+        spends_then (spends_arguments (function_named callee fs).params es frame line no_frame) (λ given. spends_then (spends_pay 1) (λ _.
+        spends_then (spends_as_one (start_event kind) (start_is_work kind) (spend SameDepth (function_named callee fs) given line)) (λ returned. spends_nothing _)))
     spends_stmt (Begin callee from to captured over) line frame =
         spends_then (spends_value _ line) (λ lo. spends_then (spends_value _ line) (λ hi. spends_then (spends_pay _) (λ _.
-        spends_then (spends_value _ line) (λ n. spends_then (spends_in_series (spend SameDepth (function_of callee fs) _ line)) (λ returned. spends_nothing _)))))
+        spends_then (spends_value _ line) (λ n. spends_then (spends_in_series (spend SameDepth (function_named callee fs) _ line)) (λ returned. spends_nothing _)))))
     spends_stmt Sync line frame = spends_then spends_join (λ _. spends_then (spends_pay 1) (λ _. spends_nothing (Normal frame)))
     spends_stmt (If e b) line frame =
         spends_then (spends_value _ line) (λ v. spends_then (spends_pay 1) (λ _. spends_if (is_zero v) (spends_nothing _) (spends_scoped frame (spends_block b frame))))
@@ -200,7 +200,7 @@ pub spends_call : (bound depth : ℕ) (fs : List Function) (entry : Entry) (f : 
 unfolding call
 spends_call zero depth fs entry f given line = spends_over
 spends_call (suc bound) depth fs entry f given line =
-    spends_if (nat_lt most_depth (depth_of entry depth)) (spends_trap _ line [])
+    spends_if (nat_lt MOST_DEPTH (depth_of entry depth)) (spends_trap _ line [])
     (spends_then
     (spends_block fs (λ e g given' line' left. call bound (depth_of entry depth) fs e g given' line' left) (λ e g given' line'. spends_call bound (depth_of entry depth) fs e g given' line') f.body given)
     spends_end)

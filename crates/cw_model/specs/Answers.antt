@@ -6,7 +6,7 @@ use Rattle.cw_model.specs.Names.{same_name}
 use Rattle.cw_model.specs.Frames.{Frame, no_frame, new_int}
 use Rattle.cw_model.specs.Trees.{Tree, Invocation, Marked, tree_of, normal}
 use Rattle.cw_model.specs.Outcome.{Outcome, Done, Trapped, Over}
-use Rattle.cw_model.specs.Meaning.{Returned, Deeper, function_of, call}
+use Rattle.cw_model.specs.Meaning.{Returned, Deeper, function_named, call}
 
 -- the run ended, with its value, printed lines, sums and tree in normal form; or it trapped, with the lines printed
 -- before; or its cost passed the limit, and nothing else is fixed
@@ -45,5 +45,5 @@ main_name = 109 ∷ 97 ∷ 105 ∷ 110 ∷ []
 -- main on as many arguments as it has parameters, at depth 1, within a limit
 unfoldable pub serial_answer : Program → List ℤ → ℕ → Answer
 serial_answer program args limit =
-    let main = function_of main_name program.functions in
+    let main = function_named main_name program.functions in
     answer_of program.reducers (call (suc limit) 0 program.functions Deeper main (main_frame main.params args no_frame) main.line limit)

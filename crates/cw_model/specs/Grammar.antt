@@ -5,7 +5,7 @@ use Rattle.std.specs.Prelude.{◌≡◌, ◌≢◌, ◌≤◌, ℕ, suc, pos, Bo
 use Rattle.cw_model.specs.declared.token.Token.{Token}
 use Rattle.cw_model.specs.declared.token.Kind.{Kind}
 use Rattle.cw_model.specs.declared.token.Kind.TheVariants as kind
-use Rattle.cw_model.specs.Limits.{most_number}
+use Rattle.cw_model.specs.declared.limits.TheConstants.{MOST_NUMBER}
 use Rattle.cw_model.specs.Text.{between, end_line}
 use Rattle.cw_model.specs.Syntax as tree
 use Rattle.cw_model.specs.declared.syntax.Operator.{Operator}
@@ -58,7 +58,7 @@ mutual
     negation : {t : Token} {ts rest : List Token} {e : Expr} →
         ReadsExpr text (level 0) ts e rest → ReadsOperand text kind.Not t ts (tree.Not e) rest
     -- every number token of a text is within this bound
-    number : {t : Token} {ts : List Token} {n : ℕ} → n ≤ most_number → ReadsOperand text (kind.Number n) t ts (tree.Number (pos n)) ts
+    number : {t : Token} {ts : List Token} {n : ℕ} → n ≤ MOST_NUMBER → ReadsOperand text (kind.Number n) t ts (tree.Number (pos n)) ts
     variable : {t : Token} {ts : List Token} → ReadsOperand text kind.Name t ts (tree.Variable (name_of text t)) ts
     element : {t u v : Token} {ts rest : List Token} {e : Expr} →
         u.kind ≡ kind.LeftBracket → ReadsExpr text (level 4) ts e (v ∷ rest) → v.kind ≡ kind.RightBracket →

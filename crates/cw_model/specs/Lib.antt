@@ -1,4 +1,3 @@
-pub mod Limits
 pub mod Lines
 pub mod Text
 pub mod Pieces

@@ -1,7 +1,7 @@
 -- A loop by halves: the plain loop in its effect, with the costs of a recursion down to the grain.
 use Rattle.std.specs.Prelude.{◌≡◌, ℕ, zero, suc, ◌+◌, ◌-◌, ◌*◌, ◌/◌, Bool, true, ◌&&◌, ℤ, pos, ◌+ℤ◌, ◌-ℤ◌, int_lt, int_le, if◌then◌else◌, nat_le, List, [], ◌∷◌, length, take, drop}
 use Rattle.cw_model.specs.declared.trap.Trap.TheVariants as trap
-use Rattle.cw_model.specs.Limits.{most_turns}
+use Rattle.cw_model.specs.declared.limits.TheConstants.{MOST_TURNS}
 use Rattle.cw_model.specs.Ints.{Result, Value, Fails}
 use Rattle.cw_model.specs.Trees.{Tree, Leaf, Seq, Par, Series, Fork, Join}
 use Rattle.cw_model.specs.Frames.{Frame}
@@ -16,7 +16,7 @@ lies_within from to (xs ∷ rest) = int_le (pos 0) from && int_le to (pos (lengt
 abbrev pub loop_turns : (from to : ℤ) → List (List ℤ) → Result
 loop_turns from to arrays =
     if int_le to from then Value (pos 0)
-    else (if int_lt (pos most_turns) (to -ℤ from) then Fails trap.TooManyTurns
+    else (if int_lt (pos MOST_TURNS) (to -ℤ from) then Fails trap.TooManyTurns
     else (if lies_within from to arrays then Value (to -ℤ from) else Fails trap.OutOfBounds))
 
 -- What a loop costs beside the bodies of its turns, with k captured integers and q arrays. A leaf costs leaf_start,

@@ -1,7 +1,7 @@
 -- What a program does as its serial elision, within a budget of instructions: a spawn runs its call at once.
 use Rattle.std.specs.Prelude.{ℕ, zero, suc, ◌+◌, false, ℤ, pos, negsuc, ◌+ℤ◌, if◌then◌else◌, nat_lt, List, [], ◌∷◌, ◌++◌, length, drop, take, map, replicate, Option, Some, None, slice_set}
 use Rattle.cw_model.specs.declared.trap.Trap.TheVariants as trap
-use Rattle.cw_model.specs.Limits.{most_elements, most_depth}
+use Rattle.cw_model.specs.declared.limits.TheConstants.{MOST_ELEMENTS, MOST_DEPTH}
 use Rattle.cw_model.specs.Ints.{Result, Value, Fails, is_zero, natural}
 use Rattle.cw_model.specs.declared.syntax.CallKind.{CallKind}
 use Rattle.cw_model.specs.declared.syntax.CallKind.TheVariants.{Plain, Spawned}
@@ -62,9 +62,9 @@ abbrev pub no_function : Function
 no_function = record { name = []; line = 0; gives_int = false; params = []; body = End }
 
 -- the first function of a name
-abbrev pub function_of : Name → List Function → Function
-function_of f [] = no_function
-function_of f (g ∷ gs) = if same_name f g.name then g else function_of f gs
+abbrev pub function_named : Name → List Function → Function
+function_named f [] = no_function
+function_named f (g ∷ gs) = if same_name f g.name then g else function_named f gs
 
 -- the array that stands alone as an argument
 abbrev pub given_array : Expr → Frame → List ℤ
@@ -118,7 +118,7 @@ turns (suc bound) test line body frame = do
 -- the length of a new array
 abbrev pub new_length : ℤ → Result
 new_length (negsuc n) = Fails trap.BadLength
-new_length (pos n) = if nat_lt most_elements n then Fails trap.BadLength else Value (pos n)
+new_length (pos n) = if nat_lt MOST_ELEMENTS n then Fails trap.BadLength else Value (pos n)
 
 -- the place where an array is cut
 abbrev pub cut_place : List ℤ → ℤ → Result
@@ -171,13 +171,13 @@ abbrev mutual
     _ ← show (record { lines = []; additions = (s, v) ∷ []; events = [] })
     going frame
   run (Call kind site target callee es) line fs calls frame = do
-    let f = function_of callee fs
+    let f = function_named callee fs
     given ← arguments f.params es frame line no_frame
     _ ← pay 1
     returned ← as_one (call_event kind site) (calls Deeper f given line)
     going (set_result target returned.0 (returned_arrays f.params es returned.1 frame))
   run (Start kind callee es) line fs calls frame = do
-    let f = function_of callee fs
+    let f = function_named callee fs
     given ← arguments f.params es frame line no_frame
     _ ← pay 1
     returned ← as_one (start_event kind) (calls SameDepth f given line)
@@ -187,7 +187,7 @@ abbrev mutual
     hi ← pay_for (evaluate to frame) line
     _ ← pay (length captured)
     n ← pay_for (and_then (Gives (pos 0) 0) (λ v. loop_turns lo hi (map (array_of frame) over))) line
-    let f = function_of callee fs
+    let f = function_named callee fs
     let given = loop_frame f.params (lo ∷ (lo +ℤ n) ∷ map (int_of frame) captured) (map (λ a. take (natural n) (drop (natural lo) (array_of frame a))) over) no_frame
     returned ← as_one Series (calls SameDepth f given line)
     going (slices_back over (natural lo) returned.1 frame)
@@ -277,6 +277,6 @@ end_of_call (Normal frame) = do
 unfoldable pub call : (bound depth : ℕ) → List Function → Calls
 call zero depth fs entry f given line = λ left. Over
 call (suc bound) depth fs entry f given line =
-    if nat_lt most_depth (depth_of entry depth) then (λ left. Trapped trap.TooDeep line []) else (do
+    if nat_lt MOST_DEPTH (depth_of entry depth) then (λ left. Trapped trap.TooDeep line []) else (do
       way ← run_all f.body fs (λ e g given' line' left. call bound (depth_of entry depth) fs e g given' line' left) given
       end_of_call way)

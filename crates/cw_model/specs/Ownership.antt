@@ -4,7 +4,7 @@ use Rattle.std.specs.List.{list_any, list_all}
 use Rattle.cw_model.specs.declared.syntax.CallKind.TheVariants.{Spawned}
 use Rattle.cw_model.specs.Syntax.{Name, Expr, Number, Variable, Element, Length, Negative, Not, Binary, Stmt, Declare, DeclareArray, Assign, AssignElement, AddTo, Call, Start, Begin, Sync, If, IfElse, While, For, Scope, Cut, Region, Print, Return, Block, End, Then, Param, Function, Program}
 use Rattle.cw_model.specs.Names.{same_name, is_among, differ}
-use Rattle.cw_model.specs.Meaning.{function_of}
+use Rattle.cw_model.specs.Meaning.{function_named}
 use Rattle.cw_model.specs.Lines.{unless}
 use Rattle.cw_model.specs.Typing.{block_returns}
 
@@ -61,7 +61,7 @@ arrays_given (p ∷ ps) (e ∷ es) = (if p.is_array then names_in e else []) ++ 
 
 -- the arrays that are passed to a function
 abbrev pub given : List Function → Name → List Expr → List Name
-given fs f es = arrays_given (function_of f fs).params es
+given fs f es = arrays_given (function_named f fs).params es
 
 -- the name that a result goes to, if there is one
 abbrev pub target_names : Option Name → List Name

@@ -88,5 +88,5 @@ abbrev pub is_piece : List ℕ → Bool
 is_piece bs = is_word bs || is_number bs || is_some (symbol bs) || is_comment bs
 
 -- the number that digits stand for
-abbrev pub value_of : List ℕ → ℕ
-value_of digits = fold (λ n b. 10 * n + (b - 48)) 0 digits
+abbrev pub decimal_value : List ℕ → ℕ
+decimal_value digits = fold (λ n b. 10 * n + (b - 48)) 0 digits

@@ -2,7 +2,7 @@
 use Rattle.std.specs.Prelude.{ℕ, suc, Bool, true, ◌&&◌, nat_eq, List, [], ◌∷◌, ◌++◌, flat_map}
 use Rattle.cw_model.specs.declared.syntax.CallKind.{CallKind}
 use Rattle.cw_model.specs.Syntax.{Name, Stmt, Call, If, IfElse, While, For, Scope, Cut, Region, Block, End, Then, Program}
-use Rattle.cw_model.specs.Meaning.{function_of}
+use Rattle.cw_model.specs.Meaning.{function_named}
 use Rattle.cw_model.specs.Answers.{main_name}
 
 -- what a site is: the run's own call of main, or a call statement of this kind
@@ -41,7 +41,7 @@ call_sites program = flat_map (λ f. sites_in_block f.body) program.functions
 
 -- the invocation of main by the run itself
 abbrev pub root_site : Program → CallSite
-root_site program = record { number = 0; kind = Root; line = (function_of main_name program.functions).line; callee = main_name }
+root_site program = record { number = 0; kind = Root; line = (function_named main_name program.functions).line; callee = main_name }
 
 -- the sites have the numbers that follow this one, in their order
 abbrev pub are_numbered : ℕ → List CallSite → Bool

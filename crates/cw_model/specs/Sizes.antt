@@ -3,11 +3,11 @@ use Rattle.std.specs.Prelude.{ℕ, ◌+◌, ◌-◌, ◌*◌, nat_le, if◌then�
 use Rattle.cw_model.specs.declared.token.Token.{Token}
 use Rattle.cw_model.specs.declared.token.Kind.{Kind}
 use Rattle.cw_model.specs.declared.token.Kind.TheVariants as kind
-use Rattle.cw_model.specs.Limits.{most_open_brackets, most_tokens_in_a_row, most_functions, most_reducers, most_parameters, most_declared, most_tag_bytes, most_tags, most_loops, most_instructions, most_call_statements}
+use Rattle.cw_model.specs.declared.limits.TheConstants.{MOST_OPEN_BRACKETS, MOST_TOKENS_IN_A_ROW, MOST_FUNCTIONS, MOST_REDUCERS, MOST_PARAMETERS, MOST_DECLARED, MOST_TAG_BYTES, MOST_TAGS, MOST_LOOPS, MOST_INSTRUCTIONS, MOST_CALL_STATEMENTS}
 use Rattle.cw_model.specs.Syntax.{Name, Expr, Number, Variable, Element, Length, Negative, Not, Binary, Stmt, Declare, DeclareArray, Assign, AssignElement, AddTo, Call, Start, Begin, Sync, If, IfElse, While, For, Scope, Cut, Region, Print, Return, Block, End, Then, Param, Function, Program}
 use Rattle.cw_model.specs.Names.{is_among}
 use Rattle.cw_model.specs.Captured.{captured}
-use Rattle.cw_model.specs.Meaning.{function_of}
+use Rattle.cw_model.specs.Meaning.{function_named}
 use Rattle.cw_model.specs.Lines.{unless}
 use Rattle.cw_model.specs.Sites.{call_sites}
 
@@ -34,7 +34,7 @@ token_faults brackets row [] = []
 token_faults brackets row (t ∷ ts) =
     let opened = open_after brackets t.kind in
     let next = row_after row t.kind in
-    unless (nat_le opened most_open_brackets) t.line ++ (unless (nat_le next most_tokens_in_a_row) t.line ++ token_faults opened next ts)
+    unless (nat_le opened MOST_OPEN_BRACKETS) t.line ++ (unless (nat_le next MOST_TOKENS_IN_A_ROW) t.line ++ token_faults opened next ts)
 
 -- what is there a first time, by its name
 abbrev pub first_places : List (Name × ℕ) → List Name → List (Name × ℕ)
@@ -105,21 +105,21 @@ regions_of program = flat_map (λ f. regions_in_block f.body) program.functions
 -- too many parameters, and the lines of declarations past the limit; parameters count at the head
 abbrev pub function_limits : Function → List ℕ
 function_limits f =
-    unless (nat_le (length f.params) most_parameters) f.line
-    ++ lines_beyond most_declared (map (λ p. f.line) f.params ++ declaring_lines_in f.body)
+    unless (nat_le (length f.params) MOST_PARAMETERS) f.line
+    ++ lines_beyond MOST_DECLARED (map (λ p. f.line) f.params ++ declaring_lines_in f.body)
 
 -- the lines of functions, reducers, heads, declarations and regions that pass a limit
 abbrev pub limit_faults : Program → List ℕ
 limit_faults program =
-    lines_beyond most_functions (map (λ f. f.line) program.functions)
-    ++ (lines_beyond most_reducers (map (λ r. r.line) program.reducers)
+    lines_beyond MOST_FUNCTIONS (map (λ f. f.line) program.functions)
+    ++ (lines_beyond MOST_REDUCERS (map (λ r. r.line) program.reducers)
     ++ (flat_map function_limits program.functions
-    ++ (flat_map (λ d. unless (nat_le (length d.0) most_tag_bytes) d.1) (regions_of program)
-    ++ lines_beyond most_tags (map (λ d. d.1) (first_places (regions_of program) [])))))
+    ++ (flat_map (λ d. unless (nat_le (length d.0) MOST_TAG_BYTES) d.1) (regions_of program)
+    ++ lines_beyond MOST_TAGS (map (λ d. d.1) (first_places (regions_of program) [])))))
 
 -- the lines of loops past the limit
 abbrev pub loop_faults : Program → List ℕ
-loop_faults program = lines_beyond most_loops (flat_map (λ f. loops_in_block f.body) program.functions)
+loop_faults program = lines_beyond MOST_LOOPS (flat_map (λ f. loops_in_block f.body) program.functions)
 
 -- the instructions of an expression, in a loop over these arrays: an index into one of them is two longer
 abbrev pub size_of : List Name → Expr → ℕ
@@ -150,8 +150,8 @@ abbrev mutual
   stmt_size fs over (Assign x e) = size_of over e + 1
   stmt_size fs over (AssignElement a i e) = (if is_among a over then 2 else 0) + size_of over i + size_of over e + 1
   stmt_size fs over (AddTo s e) = size_of over e + 1
-  stmt_size fs over (Call kind site target f es) = arguments_size over (function_of f fs).params es + 1
-  stmt_size fs over (Start kind f es) = arguments_size over (function_of f fs).params es + 1
+  stmt_size fs over (Call kind site target f es) = arguments_size over (function_named f fs).params es + 1
+  stmt_size fs over (Start kind f es) = arguments_size over (function_named f fs).params es + 1
   stmt_size fs over (Begin f from to names arrays) = size_of over from + size_of over to + length names + 1
   stmt_size fs over Sync = 1
   stmt_size fs over (If e b) = size_of over e + 1 + block_size fs over b
@@ -186,4 +186,4 @@ call_count program = length (call_sites program)
 -- a program of too many instructions or call statements counts at line 1
 abbrev pub program_faults : Program → List ℕ
 program_faults program =
-    unless (nat_le (static_size program) most_instructions) 1 ++ unless (nat_le (call_count program) most_call_statements) 1
+    unless (nat_le (static_size program) MOST_INSTRUCTIONS) 1 ++ unless (nat_le (call_count program) MOST_CALL_STATEMENTS) 1

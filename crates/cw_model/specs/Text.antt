@@ -1,6 +1,6 @@
 -- The text of a source, and its lines.
 use Rattle.std.specs.Prelude.{◌≡◌, ℕ, ◌+◌, ◌-◌, ◌<◌, ◌≤◌, List, length, take, drop, All, slice_index, count_by, ◌==◌}
-use Rattle.cw_model.specs.Limits.{most_source_bytes}
+use Rattle.cw_model.specs.declared.limits.TheConstants.{MOST_SOURCE_BYTES}
 
 -- each byte is ASCII
 abbrev pub IsAscii : List ℕ → Type 0
@@ -8,7 +8,7 @@ IsAscii bytes = All (λ b. b < 128) bytes
 
 -- what a source can be: ASCII, within its length
 pub record IsSourceText (bytes : List ℕ) : Type 0 where
-  pub short : length bytes ≤ most_source_bytes
+  pub short : length bytes ≤ MOST_SOURCE_BYTES
   pub ascii : IsAscii bytes
 
 -- the line of a place: 1 and the LF bytes before it
@@ -31,12 +31,12 @@ pub record IsFirstAbove (bytes : List ℕ) (at : ℕ) : Type 0 where
 
 -- bytes that are too many for a source count at line 1, before every other fault
 pub record IsTooLong (bytes : List ℕ) (line : ℕ) : Type 0 where
-  pub long : most_source_bytes < length bytes
+  pub long : MOST_SOURCE_BYTES < length bytes
   pub first : line ≡ 1
 
 -- a byte above 127 counts at its line, before every other fault but bytes that are too many
 pub record IsNotAscii (bytes : List ℕ) (line : ℕ) : Type 0 where
-  pub short : length bytes ≤ most_source_bytes
+  pub short : length bytes ≤ MOST_SOURCE_BYTES
   pub at : ℕ
   pub above : IsFirstAbove bytes at
   pub same_line : line ≡ line_at bytes at

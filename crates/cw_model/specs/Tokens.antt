@@ -4,9 +4,9 @@ use Rattle.std.specs.Str.{bytes_eq}
 use Rattle.cw_model.specs.declared.token.Token.{Token}
 use Rattle.cw_model.specs.declared.token.Kind.{Kind}
 use Rattle.cw_model.specs.declared.token.Kind.TheVariants as kind
-use Rattle.cw_model.specs.Limits.{most_name_bytes, most_number}
+use Rattle.cw_model.specs.declared.limits.TheConstants.{MOST_NAME_BYTES, MOST_NUMBER}
 use Rattle.cw_model.specs.Text.{line_at, between}
-use Rattle.cw_model.specs.Pieces.{is_separator, is_word, is_number, is_comment, is_piece, symbol, value_of}
+use Rattle.cw_model.specs.Pieces.{is_separator, is_word, is_number, is_comment, is_piece, symbol, decimal_value}
 
 -- the words that are no names
 abbrev pub keywords : List (List ℕ × Kind)
@@ -34,8 +34,8 @@ pub record IsLongest (bytes : List ℕ) (len : ℕ) : Type 0 where
 
 -- what a token's text is, by its kind
 pub data IsSpelled : Kind → List ℕ → Type 0 where
-  word : {text : List ℕ} → is_word text ≡ true → (word_kind text ≡ kind.Name → length text ≤ most_name_bytes) → IsSpelled (word_kind text) text
-  number : {text : List ℕ} → is_number text ≡ true → value_of text ≤ most_number → IsSpelled (kind.Number (value_of text)) text
+  word : {text : List ℕ} → is_word text ≡ true → (word_kind text ≡ kind.Name → length text ≤ MOST_NAME_BYTES) → IsSpelled (word_kind text) text
+  number : {text : List ℕ} → is_number text ≡ true → decimal_value text ≤ MOST_NUMBER → IsSpelled (kind.Number (decimal_value text)) text
   mark : {k : Kind} {text : List ℕ} → symbol text ≡ Some k → IsSpelled k text
 
 -- a token of the text: the longest piece in its place, with its kind and its line
@@ -71,7 +71,7 @@ pub record HasLargeNumber (bytes : List ℕ) : Type 0 where
   pub len : ℕ
   pub longest : IsLongest bytes len
   pub number : is_number (take len bytes) ≡ true
-  pub large : most_number < value_of (take len bytes)
+  pub large : MOST_NUMBER < decimal_value (take len bytes)
 
 -- a name above the greatest length
 pub record HasLongName (bytes : List ℕ) : Type 0 where
@@ -79,7 +79,7 @@ pub record HasLongName (bytes : List ℕ) : Type 0 where
   pub longest : IsLongest bytes len
   pub word : is_word (take len bytes) ≡ true
   pub name : word_kind (take len bytes) ≡ kind.Name
-  pub long : most_name_bytes < len
+  pub long : MOST_NAME_BYTES < len
 
 -- the text before a place is cut, and what stands there is faulty
 pub record FaultAt (Faulty : List ℕ → Type 0) (text : List ℕ) (line : ℕ) : Type 0 where

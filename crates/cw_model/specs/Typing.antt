@@ -1,7 +1,7 @@
 -- Names, kinds and returns: which lines of a program break a rule.
 use Rattle.std.specs.Prelude.{◌≡◌, ℕ, Bool, true, false, not, ◌&&◌, ◌||◌, nat_le, if◌then◌else◌, List, [], ◌∷◌, ◌++◌, Option, Some, None, flat_map, map}
 use Rattle.std.specs.List.{list_any, list_all}
-use Rattle.cw_model.specs.Limits.{most_grain}
+use Rattle.cw_model.specs.declared.limits.TheConstants.{MOST_GRAIN}
 use Rattle.cw_model.specs.Lines.{unless}
 use Rattle.cw_model.specs.Syntax.{Name, Expr, Number, Variable, Element, Length, Negative, Not, Binary, Stmt, Declare, DeclareArray, Assign, AssignElement, AddTo, Call, Start, Begin, Sync, If, IfElse, While, For, Scope, Cut, Region, Print, Return, Block, End, Then, Param, Function, Program}
 use Rattle.cw_model.specs.Names.{same_name, is_among, differ}
@@ -108,7 +108,7 @@ declares _ known = known
 abbrev pub is_head_of_loop : Program → Known → (variable tested stepped : Name) → (from to : Expr) → (grain : ℕ) → (over : List Name) → Bool
 is_head_of_loop program known x y z from to grain over =
     is_new program known x && same_name y x && same_name z x && is_fine known from && is_fine known to
-    && nat_le 1 grain && nat_le grain most_grain && list_all (λ a. is_array known a) over
+    && nat_le 1 grain && nat_le grain MOST_GRAIN && list_all (λ a. is_array known a) over
 
 -- an array is cut at an integer into two new names that differ
 abbrev pub is_cut : Program → Known → (a : Name) → Expr → (l r : Name) → Bool

@@ -3,6 +3,7 @@
 
 pub mod examples;
 pub mod laws;
+pub mod limits;
 pub mod monoid;
 pub mod syntax;
 #[cfg(test)]

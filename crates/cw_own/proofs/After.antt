@@ -7,7 +7,7 @@ use Rattle.cw_model.specs.Syntax.{Name, Param, Function, Program, Expr, Number, 
 use Rattle.cw_model.specs.Lines.{unless}
 use Rattle.cw_model.specs.Names.{same_name, is_among}
 use Rattle.cw_model.specs.Answers.{main_name}
-use Rattle.cw_model.specs.Meaning.{function_of}
+use Rattle.cw_model.specs.Meaning.{function_named}
 use Rattle.cw_model.specs.Typing.{Known, Returns, Nowhere, is_int, is_array, is_new, globals, is_fine, is_argument, are_arguments, called, is_target, is_call, declares, surely_returns, block_returns, ends_block, is_head_of_loop, is_cut, faults_in, faults_in_block}
 use Rattle.cw_model.specs.Ownership.{Holder, SpawnIn, CutOf, Taken, freed, without, names_in, arrays_given, given, target_names, taken_by, where_it_goes_on, own_names, taken_after, taken_after_all}
 use Rattle.cw_model.specs.lemmas.Kept.{both_left, both_right, left_none, right_none, kept}
@@ -53,11 +53,11 @@ array_later (spec.Array u ∷ es) slot row =
     ∙ array_later es slot (with_array u.slot row)
 
 -- the first function of a name
-pub called_is : (f : Name) (fs : List Function) (g : Function) → called f fs ≡ Some g → function_of f fs ≡ g
+pub called_is : (f : Name) (fs : List Function) (g : Function) → called f fs ≡ Some g → function_named f fs ≡ g
 called_is f [] g h = cc
 called_is f (e ∷ fs) g h = by (same_name f e.name) h (called_is f fs g)
   where
-    by : (b : Bool) → (if b then Some e else called f fs) ≡ Some g → (called f fs ≡ Some g → function_of f fs ≡ g) → (if b then e else function_of f fs) ≡ g
+    by : (b : Bool) → (if b then Some e else called f fs) ≡ Some g → (called f fs ≡ Some g → function_named f fs ≡ g) → (if b then e else function_named f fs) ≡ g
     by true i j = cc
     by false i j = j i
 

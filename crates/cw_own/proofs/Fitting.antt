@@ -2,7 +2,7 @@
 use Rattle.std.proofs.Common.{◌≡◌, ℕ, ◌≤◌, nat_lt, nat_le, Bool, true, false, ◌&&◌, List, [], ◌∷◌, length, map, flat_map, Option, Some, None, refl, arith}
 use Rattle.std.specs.List.{list_all}
 use Rattle.std.proofs.lemmas.Bool.Decides.{nat_tests}
-use Rattle.cw_model.specs.Limits.{most_declared, most_parameters, most_functions, most_reducers}
+use Rattle.cw_model.specs.declared.limits.TheConstants.{MOST_DECLARED, MOST_PARAMETERS, MOST_FUNCTIONS, MOST_REDUCERS}
 use Rattle.cw_model.specs.Lines.{unless}
 use Rattle.cw_model.specs.Syntax as model
 use Rattle.cw_model.specs.Sizes.{limit_faults, function_limits, lines_beyond}
@@ -13,8 +13,8 @@ use Rattle.cw_own.specs.Bounds.{is_small, small_argument, small_target, small_st
 
 -- few enough slots
 record Few (n : Counts) : Type 0 where
-  pub ints : n.ints ≤ most_declared
-  pub arrays : n.arrays ≤ most_declared
+  pub ints : n.ints ≤ MOST_DECLARED
+  pub arrays : n.arrays ≤ MOST_DECLARED
 
 both : (a b : Bool) → a ≡ true → b ≡ true → (a && b) ≡ true
 both true b h g = g
@@ -24,10 +24,10 @@ less : (k n m : ℕ) → n ≤ m → nat_lt k n ≡ true → nat_lt k m ≡ true
 less k n m le h = grind (arith, nat_tests, h)
 
 int_small : (n : Counts) (u : Use) → Few n → is_below n.ints u ≡ true → is_small u ≡ true
-int_small n u few h = less u.slot n.ints most_declared few.ints h
+int_small n u few h = less u.slot n.ints MOST_DECLARED few.ints h
 
 array_small : (n : Counts) (u : Use) → Few n → is_below n.arrays u ≡ true → is_small u ≡ true
-array_small n u few h = less u.slot n.arrays most_declared few.arrays h
+array_small n u few h = less u.slot n.arrays MOST_DECLARED few.arrays h
 
 arguments_small : (n : Counts) (es : List Argument) → Few n → list_all (fits_argument n) es ≡ true → list_all small_argument es ≡ true
 arguments_small n [] few h = refl
@@ -96,15 +96,15 @@ at_most k n h = grind (arith, nat_tests, h)
 
 function_small : (tree : Resolved) (f : Function) → fits_function tree f ≡ true → function_limits (plain_function f) ≡ [] → small_function f ≡ true
 function_small tree f fits few =
-    let counts = both_left (nat_le f.ints most_declared && nat_le f.arrays most_declared) (fits_block (counts_of tree f) f.body) fits in
-    both (nat_le (length f.params) most_parameters) (small_block f.body)
-    (kept (nat_le (length f.params) most_parameters) f.line (left_none (unless (nat_le (length f.params) most_parameters) f.line) _ few))
+    let counts = both_left (nat_le f.ints MOST_DECLARED && nat_le f.arrays MOST_DECLARED) (fits_block (counts_of tree f) f.body) fits in
+    both (nat_le (length f.params) MOST_PARAMETERS) (small_block f.body)
+    (kept (nat_le (length f.params) MOST_PARAMETERS) f.line (left_none (unless (nat_le (length f.params) MOST_PARAMETERS) f.line) _ few))
     (block_small (counts_of tree f) f.body
     (record {
-      ints = at_most f.ints most_declared (both_left (nat_le f.ints most_declared) (nat_le f.arrays most_declared) counts);
-      arrays = at_most f.arrays most_declared (both_right (nat_le f.ints most_declared) (nat_le f.arrays most_declared) counts);
+      ints = at_most f.ints MOST_DECLARED (both_left (nat_le f.ints MOST_DECLARED) (nat_le f.arrays MOST_DECLARED) counts);
+      arrays = at_most f.arrays MOST_DECLARED (both_right (nat_le f.ints MOST_DECLARED) (nat_le f.arrays MOST_DECLARED) counts);
     })
-    (both_right (nat_le f.ints most_declared && nat_le f.arrays most_declared) (fits_block (counts_of tree f) f.body) fits))
+    (both_right (nat_le f.ints MOST_DECLARED && nat_le f.arrays MOST_DECLARED) (fits_block (counts_of tree f) f.body) fits))
 
 functions_small : (tree : Resolved) (fs : List Function) → list_all (fits_function tree) fs ≡ true → flat_map function_limits (map plain_function fs) ≡ [] → list_all small_function fs ≡ true
 functions_small tree [] fits few = refl
@@ -116,7 +116,7 @@ functions_small tree (f ∷ fs) fits few =
 -- each function of a tree that fits and passes no limit
 pub tree_small : (tree : Resolved) → is_fitting tree ≡ true → limit_faults (plain tree) ≡ [] → list_all small_function tree.functions ≡ true
 tree_small tree fits within =
-    let beyond = lines_beyond most_functions (map (λ (f : model.Function). f.line) (plain tree).functions) in
+    let beyond = lines_beyond MOST_FUNCTIONS (map (λ (f : model.Function). f.line) (plain tree).functions) in
     let rest = right_none beyond _ within in
-    let heads = left_none (flat_map function_limits (plain tree).functions) _ (right_none (lines_beyond most_reducers (map (λ (r : model.Reducer). r.line) tree.reducers)) _ rest) in
+    let heads = left_none (flat_map function_limits (plain tree).functions) _ (right_none (lines_beyond MOST_REDUCERS (map (λ (r : model.Reducer). r.line) tree.reducers)) _ rest) in
     functions_small tree tree.functions (both_left (list_all (fits_function tree) tree.functions) (nat_lt tree.main (length tree.functions)) fits) heads

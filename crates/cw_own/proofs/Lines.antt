@@ -2,7 +2,7 @@
 use Rattle.std.proofs.Common.{◌≡◌, ℕ, suc, ◌+◌, nat_le, Bool, true, false, not, ◌&&◌, ◌||◌, if◌then◌else◌, List, [], ◌∷◌, ◌++◌, length, map, Option, Some, None, inl, subst, refl, sym, ap, ◌∙◌}
 use Rattle.std.specs.List.{list_all}
 use Rattle.std.proofs.lemmas.Slice.Eq.{bytes_eq-Decides}
-use Rattle.cw_model.specs.Limits.{most_grain}
+use Rattle.cw_model.specs.declared.limits.TheConstants.{MOST_GRAIN}
 use Rattle.cw_model.specs.Syntax.{Name, Program, Expr, Stmt, Declare, DeclareArray, Assign, AssignElement, AddTo, Call, Start, Begin, Sync, If, IfElse, While, For, Scope, Cut, Region, Print, Return, Block, End, Then}
 use Rattle.cw_model.specs.Lines.{unless, lowest}
 use Rattle.cw_model.specs.lemmas.Lowest.{lowest-append, lowest-swap}
@@ -343,14 +343,14 @@ record Heads (program : Program) (known : Known) (x : Name) (d e : Expr) (xs : L
 
 head_keeps : (program : Program) (known : Known) (x y z : Name) (from to : Expr) (grain : ℕ) (over : List Name) → is_head_of_loop program known x y z from to grain over ≡ true → Heads program known x from to over
 head_keeps program known x y z from to grain over h =
-    let seven = both_left (is_new program known x && same_name y x && same_name z x && is_fine known from && is_fine known to && nat_le 1 grain && nat_le grain most_grain) (list_all (λ a. is_array known a) over) h in
-    let five = both_left (is_new program known x && same_name y x && same_name z x && is_fine known from && is_fine known to) (nat_le 1 grain) (both_left (is_new program known x && same_name y x && same_name z x && is_fine known from && is_fine known to && nat_le 1 grain) (nat_le grain most_grain) seven) in
+    let seven = both_left (is_new program known x && same_name y x && same_name z x && is_fine known from && is_fine known to && nat_le 1 grain && nat_le grain MOST_GRAIN) (list_all (λ a. is_array known a) over) h in
+    let five = both_left (is_new program known x && same_name y x && same_name z x && is_fine known from && is_fine known to) (nat_le 1 grain) (both_left (is_new program known x && same_name y x && same_name z x && is_fine known from && is_fine known to && nat_le 1 grain) (nat_le grain MOST_GRAIN) seven) in
     let four = both_left (is_new program known x && same_name y x && same_name z x && is_fine known from) (is_fine known to) five in
     record {
       variable = head_new program known x y z from to grain over h;
       from = both_right (is_new program known x && same_name y x && same_name z x) (is_fine known from) four;
       to = both_right (is_new program known x && same_name y x && same_name z x && is_fine known from) (is_fine known to) five;
-      over = both_right (is_new program known x && same_name y x && same_name z x && is_fine known from && is_fine known to && nat_le 1 grain && nat_le grain most_grain) (list_all (λ a. is_array known a) over) h;
+      over = both_right (is_new program known x && same_name y x && same_name z x && is_fine known from && is_fine known to && nat_le 1 grain && nat_le grain MOST_GRAIN) (list_all (λ a. is_array known a) over) h;
     }
 
 mutual

@@ -4,7 +4,7 @@ use Rattle.std.specs.Int.{bit_at, bit_not}
 use Rattle.std.proofs.lemmas.Nat.Bits.{bit_at-zero, bit_at-lt, bit_at_or, bit_at_and, bit_at_set_same, bit_at_set_other, bit_at_clear_same, bit_at_clear_other}
 use Rattle.std.proofs.lemmas.Bool.{eq-eqb}
 use Rattle.std.proofs.lemmas.Bool.Decides.{eqb_tells}
-use Rattle.cw_model.specs.Limits.{most_declared}
+use Rattle.cw_model.specs.declared.limits.TheConstants.{MOST_DECLARED}
 use Rattle.cw_own.specs.Sets.{Slots, no_slot, with_slot, without_slot, either, both, slots_of}
 
 pub same_sets : (s t : Slots) → ((slot : ℕ) → s slot ≡ t slot) → s ≡ t
@@ -59,7 +59,7 @@ other_row rows new k apart =
     ap (λ r. bit_at r (k % 64) == 1) (get_or-set_other rows (new / 64) (k / 64) (row_with (slice_index rows (new / 64)) (new % 64)) 0 apart)
     ∙ sym (ap (λ b. b || slots_of rows k) (differ_by k new (λ h. apart (ap (λ x. x / 64) h))))
 
-pub one_taken : (rows : List ℕ) (new : ℕ) → length rows ≡ 4 → new < most_declared →
+pub one_taken : (rows : List ℕ) (new : ℕ) → length rows ≡ 4 → new < MOST_DECLARED →
     slots_of (slice_set rows (new / 64) (row_with (slice_index rows (new / 64)) (new % 64))) ≡ with_slot new (slots_of rows)
 one_taken rows new four bound =
     let inside : new / 64 < length rows = omega (arith, four, bound) in
@@ -101,7 +101,7 @@ other_row_less rows old k apart =
     ap (λ r. bit_at r (k % 64) == 1) (get_or-set_other rows (old / 64) (k / 64) (row_without (slice_index rows (old / 64)) (old % 64)) 0 apart)
     ∙ sym (ap (λ b. not b && slots_of rows k) (differ_by k old (λ h. apart (ap (λ x. x / 64) h))))
 
-pub one_removed : (rows : List ℕ) (old : ℕ) → length rows ≡ 4 → old < most_declared →
+pub one_removed : (rows : List ℕ) (old : ℕ) → length rows ≡ 4 → old < MOST_DECLARED →
     slots_of (slice_set rows (old / 64) (row_without (slice_index rows (old / 64)) (old % 64))) ≡ without_slot old (slots_of rows)
 one_removed rows old four bound =
     let inside : old / 64 < length rows = omega (arith, four, bound) in

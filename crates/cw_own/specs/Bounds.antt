@@ -1,12 +1,12 @@
 -- How great the slots are that are declared, taken or listed: each is below the most names of a function.
 use Rattle.std.specs.Prelude.{Bool, true, ◌&&◌, nat_lt, nat_le, Option, Some, None, length}
 use Rattle.std.specs.List.{list_all}
-use Rattle.cw_model.specs.Limits.{most_declared, most_parameters}
+use Rattle.cw_model.specs.declared.limits.TheConstants.{MOST_DECLARED, MOST_PARAMETERS}
 use Rattle.cw_tree.specs.Resolved.{Use, Argument, Int, Array, Stmt, Declare, DeclareArray, Call, If, IfElse, While, For, Scope, Cut, Region, Block, End, Then, Function}
 
 -- a slot has a bit
 abbrev pub is_small : Use → Bool
-is_small u = nat_lt u.slot most_declared
+is_small u = nat_lt u.slot MOST_DECLARED
 
 -- an array that is passed has a small slot
 abbrev pub small_argument : Argument → Bool
@@ -40,4 +40,4 @@ abbrev mutual
 
 -- the same of a function, which has few parameters
 abbrev pub small_function : Function → Bool
-small_function f = nat_le (length f.params) most_parameters && small_block f.body
+small_function f = nat_le (length f.params) MOST_PARAMETERS && small_block f.body

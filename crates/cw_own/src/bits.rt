@@ -1,7 +1,7 @@
 //! Sets of slots.
 
 ghost use Rattle.std.specs.Prelude.{◌≡◌, ◌<◌};
-ghost use Rattle.cw_model.specs.Limits.{most_declared};
+ghost use Rattle.cw_model.specs.declared.limits.TheConstants.{MOST_DECLARED};
 ghost use Rattle.cw_own.specs.Sets.{no_slot, with_slot, without_slot, either, both};
 ghost use Rattle.cw_own.specs.Views.{set_of};
 
@@ -31,7 +31,7 @@ impl Bits {
 
     /// One slot more.
     pub fn add(&mut self, slot: u32)
-        requires { slot < most_declared }
+        requires { slot < MOST_DECLARED }
         ensures { set_of self.new ≡ with_slot slot (set_of self.old) }
     {
         self.words[(slot / 64) as usize] |= 1 << (slot % 64);
@@ -39,7 +39,7 @@ impl Bits {
 
     /// One slot less.
     pub fn remove(&mut self, slot: u32)
-        requires { slot < most_declared }
+        requires { slot < MOST_DECLARED }
         ensures { set_of self.new ≡ without_slot slot (set_of self.old) }
     {
         self.words[(slot / 64) as usize] &= !(1 << (slot % 64));

@@ -2,7 +2,7 @@
 
 ghost use Rattle.std.specs.Prelude.{◌≡◌, ◌≤◌, length, map, true, MatchResult, OnOk};
 ghost use Rattle.std.specs.List.{list_all};
-ghost use Rattle.cw_model.specs.Limits.{most_parameters};
+ghost use Rattle.cw_model.specs.declared.limits.TheConstants.{MOST_PARAMETERS};
 ghost use Rattle.cw_tree.specs.ResolvedView.{program_of, param_of, function_of};
 ghost use Rattle.cw_own.specs.Bounds.{small_function};
 ghost use Rattle.cw_own.specs.Faults.{BreaksOwnership};
@@ -79,7 +79,7 @@ fn note_function(
 
 // The locals that are parameters: those of each kind have the first slots of that kind.
 fn with_params(params: &[Param]) -> Row
-    requires { length (map param_of params.now) ≤ most_parameters }
+    requires { length (map param_of params.now) ≤ MOST_PARAMETERS }
     ensures { row_of result ≡ with_params 0 0 (map param_of params.now) no_local }
 {
     let mut known = Row::none();

@@ -1,7 +1,7 @@
 //! Sets of locals.
 
 ghost use Rattle.std.specs.Prelude.{◌≡◌, ◌<◌};
-ghost use Rattle.cw_model.specs.Limits.{most_declared};
+ghost use Rattle.cw_model.specs.declared.limits.TheConstants.{MOST_DECLARED};
 ghost use Rattle.cw_own.specs.Sets.{no_local, with_int, with_array, either_row, both_rows, row_of};
 
 use crate::bits::Bits;
@@ -26,7 +26,7 @@ impl Row {
 
     /// One integer more.
     pub fn add_int(&mut self, slot: u32)
-        requires { slot < most_declared }
+        requires { slot < MOST_DECLARED }
         ensures { row_of self.new ≡ with_int slot (row_of self.old) }
     {
         self.ints.add(slot);
@@ -34,7 +34,7 @@ impl Row {
 
     /// One array more.
     pub fn add_array(&mut self, slot: u32)
-        requires { slot < most_declared }
+        requires { slot < MOST_DECLARED }
         ensures { row_of self.new ≡ with_array slot (row_of self.old) }
     {
         self.arrays.add(slot);

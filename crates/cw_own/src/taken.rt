@@ -1,7 +1,7 @@
 //! What is taken.
 
 ghost use Rattle.std.specs.Prelude.{◌≡◌, ◌<◌};
-ghost use Rattle.cw_model.specs.Limits.{most_declared};
+ghost use Rattle.cw_model.specs.declared.limits.TheConstants.{MOST_DECLARED};
 ghost use Rattle.cw_own.specs.Sets.{row_of};
 ghost use Rattle.cw_own.specs.Taken.{nothing, int_taken, array_taken, inside, inside_cut};
 ghost use Rattle.cw_own.specs.Taken.{joined, after_branches, taken_of};
@@ -83,7 +83,7 @@ impl Taken {
 
     /// What is taken as the block of a cut of this array begins.
     pub fn inside_cut(&self, array: u32) -> Taken
-        requires { array < most_declared }
+        requires { array < MOST_DECLARED }
         ensures { taken_of result ≡ inside_cut array (taken_of self.now) }
     {
         let mut cuts = self.cuts;

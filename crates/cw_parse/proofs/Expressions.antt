@@ -7,7 +7,7 @@ use Rattle.cw_model.specs.declared.token.Kind.{Kind}
 use Rattle.cw_model.specs.declared.token.Kind.TheVariants as kind
 use Rattle.cw_model.specs.declared.syntax.Operator.{Operator}
 use Rattle.cw_model.specs.declared.syntax.Operator.TheVariants as operator
-use Rattle.cw_model.specs.Limits.{most_number}
+use Rattle.cw_model.specs.declared.limits.TheConstants.{MOST_NUMBER}
 use Rattle.cw_model.specs.Syntax as tree
 use Rattle.cw_model.specs.Syntax.{Expr}
 use Rattle.cw_model.specs.Grammar as grammar
@@ -199,7 +199,7 @@ module _ (text : List ℕ) where
   abbrev OperandBy : Token → Kind → List Token → Expr → List Token → Type 0
   OperandBy t kind.Minus = Seq (At 0) (λ e. Done (tree.Negative e))
   OperandBy t kind.Not = Seq (At 0) (λ e. Done (tree.Not e))
-  OperandBy t (kind.Number n) = λ ts e rest. (n ≤ most_number) × Done (tree.Number (pos n)) ts e rest
+  OperandBy t (kind.Number n) = λ ts e rest. (n ≤ MOST_NUMBER) × Done (tree.Number (pos n)) ts e rest
   OperandBy t kind.Name = λ ts e rest.
       Seq (Marked mark.LeftBracket) (λ (_ : Token). Seq (At 4) (λ i. Seq (Marked mark.RightBracket) (λ (_ : Token). Done (tree.Element (name_of text t) i)))) ts e rest
       ⊎ Done (tree.Variable (name_of text t)) ts e rest
@@ -256,13 +256,13 @@ module _ (text : List ℕ) where
     branch t kind.Name = inl (named_piece t).exact
     branch t kind.Len = inl length_piece.exact
     branch t kind.LeftParen = inl closed_piece.exact
-    branch t (kind.Number v) = go (nat_le v most_number) refl
+    branch t (kind.Number v) = go (nat_le v MOST_NUMBER) refl
       where
-        go : (b : Bool) → nat_le v most_number ≡ b
+        go : (b : Bool) → nat_le v MOST_NUMBER ≡ b
             → Branch U n (OperandBy t (kind.Number v)) (stops 0) t (λ ts. (cond {A = Read Expr} b (Ok (tree.Number (pos v), ts)) (Err (len (t ∷ ts)))) >>= λ z. unless_next (is_mark mark.LeftBracket) z.0 z.1)
         go true e = inl (same_exact U n (Done (tree.Number (pos v))) (OperandBy t (kind.Number v)) (stops 0) (λ ts. unless_next (is_mark mark.LeftBracket) (tree.Number (pos v)) ts)
-            (λ ts a rest d. (leb-true v most_number e, d)) (λ ts a rest d. d.1) (guard mark.LeftBracket no_index (give {U = U} {n = n} (tree.Number (pos v)))).exact)
-        go false e = inr (record { stops = λ ts. refl; never = λ ts a rest d. let clash : true ≡ false = sym (le-leb v most_number d.0) ∙ e in cc })
+            (λ ts a rest d. (leb-true v MOST_NUMBER e, d)) (λ ts a rest d. d.1) (guard mark.LeftBracket no_index (give {U = U} {n = n} (tree.Number (pos v)))).exact)
+        go false e = inr (record { stops = λ ts. refl; never = λ ts a rest d. let clash : true ≡ false = sym (le-leb v MOST_NUMBER d.0) ∙ e in cc })
     branch t _ = inr (record { stops = λ ts. refl; never = λ ts a rest d. d })
 
     branch_halts : (t : Token) (k : Kind) → Halts n (stops 0) (operand_after text whole inner t k)

@@ -3,7 +3,7 @@ use Rattle.std.specs.Prelude.{ℕ, zero, suc, ◌+◌, ◌==◌, pos, nat_le, Bo
 use Rattle.cw_model.specs.declared.token.Token.{Token}
 use Rattle.cw_model.specs.declared.token.Kind.{Kind}
 use Rattle.cw_model.specs.declared.token.Kind.TheVariants as kind
-use Rattle.cw_model.specs.Limits.{most_number}
+use Rattle.cw_model.specs.declared.limits.TheConstants.{MOST_NUMBER}
 use Rattle.cw_model.specs.Syntax as tree
 use Rattle.cw_model.specs.declared.syntax.Operator.{Operator}
 use Rattle.cw_model.specs.declared.syntax.CallKind.{CallKind}
@@ -23,7 +23,7 @@ marked m = token (is_mark m)
 
 -- a number that the tree can hold
 abbrev pub number : Token → ℕ → Reader Expr
-number t n ts = if nat_le n most_number then Ok (tree.Number (pos n), ts) else Err (length (t ∷ ts))
+number t n ts = if nat_le n MOST_NUMBER then Ok (tree.Number (pos n), ts) else Err (length (t ∷ ts))
 
 -- an operand that was read: an index stands behind a name alone
 abbrev pub unindexed : Expr → Reader Expr

@@ -6,14 +6,9 @@ ghost use Rattle.cw_model.specs.Sizes as spec;
 ghost use Rattle.cw_parse.specs.Nesting.{IsTooNested};
 ghost use Rattle.cw_parse.specs.Parsed.{IsShort};
 
+use cw_model::limits::{MOST_OPEN_BRACKETS, MOST_TOKENS_IN_A_ROW};
 use cw_model::token::{Kind, Token};
 use cw_text::{Fault, LeastLine, Place};
-
-/// The most brackets of any kind that are open at once.
-const MOST_OPEN: usize = 64;
-
-/// The most tokens in a row without a semicolon or a brace.
-const MOST_IN_A_ROW: usize = 256;
 
 /// Answers `Size` at the least line of a token at which too many brackets are open or which
 /// stands too far in a row, if there is one.
@@ -36,8 +31,8 @@ fn least_fault(tokens: &[Token]) -> LeastLine
     for token in tokens {
         brackets = open_after(brackets, token.kind);
         row = row_after(row, token.kind);
-        least.note(brackets <= MOST_OPEN, token.line);
-        least.note(row <= MOST_IN_A_ROW, token.line);
+        least.note(brackets <= MOST_OPEN_BRACKETS, token.line);
+        least.note(row <= MOST_TOKENS_IN_A_ROW, token.line);
     }
     least
 }

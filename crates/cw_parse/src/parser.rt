@@ -1,7 +1,7 @@
 //! The tree of a whole source.
 
 ghost use Rattle.std.specs.Prelude.{◌≡◌, ◌-◌, ◌≤◌, length, drop, MatchResult};
-ghost use Rattle.cw_model.specs.Limits.{most_source_bytes};
+ghost use Rattle.cw_model.specs.declared.limits.TheConstants.{MOST_SOURCE_BYTES};
 ghost use Rattle.cw_model.specs.Text.{end_line};
 ghost use Rattle.cw_model.specs.Tokens.{IsTokenCut};
 ghost use Rattle.cw_model.specs.Grammar.{Derives, first_line};
@@ -19,7 +19,7 @@ use std::alloc::Global;
 
 // The line of a text's end.
 fn end_line(text: &[u8]) -> u32
-    requires { length text.now ≤ most_source_bytes }
+    requires { length text.now ≤ MOST_SOURCE_BYTES }
     ensures { result ≡ end_line text.now }
 {
     let mut line = 1;
@@ -33,7 +33,7 @@ fn end_line(text: &[u8]) -> u32
 
 // The line of the first one of the last tokens, or of the text's end where none is left.
 fn line_of(text: &[u8], tokens: &[Token], left: usize) -> u32
-    requires { length text.now ≤ most_source_bytes }
+    requires { length text.now ≤ MOST_SOURCE_BYTES }
     ensures { result ≡ first_line text.now (drop (length tokens.now - left) tokens.now) }
 {
     match &tokens[tokens.len().saturating_sub(left)..] {

@@ -5,14 +5,14 @@ use Rattle.cw_model.specs.declared.syntax.CallKind.{CallKind}
 use Rattle.cw_model.specs.declared.syntax.CallKind.TheVariants.{Plain, Spawned}
 use Rattle.cw_model.specs.Captured.{captured}
 use Rattle.cw_model.specs.Ints.{Result, Value, Fails, is_zero, natural}
-use Rattle.cw_model.specs.Limits.{most_depth}
+use Rattle.cw_model.specs.declared.limits.TheConstants.{MOST_DEPTH}
 use Rattle.cw_model.specs.Syntax.{Stmt, Declare, DeclareArray, Assign, AssignElement, AddTo, Call, Start, Begin, Sync, If, IfElse, While, For, Scope, Cut, Region, Print, Return, Block, End, Then, Function}
 use Rattle.cw_model.specs.Trees.{Mark, Invocation, Execution, works}
 use Rattle.cw_model.specs.Frames.{Frame, no_frame, leave, inside_loop, new_int}
 use Rattle.cw_model.specs.Expressions.{Evaluated, done_at, evaluate}
 use Rattle.cw_model.specs.Outcome.{shows, Outcome, Piece, ◌>>=◌, then_do, joined_up, pay, pay_for, as_one}
 use Rattle.cw_model.specs.Loops.{turn_start, turn_end, leaf_start, leaf_end, node_start, node_call, node_end, leaf_turns, halves}
-use Rattle.cw_model.specs.Meaning.{Completion, Normal, ByReturn, onward, frame_of, scoped, Returned, Entry, Deeper, SameDepth, Calls, function_of, call_event, start_event, turns, run, run_all, call, depth_of}
+use Rattle.cw_model.specs.Meaning.{Completion, Normal, ByReturn, onward, frame_of, scoped, Returned, Entry, Deeper, SameDepth, Calls, function_named, call_event, start_event, turns, run, run_all, call, depth_of}
 use Rattle.cw_measure.specs.OpenParts.{marked, part_of}
 use Rattle.cw_part.specs.PieceRuns.{Kind, OfNothing, OfInt, OfFrame, OfStatement, OfCall, Given}
 use Rattle.cw_part.proofs.PieceTellingLaws.{run_comes}
@@ -50,12 +50,12 @@ agree_inside kind most spawned mark p = record {
   same = λ left l. ap (joined_up (λ tree. part_of spawned (marked mark tree))) (p.same left l);
 }
 
-agree_onward : (most : ℕ) (way : Completion) {next other : Frame → Piece Completion} → ((frame : Frame) → Agree OfStatement most (next frame) (other frame)) → Agree OfStatement most (onward way next) (onward way other)
+agree_onward : (most : ℕ) (exit : Completion) {next other : Frame → Piece Completion} → ((frame : Frame) → Agree OfStatement most (next frame) (other frame)) → Agree OfStatement most (onward exit next) (onward exit other)
 agree_onward most (Normal frame) f = f frame
 agree_onward most (ByReturn v frame) f = agree_itself OfStatement most (runs_nothing OfStatement (ByReturn v frame))
 
 agree_scoped : (most : ℕ) (before : Frame) {piece other : Piece Completion} → Agree OfStatement most piece other → Agree OfStatement most (scoped before piece) (scoped before other)
-agree_scoped most before p = agree_then OfStatement OfStatement most p (λ way. agree_onward most way (λ frame. agree_itself OfStatement most (runs_nothing OfStatement _)))
+agree_scoped most before p = agree_then OfStatement OfStatement most p (λ exit. agree_onward most exit (λ frame. agree_itself OfStatement most (runs_nothing OfStatement _)))
 
 agree_if : (kind : Kind) (most : ℕ) (b : Bool) {p q p' q' : Piece (Given kind)} → Agree kind most p p' → Agree kind most q q' → Agree kind most (if b then p else q) (if b then p' else q')
 agree_if kind most true a c = a
@@ -85,7 +85,7 @@ agree_turns : (most bound : ℕ) (test : Frame → Evaluated) (line : ℕ) {body
 agree_turns most zero test line f frame = agree_itself OfStatement most (runs_over OfStatement)
 agree_turns most (suc bound) test line f frame =
     agree_value OfStatement most (test frame) line (λ v. agree_paid OfStatement most 1 (λ _. agree_if OfStatement most (is_zero v) (agree_itself OfStatement most (runs_nothing OfStatement _))
-    (agree_then OfStatement OfStatement most (f frame) (λ way. agree_onward most way (λ frame'. agree_paid OfStatement most 1 (λ _. agree_turns most bound test line f frame'))))))
+    (agree_then OfStatement OfStatement most (f frame) (λ exit. agree_onward most exit (λ frame'. agree_paid OfStatement most 1 (λ _. agree_turns most bound test line f frame'))))))
 
 agree_while : (most : ℕ) (test : Frame → Evaluated) (line : ℕ) {body other : Frame → Piece Completion} → ((frame : Frame) → Agree OfStatement most (body frame) (other frame)) → (frame : Frame) → Agree OfStatement most (λ left. turns (suc left) test line body frame left) (λ left. turns (suc left) test line other frame left)
 agree_while most test line {body} {other} f frame = record {
@@ -131,17 +131,17 @@ module _ (fs : List Function) (most : ℕ) (calls other : Calls) (agree : (entry
     agree_stmt (AssignElement a i e) line frame = agree_alone (AssignElement a i e) line frame refl
     agree_stmt (AddTo s e) line frame = agree_alone (AddTo s e) line frame refl
     agree_stmt (Call kind site target callee es) line frame =
-        agree_then OfFrame OfStatement (suc most) (agree_itself OfFrame (suc most) (runs_arguments (function_of callee fs).params es frame line no_frame)) (λ given.
+        agree_then OfFrame OfStatement (suc most) (agree_itself OfFrame (suc most) (runs_arguments (function_named callee fs).params es frame line no_frame)) (λ given.
         agree_later OfNothing OfStatement most (runs_pay 1) leaves_pay (λ _.
-        agree_then OfCall OfStatement most (agree_called most kind site (agree Deeper (function_of callee fs) given line)) (λ returned. agree_itself OfStatement most (runs_nothing OfStatement _))))
+        agree_then OfCall OfStatement most (agree_called most kind site (agree Deeper (function_named callee fs) given line)) (λ returned. agree_itself OfStatement most (runs_nothing OfStatement _))))
     agree_stmt (Start kind callee es) line frame =
-        agree_then OfFrame OfStatement (suc most) (agree_itself OfFrame (suc most) (runs_arguments (function_of callee fs).params es frame line no_frame)) (λ given.
+        agree_then OfFrame OfStatement (suc most) (agree_itself OfFrame (suc most) (runs_arguments (function_named callee fs).params es frame line no_frame)) (λ given.
         agree_later OfNothing OfStatement most (runs_pay 1) leaves_pay (λ _.
-        agree_then OfCall OfStatement most (agree_started most kind (agree SameDepth (function_of callee fs) given line)) (λ returned. agree_itself OfStatement most (runs_nothing OfStatement _))))
+        agree_then OfCall OfStatement most (agree_started most kind (agree SameDepth (function_named callee fs) given line)) (λ returned. agree_itself OfStatement most (runs_nothing OfStatement _))))
     agree_stmt (Begin callee from to captured over) line frame =
         agree_value OfStatement (suc most) _ line (λ lo. agree_value OfStatement (suc most) _ line (λ hi. agree_paid OfStatement (suc most) _ (λ _.
         agree_later OfInt OfStatement most (runs_value _ line) (leaves_result _ line) (λ n.
-        agree_then OfCall OfStatement most (agree_inside OfCall most false None (agree SameDepth (function_of callee fs) _ line)) (λ returned. agree_itself OfStatement most (runs_nothing OfStatement _))))))
+        agree_then OfCall OfStatement most (agree_inside OfCall most false None (agree SameDepth (function_named callee fs) _ line)) (λ returned. agree_itself OfStatement most (runs_nothing OfStatement _))))))
     agree_stmt Sync line frame = agree_alone Sync line frame refl
     agree_stmt (If e b) line frame =
         agree_value OfStatement (suc most) _ line (λ v. agree_paid OfStatement (suc most) 1 (λ _.
@@ -149,31 +149,31 @@ module _ (fs : List Function) (most : ℕ) (calls other : Calls) (agree : (entry
     agree_stmt (IfElse e b c) line frame =
         agree_value OfStatement (suc most) _ line (λ v. agree_paid OfStatement (suc most) 1 (λ _.
         agree_if OfStatement (suc most) (is_zero v) (agree_scoped (suc most) frame (agree_block c frame))
-        (agree_then OfStatement OfStatement (suc most) (agree_scoped (suc most) frame (agree_block b frame)) (λ way.
-        agree_onward (suc most) way (λ frame'. agree_paid OfStatement (suc most) 1 (λ _. agree_itself OfStatement (suc most) (runs_nothing OfStatement _)))))))
+        (agree_then OfStatement OfStatement (suc most) (agree_scoped (suc most) frame (agree_block b frame)) (λ exit.
+        agree_onward (suc most) exit (λ frame'. agree_paid OfStatement (suc most) 1 (λ _. agree_itself OfStatement (suc most) (runs_nothing OfStatement _)))))))
     agree_stmt (While e b) line frame = agree_while (suc most) (evaluate e) line (λ frame'. agree_scoped (suc most) frame' (agree_block b frame')) frame
     agree_stmt (For x y z from to grain over b) line frame =
         agree_value OfStatement (suc most) _ line (λ lo. agree_value OfStatement (suc most) _ line (λ hi. agree_paid OfStatement (suc most) _ (λ _. agree_value OfStatement (suc most) _ line (λ n.
         agree_then OfFrame OfStatement (suc most)
         (agree_inside OfFrame (suc most) false None (agree_halves (suc most) (suc (natural n)) grain (length (captured x b)) (length over) (natural n) lo (λ i now.
-        agree_then OfStatement OfFrame (suc most) (agree_inside OfStatement (suc most) false None (agree_block b (inside_loop over (new_int x i now)))) (λ way. agree_itself OfFrame (suc most) (runs_nothing OfFrame (leave now (frame_of way))))) frame))
+        agree_then OfStatement OfFrame (suc most) (agree_inside OfStatement (suc most) false None (agree_block b (inside_loop over (new_int x i now)))) (λ exit. agree_itself OfFrame (suc most) (runs_nothing OfFrame (leave now (frame_of exit))))) frame))
         (λ frame'. agree_itself OfStatement (suc most) (runs_nothing OfStatement _))))))
     agree_stmt (Scope b) line frame =
-        agree_paid OfStatement (suc most) 1 (λ _. agree_then OfStatement OfStatement (suc most) (agree_inside OfStatement (suc most) false None (agree_scoped (suc most) frame (agree_block b frame))) (λ way.
-        agree_onward (suc most) way (λ frame'. agree_paid OfStatement (suc most) 1 (λ _. agree_itself OfStatement (suc most) (runs_nothing OfStatement _)))))
+        agree_paid OfStatement (suc most) 1 (λ _. agree_then OfStatement OfStatement (suc most) (agree_inside OfStatement (suc most) false None (agree_scoped (suc most) frame (agree_block b frame))) (λ exit.
+        agree_onward (suc most) exit (λ frame'. agree_paid OfStatement (suc most) 1 (λ _. agree_itself OfStatement (suc most) (runs_nothing OfStatement _)))))
     agree_stmt (Cut a e l r b) line frame =
-        agree_value OfStatement (suc most) _ line (λ v. agree_then OfStatement OfStatement (suc most) (agree_inside OfStatement (suc most) false None (agree_scoped (suc most) _ (agree_block b _))) (λ way.
-        agree_onward (suc most) way (λ frame'. agree_paid OfStatement (suc most) 1 (λ _. agree_itself OfStatement (suc most) (runs_nothing OfStatement _)))))
+        agree_value OfStatement (suc most) _ line (λ v. agree_then OfStatement OfStatement (suc most) (agree_inside OfStatement (suc most) false None (agree_scoped (suc most) _ (agree_block b _))) (λ exit.
+        agree_onward (suc most) exit (λ frame'. agree_paid OfStatement (suc most) 1 (λ _. agree_itself OfStatement (suc most) (runs_nothing OfStatement _)))))
     agree_stmt (Region tag b) line frame =
-        agree_paid OfStatement (suc most) 1 (λ _. agree_then OfStatement OfStatement (suc most) (agree_inside OfStatement (suc most) false (Some (Execution tag)) (agree_scoped (suc most) frame (agree_block b frame))) (λ way.
-        agree_onward (suc most) way (λ frame'. agree_paid OfStatement (suc most) 1 (λ _. agree_itself OfStatement (suc most) (runs_nothing OfStatement _)))))
+        agree_paid OfStatement (suc most) 1 (λ _. agree_then OfStatement OfStatement (suc most) (agree_inside OfStatement (suc most) false (Some (Execution tag)) (agree_scoped (suc most) frame (agree_block b frame))) (λ exit.
+        agree_onward (suc most) exit (λ frame'. agree_paid OfStatement (suc most) 1 (λ _. agree_itself OfStatement (suc most) (runs_nothing OfStatement _)))))
     agree_stmt (Print e) line frame = agree_alone (Print e) line frame refl
     agree_stmt (Return None) line frame = agree_alone (Return None) line frame refl
     agree_stmt (Return (Some e)) line frame = agree_alone (Return (Some e)) line frame refl
 
     agree_block : (b : Block) (frame : Frame) → Agree OfStatement (suc most) (run_all b fs calls frame) (run_all b fs other frame)
     agree_block End frame = agree_itself OfStatement (suc most) (runs_nothing OfStatement _)
-    agree_block (Then line s b) frame = agree_then OfStatement OfStatement (suc most) (agree_stmt s line frame) (λ way. agree_onward (suc most) way (λ frame'. agree_block b frame'))
+    agree_block (Then line s b) frame = agree_then OfStatement OfStatement (suc most) (agree_stmt s line frame) (λ exit. agree_onward (suc most) exit (λ frame'. agree_block b frame'))
 
 calls_agree : (most bound higher depth : ℕ) (fs : List Function) (entry : Entry) (f : Function) (given : Frame) (line : ℕ) → most ≤ bound → most ≤ higher → Agree OfCall most (call bound depth fs entry f given line) (call higher depth fs entry f given line)
 unfolding call
@@ -181,11 +181,11 @@ calls_agree zero bound higher depth fs entry f given line l m = record { runs = 
 calls_agree (suc most) zero higher depth fs entry f given line l m = absurd (omega arith)
 calls_agree (suc most) (suc bound) zero depth fs entry f given line l m = absurd (omega arith)
 calls_agree (suc most) (suc bound) (suc higher) depth fs entry f given line l m =
-    agree_if OfCall (suc most) (nat_lt most_depth (depth_of entry depth)) (agree_itself OfCall (suc most) (runs_trap OfCall _ line))
+    agree_if OfCall (suc most) (nat_lt MOST_DEPTH (depth_of entry depth)) (agree_itself OfCall (suc most) (runs_trap OfCall _ line))
     (agree_then OfStatement OfCall (suc most)
     (agree_block fs most (λ e g given' line' left. call bound (depth_of entry depth) fs e g given' line' left) (λ e g given' line' left. call higher (depth_of entry depth) fs e g given' line' left)
     (λ e g given' line'. calls_agree most bound higher (depth_of entry depth) fs e g given' line' (omega arith) (omega arith)) f.body given)
-    (λ way. agree_itself OfCall (suc most) (runs_end way)))
+    (λ exit. agree_itself OfCall (suc most) (runs_end exit)))
 
 -- a call within a budget that is below both bounds
 pub bounds_agree : (bound higher depth : ℕ) (fs : List Function) (entry : Entry) (f : Function) (given : Frame) (line left : ℕ) → left < bound → left < higher → call bound depth fs entry f given line left ≡ call higher depth fs entry f given line left

@@ -17,10 +17,10 @@ use Rattle.cw_measure.specs.Measured.{most, most_burdened, Measured, MeasuresRea
 use Rattle.cw_reduce.specs.Words.{plus, word_of}
 use Rattle.cw_reduce.specs.SumsOfIntegers.{SumsHoldIntegers}
 use Rattle.cw_part.specs.declared.read.Read.{Read}
-use Rattle.cw_part.specs.Parts.{Came, Ran, Trapped, Over, over_if, within}
+use Rattle.cw_part.specs.Parts.{Came, Completed, Trapped, Over, over_if, within}
 use Rattle.cw_part.specs.PartLaws.{below}
 use Rattle.cw_part.specs.Runs.{Run, cost, traces, serial, added, TellsTrace, TellsCame, RanAlike, TrappedAlike, OverAlike}
-use Rattle.cw_part.specs.PieceRuns.{OfCall, Way, IsRunOf}
+use Rattle.cw_part.specs.PieceRuns.{OfCall, Exit, IsRunOf}
 use Rattle.cw_part.specs.Elision.{elision, TellsAnswer, EndedSo, TrappedSo, OverSo, ElisionIsARun, RunGivesTheAnswers, PiecesAreTheElision, AdditionsAreSums}
 use Rattle.cw_part.proofs.RunLaws.{serial_is}
 use Rattle.cw_part.proofs.StandingLaws as cut
@@ -55,9 +55,9 @@ unfolding serial_answer
 answer_within program args limit left l = ap (answer_of program.reducers) (bounds_agree (suc left) (suc limit) 0 program.functions Deeper _ _ _ left (omega arith) (omega arith))
 
 pub run_gives_the_answers : RunGivesTheAnswers
-run_gives_the_answers program args limit left run way d l =
+run_gives_the_answers program args limit left run exit d l =
     answer_within program args limit left l
-    ∙ ap (answer_of program.reducers) (runs_tell_of_pieces OfCall limit left (elision program args limit) run way d l)
+    ∙ ap (answer_of program.reducers) (runs_tell_of_pieces OfCall limit left (elision program args limit) run exit d l)
 
 trap_answered : (reducers : List Reducer) (b : Bool) (trap : Trap) (line : ℕ) (lines : List ℤ) → answer_of reducers (if b then model.Over else model.Trapped trap line lines) ≡ (if b then OverLimit else TrappedAt trap line lines)
 trap_answered reducers true trap line lines = refl
@@ -70,7 +70,7 @@ module _ (law : MeasuresReadTrees) (same : NormalsReadTheSame) (burden : ℕ) (n
   abbrev piece : Piece Returned
   piece = elision program args limit
 
-  ended_so : (returned : Returned) (left : ℕ) {t : Trace} {c : Came Read} → piece limit ≡ Done returned left t → TellsCame burden number (Ran t) c → Tells (Done returned left t) c
+  ended_so : (returned : Returned) (left : ℕ) {t : Trace} {c : Came Read} → piece limit ≡ Done returned left t → TellsCame burden number (Completed t) c → Tells (Done returned left t) c
   ended_so returned left e (RanAlike t a h) =
       EndedSo (int_given returned.0) t.lines (map (λ r. sum_to r.name t.additions) program.reducers) (normal (Marked (Invocation 0) (tree_of t.events))) a
       (record { returned = returned; left = left; trace = t; ends = e; printed = h.lines; summed = refl; kept = h.sums; measured = reads_events law same burden number t a h })
@@ -91,12 +91,12 @@ module _ (law : MeasuresReadTrees) (same : NormalsReadTheSame) (burden : ℕ) (n
       })
 
   -- how the elision came out within the limit
-  tells : {way : Way OfCall} {x : Came Trace} (c : Came Read) → Comes OfCall limit piece way x → TellsCame burden number (within traces limit x) c → Tells (piece limit) c
+  tells : {exit : Exit OfCall} {x : Came Trace} (c : Came Read) → Comes OfCall limit piece exit x → TellsCame burden number (within traces limit x) c → Tells (piece limit) c
   tells c (Ending a left t e f) h =
       let g = f limit (omega arith) in
       subst (λ o. Tells o c) (sym g) (by_test (nat_lt limit (cost t)) g h)
     where
-      by_test : (b : Bool) → piece limit ≡ (if b then model.Over else Done a (limit - cost t) t) → TellsCame burden number (over_if b (Ran t)) c → Tells (if b then model.Over else Done a (limit - cost t) t) c
+      by_test : (b : Bool) → piece limit ≡ (if b then model.Over else Done a (limit - cost t) t) → TellsCame burden number (over_if b (Completed t)) c → Tells (if b then model.Over else Done a (limit - cost t) t) c
       by_test true g k = over_so k
       by_test false g k = ended_so a (limit - cost t) g k
   tells c (Trapping trap line t f) h =
@@ -106,20 +106,20 @@ module _ (law : MeasuresReadTrees) (same : NormalsReadTheSame) (burden : ℕ) (n
       by_test true k = over_so k
       by_test false k = trapped_so f k
   tells c (Passing t d f) h =
-      let Q : Bool → Type 0 = λ b. TellsCame burden number (over_if b (Ran t)) c in
+      let Q : Bool → Type 0 = λ b. TellsCame burden number (over_if b (Completed t)) c in
       subst (λ o. Tells o c) (sym (f limit (omega arith))) (over_so (subst Q (below limit (cost t) d) h))
 
-  tells_serial : (run : Run) (way : Way OfCall) (c : Came Read) → IsRunOf OfCall limit piece run way → TellsCame burden number (serial limit run) c
+  tells_serial : (run : Run) (exit : Exit OfCall) (c : Came Read) → IsRunOf OfCall limit piece run exit → TellsCame burden number (serial limit run) c
       → TellsAnswer burden number program args limit (serial_answer program args limit) c
-  tells_serial run way c d h =
+  tells_serial run exit c d h =
       let P : Came Trace → Type 0 = λ z. TellsCame burden number z c in
       let Q : Answer → Type 0 = λ z. TellsAnswer burden number program args limit z c in
       subst Q (sym (answer_within program args limit limit (omega arith))) (tells c (run_comes d) (subst P (serial_is run limit) h))
 
 pub pieces_are_the_elision : MeasuresReadTrees → NormalsReadTheSame → PiecesAreTheElision
-pieces_are_the_elision law same burden number program args limit run way p b d j =
+pieces_are_the_elision law same burden number program args limit run exit p b d j =
     let r = cut.pieces_are_the_run law burden number limit run p b j in
-    (r.0, ⊎_elim (λ refused. inl refused) (λ told. inr (tells_serial law same burden number program args limit run way p.came d told)) r.1)
+    (r.0, ⊎_elim (λ refused. inl refused) (λ told. inr (tells_serial law same burden number program args limit run exit p.came d told)) r.1)
 
 -- what is added to a reducer
 zero_fits : FitsSigned w128 (pos 0)

@@ -6,7 +6,7 @@ use Rattle.cw_model.specs.declared.syntax.CallKind.{CallKind}
 use Rattle.cw_model.specs.declared.syntax.CallKind.TheVariants.{Plain, Spawned}
 use Rattle.cw_model.specs.Captured.{captured}
 use Rattle.cw_model.specs.Ints.{is_zero, natural}
-use Rattle.cw_model.specs.Limits.{most_depth}
+use Rattle.cw_model.specs.declared.limits.TheConstants.{MOST_DEPTH}
 use Rattle.cw_model.specs.Syntax.{Expr, Stmt, Declare, DeclareArray, Assign, AssignElement, AddTo, Call, Start, Begin, Sync, If, IfElse, While, For, Scope, Cut, Region, Print, Return, Block, End, Then, Param, Function}
 use Rattle.cw_model.specs.Trees.{Mark, Invocation, Execution, Join, works}
 use Rattle.cw_model.specs.Frames.{Frame, no_frame, leave, inside_loop, new_array, new_int}
@@ -14,11 +14,11 @@ use Rattle.cw_model.specs.Expressions.{Evaluated, Gives, Traps, evaluate}
 use Rattle.cw_model.specs.Outcome.{Trace, quiet, shows, Outcome, Done, Piece, ◌>>=◌, then_do, gives, show, pay, pay_for, as_one}
 use Rattle.cw_model.specs.Outcome as model
 use Rattle.cw_model.specs.Loops.{turn_start, turn_end, leaf_start, leaf_end, node_start, node_call, node_end, leaf_turns, halves}
-use Rattle.cw_model.specs.Meaning.{Completion, Normal, ByReturn, onward, frame_of, scoped, Returned, Entry, Deeper, SameDepth, Calls, function_of, given_array, arguments, call_event, start_event, turns, run, run_all, end_of_call, call, depth_of}
+use Rattle.cw_model.specs.Meaning.{Completion, Normal, ByReturn, onward, frame_of, scoped, Returned, Entry, Deeper, SameDepth, Calls, function_named, given_array, arguments, call_event, start_event, turns, run, run_all, end_of_call, call, depth_of}
 use Rattle.cw_measure.specs.OpenParts.{marked, part_of}
 use Rattle.cw_part.specs.Parts.{Came}
 use Rattle.cw_part.specs.Runs.{Run, cost}
-use Rattle.cw_part.specs.PieceRuns.{Kind, OfNothing, OfInt, OfFrame, OfStatement, OfCall, Given, Way, IsRunOf, Nothing, Free, Paid, Valued, Failed, AtOnce, CutOff, Nested, Further, Stopped, Turns, HasRun, CallsAreRuns}
+use Rattle.cw_part.specs.PieceRuns.{Kind, OfNothing, OfInt, OfFrame, OfStatement, OfCall, Given, Exit, IsRunOf, Nothing, Free, Paid, Valued, Failed, AtOnce, CutOff, Nested, Further, Stopped, Turns, HasRun, CallsAreRuns}
 use Rattle.cw_part.proofs.RunLaws.{not_above}
 use Rattle.cw_part.proofs.PieceTellingLaws.{tested, Comes, Ending, Trapping, Passing, run_comes}
 
@@ -27,49 +27,49 @@ pub record Runs (kind : Kind) (piece : Piece (Given kind)) : Type 0 where
   pub at : (limit : ℕ) → HasRun kind limit piece
 
 abbrev pub runs_then : (kind later : Kind) {piece : Piece (Given kind)} {next : Given kind → Piece (Given later)} → Runs kind piece → ((a : Given kind) → Runs later (next a)) → Runs later (◌>>=◌ piece next)
-runs_then kind later {piece} {next} p f = record { at = λ limit. by_way limit (p.at limit).run (p.at limit).way (p.at limit).is_run }
+runs_then kind later {piece} {next} p f = record { at = λ limit. by_way limit (p.at limit).run (p.at limit).exit (p.at limit).is_run }
   where
-    by_way : (limit : ℕ) (first : Run) (way : Way kind) → IsRunOf kind limit piece first way → HasRun later limit (◌>>=◌ piece next)
-    by_way limit first None d = record { run = first; way = None; is_run = Stopped kind later limit piece next first d }
+    by_way : (limit : ℕ) (first : Run) (exit : Exit kind) → IsRunOf kind limit piece first exit → HasRun later limit (◌>>=◌ piece next)
+    by_way limit first None d = record { run = first; exit = None; is_run = Stopped kind later limit piece next first d }
     by_way limit first (Some end) d =
         let rest = (f end.0).at end.1 in
-        record { run = _; way = rest.way; is_run = Further kind later limit end.1 piece next first rest.run end.0 rest.way d rest.is_run }
+        record { run = _; exit = rest.exit; is_run = Further kind later limit end.1 piece next first rest.run end.0 rest.exit d rest.is_run }
 
 abbrev pub runs_nothing : (kind : Kind) (a : Given kind) → Runs kind (gives a)
-runs_nothing kind a = record { at = λ limit. record { run = _; way = _; is_run = Nothing kind limit a } }
+runs_nothing kind a = record { at = λ limit. record { run = _; exit = _; is_run = Nothing kind limit a } }
 
 abbrev pub runs_free : (t : Trace) → cost t ≡ 0 → Runs OfNothing (show t)
-runs_free t e = record { at = λ limit. record { run = _; way = _; is_run = Free limit t e } }
+runs_free t e = record { at = λ limit. record { run = _; exit = _; is_run = Free limit t e } }
 
 abbrev pub runs_join : Runs OfNothing (show (shows (Join ∷ [])))
 runs_join = runs_free (shows (Join ∷ [])) refl
 
 abbrev pub runs_over : (kind : Kind) → Runs kind (λ left. model.Over)
-runs_over kind = record { at = λ limit. record { run = _; way = _; is_run = CutOff kind limit } }
+runs_over kind = record { at = λ limit. record { run = _; exit = _; is_run = CutOff kind limit } }
 
 abbrev pub runs_trap : (kind : Kind) (trap : Trap) (line : ℕ) → Runs kind (λ left. model.Trapped trap line [])
-runs_trap kind trap line = record { at = λ limit. record { run = _; way = _; is_run = AtOnce kind limit line trap } }
+runs_trap kind trap line = record { at = λ limit. record { run = _; exit = _; is_run = AtOnce kind limit line trap } }
 
 abbrev pub runs_pay : (k : ℕ) → Runs OfNothing (pay k)
-runs_pay k = record { at = λ limit. record { run = _; way = _; is_run = Paid limit k } }
+runs_pay k = record { at = λ limit. record { run = _; exit = _; is_run = Paid limit k } }
 
 abbrev pub runs_value : (e : Evaluated) (line : ℕ) → Runs OfInt (pay_for e line)
-runs_value (Gives v k) line = record { at = λ limit. record { run = _; way = _; is_run = Valued limit line v k } }
-runs_value (Traps trap k) line = record { at = λ limit. record { run = _; way = _; is_run = Failed limit line trap k } }
+runs_value (Gives v k) line = record { at = λ limit. record { run = _; exit = _; is_run = Valued limit line v k } }
+runs_value (Traps trap k) line = record { at = λ limit. record { run = _; exit = _; is_run = Failed limit line trap k } }
 
 abbrev pub runs_inside : (kind : Kind) (spawned : Bool) (mark : Option Mark) {piece : Piece (Given kind)} → Runs kind piece → Runs kind (as_one (λ tree. part_of spawned (marked mark tree)) piece)
 runs_inside kind spawned mark {piece} p = record {
   at = λ limit.
       let inner = p.at limit in
-      record { run = _; way = inner.way; is_run = Nested kind limit spawned mark piece inner.run inner.way inner.is_run };
+      record { run = _; exit = inner.exit; is_run = Nested kind limit spawned mark piece inner.run inner.exit inner.is_run };
 }
 
-abbrev pub runs_onward : (way : Completion) (next : Frame → Piece Completion) → ((frame : Frame) → Runs OfStatement (next frame)) → Runs OfStatement (onward way next)
+abbrev pub runs_onward : (exit : Completion) (next : Frame → Piece Completion) → ((frame : Frame) → Runs OfStatement (next frame)) → Runs OfStatement (onward exit next)
 runs_onward (Normal frame) next f = f frame
 runs_onward (ByReturn v frame) next f = runs_nothing OfStatement (ByReturn v frame)
 
 abbrev pub runs_scoped : (before : Frame) {piece : Piece Completion} → Runs OfStatement piece → Runs OfStatement (scoped before piece)
-runs_scoped before p = runs_then OfStatement OfStatement p (λ way. runs_onward way _ (λ frame. runs_nothing OfStatement _))
+runs_scoped before p = runs_then OfStatement OfStatement p (λ exit. runs_onward exit _ (λ frame. runs_nothing OfStatement _))
 
 abbrev pub runs_if : (kind : Kind) {piece other : Piece (Given kind)} (b : Bool) → Runs kind piece → Runs kind other → Runs kind (if b then piece else other)
 runs_if kind true p q = p
@@ -94,7 +94,7 @@ abbrev pub runs_turns : (bound : ℕ) (test : Frame → Evaluated) (line : ℕ) 
 runs_turns zero test line body f frame = runs_over OfStatement
 runs_turns (suc bound) test line body f frame =
     runs_then OfInt OfStatement (runs_value (test frame) line) (λ v. runs_then OfNothing OfStatement (runs_pay 1) (λ _. runs_if OfStatement (is_zero v) (runs_nothing OfStatement _)
-    (runs_then OfStatement OfStatement (f frame) (λ way. runs_onward way _ (λ frame'. runs_then OfNothing OfStatement (runs_pay 1) (λ _. runs_turns bound test line body f frame'))))))
+    (runs_then OfStatement OfStatement (f frame) (λ exit. runs_onward exit _ (λ frame'. runs_then OfNothing OfStatement (runs_pay 1) (λ _. runs_turns bound test line body f frame'))))))
 
 -- what an outcome leaves, where it is done
 abbrev pub Leaves : {A : Type 0} → (ℕ → Type 0) → Outcome A → Type 0
@@ -120,7 +120,7 @@ leaves_value (Traps trap k) line n = leaves_trap ℤ (nat_lt n k) trap line [] (
 pub leaves_pay : (n : ℕ) → Leaves (λ k. k < n) (pay 1 n)
 leaves_pay n = leaves_tested n 1 tt (shows (works 1)) (λ m. m < n) (λ l. omega arith)
 
-pub leaves_no_more : (kind : Kind) (n : ℕ) (piece : Piece (Given kind)) {way : Way kind} {x : Came Trace} → Comes kind n piece way x → Leaves (λ k. k ≤ n) (piece n)
+pub leaves_no_more : (kind : Kind) (n : ℕ) (piece : Piece (Given kind)) {exit : Exit kind} {x : Came Trace} → Comes kind n piece exit x → Leaves (λ k. k ≤ n) (piece n)
 leaves_no_more kind n piece (Ending a left t e f) =
     subst (Leaves (λ k. k ≤ n)) (sym (f n (omega arith))) (leaves_tested n (cost t) a t (λ k. k ≤ n) (λ l. omega arith))
 leaves_no_more kind n piece (Trapping trap line t f) = subst (Leaves (λ k. k ≤ n)) (sym (f n (omega arith))) (leaves_trap (Given kind) (nat_lt n (cost t)) trap line t.lines (λ k. k ≤ n))
@@ -143,21 +143,21 @@ same_turns (suc bound) (suc other) left test line body f frame l m =
     IsSame : Type 0
     IsSame = (frame' : Frame) (j : ℕ) → j < left → turns bound test line body frame' j ≡ turns other test line body frame' j
 
-    by_way : IsSame → (way : Completion) (k : ℕ) → k < left → onward way (λ frame'. ◌>>=◌ (pay 1) (λ _. turns bound test line body frame')) k ≡ onward way (λ frame'. ◌>>=◌ (pay 1) (λ _. turns other test line body frame')) k
+    by_way : IsSame → (exit : Completion) (k : ℕ) → k < left → onward exit (λ frame'. ◌>>=◌ (pay 1) (λ _. turns bound test line body frame')) k ≡ onward exit (λ frame'. ◌>>=◌ (pay 1) (λ _. turns other test line body frame')) k
     by_way same (ByReturn v frame') k h = refl
     by_way same (Normal frame') k h = same_then (λ n. n < k) (pay 1 k) (leaves_pay k) (λ _ n i. same frame' n (omega arith))
 
     by_test : IsSame → (b : Bool) (k : ℕ) → k < left
-        → (if b then gives (Normal frame) else (◌>>=◌ (body frame) (λ way. onward way (λ frame'. ◌>>=◌ (pay 1) (λ _. turns bound test line body frame'))))) k
-        ≡ (if b then gives (Normal frame) else (◌>>=◌ (body frame) (λ way. onward way (λ frame'. ◌>>=◌ (pay 1) (λ _. turns other test line body frame'))))) k
+        → (if b then gives (Normal frame) else (◌>>=◌ (body frame) (λ exit. onward exit (λ frame'. ◌>>=◌ (pay 1) (λ _. turns bound test line body frame'))))) k
+        ≡ (if b then gives (Normal frame) else (◌>>=◌ (body frame) (λ exit. onward exit (λ frame'. ◌>>=◌ (pay 1) (λ _. turns other test line body frame'))))) k
     by_test same true k h = refl
-    by_test same false k h = same_then (λ n. n ≤ k) (body frame k) (leaves_no_more OfStatement k (body frame) (run_comes ((f frame).at k).is_run)) (λ way n i. by_way same way n (omega arith))
+    by_test same false k h = same_then (λ n. n ≤ k) (body frame k) (leaves_no_more OfStatement k (body frame) (run_comes ((f frame).at k).is_run)) (λ exit n i. by_way same exit n (omega arith))
 
 abbrev pub runs_while : (test : Frame → Evaluated) (line : ℕ) (body : Frame → Piece Completion) → ((frame : Frame) → Runs OfStatement (body frame)) → (frame : Frame) → Runs OfStatement (λ left. turns (suc left) test line body frame left)
 runs_while test line body f frame = record {
   at = λ limit.
       let all = (runs_turns (suc limit) test line body f frame).at limit in
-      record { run = all.run; way = all.way; is_run = Turns limit line test body frame all.run all.way (λ left l. same_turns (suc left) (suc limit) left test line body f frame (omega arith) (omega arith)) all.is_run };
+      record { run = all.run; exit = all.exit; is_run = Turns limit line test body frame all.run all.exit (λ left l. same_turns (suc left) (suc limit) left test line body f frame (omega arith) (omega arith)) all.is_run };
 }
 
 abbrev pub runs_leaf : (n : ℕ) (from : ℤ) (body : ℤ → Frame → Piece Frame) → ((i : ℤ) (frame : Frame) → Runs OfFrame (body i frame)) → (frame : Frame) → Runs OfFrame (leaf_turns n from body frame)
@@ -196,36 +196,36 @@ module _ (fs : List Function) (calls : Calls) (runs : (entry : Entry) (f : Funct
         after_value OfStatement _ line (λ v. after_pay OfStatement 1
         (λ _. runs_then OfNothing OfStatement (runs_free (record { lines = []; additions = (s, v) ∷ []; events = [] }) refl) (λ _. runs_nothing OfStatement (Normal frame))))
     runs_stmt (Call kind site target callee es) line frame =
-        runs_then OfFrame OfStatement (runs_arguments (function_of callee fs).params es frame line no_frame) (λ given. after_pay OfStatement 1
-        (λ _. runs_then OfCall OfStatement (runs_called kind site (runs Deeper (function_of callee fs) given line)) (λ returned. runs_nothing OfStatement _)))
+        runs_then OfFrame OfStatement (runs_arguments (function_named callee fs).params es frame line no_frame) (λ given. after_pay OfStatement 1
+        (λ _. runs_then OfCall OfStatement (runs_called kind site (runs Deeper (function_named callee fs) given line)) (λ returned. runs_nothing OfStatement _)))
     runs_stmt (Start kind callee es) line frame =
-        runs_then OfFrame OfStatement (runs_arguments (function_of callee fs).params es frame line no_frame) (λ given. after_pay OfStatement 1
-        (λ _. runs_then OfCall OfStatement (runs_started kind (runs SameDepth (function_of callee fs) given line)) (λ returned. runs_nothing OfStatement _)))
+        runs_then OfFrame OfStatement (runs_arguments (function_named callee fs).params es frame line no_frame) (λ given. after_pay OfStatement 1
+        (λ _. runs_then OfCall OfStatement (runs_started kind (runs SameDepth (function_named callee fs) given line)) (λ returned. runs_nothing OfStatement _)))
     runs_stmt (Begin callee from to captured over) line frame =
         after_value OfStatement _ line (λ lo. after_value OfStatement _ line (λ hi. after_pay OfStatement _ (λ _. after_value OfStatement _ line (λ n.
-        runs_then OfCall OfStatement (runs_inside OfCall false None (runs SameDepth (function_of callee fs) _ line)) (λ returned. runs_nothing OfStatement _)))))
+        runs_then OfCall OfStatement (runs_inside OfCall false None (runs SameDepth (function_named callee fs) _ line)) (λ returned. runs_nothing OfStatement _)))))
     runs_stmt Sync line frame = runs_then OfNothing OfStatement runs_join (λ _. after_pay OfStatement 1 (λ _. runs_nothing OfStatement (Normal frame)))
     runs_stmt (If e b) line frame =
         after_value OfStatement _ line (λ v. after_pay OfStatement 1 (λ _. runs_if OfStatement (is_zero v) (runs_nothing OfStatement _) (runs_scoped frame (runs_block b frame))))
     runs_stmt (IfElse e b c) line frame =
         after_value OfStatement _ line (λ v. after_pay OfStatement 1 (λ _. runs_if OfStatement (is_zero v) (runs_scoped frame (runs_block c frame))
-        (runs_then OfStatement OfStatement (runs_scoped frame (runs_block b frame)) (λ way. runs_onward way _ (λ frame'. after_pay OfStatement 1 (λ _. runs_nothing OfStatement _))))))
+        (runs_then OfStatement OfStatement (runs_scoped frame (runs_block b frame)) (λ exit. runs_onward exit _ (λ frame'. after_pay OfStatement 1 (λ _. runs_nothing OfStatement _))))))
     runs_stmt (While e b) line frame = runs_while (evaluate e) line (λ frame'. scoped frame' (run_all b fs calls frame')) (λ frame'. runs_scoped frame' (runs_block b frame')) frame
     runs_stmt (For x y z from to grain over b) line frame =
         after_value OfStatement _ line (λ lo. after_value OfStatement _ line (λ hi. after_pay OfStatement _ (λ _. after_value OfStatement _ line (λ n.
         runs_then OfFrame OfStatement
         (runs_inside OfFrame false None (runs_halves (suc (natural n)) grain (length (captured x b)) (length over) (natural n) lo _ (λ i now.
-        runs_then OfStatement OfFrame (runs_inside OfStatement false None (runs_block b (inside_loop over (new_int x i now)))) (λ way. runs_nothing OfFrame (leave now (frame_of way)))) frame))
+        runs_then OfStatement OfFrame (runs_inside OfStatement false None (runs_block b (inside_loop over (new_int x i now)))) (λ exit. runs_nothing OfFrame (leave now (frame_of exit)))) frame))
         (λ frame'. runs_nothing OfStatement _)))))
     runs_stmt (Scope b) line frame =
-        after_pay OfStatement 1 (λ _. runs_then OfStatement OfStatement (runs_inside OfStatement false None (runs_scoped frame (runs_block b frame))) (λ way.
-        runs_onward way _ (λ frame'. after_pay OfStatement 1 (λ _. runs_nothing OfStatement _))))
+        after_pay OfStatement 1 (λ _. runs_then OfStatement OfStatement (runs_inside OfStatement false None (runs_scoped frame (runs_block b frame))) (λ exit.
+        runs_onward exit _ (λ frame'. after_pay OfStatement 1 (λ _. runs_nothing OfStatement _))))
     runs_stmt (Cut a e l r b) line frame =
-        after_value OfStatement _ line (λ v. runs_then OfStatement OfStatement (runs_inside OfStatement false None (runs_scoped _ (runs_block b _))) (λ way.
-        runs_onward way _ (λ frame'. after_pay OfStatement 1 (λ _. runs_nothing OfStatement _))))
+        after_value OfStatement _ line (λ v. runs_then OfStatement OfStatement (runs_inside OfStatement false None (runs_scoped _ (runs_block b _))) (λ exit.
+        runs_onward exit _ (λ frame'. after_pay OfStatement 1 (λ _. runs_nothing OfStatement _))))
     runs_stmt (Region tag b) line frame =
-        after_pay OfStatement 1 (λ _. runs_then OfStatement OfStatement (runs_inside OfStatement false (Some (Execution tag)) (runs_scoped frame (runs_block b frame))) (λ way.
-        runs_onward way _ (λ frame'. after_pay OfStatement 1 (λ _. runs_nothing OfStatement _))))
+        after_pay OfStatement 1 (λ _. runs_then OfStatement OfStatement (runs_inside OfStatement false (Some (Execution tag)) (runs_scoped frame (runs_block b frame))) (λ exit.
+        runs_onward exit _ (λ frame'. after_pay OfStatement 1 (λ _. runs_nothing OfStatement _))))
     runs_stmt (Print e) line frame =
         after_value OfStatement _ line (λ v. after_pay OfStatement 1
         (λ _. runs_then OfNothing OfStatement (runs_free (record { lines = v ∷ []; additions = []; events = [] }) refl) (λ _. runs_nothing OfStatement (Normal frame))))
@@ -235,9 +235,9 @@ module _ (fs : List Function) (calls : Calls) (runs : (entry : Entry) (f : Funct
 
     pub runs_block : (b : Block) (frame : Frame) → Runs OfStatement (run_all b fs calls frame)
     runs_block End frame = runs_nothing OfStatement _
-    runs_block (Then line s b) frame = runs_then OfStatement OfStatement (runs_stmt s line frame) (λ way. runs_onward way _ (λ frame'. runs_block b frame'))
+    runs_block (Then line s b) frame = runs_then OfStatement OfStatement (runs_stmt s line frame) (λ exit. runs_onward exit _ (λ frame'. runs_block b frame'))
 
-abbrev pub runs_end : (way : Completion) → Runs OfCall (end_of_call way)
+abbrev pub runs_end : (exit : Completion) → Runs OfCall (end_of_call exit)
 runs_end (ByReturn v frame) = runs_nothing OfCall _
 runs_end (Normal frame) = runs_then OfNothing OfCall runs_join (λ _. after_pay OfCall 1 (λ _. runs_nothing OfCall (None, frame)))
 
@@ -245,7 +245,7 @@ unfoldable pub runs_call : (bound depth : ℕ) (fs : List Function) (entry : Ent
 unfolding call
 runs_call zero depth fs entry f given line = runs_over OfCall
 runs_call (suc bound) depth fs entry f given line =
-    runs_if OfCall (nat_lt most_depth (depth_of entry depth)) (runs_trap OfCall _ line)
+    runs_if OfCall (nat_lt MOST_DEPTH (depth_of entry depth)) (runs_trap OfCall _ line)
     (runs_then OfStatement OfCall
     (runs_block fs (λ e g given' line' left. call bound (depth_of entry depth) fs e g given' line' left) (λ e g given' line'. runs_call bound (depth_of entry depth) fs e g given' line') f.body given)
     runs_end)

@@ -6,10 +6,10 @@ use Rattle.cw_model.specs.Trees.{Mark, Work, works}
 use Rattle.cw_model.specs.Outcome.{Trace, quiet, joined, shows, Outcome, Done, Piece, ◌>>=◌, after, then_do, joined_up, as_one}
 use Rattle.cw_model.specs.Outcome as model
 use Rattle.cw_measure.specs.OpenParts.{marked, part_of}
-use Rattle.cw_part.specs.Parts.{Came, Ran, Trapped, Over, Memory, followed, seen, over_if, within}
+use Rattle.cw_part.specs.Parts.{Came, Completed, Trapped, Over, Memory, followed, seen, over_if, within}
 use Rattle.cw_part.specs.PartLaws.{below, is_below}
 use Rattle.cw_part.specs.Runs.{Run, cost, traces, as_event}
-use Rattle.cw_part.specs.PieceRuns.{Kind, OfNothing, OfInt, Given, Way, way_of, instructions, IsRunOf, Nothing, Free, Paid, Valued, Failed, AtOnce, CutOff, Nested, Further, Stopped, Turns, outcome_with, RunsTellOfPieces}
+use Rattle.cw_part.specs.PieceRuns.{Kind, OfNothing, OfInt, Given, Exit, exit_of, instructions, IsRunOf, Nothing, Free, Paid, Valued, Failed, AtOnce, CutOff, Nested, Further, Stopped, Turns, outcome_with, RunsTellOfPieces}
 use Rattle.cw_part.proofs.RunLaws.{cost_both, cost_inside, traces_are_lawful, meaning, not_above, serial_is, meaning_both}
 
 -- an outcome at this cost, within what is left
@@ -17,14 +17,14 @@ abbrev pub tested : {A : Type 0} (left cost : ℕ) → (ℕ → Outcome A) → O
 tested left k o = if nat_lt left k then model.Over else o (left - k)
 
 -- a piece comes to this within each budget that the limit allows: it is done, or it traps, or it passes the limit
-pub data Comes (kind : Kind) (limit : ℕ) (piece : Piece (Given kind)) : Way kind → Came Trace → Type 0 where
+pub data Comes (kind : Kind) (limit : ℕ) (piece : Piece (Given kind)) : Exit kind → Came Trace → Type 0 where
   Ending : (a : Given kind) (left : ℕ) (t : Trace) → cost t + left ≡ limit
       → ((n : ℕ) → n ≤ limit → piece n ≡ tested n (cost t) (λ k. Done a k t))
-      → Comes kind limit piece (Some (a, left)) (Ran t)
+      → Comes kind limit piece (Some (a, left)) (Completed t)
   Trapping : (trap : Trap) (line : ℕ) (t : Trace)
       → ((n : ℕ) → n ≤ limit → piece n ≡ tested n (cost t) (λ k. model.Trapped trap line t.lines))
       → Comes kind limit piece None (Trapped trap line t)
-  Passing : (t : Trace) → limit < cost t → ((n : ℕ) → n ≤ limit → piece n ≡ model.Over) → Comes kind limit piece None (Ran t)
+  Passing : (t : Trace) → limit < cost t → ((n : ℕ) → n ≤ limit → piece n ≡ model.Over) → Comes kind limit piece None (Completed t)
 
 -- tests of what is left
 tested_free : {A : Type 0} (n k : ℕ) (o : ℕ → Outcome A) → k ≡ 0 → tested n k o ≡ o n
@@ -84,8 +84,8 @@ further_over n left piece next a t l e f =
     ∙ same_tested n (cost t) (λ k. after t (next a k)) (λ k. model.Over) (λ h. ap (after t) (f (n - cost t) (omega arith)))
     ∙ tested_over (nat_lt n (cost t)) model.Over refl
 
-further_comes : (kind later : Kind) (limit : ℕ) (piece : Piece (Given kind)) (next : Given kind → Piece (Given later)) {left : ℕ} {a : Given kind} {way : Way later} {x y : Came Trace}
-    → Comes kind limit piece (Some (a, left)) x → Comes later left (next a) way y → Comes later limit (◌>>=◌ piece next) way (followed traces x y)
+further_comes : (kind later : Kind) (limit : ℕ) (piece : Piece (Given kind)) (next : Given kind → Piece (Given later)) {left : ℕ} {a : Given kind} {exit : Exit later} {x y : Came Trace}
+    → Comes kind limit piece (Some (a, left)) x → Comes later left (next a) exit y → Comes later limit (◌>>=◌ piece next) exit (followed traces x y)
 further_comes kind later limit piece next (Ending a left t e f) (Ending b rest u d g) =
     let c = cost_both t u in
     Ending b rest (joined t u) (omega arith)
@@ -126,8 +126,8 @@ inside_trap : {A : Type 0} (b : Bool) (spawned : Bool) (mark : Option Mark) (tra
 inside_trap true spawned mark trap line lines = refl
 inside_trap false spawned mark trap line lines = refl
 
-inside_comes : (kind : Kind) (limit : ℕ) (spawned : Bool) (mark : Option Mark) (piece : Piece (Given kind)) {way : Way kind} {x : Came Trace}
-    → Comes kind limit piece way x → Comes kind limit (as_one (λ tree. part_of spawned (marked mark tree)) piece) way (seen (as_event spawned mark) x)
+inside_comes : (kind : Kind) (limit : ℕ) (spawned : Bool) (mark : Option Mark) (piece : Piece (Given kind)) {exit : Exit kind} {x : Came Trace}
+    → Comes kind limit piece exit x → Comes kind limit (as_one (λ tree. part_of spawned (marked mark tree)) piece) exit (seen (as_event spawned mark) x)
 inside_comes kind limit spawned mark piece (Ending a left t e f) =
     let c = cost_inside spawned mark t in
     Ending a left (as_event spawned mark t) (omega arith)
@@ -144,8 +144,8 @@ inside_comes kind limit spawned mark piece (Passing t d f) =
     Passing (as_event spawned mark t) (omega arith) (λ n l. ap (joined_up (λ tree. part_of spawned (marked mark tree))) (f n l))
 
 -- nothing after it
-nothing_after : (x : Came Trace) → followed traces x (Ran quiet) ≡ x
-nothing_after (Ran t) = ap Ran (quiet_last t)
+nothing_after : (x : Came Trace) → followed traces x (Completed quiet) ≡ x
+nothing_after (Completed t) = ap Completed (quiet_last t)
 nothing_after (Trapped trap line t) = refl
 nothing_after Over = refl
 nothing_after Memory = refl
@@ -155,14 +155,14 @@ cost_works : (k : ℕ) → cost (shows (works k)) ≡ k
 cost_works zero = refl
 cost_works (suc k) = let e = cost_works k in omega arith
 
-instructions_mean : (k : ℕ) → meaning (instructions k) ≡ Ran (shows (works k))
+instructions_mean : (k : ℕ) → meaning (instructions k) ≡ Completed (shows (works k))
 instructions_mean zero = refl
-instructions_mean (suc k) = ap (followed traces (Ran (shows (Work 1 ∷ [])))) (instructions_mean k)
+instructions_mean (suc k) = ap (followed traces (Completed (shows (Work 1 ∷ [])))) (instructions_mean k)
 
-paid_comes : (kind : Kind) (limit k : ℕ) (a : Given kind) → Comes kind limit (λ left. tested left k (λ m. Done a m (shows (works k)))) (way_of kind limit k a) (Ran (shows (works k)))
+paid_comes : (kind : Kind) (limit k : ℕ) (a : Given kind) → Comes kind limit (λ left. tested left k (λ m. Done a m (shows (works k)))) (exit_of kind limit k a) (Completed (shows (works k)))
 paid_comes kind limit k a = by_test (nat_lt limit k) refl
   where
-    by_test : (b : Bool) → nat_lt limit k ≡ b → Comes kind limit (λ left. tested left k (λ m. Done a m (shows (works k)))) (if b then None else Some (a, limit - k)) (Ran (shows (works k)))
+    by_test : (b : Bool) → nat_lt limit k ≡ b → Comes kind limit (λ left. tested left k (λ m. Done a m (shows (works k)))) (if b then None else Some (a, limit - k)) (Completed (shows (works k)))
     by_test true e =
         let x = is_below limit k e in
         let c = cost_works k in
@@ -173,34 +173,34 @@ paid_comes kind limit k a = by_test (nat_lt limit k) refl
         let c = cost_works k in
         Ending a (limit - k) (shows (works k)) (omega arith) (λ n l. ap (λ j. tested n j (λ m. Done a m (shows (works k)))) (sym c))
 
-same_comes : (kind : Kind) (limit : ℕ) (piece other : Piece (Given kind)) {way : Way kind} {x : Came Trace}
-    → ((n : ℕ) → n ≤ limit → piece n ≡ other n) → Comes kind limit other way x → Comes kind limit piece way x
+same_comes : (kind : Kind) (limit : ℕ) (piece other : Piece (Given kind)) {exit : Exit kind} {x : Came Trace}
+    → ((n : ℕ) → n ≤ limit → piece n ≡ other n) → Comes kind limit other exit x → Comes kind limit piece exit x
 same_comes kind limit piece other same (Ending a left t e f) = Ending a left t e (λ n l. same n l ∙ f n l)
 same_comes kind limit piece other same (Trapping trap line t f) = Trapping trap line t (λ n l. same n l ∙ f n l)
 same_comes kind limit piece other same (Passing t d f) = Passing t d (λ n l. same n l ∙ f n l)
 
-pub run_comes : {kind : Kind} {limit : ℕ} {piece : Piece (Given kind)} {run : Run} {way : Way kind} → IsRunOf kind limit piece run way → Comes kind limit piece way (meaning run)
+pub run_comes : {kind : Kind} {limit : ℕ} {piece : Piece (Given kind)} {run : Run} {exit : Exit kind} → IsRunOf kind limit piece run exit → Comes kind limit piece exit (meaning run)
 run_comes (Nothing kind limit a) = Ending a limit quiet (omega arith) (λ n l. sym (tested_free n (cost quiet) (λ k. Done a k quiet) refl))
 run_comes (Free limit t e) =
-    subst (Comes OfNothing limit (λ left. Done tt left t) (Some (tt, limit))) (sym (nothing_after (Ran t)))
+    subst (Comes OfNothing limit (λ left. Done tt left t) (Some (tt, limit))) (sym (nothing_after (Completed t)))
     (Ending tt limit t (omega arith) (λ n l. sym (tested_free n (cost t) (λ k. Done tt k t) e)))
 run_comes (Paid limit k) =
-    subst (Comes OfNothing limit (λ left. tested left k (λ m. Done tt m (shows (works k)))) (way_of OfNothing limit k tt)) (sym (instructions_mean k)) (paid_comes OfNothing limit k tt)
+    subst (Comes OfNothing limit (λ left. tested left k (λ m. Done tt m (shows (works k)))) (exit_of OfNothing limit k tt)) (sym (instructions_mean k)) (paid_comes OfNothing limit k tt)
 run_comes (Valued limit line v k) =
-    subst (Comes OfInt limit (λ left. tested left k (λ m. Done v m (shows (works k)))) (way_of OfInt limit k v)) (sym (instructions_mean k)) (paid_comes OfInt limit k v)
+    subst (Comes OfInt limit (λ left. tested left k (λ m. Done v m (shows (works k)))) (exit_of OfInt limit k v)) (sym (instructions_mean k)) (paid_comes OfInt limit k v)
 run_comes (Failed limit line trap k) = Trapping trap line (shows (works k)) (λ n l. ap (λ j. tested n j (λ m. model.Trapped trap line [])) (sym (cost_works k)))
 run_comes (AtOnce kind limit line trap) = Trapping trap line quiet (λ n l. sym (tested_free n (cost quiet) (λ k. model.Trapped trap line []) refl))
 run_comes (CutOff kind limit) = Passing (shows (Work (suc limit) ∷ [])) (omega arith) (λ n l. refl)
-run_comes (Nested kind limit spawned mark piece inner way d) =
-    subst (Comes kind limit (as_one (λ tree. part_of spawned (marked mark tree)) piece) way) (sym (nothing_after (seen (as_event spawned mark) (meaning inner))))
+run_comes (Nested kind limit spawned mark piece inner exit d) =
+    subst (Comes kind limit (as_one (λ tree. part_of spawned (marked mark tree)) piece) exit) (sym (nothing_after (seen (as_event spawned mark) (meaning inner))))
     (inside_comes kind limit spawned mark piece (run_comes d))
-run_comes (Further kind later limit left piece next first rest a way d e) =
-    subst (Comes later limit (◌>>=◌ piece next) way) (sym (meaning_both first rest)) (further_comes kind later limit piece next (run_comes d) (run_comes e))
+run_comes (Further kind later limit left piece next first rest a exit d e) =
+    subst (Comes later limit (◌>>=◌ piece next) exit) (sym (meaning_both first rest)) (further_comes kind later limit piece next (run_comes d) (run_comes e))
 run_comes (Stopped kind later limit piece next first d) = stopped_comes kind later limit piece next (run_comes d)
-run_comes (Turns limit line test body frame run way same d) = same_comes _ limit _ _ same (run_comes d)
+run_comes (Turns limit line test body frame run exit same d) = same_comes _ limit _ _ same (run_comes d)
 
 -- as the serial run has it
-done_told : (kind : Kind) (b : Bool) (left rest : ℕ) (a : Given kind) (t : Trace) → (if b then model.Over else Done a (left - cost t) t) ≡ outcome_with kind left (over_if b (Ran t)) (Some (a, rest))
+done_told : (kind : Kind) (b : Bool) (left rest : ℕ) (a : Given kind) (t : Trace) → (if b then model.Over else Done a (left - cost t) t) ≡ outcome_with kind left (over_if b (Completed t)) (Some (a, rest))
 done_told kind true left rest a t = refl
 done_told kind false left rest a t = refl
 
@@ -208,15 +208,15 @@ trap_told : (kind : Kind) (b : Bool) (left : ℕ) (trap : Trap) (line : ℕ) (t 
 trap_told kind true left trap line t = refl
 trap_told kind false left trap line t = refl
 
-over_told : (kind : Kind) (b : Bool) (left : ℕ) (t : Trace) → model.Over ≡ outcome_with kind left (over_if b (Ran t)) None
+over_told : (kind : Kind) (b : Bool) (left : ℕ) (t : Trace) → model.Over ≡ outcome_with kind left (over_if b (Completed t)) None
 over_told kind true left t = refl
 over_told kind false left t = refl
 
-comes_told : (kind : Kind) (limit left : ℕ) (piece : Piece (Given kind)) {way : Way kind} {x : Came Trace} → left ≤ limit → Comes kind limit piece way x → piece left ≡ outcome_with kind left (within traces left x) way
+comes_told : (kind : Kind) (limit left : ℕ) (piece : Piece (Given kind)) {exit : Exit kind} {x : Came Trace} → left ≤ limit → Comes kind limit piece exit x → piece left ≡ outcome_with kind left (within traces left x) exit
 comes_told kind limit left piece l (Ending a rest t e f) = f left l ∙ done_told kind (nat_lt left (cost t)) left rest a t
 comes_told kind limit left piece l (Trapping trap line t f) = f left l ∙ trap_told kind (nat_lt left (cost t)) left trap line t
 comes_told kind limit left piece l (Passing t d f) = f left l ∙ over_told kind (nat_lt left (cost t)) left t
 
 pub runs_tell_of_pieces : RunsTellOfPieces
-runs_tell_of_pieces kind limit left piece run way d l =
-    comes_told kind limit left piece l (run_comes d) ∙ ap (λ x. outcome_with kind left x way) (sym (serial_is run left))
+runs_tell_of_pieces kind limit left piece run exit d l =
+    comes_told kind limit left piece l (run_comes d) ∙ ap (λ x. outcome_with kind left x exit) (sym (serial_is run left))

@@ -3,13 +3,14 @@ use Rattle.std.specs.Prelude.{◌≡◌, ℕ, zero, suc, ℤ, ◌-◌, ◌≤◌
 use Rattle.std.proofs.Common.{sym, ◌∙◌, ap, arith}
 use Rattle.std.proofs.lemmas.Bool.Decides.{nat_tests}
 use Rattle.cw_model.specs.Syntax.{Name}
+use Rattle.cw_model.specs.declared.limits.TheConstants.{MOST_LIMIT}
 use Rattle.cw_model.specs.Outcome.{Trace}
 use Rattle.cw_measure.specs.Measured.{most, measure_of}
 use Rattle.cw_reduce.specs.Shown.{sum_of, sums_joined}
 use Rattle.cw_reduce.specs.Words.{Word, nothing, plus, word_of}
 use Rattle.cw_reduce.specs.WordLaws.{plus-first}
 use Rattle.cw_part.specs.declared.read.Read.{Read}
-use Rattle.cw_part.specs.Parts.{Came, Ran, Trapped, Over, Memory, seen, is_above, greatest_limit}
+use Rattle.cw_part.specs.Parts.{Came, Completed, Trapped, Over, Memory, seen, is_above}
 use Rattle.cw_part.specs.PartLaws.{not_below}
 use Rattle.cw_part.specs.Read.{readings}
 use Rattle.cw_part.specs.RunParts.{RunPart}
@@ -73,23 +74,23 @@ reads_trap : (burden : ℕ) (number : Name → ℕ) (t : Trace) → TellsTrap t 
 reads_trap burden number t = record { lines = refl; work = refl }
 
 all_told : (burden : ℕ) (number : Name → ℕ) (x : Came Trace) → IsNoMemory x → TellsCame burden number x (seen (read_of burden number) x)
-all_told burden number (Ran t) h = RanAlike t (read_of burden number t) (reads_all burden number t)
+all_told burden number (Completed t) h = RanAlike t (read_of burden number t) (reads_all burden number t)
 all_told burden number (Trapped trap line t) h = TrappedAlike trap line t (read_of burden number t) (reads_trap burden number t)
 all_told burden number Over h = OverAlike
 all_told burden number Memory h = absurd h
 
 -- it is within the limit where the run is
 all_tested : (burden : ℕ) (number : Name → ℕ) (n left : ℕ) (x : Came Trace) → left ≤ n → is_above traces left x ≡ false → is_above readings n (seen (read_of burden number) x) ≡ false
-all_tested burden number n left (Ran t) l e = let c = not_above left (cost t) e in not_below n (min most (cost t)) (omega arith)
+all_tested burden number n left (Completed t) l e = let c = not_above left (cost t) e in not_below n (min most (cost t)) (omega arith)
 all_tested burden number n left (Trapped trap line t) l e = let c = not_above left (cost t) e in not_below n (min most (cost t)) (omega arith)
 all_tested burden number n left Over l e = refl
 all_tested burden number n left Memory l e = refl
 
-abbrev part_of_run : (burden : ℕ) (number : Name → ℕ) (limit left : ℕ) (run : Run) → limit ≤ greatest_limit → left ≤ limit → RunPart
+abbrev part_of_run : (burden : ℕ) (number : Name → ℕ) (limit left : ℕ) (run : Run) → limit ≤ MOST_LIMIT → left ≤ limit → RunPart
 part_of_run burden number limit left run g l = record {
   limit = limit;
   came = seen (read_of burden number) (serial left run);
-  limited = not_below greatest_limit limit g;
+  limited = not_below MOST_LIMIT limit g;
   tested = all_tested burden number limit left (serial left run) l (serial_tested left run);
 }
 

@@ -6,7 +6,7 @@ use Rattle.cw_model.specs.declared.trap.Trap.{Trap}
 use Rattle.cw_model.specs.Syntax.{Name}
 use Rattle.cw_model.specs.Trees.{Mark, Event, Work, Series, Fork, Join, tree_of, work}
 use Rattle.cw_model.specs.Outcome.{Trace, quiet, joined}
-use Rattle.cw_part.specs.Parts.{IsLawful, Came, Ran, Trapped, Over, Memory, followed, seen, over_if, within}
+use Rattle.cw_part.specs.Parts.{IsLawful, Came, Completed, Trapped, Over, Memory, followed, seen, over_if, within}
 use Rattle.cw_part.specs.PartFacts.{tested_stays}
 use Rattle.cw_part.specs.PartLaws.{is_below, not_below, followed-assoc, none_followed, tested_first, tested_second}
 use Rattle.cw_part.specs.Runs.{Run, Ends, Shows, Traps, Inside, then_run, cost, traces, as_event, goes_on, serial}
@@ -57,54 +57,54 @@ traces_are_lawful = record {
 
 -- what a run comes to without a limit; it is never refused memory
 abbrev pub meaning : Run → Came Trace
-meaning Ends = Ran quiet
-meaning (Shows t rest) = followed traces (Ran t) (meaning rest)
+meaning Ends = Completed quiet
+meaning (Shows t rest) = followed traces (Completed t) (meaning rest)
 meaning (Traps trap line t) = Trapped trap line t
 meaning (Inside spawned mark inner rest) = followed traces (seen (as_event spawned mark) (meaning inner)) (meaning rest)
 
 abbrev pub IsNoMemory : Came Trace → Type 0
-IsNoMemory (Ran t) = Unit {0}
+IsNoMemory (Completed t) = Unit {0}
 IsNoMemory (Trapped trap line t) = Unit {0}
 IsNoMemory Over = Unit {0}
 IsNoMemory Memory = ⊥
 
 none_followed_on : (x y : Came Trace) → IsNoMemory x → IsNoMemory y → IsNoMemory (followed traces x y)
-none_followed_on (Ran t) (Ran u) h k = tt
-none_followed_on (Ran t) (Trapped trap line u) h k = tt
-none_followed_on (Ran t) Over h k = tt
-none_followed_on (Ran t) Memory h k = absurd k
-none_followed_on (Trapped trap line t) (Ran u) h k = tt
+none_followed_on (Completed t) (Completed u) h k = tt
+none_followed_on (Completed t) (Trapped trap line u) h k = tt
+none_followed_on (Completed t) Over h k = tt
+none_followed_on (Completed t) Memory h k = absurd k
+none_followed_on (Trapped trap line t) (Completed u) h k = tt
 none_followed_on (Trapped trap line t) (Trapped trap' line' u) h k = tt
 none_followed_on (Trapped trap line t) Over h k = tt
 none_followed_on (Trapped trap line t) Memory h k = absurd k
-none_followed_on Over (Ran u) h k = tt
+none_followed_on Over (Completed u) h k = tt
 none_followed_on Over (Trapped trap line u) h k = tt
 none_followed_on Over Over h k = tt
 none_followed_on Over Memory h k = absurd k
 none_followed_on Memory y h k = absurd h
 
 none_seen : (f : Trace → Trace) (x : Came Trace) → IsNoMemory x → IsNoMemory (seen f x)
-none_seen f (Ran t) h = tt
+none_seen f (Completed t) h = tt
 none_seen f (Trapped trap line t) h = tt
 none_seen f Over h = tt
 none_seen f Memory h = absurd h
 
 pub none_meant : (run : Run) → IsNoMemory (meaning run)
 none_meant Ends = tt
-none_meant (Shows t rest) = none_followed_on (Ran t) (meaning rest) tt (none_meant rest)
+none_meant (Shows t rest) = none_followed_on (Completed t) (meaning rest) tt (none_meant rest)
 none_meant (Traps trap line t) = tt
 none_meant (Inside spawned mark inner rest) =
     none_followed_on (seen (as_event spawned mark) (meaning inner)) (meaning rest) (none_seen (as_event spawned mark) (meaning inner) (none_meant inner)) (none_meant rest)
 
 -- what stopped stays, whatever follows
 pub trap_stays : (trap : Trap) (line : ℕ) (t : Trace) (y : Came Trace) → IsNoMemory y → followed traces (Trapped trap line t) y ≡ Trapped trap line t
-trap_stays trap line t (Ran u) h = refl
+trap_stays trap line t (Completed u) h = refl
 trap_stays trap line t (Trapped trap' line' u) h = refl
 trap_stays trap line t Over h = refl
 trap_stays trap line t Memory h = absurd h
 
 pub over_stays : (y : Came Trace) → IsNoMemory y → followed traces Over y ≡ Over
-over_stays (Ran u) h = refl
+over_stays (Completed u) h = refl
 over_stays (Trapped trap line u) h = refl
 over_stays Over h = refl
 over_stays Memory h = absurd h
@@ -120,10 +120,10 @@ pub not_above : (n k : ℕ) → nat_lt n k ≡ false → k ≤ n
 not_above n k h = grind (arith, nat_tests)
 
 -- to test the first trace and then the second against what is left is to test both
-both_tested : (left a b : ℕ) (t : Trace) (second both : Came Trace) → followed traces (Ran t) second ≡ both → over_if (nat_lt left a) (followed traces (Ran t) (over_if (nat_lt (left - a) b) second)) ≡ over_if (nat_lt left (a + b)) both
+both_tested : (left a b : ℕ) (t : Trace) (second both : Came Trace) → followed traces (Completed t) second ≡ both → over_if (nat_lt left a) (followed traces (Completed t) (over_if (nat_lt (left - a) b) second)) ≡ over_if (nat_lt left (a + b)) both
 both_tested left a b t second both e = by_tests (nat_lt left a) (nat_lt (left - a) b) (nat_lt left (a + b)) refl refl refl
   where
-    by_tests : (p q r : Bool) → nat_lt left a ≡ p → nat_lt (left - a) b ≡ q → nat_lt left (a + b) ≡ r → over_if p (followed traces (Ran t) (over_if q second)) ≡ over_if r both
+    by_tests : (p q r : Bool) → nat_lt left a ≡ p → nat_lt (left - a) b ≡ q → nat_lt left (a + b) ≡ r → over_if p (followed traces (Completed t) (over_if q second)) ≡ over_if r both
     by_tests true q true h k l = refl
     by_tests true q false h k l = let x = is_below left a h in let z = not_above left (a + b) l in absurd (omega arith)
     by_tests false true true h k l = refl
@@ -131,9 +131,9 @@ both_tested left a b t second both e = by_tests (nat_lt left a) (nat_lt (left - 
     by_tests false false true h k l = let x = not_above left a h in let y = not_above (left - a) b k in let z = is_below left (a + b) l in absurd (omega arith)
     by_tests false false false h k l = e
 
-spent : (left : ℕ) (t : Trace) (x : Came Trace) → IsNoMemory x → over_if (nat_lt left (cost t)) (followed traces (Ran t) (within traces (left - cost t) x)) ≡ within traces left (followed traces (Ran t) x)
-spent left t (Ran u) h =
-    both_tested left (cost t) (cost u) t (Ran u) (Ran (joined t u)) refl ∙ ap (λ (k : ℕ). over_if (nat_lt left k) (Ran (joined t u))) (sym (cost_both t u))
+spent : (left : ℕ) (t : Trace) (x : Came Trace) → IsNoMemory x → over_if (nat_lt left (cost t)) (followed traces (Completed t) (within traces (left - cost t) x)) ≡ within traces left (followed traces (Completed t) x)
+spent left t (Completed u) h =
+    both_tested left (cost t) (cost u) t (Completed u) (Completed (joined t u)) refl ∙ ap (λ (k : ℕ). over_if (nat_lt left k) (Completed (joined t u))) (sym (cost_both t u))
 spent left t (Trapped trap line u) h =
     both_tested left (cost t) (cost u) t (Trapped trap line u) (Trapped trap line (joined t u)) refl
     ∙ ap (λ (k : ℕ). over_if (nat_lt left k) (Trapped trap line (joined t u))) (sym (cost_both t u))
@@ -141,7 +141,7 @@ spent left t Over h = over_over (nat_lt left (cost t))
 spent left t Memory h = absurd h
 
 -- a part inside, and what follows
-ran_inside : (b : Bool) (f : Trace → Trace) (t : Trace) (go : Trace → Came Trace) → goes_on (seen f (over_if b (Ran t))) go ≡ over_if b (followed traces (Ran (f t)) (go (f t)))
+ran_inside : (b : Bool) (f : Trace → Trace) (t : Trace) (go : Trace → Came Trace) → goes_on (seen f (over_if b (Completed t))) go ≡ over_if b (followed traces (Completed (f t)) (go (f t)))
 ran_inside true f t go = refl
 ran_inside false f t go = refl
 
@@ -150,10 +150,10 @@ trapped_inside true f trap line t go = refl
 trapped_inside false f trap line t go = refl
 
 inside_tested : (left : ℕ) (f : Trace → Trace) (x y : Came Trace) (go : ℕ → Came Trace) → ((t : Trace) → cost (f t) ≡ cost t) → ((n : ℕ) → go n ≡ within traces n y) → IsNoMemory x → IsNoMemory y → goes_on (seen f (within traces left x)) (λ t. go (left - cost t)) ≡ within traces left (followed traces (seen f x) y)
-inside_tested left f (Ran t) y go c g h k =
+inside_tested left f (Completed t) y go c g h k =
     ran_inside (nat_lt left (cost t)) f t (λ u. go (left - cost u))
-    ∙ ap (λ (n : ℕ). over_if (nat_lt left n) (followed traces (Ran (f t)) (go (left - cost (f t))))) (sym (c t))
-    ∙ ap (λ (z : Came Trace). over_if (nat_lt left (cost (f t))) (followed traces (Ran (f t)) z)) (g (left - cost (f t)))
+    ∙ ap (λ (n : ℕ). over_if (nat_lt left n) (followed traces (Completed (f t)) (go (left - cost (f t))))) (sym (c t))
+    ∙ ap (λ (z : Came Trace). over_if (nat_lt left (cost (f t))) (followed traces (Completed (f t)) z)) (g (left - cost (f t)))
     ∙ spent left (f t) y k
 inside_tested left f (Trapped trap line t) y go c g h k =
     trapped_inside (nat_lt left (cost t)) f trap line t (λ u. go (left - cost u))
@@ -164,9 +164,9 @@ inside_tested left f Memory y go c g h k = absurd h
 
 -- the serial run within a limit is the whole run, tested
 pub serial_is : (run : Run) (left : ℕ) → serial left run ≡ within traces left (meaning run)
-serial_is Ends left = sym (tested_stays traces left (Ran quiet) (not_below left (cost quiet) (omega arith)))
+serial_is Ends left = sym (tested_stays traces left (Completed quiet) (not_below left (cost quiet) (omega arith)))
 serial_is (Shows t rest) left =
-    ap (λ (y : Came Trace). over_if (nat_lt left (cost t)) (followed traces (Ran t) y)) (serial_is rest (left - cost t))
+    ap (λ (y : Came Trace). over_if (nat_lt left (cost t)) (followed traces (Completed t) y)) (serial_is rest (left - cost t))
     ∙ spent left t (meaning rest) (none_meant rest)
 serial_is (Traps trap line t) left = refl
 serial_is (Inside spawned mark inner rest) left =
@@ -176,7 +176,7 @@ serial_is (Inside spawned mark inner rest) left =
 pub meaning_both : (a b : Run) → meaning (then_run a b) ≡ followed traces (meaning a) (meaning b)
 meaning_both Ends b = sym (none_followed traces traces_are_lawful (meaning b))
 meaning_both (Shows t rest) b =
-    ap (followed traces (Ran t)) (meaning_both rest b) ∙ sym (followed-assoc traces traces_are_lawful (Ran t) (meaning rest) (meaning b))
+    ap (followed traces (Completed t)) (meaning_both rest b) ∙ sym (followed-assoc traces traces_are_lawful (Completed t) (meaning rest) (meaning b))
 meaning_both (Traps trap line t) b = sym (trap_stays trap line t (meaning b) (none_meant b))
 meaning_both (Inside spawned mark inner rest) b =
     let x = seen (as_event spawned mark) (meaning inner) in
@@ -194,9 +194,9 @@ runs_join n a b =
     ∙ tested_both n (meaning a) (meaning b) ∙ ap (within traces n) (sym (meaning_both a b)) ∙ sym (serial_is (then_run a b) n)
 
 seen_tested : (n : ℕ) (f : Trace → Trace) → ((t : Trace) → cost (f t) ≡ cost t) → (x : Came Trace) → seen f (within traces n x) ≡ within traces n (seen f x)
-seen_tested n f c (Ran t) = by_test (nat_lt n (cost t)) ∙ ap (λ (k : ℕ). over_if (nat_lt n k) (Ran (f t))) (sym (c t))
+seen_tested n f c (Completed t) = by_test (nat_lt n (cost t)) ∙ ap (λ (k : ℕ). over_if (nat_lt n k) (Completed (f t))) (sym (c t))
   where
-    by_test : (b : Bool) → seen f (over_if b (Ran t)) ≡ over_if b (Ran (f t))
+    by_test : (b : Bool) → seen f (over_if b (Completed t)) ≡ over_if b (Completed (f t))
     by_test true = refl
     by_test false = refl
 seen_tested n f c (Trapped trap line t) = by_test (nat_lt n (cost t)) ∙ ap (λ (k : ℕ). over_if (nat_lt n k) (Trapped trap line (f t))) (sym (c t))

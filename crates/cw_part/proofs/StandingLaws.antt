@@ -3,10 +3,11 @@ use Rattle.std.specs.Prelude.{◌≡◌, ℕ, ◌+◌, ◌<◌, ◌≤◌, ◌^�
 use Rattle.std.proofs.Common.{sym, ◌∙◌, ap, subst, inl, inr, arith}
 use Rattle.cw_model.specs.Syntax.{Name}
 use Rattle.cw_model.specs.Trees.{Mark}
+use Rattle.cw_model.specs.declared.limits.TheConstants.{MOST_LIMIT}
 use Rattle.cw_model.specs.Outcome.{Trace}
 use Rattle.cw_measure.specs.Measured.{MeasuresReadTrees}
 use Rattle.cw_part.specs.declared.read.Read.{Read}
-use Rattle.cw_part.specs.Parts.{Came, Ran, Trapped, Over, Memory, followed, seen, over_if, is_above, within, greatest_limit}
+use Rattle.cw_part.specs.Parts.{Came, Completed, Trapped, Over, Memory, followed, seen, over_if, is_above, within}
 use Rattle.cw_part.specs.PartFacts.{is_tested}
 use Rattle.cw_part.specs.PartLaws.{is_below, not_below}
 use Rattle.cw_part.specs.Read.{readings}
@@ -18,7 +19,7 @@ use Rattle.cw_part.proofs.TellingLaws.{came_both, came_tested, part_read, came_i
 
 -- a run passes the limit, with this cost before it
 abbrev IsBeyond : (limit before : ℕ) → Came Trace → Type 0
-IsBeyond n d (Ran t) = n < d + cost t
+IsBeyond n d (Completed t) = n < d + cost t
 IsBeyond n d (Trapped trap line t) = n < d + cost t
 IsBeyond n d Over = Unit {0}
 IsBeyond n d Memory = ⊥
@@ -30,9 +31,9 @@ data Stands (burden : ℕ) (number : Name → ℕ) (limit before : ℕ) (x : Cam
   Passed : a ≡ Over → IsBeyond limit before x → Stands burden number limit before x a
 
 beyond_within : (n d : ℕ) (z : Came Trace) → IsBeyond n d z → IsBeyond n d (within traces n z)
-beyond_within n d (Ran t) h = by_test (nat_lt n (cost t))
+beyond_within n d (Completed t) h = by_test (nat_lt n (cost t))
   where
-    by_test : (b : Bool) → IsBeyond n d (over_if b (Ran t))
+    by_test : (b : Bool) → IsBeyond n d (over_if b (Completed t))
     by_test true = tt
     by_test false = h
 beyond_within n d (Trapped trap line t) h = by_test (nat_lt n (cost t))
@@ -44,34 +45,34 @@ beyond_within n d Over h = tt
 beyond_within n d Memory h = absurd h
 
 beyond_first : (n d : ℕ) (x y : Came Trace) → IsNoMemory y → IsBeyond n d x → IsBeyond n d (followed traces x y)
-beyond_first n d (Ran t) (Ran u) k h = let c = cost_both t u in omega arith
-beyond_first n d (Ran t) (Trapped trap line u) k h = let c = cost_both t u in omega arith
-beyond_first n d (Ran t) Over k h = tt
-beyond_first n d (Ran t) Memory k h = absurd k
-beyond_first n d (Trapped trap line t) (Ran u) k h = h
+beyond_first n d (Completed t) (Completed u) k h = let c = cost_both t u in omega arith
+beyond_first n d (Completed t) (Trapped trap line u) k h = let c = cost_both t u in omega arith
+beyond_first n d (Completed t) Over k h = tt
+beyond_first n d (Completed t) Memory k h = absurd k
+beyond_first n d (Trapped trap line t) (Completed u) k h = h
 beyond_first n d (Trapped trap line t) (Trapped trap' line' u) k h = h
 beyond_first n d (Trapped trap line t) Over k h = h
 beyond_first n d (Trapped trap line t) Memory k h = absurd k
-beyond_first n d Over (Ran u) k h = tt
+beyond_first n d Over (Completed u) k h = tt
 beyond_first n d Over (Trapped trap line u) k h = tt
 beyond_first n d Over Over k h = tt
 beyond_first n d Over Memory k h = absurd k
 beyond_first n d Memory y k h = absurd h
 
-beyond_second : (n d e : ℕ) (t : Trace) (y : Came Trace) → e ≤ d + cost t → IsBeyond n e y → IsBeyond n d (followed traces (Ran t) y)
-beyond_second n d e t (Ran u) l h = let c = cost_both t u in omega arith
+beyond_second : (n d e : ℕ) (t : Trace) (y : Came Trace) → e ≤ d + cost t → IsBeyond n e y → IsBeyond n d (followed traces (Completed t) y)
+beyond_second n d e t (Completed u) l h = let c = cost_both t u in omega arith
 beyond_second n d e t (Trapped trap line u) l h = let c = cost_both t u in omega arith
 beyond_second n d e t Over l h = tt
 beyond_second n d e t Memory l h = absurd h
 
 beyond_inside : (n d : ℕ) (spawned : Bool) (mark : Option Mark) (x : Came Trace) → IsBeyond n d x → IsBeyond n d (seen (as_event spawned mark) x)
-beyond_inside n d spawned mark (Ran t) h = let c = cost_inside spawned mark t in omega arith
+beyond_inside n d spawned mark (Completed t) h = let c = cost_inside spawned mark t in omega arith
 beyond_inside n d spawned mark (Trapped trap line t) h = let c = cost_inside spawned mark t in omega arith
 beyond_inside n d spawned mark Over h = tt
 beyond_inside n d spawned mark Memory h = absurd h
 
 counted_inside : (d e : ℕ) (spawned : Bool) (mark : Option Mark) (x : Came Trace) → IsCountedAfter d x e → IsCountedAfter d (seen (as_event spawned mark) x) e
-counted_inside d e spawned mark (Ran t) h = let c = cost_inside spawned mark t in omega arith
+counted_inside d e spawned mark (Completed t) h = let c = cost_inside spawned mark t in omega arith
 counted_inside d e spawned mark (Trapped trap line t) h = tt
 counted_inside d e spawned mark Over h = tt
 counted_inside d e spawned mark Memory h = tt
@@ -83,19 +84,19 @@ over_then burden number (TrappedAlike trap line t a h) = refl
 over_then burden number OverAlike = refl
 
 refused_later : (x : Came Read) → followed readings x Memory ≡ Memory
-refused_later (Ran a) = refl
+refused_later (Completed a) = refl
 refused_later (Trapped trap line a) = refl
 refused_later Over = refl
 refused_later Memory = refl
 
 -- a part that tells of a run, and one that is over because what follows passes the limit
-passed_later : (burden : ℕ) (number : Name → ℕ) (n d e : ℕ) (x y : Came Trace) (a b : Came Read) → n ≤ greatest_limit → IsNoMemory y → IsCountedAfter d x e → TellsCame burden number x a → b ≡ Over → IsBeyond n e y → Stands burden number n d (within traces n (followed traces x y)) (within readings n (followed readings a b))
+passed_later : (burden : ℕ) (number : Name → ℕ) (n d e : ℕ) (x y : Came Trace) (a b : Came Read) → n ≤ MOST_LIMIT → IsNoMemory y → IsCountedAfter d x e → TellsCame burden number x a → b ≡ Over → IsBeyond n e y → Stands burden number n d (within traces n (followed traces x y)) (within readings n (followed readings a b))
 passed_later burden number n d e x y a b l m c h f q =
     let P : Came Read → Type 0 = λ z. Stands burden number n d (within traces n (followed traces x y)) (within readings n (followed readings a z)) in
     subst P (sym f) (by_case x a c h)
   where
     by_case : (x : Came Trace) (a : Came Read) → IsCountedAfter d x e → TellsCame burden number x a → Stands burden number n d (within traces n (followed traces x y)) (within readings n (followed readings a Over))
-    by_case _ _ c (RanAlike t r h) = Passed refl (beyond_within n d (followed traces (Ran t) y) (beyond_second n d e t y c q))
+    by_case _ _ c (RanAlike t r h) = Passed refl (beyond_within n d (followed traces (Completed t) y) (beyond_second n d e t y c q))
     by_case _ _ c (TrappedAlike trap line t r h) =
         let Q : Came Trace → Type 0 = λ z. Stands burden number n d (within traces n z) (within readings n (Trapped trap line r)) in
         subst Q (sym (trap_stays trap line t y m)) (Same (came_tested burden number n l (TrappedAlike trap line t r h)))
@@ -104,7 +105,7 @@ passed_later burden number n d e x y a b l m c h f q =
         subst Q (sym (over_stays y m)) (Same OverAlike)
 
 -- two parts that stand for runs stand for both, joined
-stands_both : MeasuresReadTrees → (burden : ℕ) (number : Name → ℕ) (n d e : ℕ) (x y : Came Trace) (a b : Came Read) → n ≤ greatest_limit → IsNoMemory y → IsCountedAfter d x e → Stands burden number n d x a → Stands burden number n e y b → Stands burden number n d (within traces n (followed traces x y)) (within readings n (followed readings a b))
+stands_both : MeasuresReadTrees → (burden : ℕ) (number : Name → ℕ) (n d e : ℕ) (x y : Came Trace) (a b : Came Read) → n ≤ MOST_LIMIT → IsNoMemory y → IsCountedAfter d x e → Stands burden number n d x a → Stands burden number n e y b → Stands burden number n d (within traces n (followed traces x y)) (within readings n (followed readings a b))
 stands_both law burden number n d e x y a b l m c (Short f) k = Short (ap (λ (z : Came Read). within readings n (followed readings z b)) f)
 stands_both law burden number n d e x y a b l m c (Same h) (Short g) = Short (ap (λ (z : Came Read). within readings n (followed readings a z)) g ∙ ap (within readings n) (refused_later a))
 stands_both law burden number n d e x y a b l m c (Same h) (Same k) = Same (came_tested burden number n l (came_both law burden number h k))
@@ -139,11 +140,11 @@ unstopped burden number n d left m a e f h =
     subst Q (sym f) (Same (subst P e h))
 
 stands_alone : (burden : ℕ) (number : Name → ℕ) (n d left : ℕ) (m : Came Trace) (a : Came Read) → IsNoMemory m → left ≤ n → n ≤ d + left → TellsCame burden number (within traces left m) a → Stands burden number n d (within traces n m) a
-stands_alone burden number n d left (Ran t) a k l g h = by_test (nat_lt left (cost t)) refl
+stands_alone burden number n d left (Completed t) a k l g h = by_test (nat_lt left (cost t)) refl
   where
-    by_test : (b : Bool) → nat_lt left (cost t) ≡ b → Stands burden number n d (within traces n (Ran t)) a
-    by_test true e = let x = is_below left (cost t) e in stopped burden number n d left (Ran t) a e (omega arith) h
-    by_test false e = let x = not_above left (cost t) e in unstopped burden number n d left (Ran t) a e (not_below n (cost t) (omega arith)) h
+    by_test : (b : Bool) → nat_lt left (cost t) ≡ b → Stands burden number n d (within traces n (Completed t)) a
+    by_test true e = let x = is_below left (cost t) e in stopped burden number n d left (Completed t) a e (omega arith) h
+    by_test false e = let x = not_above left (cost t) e in unstopped burden number n d left (Completed t) a e (not_below n (cost t) (omega arith)) h
 stands_alone burden number n d left (Trapped trap line t) a k l g h = by_test (nat_lt left (cost t)) refl
   where
     by_test : (b : Bool) → nat_lt left (cost t) ≡ b → Stands burden number n d (within traces n (Trapped trap line t)) a
@@ -154,9 +155,9 @@ stands_alone burden number n d left Memory a k l g h = absurd k
 
 -- of runs
 none_within : (n : ℕ) (x : Came Trace) → IsNoMemory x → IsNoMemory (within traces n x)
-none_within n (Ran t) h = by_test (nat_lt n (cost t))
+none_within n (Completed t) h = by_test (nat_lt n (cost t))
   where
-    by_test : (b : Bool) → IsNoMemory (over_if b (Ran t))
+    by_test : (b : Bool) → IsNoMemory (over_if b (Completed t))
     by_test true = tt
     by_test false = tt
 none_within n (Trapped trap line t) h = by_test (nat_lt n (cost t))
@@ -181,7 +182,7 @@ parts_stand : MeasuresReadTrees → (burden : ℕ) (number : Name → ℕ) (limi
 parts_stand law burden number limit d e x y whole p q w m c f g h k =
     let n = min p.limit q.limit in
     let same : n ≡ limit = omega arith in
-    let l = is_limit greatest_limit p.limit p.limited in
+    let l = is_limit MOST_LIMIT p.limit p.limited in
     let P : Came Trace → Type 0 = λ z. Stands burden number limit d z (within readings n (followed readings p.came q.came)) in
     let Q : ℕ → Type 0 = λ j. Stands burden number limit d (within traces limit (followed traces x y)) (within readings j (followed readings p.came q.came)) in
     (same, subst P w (subst Q (sym same) (stands_both law burden number limit d e x y p.came q.came (omega arith) m c h k)))
@@ -209,7 +210,7 @@ pieces_stand law burden number limit b (Called before between mark inner rest p 
 
 -- with nothing before it a run that passes the limit is over
 over_at_once : (n : ℕ) (z : Came Trace) → is_above traces n z ≡ false → IsBeyond n 0 z → z ≡ Over
-over_at_once n (Ran t) e p = let x = not_above n (cost t) e in absurd (omega arith)
+over_at_once n (Completed t) e p = let x = not_above n (cost t) e in absurd (omega arith)
 over_at_once n (Trapped trap line t) e p = let x = not_above n (cost t) e in absurd (omega arith)
 over_at_once n Over e p = refl
 over_at_once n Memory e p = absurd p

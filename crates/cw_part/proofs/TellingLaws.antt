@@ -3,6 +3,7 @@ use Rattle.std.specs.Prelude.{◌≡◌, ℕ, zero, suc, ℤ, ◌+◌, ◌<◌, 
 use Rattle.std.proofs.Common.{sym, ◌∙◌, ap, subst, arith}
 use Rattle.cw_model.specs.Syntax.{Name}
 use Rattle.cw_model.specs.Trees.{Mark, Tree, Fork, tree_of, work, span, burdened_span, Series}
+use Rattle.cw_model.specs.declared.limits.TheConstants.{MOST_LIMIT}
 use Rattle.cw_model.specs.Outcome.{Trace, joined}
 use Rattle.cw_measure.specs.Counters.{Counters, Unsynced, up_to, later, onward, exactly, fresh, forked, ticked, held}
 use Rattle.cw_measure.specs.Measured.{Measured, most, most_burdened, measure_of, nothing, after_child, after_part, span_read, burdened_read, ReadsTree, MeasuresReadTrees}
@@ -12,7 +13,7 @@ use Rattle.cw_reduce.specs.Shown.{sum_of, sums_joined}
 use Rattle.cw_reduce.specs.Words.{Word, plus, word_of}
 use Rattle.cw_reduce.specs.WordLaws.{plus-first, plus-last, plus-assoc}
 use Rattle.cw_part.specs.declared.read.Read.{Read}
-use Rattle.cw_part.specs.Parts.{Came, Ran, Trapped, followed, seen, over_if, within, greatest_limit}
+use Rattle.cw_part.specs.Parts.{Came, Completed, Trapped, followed, seen, over_if, within}
 use Rattle.cw_part.specs.PartLaws.{below, is_below}
 use Rattle.cw_part.specs.Read.{readings, read_joined, child_read, call_read}
 use Rattle.cw_part.specs.Runs.{cost, traces, as_event, added, TellsTrace, TellsTrap, TellsCame, RanAlike, TrappedAlike, OverAlike}
@@ -72,7 +73,7 @@ came_both law burden number OverAlike (TrappedAlike trap line u b k) = OverAlike
 came_both law burden number OverAlike OverAlike = OverAlike
 
 -- the tests against a limit agree
-same_test : (n c w : ℕ) → n ≤ greatest_limit → w ≡ min most c → nat_lt n c ≡ nat_lt n w
+same_test : (n c w : ℕ) → n ≤ MOST_LIMIT → w ≡ min most c → nat_lt n c ≡ nat_lt n w
 same_test n c w l e = by_test (nat_lt n c) refl
   where
     by_test : (b : Bool) → nat_lt n c ≡ b → b ≡ nat_lt n w
@@ -92,8 +93,8 @@ alike_if burden number x a b c e h =
     let P : Bool → Type 0 = λ d. TellsCame burden number (over_if b x) (over_if d a) in
     subst P e (over_alike burden number x a b h)
 
-pub came_tested : (burden : ℕ) (number : Name → ℕ) (n : ℕ) {x : Came Trace} {a : Came Read} → n ≤ greatest_limit → TellsCame burden number x a → TellsCame burden number (within traces n x) (within readings n a)
-came_tested burden number n l (RanAlike t a h) = alike_if burden number (Ran t) (Ran a) (nat_lt n (cost t)) (nat_lt n a.measure.work) (same_test n (cost t) a.measure.work l (work_told t a h)) (RanAlike t a h)
+pub came_tested : (burden : ℕ) (number : Name → ℕ) (n : ℕ) {x : Came Trace} {a : Came Read} → n ≤ MOST_LIMIT → TellsCame burden number x a → TellsCame burden number (within traces n x) (within readings n a)
+came_tested burden number n l (RanAlike t a h) = alike_if burden number (Completed t) (Completed a) (nat_lt n (cost t)) (nat_lt n a.measure.work) (same_test n (cost t) a.measure.work l (work_told t a h)) (RanAlike t a h)
 came_tested burden number n l (TrappedAlike trap line t a h) = alike_if burden number (Trapped trap line t) (Trapped trap line a) (nat_lt n (cost t)) (nat_lt n a.measure.work) (same_test n (cost t) a.measure.work l h.work) (TrappedAlike trap line t a h)
 came_tested burden number n l OverAlike = OverAlike
 

@@ -8,21 +8,21 @@ use Rattle.cw_model.specs.Names.{same_name}
 use Rattle.cw_model.specs.Frames.{no_frame}
 use Rattle.cw_model.specs.Trees.{Tree}
 use Rattle.cw_model.specs.Outcome.{Trace, Done, Piece}
-use Rattle.cw_model.specs.Meaning.{Returned, Deeper, function_of, call}
+use Rattle.cw_model.specs.Meaning.{Returned, Deeper, function_named, call}
 use Rattle.cw_model.specs.Answers.{Answer, Ended, TrappedAt, OverLimit, answer_of, sum_to, main_name, main_frame, serial_answer}
 use Rattle.cw_measure.specs.Measured.{most, ReadsTree}
 use Rattle.cw_reduce.specs.Shown.{sum_of}
 use Rattle.cw_reduce.specs.Words.{word_of}
 use Rattle.cw_part.specs.declared.read.Read.{Read}
-use Rattle.cw_part.specs.Parts.{Came, Ran, Trapped, Over, Memory}
+use Rattle.cw_part.specs.Parts.{Came, Completed, Trapped, Over, Memory}
 use Rattle.cw_part.specs.RunParts.{RunPart}
 use Rattle.cw_part.specs.Runs.{Run, serial, added, IsJoinedOf}
-use Rattle.cw_part.specs.PieceRuns.{OfCall, Way, IsRunOf, HasRun, outcome_with}
+use Rattle.cw_part.specs.PieceRuns.{OfCall, Exit, IsRunOf, HasRun, outcome_with}
 
 -- main on its arguments, at depth 1, with no more calls inside one another than the limit allows
 abbrev pub elision : Program → (args : List ℤ) → (limit : ℕ) → Piece Returned
 elision program args limit =
-    let main = function_of main_name program.functions in
+    let main = function_named main_name program.functions in
     call (suc limit) 0 program.functions Deeper main (main_frame main.params args no_frame) main.line
 
 -- what is read of a part tells an end: the printed lines, the sums of what was added to each reducer, and the readings of the tree
@@ -46,7 +46,7 @@ pub record TellsStop (program : Program) (args : List ℤ) (limit : ℕ) (trap :
 -- how a part came out tells an answer of a program within a limit
 pub data TellsAnswer (burden : ℕ) (number : Name → ℕ) (program : Program) (args : List ℤ) (limit : ℕ) : Answer → Came Read → Type 0 where
   EndedSo : (value : ℤ) (lines sums : List ℤ) (tree : Tree) (a : Read) → TellsEnd burden number program args limit lines sums tree a
-      → TellsAnswer burden number program args limit (Ended value lines sums tree) (Ran a)
+      → TellsAnswer burden number program args limit (Ended value lines sums tree) (Completed a)
   TrappedSo : (trap : Trap) (line : ℕ) (lines : List ℤ) (a : Read) → TellsStop program args limit trap line lines a
       → TellsAnswer burden number program args limit (TrappedAt trap line lines) (Trapped trap line a)
   OverSo : TellsAnswer burden number program args limit OverLimit Over
@@ -58,15 +58,15 @@ ElisionIsARun = (program : Program) (args : List ℤ) (limit : ℕ) → HasRun O
 -- and one run gives the serial answer within the limit and within each lesser one
 abbrev pub RunGivesTheAnswers : Type 0
 RunGivesTheAnswers =
-    (program : Program) (args : List ℤ) (limit left : ℕ) (run : Run) (way : Way OfCall) → IsRunOf OfCall limit (elision program args limit) run way → left ≤ limit
-    → serial_answer program args left ≡ answer_of program.reducers (outcome_with OfCall left (serial left run) way)
+    (program : Program) (args : List ℤ) (limit left : ℕ) (run : Run) (exit : Exit OfCall) → IsRunOf OfCall limit (elision program args limit) run exit → left ≤ limit
+    → serial_answer program args left ≡ answer_of program.reducers (outcome_with OfCall left (serial left run) exit)
 
 -- however that run is cut at its spawns, and whatever each piece met: the joined part tells the serial answer within the limit, or
 -- memory was refused
 abbrev pub PiecesAreTheElision : Type 0
 PiecesAreTheElision =
-    (burden : ℕ) (number : Name → ℕ) (program : Program) (args : List ℤ) (limit : ℕ) (run : Run) (way : Way OfCall) (p : RunPart)
-    → burden < 2 ^ 64 → IsRunOf OfCall limit (elision program args limit) run way → IsJoinedOf burden number limit 0 run p
+    (burden : ℕ) (number : Name → ℕ) (program : Program) (args : List ℤ) (limit : ℕ) (run : Run) (exit : Exit OfCall) (p : RunPart)
+    → burden < 2 ^ 64 → IsRunOf OfCall limit (elision program args limit) run exit → IsJoinedOf burden number limit 0 run p
     → (p.limit ≡ limit) × ((p.came ≡ Memory) ⊎ TellsAnswer burden number program args limit (serial_answer program args limit) p.came)
 
 -- each addition fits 128 bits

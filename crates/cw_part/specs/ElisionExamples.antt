@@ -6,7 +6,7 @@ use Rattle.cw_model.specs.Trees.{Invocation, Work, Join, works}
 use Rattle.cw_model.specs.Outcome.{shows}
 use Rattle.cw_model.specs.ExamplePrograms as example
 use Rattle.cw_part.specs.Runs.{Run, Ends, Shows, Traps, Inside}
-use Rattle.cw_part.specs.PieceRuns.{OfCall, Way, IsRunOf}
+use Rattle.cw_part.specs.PieceRuns.{OfCall, Exit, IsRunOf}
 use Rattle.cw_part.specs.Elision.{elision}
 
 -- an instruction, a join, a printed line, and a spawned child of a call site
@@ -24,8 +24,8 @@ child site inner rest = Inside true (Some (Invocation site)) inner rest
 
 -- the elision of a program is this run within the limit
 pub record Elides (program : Program) (args : List ℤ) (limit : ℕ) (run : Run) : Type 0 where
-  pub way : Way OfCall
-  pub is_run : IsRunOf OfCall limit (elision program args limit) run way
+  pub exit : Exit OfCall
+  pub is_run : IsRunOf OfCall limit (elision program args limit) run exit
 
 pub record ElisionExamples : Type 0 where
   -- a declaration, a spawn with one argument, a sync and a return

@@ -3,7 +3,7 @@ use Rattle.std.specs.Prelude.{◌≡◌, ℕ, ◌-◌, nat_lt, if◌then◌else�
 use Rattle.cw_model.specs.Outcome.{Trace, Outcome, Piece, ◌>>=◌, gives, as_one}
 use Rattle.cw_model.specs.Outcome as model
 use Rattle.cw_measure.specs.OpenParts.{marked, part_of}
-use Rattle.cw_part.specs.Parts.{Came, Ran, Trapped, Over, Memory}
+use Rattle.cw_part.specs.Parts.{Came, Completed, Trapped, Over, Memory}
 use Rattle.cw_part.specs.Runs.{Run, Ends, Shows, Traps, Inside, cost, serial}
 
 -- instructions that show this, within the budget
@@ -22,7 +22,7 @@ piece_of (Inside spawned mark inner rest) = do
 
 -- how a run came out, as the model has it: with what is left of the budget, and of a trap the lines alone
 abbrev pub outcome_of : (left : ℕ) → Came Trace → Outcome (Unit {0})
-outcome_of left (Ran t) = model.Done tt (left - cost t) t
+outcome_of left (Completed t) = model.Done tt (left - cost t) t
 outcome_of left (Trapped trap line t) = model.Trapped trap line t.lines
 outcome_of left Over = model.Over
 outcome_of left Memory = model.Over

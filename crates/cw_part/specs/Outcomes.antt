@@ -2,11 +2,11 @@
 use Rattle.cw_part.specs.declared.read.Read.{Read}
 use Rattle.cw_part.specs.declared.outcome.Outcome.{Outcome}
 use Rattle.cw_part.specs.declared.outcome.Outcome.TheVariants as stored
-use Rattle.cw_part.specs.Parts.{Came, Ran, Trapped, Over, Memory, followed}
+use Rattle.cw_part.specs.Parts.{Came, Completed, Trapped, Over, Memory, followed}
 use Rattle.cw_part.specs.Read.{readings}
 
 abbrev pub came_of : Outcome → Came Read
-came_of (stored.Ran read) = Ran read
+came_of (stored.Completed read) = Completed read
 came_of (stored.Trapped trap line read) = Trapped trap line read
 came_of stored.Over = Over
 came_of stored.Memory = Memory

@@ -2,8 +2,9 @@
 use Rattle.std.specs.Prelude.{◌≡◌, ℕ, ◌≤◌, ◌<◌, nat_lt, min, Bool, true, false, refl}
 use Rattle.std.proofs.Common.{sym, ◌∙◌, ap, arith}
 use Rattle.std.proofs.lemmas.Bool.Decides.{nat_tests}
+use Rattle.cw_model.specs.declared.limits.TheConstants.{MOST_LIMIT}
 use Rattle.cw_model.specs.declared.trap.Trap.{Trap}
-use Rattle.cw_part.specs.Parts.{Readings, IsLawful, Came, Ran, Trapped, Over, Memory, followed, over_if, within, Part, part_joined, greatest_limit, nothing_ran, IsPart, PartsJoin}
+use Rattle.cw_part.specs.Parts.{Readings, IsLawful, Came, Completed, Trapped, Over, Memory, followed, over_if, within, Part, part_joined, nothing_ran, IsPart, PartsJoin}
 
 pub below : (n k : ℕ) → n < k → nat_lt n k ≡ true
 below n k h = grind (arith, nat_tests)
@@ -19,41 +20,41 @@ over_by n k x h = ap (λ (b : Bool). over_if b x) (below n k h)
 
 -- one after another, in any grouping
 pub followed-assoc : {M : Type 0} (R : Readings M) (L : IsLawful M R) (x y z : Came M) → followed R (followed R x y) z ≡ followed R x (followed R y z)
-followed-assoc R L (Ran a) (Ran b) (Ran c) = ap Ran (L.regroup a b c)
-followed-assoc R L (Ran a) (Ran b) (Trapped t l c) = ap (Trapped t l) (L.regroup a b c)
-followed-assoc R L (Ran a) (Ran b) Over = refl
-followed-assoc R L (Ran a) (Ran b) Memory = refl
-followed-assoc R L (Ran a) (Trapped t l b) (Ran c) = refl
-followed-assoc R L (Ran a) (Trapped t l b) (Trapped t' l' c) = refl
-followed-assoc R L (Ran a) (Trapped t l b) Over = refl
-followed-assoc R L (Ran a) (Trapped t l b) Memory = refl
-followed-assoc R L (Ran a) Over (Ran c) = refl
-followed-assoc R L (Ran a) Over (Trapped t l c) = refl
-followed-assoc R L (Ran a) Over Over = refl
-followed-assoc R L (Ran a) Over Memory = refl
-followed-assoc R L (Ran a) Memory z = refl
-followed-assoc R L (Trapped t l a) (Ran b) (Ran c) = refl
-followed-assoc R L (Trapped t l a) (Ran b) (Trapped t' l' c) = refl
-followed-assoc R L (Trapped t l a) (Ran b) Over = refl
-followed-assoc R L (Trapped t l a) (Ran b) Memory = refl
-followed-assoc R L (Trapped t l a) (Trapped t' l' b) (Ran c) = refl
+followed-assoc R L (Completed a) (Completed b) (Completed c) = ap Completed (L.regroup a b c)
+followed-assoc R L (Completed a) (Completed b) (Trapped t l c) = ap (Trapped t l) (L.regroup a b c)
+followed-assoc R L (Completed a) (Completed b) Over = refl
+followed-assoc R L (Completed a) (Completed b) Memory = refl
+followed-assoc R L (Completed a) (Trapped t l b) (Completed c) = refl
+followed-assoc R L (Completed a) (Trapped t l b) (Trapped t' l' c) = refl
+followed-assoc R L (Completed a) (Trapped t l b) Over = refl
+followed-assoc R L (Completed a) (Trapped t l b) Memory = refl
+followed-assoc R L (Completed a) Over (Completed c) = refl
+followed-assoc R L (Completed a) Over (Trapped t l c) = refl
+followed-assoc R L (Completed a) Over Over = refl
+followed-assoc R L (Completed a) Over Memory = refl
+followed-assoc R L (Completed a) Memory z = refl
+followed-assoc R L (Trapped t l a) (Completed b) (Completed c) = refl
+followed-assoc R L (Trapped t l a) (Completed b) (Trapped t' l' c) = refl
+followed-assoc R L (Trapped t l a) (Completed b) Over = refl
+followed-assoc R L (Trapped t l a) (Completed b) Memory = refl
+followed-assoc R L (Trapped t l a) (Trapped t' l' b) (Completed c) = refl
 followed-assoc R L (Trapped t l a) (Trapped t' l' b) (Trapped t'' l'' c) = refl
 followed-assoc R L (Trapped t l a) (Trapped t' l' b) Over = refl
 followed-assoc R L (Trapped t l a) (Trapped t' l' b) Memory = refl
-followed-assoc R L (Trapped t l a) Over (Ran c) = refl
+followed-assoc R L (Trapped t l a) Over (Completed c) = refl
 followed-assoc R L (Trapped t l a) Over (Trapped t' l' c) = refl
 followed-assoc R L (Trapped t l a) Over Over = refl
 followed-assoc R L (Trapped t l a) Over Memory = refl
 followed-assoc R L (Trapped t l a) Memory z = refl
-followed-assoc R L Over (Ran b) (Ran c) = refl
-followed-assoc R L Over (Ran b) (Trapped t l c) = refl
-followed-assoc R L Over (Ran b) Over = refl
-followed-assoc R L Over (Ran b) Memory = refl
-followed-assoc R L Over (Trapped t l b) (Ran c) = refl
+followed-assoc R L Over (Completed b) (Completed c) = refl
+followed-assoc R L Over (Completed b) (Trapped t l c) = refl
+followed-assoc R L Over (Completed b) Over = refl
+followed-assoc R L Over (Completed b) Memory = refl
+followed-assoc R L Over (Trapped t l b) (Completed c) = refl
 followed-assoc R L Over (Trapped t l b) (Trapped t' l' c) = refl
 followed-assoc R L Over (Trapped t l b) Over = refl
 followed-assoc R L Over (Trapped t l b) Memory = refl
-followed-assoc R L Over Over (Ran c) = refl
+followed-assoc R L Over Over (Completed c) = refl
 followed-assoc R L Over Over (Trapped t l c) = refl
 followed-assoc R L Over Over Over = refl
 followed-assoc R L Over Over Memory = refl
@@ -61,22 +62,22 @@ followed-assoc R L Over Memory z = refl
 followed-assoc R L Memory y z = refl
 
 -- a test of the first, or of the second, before both are tested changes nothing
-over_first : {M : Type 0} (R : Readings M) (L : IsLawful M R) (n : ℕ) (a : M) (y : Came M) → n < R.work a → within R n (followed R Over y) ≡ within R n (followed R (Ran a) y)
-over_first R L n a (Ran b) h = let k = L.above_first a b in sym (over_by n (R.work (R.joined a b)) (Ran (R.joined a b)) (omega arith))
+over_first : {M : Type 0} (R : Readings M) (L : IsLawful M R) (n : ℕ) (a : M) (y : Came M) → n < R.work a → within R n (followed R Over y) ≡ within R n (followed R (Completed a) y)
+over_first R L n a (Completed b) h = let k = L.above_first a b in sym (over_by n (R.work (R.joined a b)) (Completed (R.joined a b)) (omega arith))
 over_first R L n a (Trapped t l b) h = let k = L.above_first a b in sym (over_by n (R.work (R.joined a b)) (Trapped t l (R.joined a b)) (omega arith))
 over_first R L n a Over h = refl
 over_first R L n a Memory h = refl
 
 over_trap : {M : Type 0} (R : Readings M) (n : ℕ) (t : Trap) (l : ℕ) (a : M) (y : Came M) → n < R.work a → within R n (followed R Over y) ≡ within R n (followed R (Trapped t l a) y)
-over_trap R n t l a (Ran b) h = sym (over_by n (R.work a) (Trapped t l a) h)
+over_trap R n t l a (Completed b) h = sym (over_by n (R.work a) (Trapped t l a) h)
 over_trap R n t l a (Trapped t' l' b) h = sym (over_by n (R.work a) (Trapped t l a) h)
 over_trap R n t l a Over h = sym (over_by n (R.work a) (Trapped t l a) h)
 over_trap R n t l a Memory h = refl
 
 pub tested_first : {M : Type 0} (R : Readings M) (L : IsLawful M R) (n m : ℕ) (x y : Came M) → n ≤ m → within R n (followed R (within R m x) y) ≡ within R n (followed R x y)
-tested_first R L n m (Ran a) y h = by_test (nat_lt m (R.work a)) refl
+tested_first R L n m (Completed a) y h = by_test (nat_lt m (R.work a)) refl
   where
-    by_test : (b : Bool) → nat_lt m (R.work a) ≡ b → within R n (followed R (over_if b (Ran a)) y) ≡ within R n (followed R (Ran a) y)
+    by_test : (b : Bool) → nat_lt m (R.work a) ≡ b → within R n (followed R (over_if b (Completed a)) y) ≡ within R n (followed R (Completed a) y)
     by_test true e = let k = is_below m (R.work a) e in over_first R L n a y (omega arith)
     by_test false e = refl
 tested_first R L n m (Trapped t l a) y h = by_test (nat_lt m (R.work a)) refl
@@ -87,22 +88,22 @@ tested_first R L n m (Trapped t l a) y h = by_test (nat_lt m (R.work a)) refl
 tested_first R L n m Over y h = refl
 tested_first R L n m Memory y h = refl
 
-over_second : {M : Type 0} (R : Readings M) (L : IsLawful M R) (n : ℕ) (x : Came M) (b : M) → n < R.work b → within R n (followed R x Over) ≡ within R n (followed R x (Ran b))
-over_second R L n (Ran a) b h = let k = L.above_second a b in sym (over_by n (R.work (R.joined a b)) (Ran (R.joined a b)) (omega arith))
+over_second : {M : Type 0} (R : Readings M) (L : IsLawful M R) (n : ℕ) (x : Came M) (b : M) → n < R.work b → within R n (followed R x Over) ≡ within R n (followed R x (Completed b))
+over_second R L n (Completed a) b h = let k = L.above_second a b in sym (over_by n (R.work (R.joined a b)) (Completed (R.joined a b)) (omega arith))
 over_second R L n (Trapped t l a) b h = refl
 over_second R L n Over b h = refl
 over_second R L n Memory b h = refl
 
 over_second_trap : {M : Type 0} (R : Readings M) (L : IsLawful M R) (n : ℕ) (x : Came M) (t : Trap) (l : ℕ) (b : M) → n < R.work b → within R n (followed R x Over) ≡ within R n (followed R x (Trapped t l b))
-over_second_trap R L n (Ran a) t l b h = let k = L.above_second a b in sym (over_by n (R.work (R.joined a b)) (Trapped t l (R.joined a b)) (omega arith))
+over_second_trap R L n (Completed a) t l b h = let k = L.above_second a b in sym (over_by n (R.work (R.joined a b)) (Trapped t l (R.joined a b)) (omega arith))
 over_second_trap R L n (Trapped t' l' a) t l b h = refl
 over_second_trap R L n Over t l b h = refl
 over_second_trap R L n Memory t l b h = refl
 
 pub tested_second : {M : Type 0} (R : Readings M) (L : IsLawful M R) (n m : ℕ) (x y : Came M) → n ≤ m → within R n (followed R x (within R m y)) ≡ within R n (followed R x y)
-tested_second R L n m x (Ran b) h = by_test (nat_lt m (R.work b)) refl
+tested_second R L n m x (Completed b) h = by_test (nat_lt m (R.work b)) refl
   where
-    by_test : (t : Bool) → nat_lt m (R.work b) ≡ t → within R n (followed R x (over_if t (Ran b))) ≡ within R n (followed R x (Ran b))
+    by_test : (t : Bool) → nat_lt m (R.work b) ≡ t → within R n (followed R x (over_if t (Completed b))) ≡ within R n (followed R x (Completed b))
     by_test true e = let k = is_below m (R.work b) e in over_second R L n x b (omega arith)
     by_test false e = refl
 tested_second R L n m x (Trapped trap line b) h = by_test (nat_lt m (R.work b)) refl
@@ -131,14 +132,14 @@ joined-assoc R L p q r =
     ∙ ap (λ (k : ℕ). within R k (followed R p.came (followed R q.came r.came))) e
     ∙ sym (tested_second R L m (min q.limit r.limit) p.came (followed R q.came r.came) (omega arith)))
 
-pub none_followed : {M : Type 0} (R : Readings M) (L : IsLawful M R) (x : Came M) → followed R (Ran R.none) x ≡ x
-none_followed R L (Ran a) = ap Ran (L.none_first a)
+pub none_followed : {M : Type 0} (R : Readings M) (L : IsLawful M R) (x : Came M) → followed R (Completed R.none) x ≡ x
+none_followed R L (Completed a) = ap Completed (L.none_first a)
 none_followed R L (Trapped t l a) = ap (Trapped t l) (L.none_first a)
 none_followed R L Over = refl
 none_followed R L Memory = refl
 
-followed_none : {M : Type 0} (R : Readings M) (L : IsLawful M R) (x : Came M) → followed R x (Ran R.none) ≡ x
-followed_none R L (Ran a) = ap Ran (L.none_last a)
+followed_none : {M : Type 0} (R : Readings M) (L : IsLawful M R) (x : Came M) → followed R x (Completed R.none) ≡ x
+followed_none R L (Completed a) = ap Completed (L.none_last a)
 followed_none R L (Trapped t l a) = refl
 followed_none R L Over = refl
 followed_none R L Memory = refl
@@ -146,25 +147,25 @@ followed_none R L Memory = refl
 pub joined-first : {M : Type 0} (R : Readings M) (L : IsLawful M R) (p : Part M) → IsPart M R p → part_joined R (nothing_ran R) p ≡ p
 joined-first R L p h =
     let l = h.limited in
-    let n = min greatest_limit p.limit in
+    let n = min MOST_LIMIT p.limit in
     let e : n ≡ p.limit = omega arith in
-    same_part n p.limit (within R n (followed R (Ran R.none) p.came)) p.came e
-    (ap (λ (k : ℕ). within R k (followed R (Ran R.none) p.came)) e ∙ ap (within R p.limit) (none_followed R L p.came) ∙ h.tested)
+    same_part n p.limit (within R n (followed R (Completed R.none) p.came)) p.came e
+    (ap (λ (k : ℕ). within R k (followed R (Completed R.none) p.came)) e ∙ ap (within R p.limit) (none_followed R L p.came) ∙ h.tested)
 
 pub joined-last : {M : Type 0} (R : Readings M) (L : IsLawful M R) (p : Part M) → IsPart M R p → part_joined R p (nothing_ran R) ≡ p
 joined-last R L p h =
     let l = h.limited in
-    let n = min p.limit greatest_limit in
+    let n = min p.limit MOST_LIMIT in
     let e : n ≡ p.limit = omega arith in
-    same_part n p.limit (within R n (followed R p.came (Ran R.none))) p.came e
-    (ap (λ (k : ℕ). within R k (followed R p.came (Ran R.none))) e ∙ ap (within R p.limit) (followed_none R L p.came) ∙ h.tested)
+    same_part n p.limit (within R n (followed R p.came (Completed R.none))) p.came e
+    (ap (λ (k : ℕ). within R k (followed R p.came (Completed R.none))) e ∙ ap (within R p.limit) (followed_none R L p.came) ∙ h.tested)
 
 tested_twice : {M : Type 0} (R : Readings M) (n : ℕ) (x : Came M) → within R n (within R n x) ≡ within R n x
-tested_twice R n (Ran a) = by_test (nat_lt n (R.work a)) refl
+tested_twice R n (Completed a) = by_test (nat_lt n (R.work a)) refl
   where
-    by_test : (b : Bool) → nat_lt n (R.work a) ≡ b → within R n (over_if b (Ran a)) ≡ over_if b (Ran a)
+    by_test : (b : Bool) → nat_lt n (R.work a) ≡ b → within R n (over_if b (Completed a)) ≡ over_if b (Completed a)
     by_test true e = refl
-    by_test false e = ap (λ (b : Bool). over_if b (Ran a)) e
+    by_test false e = ap (λ (b : Bool). over_if b (Completed a)) e
 tested_twice R n (Trapped t l a) = by_test (nat_lt n (R.work a)) refl
   where
     by_test : (b : Bool) → nat_lt n (R.work a) ≡ b → within R n (over_if b (Trapped t l a)) ≡ over_if b (Trapped t l a)
@@ -178,6 +179,6 @@ parts_join R L = record {
   first = joined-first R L;
   last = joined-last R L;
   regroup = joined-assoc R L;
-  nothing_is = record { limited = omega arith; tested = ap (λ (b : Bool). over_if b (Ran R.none)) (not_below greatest_limit (R.work R.none) (let a = L.no_work in omega arith)) };
+  nothing_is = record { limited = omega arith; tested = ap (λ (b : Bool). over_if b (Completed R.none)) (not_below MOST_LIMIT (R.work R.none) (let a = L.no_work in omega arith)) };
   joined_is = λ p q h k. record { limited = let a = h.limited in omega arith; tested = tested_twice R (min p.limit q.limit) (followed R p.came q.came) };
 }

@@ -1,5 +1,6 @@
 -- How a part of a run came out, and parts that are joined in serial order.
 use Rattle.std.specs.Prelude.{◌≡◌, ℕ, ◌^◌, ◌≤◌, nat_lt, min, Bool, true, false}
+use Rattle.cw_model.specs.declared.limits.TheConstants.{MOST_LIMIT}
 use Rattle.cw_model.specs.declared.trap.Trap.{Trap}
 
 -- what is read of a part: of nothing, of a part and the next one, and the work of it
@@ -20,22 +21,22 @@ pub record IsLawful (M : Type 0) (R : Readings M) : Type 0 where
 -- a part ran to its end; or it trapped, in a line, and this is what was read up to and with the trapping instruction;
 -- or its work passed the limit, or memory was refused: then nothing of it is left
 pub data Came (M : Type 0) : Type 0 where
-  Ran : M → Came M
+  Completed : M → Came M
   Trapped : (trap : Trap) (line : ℕ) → M → Came M
   Over : Came M
   Memory : Came M
 
 -- a part and the next one: what follows a trap or an end at the limit is dropped; memory that was refused on either side is so for both
 abbrev pub followed : {M : Type 0} → Readings M → Came M → Came M → Came M
-followed R (Ran a) (Ran b) = Ran (R.joined a b)
-followed R (Ran a) (Trapped trap line b) = Trapped trap line (R.joined a b)
-followed R (Ran a) Over = Over
-followed R (Ran a) Memory = Memory
-followed R (Trapped trap line a) (Ran b) = Trapped trap line a
+followed R (Completed a) (Completed b) = Completed (R.joined a b)
+followed R (Completed a) (Trapped trap line b) = Trapped trap line (R.joined a b)
+followed R (Completed a) Over = Over
+followed R (Completed a) Memory = Memory
+followed R (Trapped trap line a) (Completed b) = Trapped trap line a
 followed R (Trapped trap line a) (Trapped trap' line' b) = Trapped trap line a
 followed R (Trapped trap line a) Over = Trapped trap line a
 followed R (Trapped trap line a) Memory = Memory
-followed R Over (Ran b) = Over
+followed R Over (Completed b) = Over
 followed R Over (Trapped trap line b) = Over
 followed R Over Over = Over
 followed R Over Memory = Memory
@@ -43,28 +44,28 @@ followed R Memory y = Memory
 
 -- something else is read of a part
 abbrev pub seen : {M N : Type 0} → (M → N) → Came M → Came N
-seen f (Ran a) = Ran (f a)
+seen f (Completed a) = Completed (f a)
 seen f (Trapped trap line a) = Trapped trap line (f a)
 seen f Over = Over
 seen f Memory = Memory
 
 -- whether it ran to its end, so that what follows it counts
 abbrev pub has_run : {M : Type 0} → Came M → Bool
-has_run (Ran a) = true
+has_run (Completed a) = true
 has_run (Trapped trap line a) = false
 has_run Over = false
 has_run Memory = false
 
 -- whether memory was refused
 abbrev pub is_memory : {M : Type 0} → Came M → Bool
-is_memory (Ran a) = false
+is_memory (Completed a) = false
 is_memory (Trapped trap line a) = false
 is_memory Over = false
 is_memory Memory = true
 
 -- whether the work of a part is above the limit
 abbrev pub is_above : {M : Type 0} → Readings M → (limit : ℕ) → Came M → Bool
-is_above R n (Ran a) = nat_lt n (R.work a)
+is_above R n (Completed a) = nat_lt n (R.work a)
 is_above R n (Trapped trap line a) = nat_lt n (R.work a)
 is_above R n Over = false
 is_above R n Memory = false
@@ -86,16 +87,12 @@ pub record Part (M : Type 0) : Type 0 where
 abbrev pub part_joined : {M : Type 0} → Readings M → Part M → Part M → Part M
 part_joined R p q = record { limit = min p.limit q.limit; came = within R (min p.limit q.limit) (followed R p.came q.came) }
 
--- the greatest limit, and a part of nothing
-abbrev pub greatest_limit : ℕ
-greatest_limit = 2 ^ 62
-
 abbrev pub nothing_ran : {M : Type 0} → Readings M → Part M
-nothing_ran R = record { limit = greatest_limit; came = Ran R.none }
+nothing_ran R = record { limit = MOST_LIMIT; came = Completed R.none }
 
 -- a part is within its own limit
 pub record IsPart (M : Type 0) (R : Readings M) (p : Part M) : Type 0 where
-  pub limited : p.limit ≤ greatest_limit
+  pub limited : p.limit ≤ MOST_LIMIT
   pub tested : within R p.limit p.came ≡ p.came
 
 -- parts make a monoid: whatever the readings, in any grouping

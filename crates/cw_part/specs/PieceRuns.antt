@@ -10,7 +10,7 @@ use Rattle.cw_model.specs.Outcome.{Trace, quiet, shows, Outcome, Done, Piece, �
 use Rattle.cw_model.specs.Outcome as model
 use Rattle.cw_model.specs.Meaning.{Completion, Returned, Entry, turns, call}
 use Rattle.cw_measure.specs.OpenParts.{marked, part_of}
-use Rattle.cw_part.specs.Parts.{Came, Ran, Trapped, Over, Memory}
+use Rattle.cw_part.specs.Parts.{Came, Completed, Trapped, Over, Memory}
 use Rattle.cw_part.specs.Runs.{Run, Ends, Shows, Traps, Inside, then_run, cost, serial}
 
 -- what a piece of the model gives
@@ -29,12 +29,12 @@ Given OfStatement = Completion
 Given OfCall = Returned
 
 -- how a piece comes out within a limit: with a value, and so much left of the limit; or it stops, at a trap or at the limit
-abbrev pub Way : Kind → Type 0
-Way kind = Option (Given kind × ℕ)
+abbrev pub Exit : Kind → Type 0
+Exit kind = Option (Given kind × ℕ)
 
 -- instructions with this value come out so
-abbrev pub way_of : (kind : Kind) (limit cost : ℕ) → Given kind → Way kind
-way_of kind limit k a = if nat_lt limit k then None else Some (a, limit - k)
+abbrev pub exit_of : (kind : Kind) (limit cost : ℕ) → Given kind → Exit kind
+exit_of kind limit k a = if nat_lt limit k then None else Some (a, limit - k)
 
 -- so many instructions, one by one
 abbrev pub instructions : ℕ → Run
@@ -46,43 +46,43 @@ abbrev pub past : (limit : ℕ) → Run
 past limit = Shows (shows (Work (suc limit) ∷ [])) Ends
 
 -- this piece of the model is this run of a frame within the limit, and comes out so
-pub data IsRunOf : (kind : Kind) (limit : ℕ) → Piece (Given kind) → Run → Way kind → Type 0 where
+pub data IsRunOf : (kind : Kind) (limit : ℕ) → Piece (Given kind) → Run → Exit kind → Type 0 where
   Nothing : (kind : Kind) (limit : ℕ) (a : Given kind) → IsRunOf kind limit (gives a) Ends (Some (a, limit))
   Free : (limit : ℕ) (t : Trace) → cost t ≡ 0 → IsRunOf OfNothing limit (show t) (Shows t Ends) (Some (tt, limit))
-  Paid : (limit k : ℕ) → IsRunOf OfNothing limit (pay k) (instructions k) (way_of OfNothing limit k tt)
-  Valued : (limit line : ℕ) (v : ℤ) (k : ℕ) → IsRunOf OfInt limit (pay_for (expression.Gives v k) line) (instructions k) (way_of OfInt limit k v)
+  Paid : (limit k : ℕ) → IsRunOf OfNothing limit (pay k) (instructions k) (exit_of OfNothing limit k tt)
+  Valued : (limit line : ℕ) (v : ℤ) (k : ℕ) → IsRunOf OfInt limit (pay_for (expression.Gives v k) line) (instructions k) (exit_of OfInt limit k v)
   -- the cost of a trap is that up to and with the instruction that traps
   Failed : (limit line : ℕ) (trap : Trap) (k : ℕ) → IsRunOf OfInt limit (pay_for (expression.Traps trap k) line) (Traps trap line (shows (works k))) None
   AtOnce : (kind : Kind) (limit line : ℕ) (trap : Trap) → IsRunOf kind limit (λ left. model.Trapped trap line []) (Traps trap line quiet) None
   CutOff : (kind : Kind) (limit : ℕ) → IsRunOf kind limit (λ left. model.Over) (past limit) None
   -- a call, a region or a scope in place, or a spawned child
-  Nested : (kind : Kind) (limit : ℕ) (spawned : Bool) (mark : Option Mark) (piece : Piece (Given kind)) (inner : Run) (way : Way kind)
-      → IsRunOf kind limit piece inner way
-      → IsRunOf kind limit (as_one (λ tree. part_of spawned (marked mark tree)) piece) (Inside spawned mark inner Ends) way
-  Further : (kind later : Kind) (limit left : ℕ) (piece : Piece (Given kind)) (next : Given kind → Piece (Given later)) (first rest : Run) (a : Given kind) (way : Way later)
-      → IsRunOf kind limit piece first (Some (a, left)) → IsRunOf later left (next a) rest way
-      → IsRunOf later limit (◌>>=◌ piece next) (then_run first rest) way
+  Nested : (kind : Kind) (limit : ℕ) (spawned : Bool) (mark : Option Mark) (piece : Piece (Given kind)) (inner : Run) (exit : Exit kind)
+      → IsRunOf kind limit piece inner exit
+      → IsRunOf kind limit (as_one (λ tree. part_of spawned (marked mark tree)) piece) (Inside spawned mark inner Ends) exit
+  Further : (kind later : Kind) (limit left : ℕ) (piece : Piece (Given kind)) (next : Given kind → Piece (Given later)) (first rest : Run) (a : Given kind) (exit : Exit later)
+      → IsRunOf kind limit piece first (Some (a, left)) → IsRunOf later left (next a) rest exit
+      → IsRunOf later limit (◌>>=◌ piece next) (then_run first rest) exit
   Stopped : (kind later : Kind) (limit : ℕ) (piece : Piece (Given kind)) (next : Given kind → Piece (Given later)) (first : Run)
       → IsRunOf kind limit piece first None → IsRunOf later limit (◌>>=◌ piece next) first None
   -- the turns of a `while` are at most as many as the budget says: the greatest one allows no other turns than each budget does
-  Turns : (limit line : ℕ) (test : Frame → Evaluated) (body : Frame → Piece Completion) (frame : Frame) (run : Run) (way : Way OfStatement)
+  Turns : (limit line : ℕ) (test : Frame → Evaluated) (body : Frame → Piece Completion) (frame : Frame) (run : Run) (exit : Exit OfStatement)
       → ((left : ℕ) → left ≤ limit → turns (suc left) test line body frame left ≡ turns (suc limit) test line body frame left)
-      → IsRunOf OfStatement limit (turns (suc limit) test line body frame) run way
-      → IsRunOf OfStatement limit (λ left. turns (suc left) test line body frame left) run way
+      → IsRunOf OfStatement limit (turns (suc limit) test line body frame) run exit
+      → IsRunOf OfStatement limit (λ left. turns (suc left) test line body frame left) run exit
 
 -- a piece has a run within a limit
 pub record HasRun (kind : Kind) (limit : ℕ) (piece : Piece (Given kind)) : Type 0 where
   pub run : Run
-  pub way : Way kind
-  pub is_run : IsRunOf kind limit piece run way
+  pub exit : Exit kind
+  pub is_run : IsRunOf kind limit piece run exit
 
 -- how a run came out, as the model has it, with what the piece gives
-abbrev pub outcome_with : (kind : Kind) → (left : ℕ) → Came Trace → Way kind → Outcome (Given kind)
-outcome_with kind left (Ran t) (Some end) = Done end.0 (left - cost t) t
-outcome_with kind left (Ran t) None = model.Over
-outcome_with kind left (Trapped trap line t) way = model.Trapped trap line t.lines
-outcome_with kind left Over way = model.Over
-outcome_with kind left Memory way = model.Over
+abbrev pub outcome_with : (kind : Kind) → (left : ℕ) → Came Trace → Exit kind → Outcome (Given kind)
+outcome_with kind left (Completed t) (Some end) = Done end.0 (left - cost t) t
+outcome_with kind left (Completed t) None = model.Over
+outcome_with kind left (Trapped trap line t) exit = model.Trapped trap line t.lines
+outcome_with kind left Over exit = model.Over
+outcome_with kind left Memory exit = model.Over
 
 -- each call of the model is a run of a frame within each limit
 abbrev pub CallsAreRuns : Type 0
@@ -93,5 +93,5 @@ CallsAreRuns =
 -- within each budget that the limit allows, a piece comes to what its serial run does
 abbrev pub RunsTellOfPieces : Type 0
 RunsTellOfPieces =
-    (kind : Kind) (limit left : ℕ) (piece : Piece (Given kind)) (run : Run) (way : Way kind)
-    → IsRunOf kind limit piece run way → left ≤ limit → piece left ≡ outcome_with kind left (serial left run) way
+    (kind : Kind) (limit left : ℕ) (piece : Piece (Given kind)) (run : Run) (exit : Exit kind)
+    → IsRunOf kind limit piece run exit → left ≤ limit → piece left ≡ outcome_with kind left (serial left run) exit

@@ -1,10 +1,11 @@
 -- Parts of runs join.
+use Rattle.cw_model.specs.declared.limits.TheConstants.{MOST_LIMIT}
 use Rattle.std.specs.Prelude.{◌≡◌, ℕ, ◌≤◌, nat_lt, false}
 use Rattle.std.proofs.Common.{◌∙◌, ap, subst, arith}
 use Rattle.std.proofs.Math.Bool.{Bool-set}
 use Rattle.std.proofs.lemmas.Bool.Decides.{nat_tests}
 use Rattle.cw_part.specs.declared.read.Read.{Read}
-use Rattle.cw_part.specs.Parts.{Came, IsLawful, is_above, greatest_limit, Part, IsPart}
+use Rattle.cw_part.specs.Parts.{Came, IsLawful, is_above, Part, IsPart}
 use Rattle.cw_part.specs.PartFacts.{tested_stays}
 use Rattle.cw_part.specs.Read.{readings, PartsOfRunsJoin}
 use Rattle.cw_part.specs.ReadLaws.{read-first, read-last, read-assoc}
@@ -25,18 +26,18 @@ pub parts_of_runs_join : PartsOfRunsJoin
 parts_of_runs_join = parts_join readings readings_are_lawful
 
 -- parts with the same limit that came out the same are the same
-abbrev part_with : (n : ℕ) (x : Came Read) → nat_lt greatest_limit n ≡ false → is_above readings n x ≡ false → RunPart
+abbrev part_with : (n : ℕ) (x : Came Read) → nat_lt MOST_LIMIT n ≡ false → is_above readings n x ≡ false → RunPart
 part_with n x l t = record { limit = n; came = x; limited = l; tested = t }
 
-same_came : (n : ℕ) (x y : Came Read) → x ≡ y → (l k : nat_lt greatest_limit n ≡ false) (t : is_above readings n x ≡ false) (u : is_above readings n y ≡ false) → part_with n x l t ≡ part_with n y k u
+same_came : (n : ℕ) (x y : Came Read) → x ≡ y → (l k : nat_lt MOST_LIMIT n ≡ false) (t : is_above readings n x ≡ false) (u : is_above readings n y ≡ false) → part_with n x l t ≡ part_with n y k u
 same_came n x y e l k t u =
     let P : Came Read → Type 0 = λ z. (v : is_above readings n z ≡ false) → part_with n x l t ≡ part_with n z k v in
-    (subst P e (λ v. ap (λ (a : nat_lt greatest_limit n ≡ false). part_with n x a t) (Bool-set (nat_lt greatest_limit n) false l k)
+    (subst P e (λ v. ap (λ (a : nat_lt MOST_LIMIT n ≡ false). part_with n x a t) (Bool-set (nat_lt MOST_LIMIT n) false l k)
     ∙ ap (part_with n x k) (Bool-set (is_above readings n x) false t v))) u
 
-same_with : (n m : ℕ) (x y : Came Read) → n ≡ m → x ≡ y → (l : nat_lt greatest_limit n ≡ false) (k : nat_lt greatest_limit m ≡ false) (t : is_above readings n x ≡ false) (u : is_above readings m y ≡ false) → part_with n x l t ≡ part_with m y k u
+same_with : (n m : ℕ) (x y : Came Read) → n ≡ m → x ≡ y → (l : nat_lt MOST_LIMIT n ≡ false) (k : nat_lt MOST_LIMIT m ≡ false) (t : is_above readings n x ≡ false) (u : is_above readings m y ≡ false) → part_with n x l t ≡ part_with m y k u
 same_with n m x y e f l k t u =
-    let P : ℕ → Type 0 = λ z. (a : nat_lt greatest_limit z ≡ false) (v : is_above readings z y ≡ false) → part_with n x l t ≡ part_with z y a v in
+    let P : ℕ → Type 0 = λ z. (a : nat_lt MOST_LIMIT z ≡ false) (v : is_above readings z y ≡ false) → part_with n x l t ≡ part_with z y a v in
     (subst P e (λ a v. same_came n x y f l a t v)) k u
 
 pub same_run : (p q : RunPart) → p.limit ≡ q.limit → p.came ≡ q.came → p ≡ q
@@ -49,7 +50,7 @@ pub is_limit : (most n : ℕ) → nat_lt most n ≡ false → n ≤ most
 is_limit most n h = grind (arith, nat_tests)
 
 pub is_part : (p : RunPart) → IsPart Read readings (part_of p)
-is_part p = record { limited = is_limit greatest_limit p.limit p.limited; tested = tested_stays readings p.limit p.came p.tested }
+is_part p = record { limited = is_limit MOST_LIMIT p.limit p.limited; tested = tested_stays readings p.limit p.came p.tested }
 
 pub run-first : (p : RunPart) → run_joined nothing_part p ≡ p
 run-first p = same_part (run_joined nothing_part p) p (parts_of_runs_join.first (part_of p) (is_part p))

@@ -1,8 +1,9 @@
 -- Parts of runs: how each came out, and the limit of its work.
+use Rattle.cw_model.specs.declared.limits.TheConstants.{MOST_LIMIT}
 use Rattle.std.specs.Prelude.{◌≡◌, ℕ, nat_lt, min, false, refl}
 use Rattle.std.proofs.Common.{◌∙◌}
 use Rattle.cw_part.specs.declared.read.Read.{Read}
-use Rattle.cw_part.specs.Parts.{Came, Ran, followed, seen, is_above, within, greatest_limit, Part}
+use Rattle.cw_part.specs.Parts.{Came, Completed, followed, seen, is_above, within, Part}
 use Rattle.cw_part.specs.PartFacts.{lesser_limited, is_tested}
 use Rattle.cw_part.specs.ChildFacts.{child_above, call_above}
 use Rattle.cw_part.specs.Read.{nothing_read, child_read, call_read, readings}
@@ -11,23 +12,23 @@ use Rattle.cw_part.specs.Read.{nothing_read, child_read, call_read, readings}
 pub record RunPart : Type 0 where
   pub limit : ℕ
   pub came : Came Read
-  pub limited : nat_lt greatest_limit limit ≡ false
+  pub limited : nat_lt MOST_LIMIT limit ≡ false
   pub tested : is_above readings limit came ≡ false
 
 -- the part with this limit that came out so, as its type keeps it
-abbrev pub run_part : (limit : ℕ) (came : Came Read) → nat_lt greatest_limit limit ≡ false → is_above readings limit came ≡ false → RunPart
+abbrev pub run_part : (limit : ℕ) (came : Came Read) → nat_lt MOST_LIMIT limit ≡ false → is_above readings limit came ≡ false → RunPart
 run_part limit came limited tested = record { limit = limit; came = came; limited = limited; tested = tested }
 
 -- a part of nothing
 abbrev pub nothing_part : RunPart
-nothing_part = record { limit = greatest_limit; came = Ran nothing_read; limited = refl; tested = refl }
+nothing_part = record { limit = MOST_LIMIT; came = Completed nothing_read; limited = refl; tested = refl }
 
 -- a part and the next one: the lesser limit is that of both, also where one of them is dropped
 abbrev pub run_joined : RunPart → RunPart → RunPart
 run_joined p q = record {
   limit = min p.limit q.limit;
   came = within readings (min p.limit q.limit) (followed readings p.came q.came);
-  limited = lesser_limited greatest_limit p.limit q.limit p.limited;
+  limited = lesser_limited MOST_LIMIT p.limit q.limit p.limited;
   tested = is_tested readings (min p.limit q.limit) (followed readings p.came q.came);
 }
 

@@ -9,7 +9,7 @@ use Rattle.cw_measure.specs.OpenParts.{marked, part_of}
 use Rattle.cw_reduce.specs.Shown.{sum_of}
 use Rattle.cw_reduce.specs.Words.{Word, nothing, plus, word_of}
 use Rattle.cw_part.specs.declared.read.Read.{Read}
-use Rattle.cw_part.specs.Parts.{Readings, Came, Ran, Trapped, Over, Memory, followed, seen, over_if}
+use Rattle.cw_part.specs.Parts.{Readings, Came, Completed, Trapped, Over, Memory, followed, seen, over_if}
 use Rattle.cw_part.specs.RunParts.{RunPart, run_joined, as_child, as_call}
 
 -- the work of a trace, and traces as what is read of parts
@@ -40,15 +40,15 @@ as_event spawned mark t = record { lines = t.lines; additions = t.additions; eve
 
 -- what goes on where a part inside ran to its end
 abbrev pub goes_on : Came Trace → (Trace → Came Trace) → Came Trace
-goes_on (Ran t) go = followed traces (Ran t) (go t)
+goes_on (Completed t) go = followed traces (Completed t) (go t)
 goes_on (Trapped trap line t) go = Trapped trap line t
 goes_on Over go = Over
 goes_on Memory go = Memory
 
 -- the serial run, within what is left of a limit: it stops before the instruction that passes it
 abbrev pub serial : (left : ℕ) → Run → Came Trace
-serial left Ends = Ran quiet
-serial left (Shows t rest) = over_if (nat_lt left (cost t)) (followed traces (Ran t) (serial (left - cost t) rest))
+serial left Ends = Completed quiet
+serial left (Shows t rest) = over_if (nat_lt left (cost t)) (followed traces (Completed t) (serial (left - cost t) rest))
 serial left (Traps trap line t) = over_if (nat_lt left (cost t)) (Trapped trap line t)
 serial left (Inside spawned mark inner rest) = goes_on (seen (as_event spawned mark) (serial left inner)) (λ t. serial (left - cost t) rest)
 
@@ -72,13 +72,13 @@ pub record TellsTrap (t : Trace) (a : Read) : Type 0 where
 
 -- how a part came out tells how a run did
 pub data TellsCame (burden : ℕ) (number : Name → ℕ) : Came Trace → Came Read → Type 0 where
-  RanAlike : (t : Trace) (a : Read) → TellsTrace burden number t a → TellsCame burden number (Ran t) (Ran a)
+  RanAlike : (t : Trace) (a : Read) → TellsTrace burden number t a → TellsCame burden number (Completed t) (Completed a)
   TrappedAlike : (trap : Trap) (line : ℕ) (t : Trace) (a : Read) → TellsTrap t a → TellsCame burden number (Trapped trap line t) (Trapped trap line a)
   OverAlike : TellsCame burden number Over Over
 
 -- what is counted before a later piece is no more than what was before the first one and what that spent, where it ran to its end
 abbrev pub IsCountedAfter : (before : ℕ) → Came Trace → (between : ℕ) → Type 0
-IsCountedAfter before (Ran t) between = between ≤ before + cost t
+IsCountedAfter before (Completed t) between = between ≤ before + cost t
 IsCountedAfter before (Trapped trap line t) between = Unit {0}
 IsCountedAfter before Over between = Unit {0}
 IsCountedAfter before Memory between = Unit {0}

@@ -1,7 +1,7 @@
 -- Each run has a part, wherever a strand that runs it stops.
 use Rattle.std.specs.Prelude.{ℕ, ◌≤◌}
+use Rattle.cw_model.specs.declared.limits.TheConstants.{MOST_LIMIT}
 use Rattle.cw_model.specs.Syntax.{Name}
-use Rattle.cw_part.specs.Parts.{greatest_limit}
 use Rattle.cw_part.specs.RunParts.{RunPart}
 use Rattle.cw_part.specs.Runs.{Run, IsJoinedOf}
 
@@ -13,4 +13,4 @@ pub record HasPart (burden : ℕ) (number : Name → ℕ) (limit before : ℕ) (
 -- for each limit, and each cost before the run that is within it
 abbrev pub RunsHaveParts : Type 0
 RunsHaveParts =
-    (burden : ℕ) (number : Name → ℕ) (limit before : ℕ) (run : Run) → limit ≤ greatest_limit → before ≤ limit → HasPart burden number limit before run
+    (burden : ℕ) (number : Name → ℕ) (limit before : ℕ) (run : Run) → limit ≤ MOST_LIMIT → before ≤ limit → HasPart burden number limit before run

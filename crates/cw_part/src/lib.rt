@@ -22,7 +22,7 @@ mod read;
 mod tables;
 
 pub use outcome::Outcome;
-pub use part::{GREATEST_LIMIT, Part};
+pub use part::Part;
 pub use piece::Piece;
 pub use read::Read;
 pub use tables::Tables;

@@ -2,7 +2,7 @@
 
 ghost use Rattle.std.specs.Prelude.{◌≡◌, IfOk};
 ghost use Rattle.cw_part.specs.Outcomes.{came_of, came_with};
-ghost use Rattle.cw_part.specs.Parts.{Ran, has_run, is_above, is_memory, seen, within};
+ghost use Rattle.cw_part.specs.Parts.{Completed, has_run, is_above, is_memory, seen, within};
 ghost use Rattle.cw_part.specs.Read.{call_read, child_read, readings};
 
 use crate::read::Read;
@@ -14,7 +14,7 @@ use std::alloc::AllocError;
 #[derive(Debug, Drop)]
 pub enum Outcome {
     /// It ran to its end.
-    Ran(Read),
+    Completed(Read),
     /// It trapped, in a line; what was read is that up to and with the trapping instruction.
     Trapped { trap: Trap, line: u32, read: Read },
     /// Its work passed the limit: nothing of it is left.
@@ -30,7 +30,7 @@ impl Outcome {
         ensures { IfOk result (λ both. came_of both ≡ came_with (came_of self) next) }
     {
         match self {
-            Outcome::Ran(first) => {
+            Outcome::Completed(first) => {
                 let both = next.after(first)?;
                 Ok(both)
             }
@@ -54,12 +54,12 @@ impl Outcome {
 
     // This, after a part that ran to its end.
     fn after(self, first: Read) -> Result<Outcome, AllocError>
-        ensures { IfOk result (λ both. came_of both ≡ came_with (Ran first) self) }
+        ensures { IfOk result (λ both. came_of both ≡ came_with (Completed first) self) }
     {
         match self {
-            Outcome::Ran(second) => {
+            Outcome::Completed(second) => {
                 let read = first.join(second)?;
-                Ok(Outcome::Ran(read))
+                Ok(Outcome::Completed(read))
             }
             Outcome::Trapped {
                 trap,
@@ -90,7 +90,7 @@ impl Outcome {
         ensures { result ≡ is_above readings limit (came_of self.now) }
     {
         match self {
-            Outcome::Ran(read) => limit < read.measure.work(),
+            Outcome::Completed(read) => limit < read.measure.work(),
             Outcome::Trapped { read, .. } => limit < read.measure.work(),
             Outcome::Over => false,
             Outcome::Memory => false,
@@ -102,7 +102,7 @@ impl Outcome {
         ensures { came_of result ≡ seen (child_read burden) (came_of self) }
     {
         match self {
-            Outcome::Ran(read) => Outcome::Ran(read.into_child(burden)),
+            Outcome::Completed(read) => Outcome::Completed(read.into_child(burden)),
             Outcome::Trapped { trap, line, read } => Outcome::Trapped {
                 trap,
                 line,
@@ -118,7 +118,7 @@ impl Outcome {
         ensures { came_of result ≡ seen call_read (came_of self) }
     {
         match self {
-            Outcome::Ran(read) => Outcome::Ran(read.into_call()),
+            Outcome::Completed(read) => Outcome::Completed(read.into_call()),
             Outcome::Trapped { trap, line, read } => Outcome::Trapped {
                 trap,
                 line,
@@ -134,7 +134,7 @@ impl Outcome {
         ensures { result ≡ has_run (came_of self.now) }
     {
         match self {
-            Outcome::Ran(_) => true,
+            Outcome::Completed(_) => true,
             _ => false,
         }
     }

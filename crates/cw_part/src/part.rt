@@ -1,19 +1,18 @@
 //! Parts of runs.
 
 ghost use Rattle.std.specs.Prelude.{◌≡◌, ℕ, ◌≤◌, nat_lt, false, IfOk};
+ghost use Rattle.cw_model.specs.declared.limits.TheConstants.{MOST_LIMIT};
 ghost use Rattle.cw_part.specs.Outcomes.{came_of};
-ghost use Rattle.cw_part.specs.Parts.{greatest_limit, has_run, is_above};
+ghost use Rattle.cw_part.specs.Parts.{has_run, is_above};
 ghost use Rattle.cw_part.specs.Read.{readings};
 ghost use Rattle.cw_part.specs.RunParts.{IsMade, as_call, as_child, nothing_part, run_joined};
 
 use crate::outcome::Outcome;
 use crate::read::Read;
+use cw_model::limits::MOST_LIMIT;
 use cw_model::monoid::Monoid;
 use std::alloc::{AllocError, Global};
 use std::marker::Model;
-
-/// The greatest limit, in instructions.
-pub const GREATEST_LIMIT: u64 = 4_611_686_018_427_387_904;
 
 /// How a part of a run came out, and the limit of its work in instructions. Work above the limit is over, and work of
 /// just the limit is not.
@@ -21,7 +20,7 @@ pub const GREATEST_LIMIT: u64 = 4_611_686_018_427_387_904;
 pub struct Part {
     limit: u64,
     outcome: Outcome,
-    ghost limited: { nat_lt greatest_limit limit ≡ false },
+    ghost limited: { nat_lt MOST_LIMIT limit ≡ false },
     ghost tested: { is_above readings limit (came_of outcome) ≡ false },
 }
 
@@ -37,7 +36,7 @@ impl Model for Part {
 impl Part {
     /// A part that came out so, within this limit of its work.
     pub fn new(limit: u64, outcome: Outcome) -> Part
-        requires { limit ≤ greatest_limit }
+        requires { limit ≤ MOST_LIMIT }
         ensures { IsMade limit (came_of outcome) result }
     {
         let outcome = outcome.within(limit);
@@ -107,8 +106,8 @@ impl Monoid for Part {
         ensures value { result ≡ nothing_part }
     {
         Part {
-            limit: GREATEST_LIMIT,
-            outcome: Outcome::Ran(Read::unit(alloc)),
+            limit: MOST_LIMIT,
+            outcome: Outcome::Completed(Read::unit(alloc)),
         }
     }
 

@@ -1,9 +1,10 @@
 //! Small parts of a run: how joined parts come out and what they show, by hand.
 
 use cw_measure::Measure;
+use cw_model::limits::MOST_LIMIT;
 use cw_model::monoid::Monoid;
 use cw_model::trap::Trap;
-use cw_part::{GREATEST_LIMIT, Outcome, Part, Piece, Read, Tables};
+use cw_part::{Outcome, Part, Piece, Read, Tables};
 use cw_reduce::Views;
 use std::alloc::{AllocError, Global};
 
@@ -19,7 +20,7 @@ fn read(alloc: Global, work: u64, line: i64, sum: i64) -> Result<Read, AllocErro
 
 fn ran(alloc: Global, limit: u64, work: u64, line: i64, sum: i64) -> Result<Part, AllocError> {
     let read = read(alloc, work, line, sum)?;
-    Ok(Part::new(limit.min(GREATEST_LIMIT), Outcome::Ran(read)))
+    Ok(Part::new(limit.min(MOST_LIMIT), Outcome::Completed(read)))
 }
 
 // Lines in order, sums and work added, and the lesser limit.
@@ -31,7 +32,7 @@ fn parts_that_ran(rt: HostRuntime) -> Result<(), AllocError> {
     let whole = Part::unit(alloc).join(left)?.join(right)?;
     assert_eq!(rt; whole.limit(), 90);
     match whole.into_outcome() {
-        Outcome::Ran(read) => {
+        Outcome::Completed(read) => {
             assert_eq!(rt; read.views.lines(), [1, 2].as_slice());
             assert_eq!(rt; read.views.sum(0), -2);
             assert_eq!(rt; read.measure.work(), 7);
@@ -85,7 +86,7 @@ fn a_call_and_what_follows(rt: HostRuntime) -> Result<(), AllocError> {
     let call = ran(alloc, 50, 5, 1, 0)?.into_call();
     let whole = call.join(ran(alloc, 50, 4, 2, 0)?)?;
     match whole.into_outcome() {
-        Outcome::Ran(read) => {
+        Outcome::Completed(read) => {
             assert_eq!(rt; read.measure.work(), 9);
             assert_eq!(rt; read.measure.span(), 9);
             assert_eq!(rt; read.measure.burdened(), 9);
@@ -115,7 +116,7 @@ fn a_child_beside_its_rest(rt: HostRuntime) -> Result<(), AllocError> {
         .join_child(child, 100, true)?
         .join_piece(rest, false)?;
     match whole.part.into_outcome() {
-        Outcome::Ran(read) => {
+        Outcome::Completed(read) => {
             assert_eq!(rt; read.measure.work(), 9);
             assert_eq!(rt; read.measure.span(), 5);
             assert_eq!(rt; read.measure.burdened(), 104);

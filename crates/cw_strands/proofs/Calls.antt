@@ -2,7 +2,7 @@
 use Rattle.std.proofs.Common.{◌≡◌, ℕ, ◌+◌, ◌<◌, ◌≤◌, Bool, true, false, nat_lt, if◌then◌else◌, List, [], ◌∷◌, refl, sym, ap, subst, arith}
 use Rattle.std.proofs.lemmas.Bool.Decides.{nat_tests}
 use Rattle.cw_code.specs.Code.{Code}
-use Rattle.cw_code.specs.Run.{Went, On, Ends, Stops, Stuck, step}
+use Rattle.cw_code.specs.Run.{Transition, On, Ends, Stops, Stuck, step}
 use Rattle.cw_strands.specs.Jobs.{has_come, standing, Job, Effect, Ended, Joined, TrapIn, OverLimit, Memory, JobMeaning}
 use Rattle.cw_strands.specs.Strands.{Strand, Going, Waits, Halted, outs_of, Turn, Goes, HandsOut, ComesBack, turn, goes_on, cost_of}
 use Rattle.cw_strands.specs.Promises.{IsStrandOf}
@@ -27,7 +27,7 @@ module _ (code : Code) (job : Job) where
       ends [] e k = k refl
       ends (out ∷ os) e k = tt
 
-      moves : (w : Went) → has_come job.extent code s ≡ false → step code s ≡ w → job.before + (count + 1) ≤ job.limit → AdvanceKeeps code job (Going s count outs) (went_on (turn code s) s w job.limit job.before (count + 1) outs)
+      moves : (w : Transition) → has_come job.extent code s ≡ false → step code s ≡ w → job.before + (count + 1) ≤ job.limit → AdvanceKeeps code job (Going s count outs) (went_on (turn code s) s w job.limit job.before (count + 1) outs)
       moves (On s') c e le = by_turn (turn code s) (runs code job s s' count outs h c e le)
         where
           by_turn : (t : Turn) → IsStrandOf code job (goes_on t s s' job.limit job.before (count + 1) outs) → AdvanceKeeps code job (Going s count outs) (turned t s s' job.limit job.before (count + 1) outs)

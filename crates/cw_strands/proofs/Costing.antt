@@ -7,7 +7,7 @@ use Rattle.cw_model.specs.Trees.{Event, Work, Series, Fork, Join, work, parts_of
 use Rattle.cw_model.specs.Outcome.{Trace}
 use Rattle.cw_code.specs.declared.code.Instr.{Instr}
 use Rattle.cw_code.specs.Code.{Code}
-use Rattle.cw_code.specs.Run.{Slots, Results, Opened, Around, Caller, Block, State, Went, On, Ends, Stops, Stuck, synced, is_full, settled, put_in, given_back, going_on, event_of, rejoined, result_of, returns_to, back, block_event, resumes, act, step}
+use Rattle.cw_code.specs.Run.{Slots, Results, Opened, Around, Caller, Block, State, Transition, On, Ends, Stops, Stuck, synced, is_full, settled, put_in, given_back, going_on, event_of, rejoined, result_of, returns_to, back, block_event, resumes, act, step}
 use Rattle.cw_strands.specs.Jobs.{Extent, WholeCall, ToJoin, has_come, Came, Arrives, Returns, Falls, Beyond, Lost, moved, travel, job_start, Effect, Ended, Joined, TrapIn, OverLimit, Memory}
 use Rattle.cw_strands.specs.Promises.{StandsFor}
 use Rattle.cw_strands.specs.Costs.{CostIsWork, CostsAreWork}
@@ -42,13 +42,13 @@ outside [] = 0
 outside (Caller w ∷ around) = work_in w.events + outside around
 outside (Block o ∷ around) = work_in o.events + outside around
 
-abbrev Shows : ℕ → Went → Type 0
+abbrev Shows : ℕ → Transition → Type 0
 Shows n (On s) = work_in s.trace.events + outside s.around ≡ n
 Shows n (Ends v arrays t) = work_in t.events ≡ n
 Shows n (Stops trap line lines) = Unit {0}
 Shows n Stuck = Unit {0}
 
-either_shows : (n : ℕ) (c : Bool) (x y : Went) → Shows n x → Shows n y → Shows n (if c then x else y)
+either_shows : (n : ℕ) (c : Bool) (x y : Transition) → Shows n x → Shows n y → Shows n (if c then x else y)
 either_shows n true x y h k = h
 either_shows n false x y h k = k
 
@@ -143,7 +143,7 @@ module _ (x : Extent) (code : Code) where
       later Beyond b d e h = tt
       later Lost b d e h = tt
 
-      went : (w : Went) → Shows (work_in s.trace.events + outside s.around + 1) w → ((s' : State) → Paid (work_in s'.trace.events + outside s'.around) n (travel x code n s'))
+      went : (w : Transition) → Shows (work_in s.trace.events + outside s.around + 1) w → ((s' : State) → Paid (work_in s'.trace.events + outside s'.around) n (travel x code n s'))
           → Paid (work_in s.trace.events + outside s.around) (suc n) (moved w n (λ s'. travel x code n s'))
       went (On s') h more = later (travel x code n s') (work_in s.trace.events + outside s.around) (work_in s'.trace.events + outside s'.around) h (more s')
       went (Ends v arrays t) h more = omega (arith, h)

@@ -7,11 +7,11 @@ use Rattle.cw_model.specs.Outcome.{Trace, quiet}
 use Rattle.cw_code.specs.declared.code.Func.{Func}
 use Rattle.cw_code.specs.Code.{Code}
 use Rattle.cw_code.specs.Fits.{Shape, Fits}
-use Rattle.cw_code.specs.Run.{Slots, Results, Taken, slot_taken, Waiting, Around, Caller, State, Went, On, Ends, Stops, Stuck, settled, Entering, waiting_at, begun, result_of, going_on, step}
-use Rattle.cw_code.specs.Good.{slots_in, Seat, Good, IsGiven, AllResume, GoodState, GoodWent, FitSteps, FitSettles}
+use Rattle.cw_code.specs.Run.{Slots, Results, Taken, slot_taken, Waiting, Around, Caller, State, Transition, On, Ends, Stops, Stuck, settled, Entering, waiting_at, begun, result_of, going_on, step}
+use Rattle.cw_code.specs.Good.{slots_in, Seat, Good, IsGiven, AllResume, GoodState, GoodTransition, FitSteps, FitSettles}
 use Rattle.cw_strands.specs.Jobs.{Extent, WholeCall, ToJoin, joins, is_first, has_come, Standing, standing, Came, Arrives, Returns, Falls, Beyond, Lost, moved, travel, Job, job_start}
 use Rattle.cw_strands.specs.Strands.{spawn_job, resumed}
-use Rattle.cw_strands.specs.Over.{beneath, results_under, arrived_under, under, went_under}
+use Rattle.cw_strands.specs.Over.{beneath, results_under, arrived_under, under, transition_under}
 use Rattle.cw_strands.specs.lemmas.Under.{act_under}
 use Rattle.cw_strands.specs.lemmas.Budgets.{come_at, none_left, go_one}
 use Rattle.cw_strands.proofs.Travels.{settled_append}
@@ -32,11 +32,11 @@ NotLost (Falls trap line lines left) = Unit {0}
 NotLost Beyond = Unit {0}
 NotLost Lost = ⊥
 
-abbrev slots_of_went : State → Went → State
-slots_of_went x (On s) = s
-slots_of_went x (Ends v arrays t) = x
-slots_of_went x (Stops trap line lines) = x
-slots_of_went x Stuck = x
+abbrev slots_of_transition : State → Transition → State
+slots_of_transition x (On s) = s
+slots_of_transition x (Ends v arrays t) = x
+slots_of_transition x (Stops trap line lines) = x
+slots_of_transition x Stuck = x
 
 -- what a spawned call gives changes no slot
 record SameSlots (s s' : State) : Type 0 where
@@ -44,12 +44,12 @@ record SameSlots (s s' : State) : Type 0 where
   pub arrays : s.arrays ≡ s'.arrays
 
 same_slots : (target : Option ℕ) (v : Option ℤ) (results : Results (List ℤ)) (s s' : State) → result_of Spawned target v results s ≡ On s' → SameSlots s s'
-same_slots None v results s s' e = record { slots = ap (λ w. (slots_of_went s w).slots) e; arrays = ap (λ w. (slots_of_went s w).arrays) e }
+same_slots None v results s s' e = record { slots = ap (λ w. (slots_of_transition s w).slots) e; arrays = ap (λ w. (slots_of_transition s w).arrays) e }
 same_slots (Some a) None results s s' e = absurd (never e)
   where
     never : Stuck ≡ On s' → ⊥
     never k = cc
-same_slots (Some a) (Some x) results s s' e = record { slots = ap (λ w. (slots_of_went s w).slots) e; arrays = ap (λ w. (slots_of_went s w).arrays) e }
+same_slots (Some a) (Some x) results s s' e = record { slots = ap (λ w. (slots_of_transition s w).slots) e; arrays = ap (λ w. (slots_of_transition s w).arrays) e }
 
 -- some arrays that a call may give back
 abbrev some_back : List Taken → Results (List ℤ)
@@ -71,23 +71,23 @@ is_given false = tt
 
 module _ (code : Code) (fits : Fits code) (steps_well : FitSteps code fits) (settles : FitSettles) where
   -- what an instruction leaves, over the base
-  abbrev pub LiftedWent : {x : Extent} → Base x → Went → Type 0
-  LiftedWent base (On s) = GoodState code fits (lifted base s)
-  LiftedWent base (Ends v arrays t) = Unit {0}
-  LiftedWent base (Stops trap line lines) = Unit {0}
-  LiftedWent base Stuck = ⊥
+  abbrev pub LiftedTransition : {x : Extent} → Base x → Transition → Type 0
+  LiftedTransition base (On s) = GoodState code fits (lifted base s)
+  LiftedTransition base (Ends v arrays t) = Unit {0}
+  LiftedTransition base (Stops trap line lines) = Unit {0}
+  LiftedTransition base Stuck = ⊥
 
-  pub lifted_step : (x : Extent) (base : Base x) (s : State) → has_come x code s ≡ false → GoodState code fits (lifted base s) → LiftedWent base (step code s)
+  pub lifted_step : (x : Extent) (base : Base x) (s : State) → has_come x code s ≡ false → GoodState code fits (lifted base s) → LiftedTransition base (step code s)
   lifted_step x Alone s h good = whole (step code s) (steps_well s good)
     where
-      whole : (w : Went) → GoodWent code fits w → LiftedWent Alone w
+      whole : (w : Transition) → GoodTransition code fits w → LiftedTransition Alone w
       whole (On s') k = k
       whole (Ends v arrays t) k = tt
       whole (Stops trap line lines) k = tt
       whole Stuck k = k
-  lifted_step x (Upon b) s h good = rest (step code s) (subst (GoodWent code fits) (act_under b ToJoin code s (slice_get code.instrs s.place) h) (steps_well (under b s) good))
+  lifted_step x (Upon b) s h good = rest (step code s) (subst (GoodTransition code fits) (act_under b ToJoin code s (slice_get code.instrs s.place) h) (steps_well (under b s) good))
     where
-      rest : (w : Went) → GoodWent code fits (went_under b w) → LiftedWent (Upon b) w
+      rest : (w : Transition) → GoodTransition code fits (transition_under b w) → LiftedTransition (Upon b) w
       rest (On s') k = k
       rest (Ends v arrays t) k = tt
       rest (Stops trap line lines) k = tt
@@ -101,7 +101,7 @@ module _ (code : Code) (fits : Fits code) (steps_well : FitSteps code fits) (set
       cases false e = subst NotLost (sym (none_left x code s e)) tt
   never_lost x base (suc n) s good = cases (has_come x code s) refl (λ s' good'. never_lost x base n s' good')
     where
-      went : (w : Went) → LiftedWent base w → ((s' : State) → GoodState code fits (lifted base s') → NotLost (travel x code n s')) → NotLost (moved w n (λ s'. travel x code n s'))
+      went : (w : Transition) → LiftedTransition base w → ((s' : State) → GoodState code fits (lifted base s') → NotLost (travel x code n s')) → NotLost (moved w n (λ s'. travel x code n s'))
       went (On s') h more = more s' h
       went (Ends v arrays t) h more = tt
       went (Stops trap line lines) h more = tt
@@ -180,7 +180,7 @@ module _ (code : Code) (fits : Fits code) (steps_well : FitSteps code fits) (set
       at [] j h g = record { seat = g.seat; slots = s.slots; arrays = s.arrays; results = s.results; returned = s.arrived; good = record { as_many = g.call.as_many; ints = g.call.ints; arrays = g.call.arrays; cuts = g.call.cuts }; same = refl; same_arrays = refl; others = g.others }
       at (a ∷ around) j h g = cc
 
-      went : (w : Went) → LiftedWent (Upon b) w → ((s' : State) → GoodState code fits (under b s') → travel ToJoin code n s' ≡ Arrives frame t left → Arrived b frame) → moved w n (λ s'. travel ToJoin code n s') ≡ Arrives frame t left → Arrived b frame
+      went : (w : Transition) → LiftedTransition (Upon b) w → ((s' : State) → GoodState code fits (under b s') → travel ToJoin code n s' ≡ Arrives frame t left → Arrived b frame) → moved w n (λ s'. travel ToJoin code n s') ≡ Arrives frame t left → Arrived b frame
       went (On s') g more k = more s' g k
       went (Ends v arrays u) g more k = cc
       went (Stops trap line lines) g more k = cc

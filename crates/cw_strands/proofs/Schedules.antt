@@ -6,7 +6,7 @@ use Rattle.cw_model.specs.Outcome.{Done, Trapped, Over}
 use Rattle.cw_model.specs.Answers.{answer_of}
 use Rattle.cw_code.specs.declared.code.Func.{Func}
 use Rattle.cw_code.specs.Code.{Code}
-use Rattle.cw_code.specs.Run.{State, Went, On, Ends, Stops, Stuck, Entering, begun, step, Ran, go_on, steps, first_state, first_went, reducers_of, code_serial}
+use Rattle.cw_code.specs.Run.{State, Transition, On, Ends, Stops, Stuck, Entering, begun, step, RunOutcome, go_on, steps, first_state, first_transition, reducers_of, code_serial}
 use Rattle.cw_strands.specs.Jobs.{Extent, WholeCall, Came, Arrives, Returns, Falls, Beyond, Lost, moved, travel, Job, job_start, course, root_job, Effect, Joined, Memory, IsOf, JobMeaning, Same, Passed, Short, answered}
 use Rattle.cw_strands.specs.Strands.{Strand, Going, Waits, Halted, outs_of, Reached, Started, Ran as Instruction, Fell, TooMuch, NoMemory, Given, GivenTooMuch, GivenStop, Skipped, Dropped, Makes, Arrived, Returned, Stopped, GivenUp}
 use Rattle.cw_strands.specs.Promises.{IsStrandOf}
@@ -47,7 +47,7 @@ module _ (code : Code) where
   cut = record { child = child_under; rest = λ y s limit before n none. rest_under code y s limit before n none }
 
   -- a whole run, told as the code's meaning tells it
-  abbrev told : Came → Ran
+  abbrev told : Came → RunOutcome
   told (Arrives frame t left) = None
   told (Returns v arrays t left) = Some (Done (v, no_frame) left t)
   told (Falls trap line lines left) = Some (Trapped trap line lines)
@@ -58,7 +58,7 @@ module _ (code : Code) where
   steps_told zero s = refl
   steps_told (suc n) s = cases (step code s) (λ s'. steps_told n s')
     where
-      cases : (w : Went) → ((s' : State) → steps code n s' ≡ told (travel WholeCall code n s')) → go_on w n (λ s'. steps code n s') ≡ told (moved w n (λ s'. travel WholeCall code n s'))
+      cases : (w : Transition) → ((s' : State) → steps code n s' ≡ told (travel WholeCall code n s')) → go_on w n (λ s'. steps code n s') ≡ told (moved w n (λ s'. travel WholeCall code n s'))
       cases (On s') more = more s'
       cases (Ends v arrays t) more = refl
       cases (Stops trap line lines) more = refl
@@ -71,7 +71,7 @@ module _ (code : Code) where
   answers budget e Beyond h = ap (answered code) h
   answers budget e Lost h = absurd h
 
-  pub root_serial : (f : Func) (args : List ℤ) (limit : ℕ) (e : Effect) → first_went (slice_get code.funcs code.main) args ≡ On (first_state f args [])
+  pub root_serial : (f : Func) (args : List ℤ) (limit : ℕ) (e : Effect) → first_transition (slice_get code.funcs code.main) args ≡ On (first_state f args [])
       → JobMeaning code (root_job f args limit) e → (e ≡ Memory) ⊎ (answered code e ≡ code_serial code args limit)
   unfolding code_serial
   root_serial f args limit e first (Same h) = inr (

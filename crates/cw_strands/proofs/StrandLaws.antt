@@ -7,10 +7,10 @@ use Rattle.cw_model.specs.declared.syntax.CallKind.TheVariants.{Plain, Spawned}
 use Rattle.cw_model.specs.Outcome.{Trace}
 use Rattle.cw_code.specs.declared.code.Instr.{Instr}
 use Rattle.cw_code.specs.Code.{Code}
-use Rattle.cw_code.specs.Run.{Slots, Results, Waiting, Around, Caller, Block, State, Went, On, Ends, Stops, Stuck, synced, is_full, settled, Entering, begun, given_back, going_on, result_of, returns_to, back, act, step}
+use Rattle.cw_code.specs.Run.{Slots, Results, Waiting, Around, Caller, Block, State, Transition, On, Ends, Stops, Stuck, synced, is_full, settled, Entering, begun, given_back, going_on, result_of, returns_to, back, act, step}
 use Rattle.cw_strands.specs.Jobs.{Extent, ToJoin, has_come, Standing, standing, Came, Arrives, Falls, Beyond, moved, travel, Job, job_start, course, Effect, Ended, Joined, TrapIn, OverLimit, Memory, JobMeaning}
 use Rattle.cw_strands.specs.Strands.{Strand, Going, Waits, Halted, rest_at, Turn, Goes, HandsOut, ComesBack, turn_back, turn_in, turn_call, turn_of, turn, spawn_job, goes_on, resumed, HasStopped, stopped_after, dropped, cost_of}
-use Rattle.cw_strands.specs.Promises.{Takes, OutAt, Outs, IsOutHere, OutsHere, Leads, IsStrandOf}
+use Rattle.cw_strands.specs.Promises.{Takes, OutAt, Outs, IsOutHere, OutsHere, ComesTo, IsStrandOf}
 use Rattle.cw_strands.specs.RestLaws.{onwards}
 use Rattle.cw_strands.specs.lemmas.Acts.{acts_by}
 use Rattle.cw_strands.specs.lemmas.Budgets.{takes_none, takes_then, takes_step, come_at, stands_meaning}
@@ -31,7 +31,7 @@ outs_later limit b c (Caller w ∷ around) outs le h =
 outs_later limit b c (Block o ∷ around) outs le h = outs_later limit b c around outs le h
 
 -- what is out after an instruction, by its turn
-abbrev OutsAfter : (limit bound : ℕ) → List Job → State → Turn → Went → Type 0
+abbrev OutsAfter : (limit bound : ℕ) → List Job → State → Turn → Transition → Type 0
 OutsAfter limit bound outs from Goes (On s) = Outs limit bound s.around outs
 OutsAfter limit bound outs from (HandsOut target taken) (On s) = Outs limit bound s.around (spawn_job from target taken limit bound ∷ outs)
 OutsAfter limit bound outs from ComesBack (On s) = OutsHere limit bound s outs
@@ -40,7 +40,7 @@ OutsAfter limit bound outs from turn (Stops trap line lines) = Unit {0}
 OutsAfter limit bound outs from turn Stuck = Unit {0}
 
 module _ (limit bound : ℕ) (outs : List Job) (from : State) where
-  either_out : (turn : Turn) (c : Bool) (x y : Went) → OutsAfter limit bound outs from turn x → OutsAfter limit bound outs from turn y → OutsAfter limit bound outs from turn (if c then x else y)
+  either_out : (turn : Turn) (c : Bool) (x y : Transition) → OutsAfter limit bound outs from turn x → OutsAfter limit bound outs from turn y → OutsAfter limit bound outs from turn (if c then x else y)
   either_out turn true x y h k = h
   either_out turn false x y h k = k
 
@@ -119,7 +119,7 @@ module _ (code : Code) where
     pub starts : job.before ≤ job.limit → IsStrandOf code job (Going (job_start job) 0 [])
     starts le = (omega (arith, le), takes_none 0 (course code job) (course code job) refl (λ n. refl), tt)
 
-    leads_on : (s : State) (count : ℕ) (w : Went) → Leads code job count s → has_come job.extent code s ≡ false → step code s ≡ w → Takes (count + 1) (course code job) (λ n. moved w n (λ s'. travel job.extent code n s'))
+    leads_on : (s : State) (count : ℕ) (w : Transition) → ComesTo code job count s → has_come job.extent code s ≡ false → step code s ≡ w → Takes (count + 1) (course code job) (λ n. moved w n (λ s'. travel job.extent code n s'))
     leads_on s count w leads e same =
         takes_then count 1 (course code job) (λ n. travel job.extent code n s) (λ n. moved w n (λ s'. travel job.extent code n s')) leads (takes_step job.extent code s w e same)
 

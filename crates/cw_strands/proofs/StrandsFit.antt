@@ -8,7 +8,7 @@ use Rattle.cw_code.specs.declared.code.Func.{Func}
 use Rattle.cw_code.specs.declared.code.Instr.{Instr}
 use Rattle.cw_code.specs.Code.{Code}
 use Rattle.cw_code.specs.Fits.{array_params_of, Shape, Fits}
-use Rattle.cw_code.specs.Run.{Slots, Around, Caller, Block, State, Went, On, Ends, Stops, Stuck, synced, settled, Entering, begun, back, act, step}
+use Rattle.cw_code.specs.Run.{Slots, Around, Caller, Block, State, Transition, On, Ends, Stops, Stuck, synced, settled, Entering, begun, back, act, step}
 use Rattle.cw_code.specs.Good.{Good, GoodState, FitBegins, FitSteps, FitSettles}
 use Rattle.cw_strands.specs.Jobs.{Extent, WholeCall, ToJoin, joins, is_first, has_come, standing, Job, job_start, course, root_job, Effect, Ended, Joined, TrapIn, OverLimit, Memory, JobMeaning}
 use Rattle.cw_strands.specs.Strands.{Strand, Going, Waits, Halted, outs_of, rest_at, Turn, turn_back, turn_in, turn_call, turn_of, turn, cost_of}
@@ -18,11 +18,11 @@ use Rattle.cw_strands.specs.Worlds.{Place, Undecided, Kept, Offered, Runs, Made,
 use Rattle.cw_strands.specs.lemmas.Acts.{acts_by}
 use Rattle.cw_strands.specs.lemmas.Rests.{GoesOn, act_goes}
 use Rattle.cw_strands.proofs.Budgets.{meaning_stands}
-use Rattle.cw_strands.proofs.JobsFit.{Base, Alone, Upon, lifted, LiftedWent, lifted_step, FitJob, hands_fit, arrived, gives_fit}
+use Rattle.cw_strands.proofs.JobsFit.{Base, Alone, Upon, lifted, LiftedTransition, lifted_step, FitJob, hands_fit, arrived, gives_fit}
 use Rattle.cw_strands.specs.Over.{under}
 use Rattle.cw_strands.proofs.WorldLaws.{set_gives, added_gives, stays_there, one_there, last_there, Named, PlaceOk, WorldOk, next_ok, begins_ok}
 
-abbrev GoesNowhere : Went → Type 0
+abbrev GoesNowhere : Transition → Type 0
 GoesNowhere (On s) = ⊥
 GoesNowhere (Ends v arrays t) = Unit {0}
 GoesNowhere (Stops trap line lines) = Unit {0}
@@ -55,7 +55,7 @@ module _ (code : Code) (fits : Fits code) (steps_well : FitSteps code fits) (set
     finishes outs e none = subst (λ os. FitAdvanced base (finished os e)) (sym none) tt
 
     -- what a move of a strand leads to fits
-    abbrev FitTurn : (from : State) (count : ℕ) → List Job → Turn → Went → Type 0
+    abbrev FitTurn : (from : State) (count : ℕ) → List Job → Turn → Transition → Type 0
     FitTurn from count outs turn w = (to : State) → w ≡ On to → GoodState code fits (lifted base to) → FitAdvanced base (turned turn from to job.limit job.before (count + 1) outs)
 
     advance_fits : (strand : Strand) → IsStrandOf code job strand → FitStrand base strand → FitAdvanced base (advance code job strand)
@@ -75,7 +75,7 @@ module _ (code : Code) (fits : Fits code) (steps_well : FitSteps code fits) (set
             first true c = none_out job.limit (job.before + count) s.around (joins (slice_get code.instrs s.place)) outs c h.2
             first false c = absurd (subst GoesOn e (act_goes code s (slice_get code.instrs s.place) c))
 
-        not_on : (turn : Turn) (w : Went) → GoesNowhere w → FitTurn s count outs turn w
+        not_on : (turn : Turn) (w : Transition) → GoesNowhere w → FitTurn s count outs turn w
         not_on turn (On s2) h s' e g = absurd h
         not_on turn (Ends v arrays t) h s' e g = cc
         not_on turn (Stops trap line lines) h s' e g = cc
@@ -91,7 +91,7 @@ module _ (code : Code) (fits : Fits code) (steps_well : FitSteps code fits) (set
               g,
             )
 
-        returns : (around : List Around) (w : Went) → FitTurn s count outs (turn_in around) w
+        returns : (around : List Around) (w : Transition) → FitTurn s count outs (turn_in around) w
         returns [] w s' e g = g
         returns (Block o ∷ around) w s' e g = g
         returns (Caller w' ∷ around) w s' e g = by_kind w'.kind
@@ -112,7 +112,7 @@ module _ (code : Code) (fits : Fits code) (steps_well : FitSteps code fits) (set
           returns = λ v. returns s.around (back s.around v (settled s.arrived s.arrays) (synced s.trace));
         }) o
 
-        moves : (w : Went) → step code s ≡ w → LiftedWent code fits steps_well settles base w → FitAdvanced base (went_on (turn code s) s w job.limit job.before (count + 1) outs)
+        moves : (w : Transition) → step code s ≡ w → LiftedTransition code fits steps_well settles base w → FitAdvanced base (went_on (turn code s) s w job.limit job.before (count + 1) outs)
         moves (On s') e g = turns (slice_get code.instrs s.place) s' e g
         moves (Ends v arrays t) e g = finishes outs (Ended v arrays t (count + 1)) (end_none v arrays t e)
         moves (Stops trap line lines) e g = tt

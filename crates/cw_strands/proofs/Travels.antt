@@ -8,11 +8,11 @@ use Rattle.cw_model.specs.Outcome.{Trace, quiet, joined}
 use Rattle.cw_code.specs.declared.code.Instr.{Instr}
 use Rattle.cw_code.specs.declared.code.Instr.TheVariants as instr
 use Rattle.cw_code.specs.Code.{Code}
-use Rattle.cw_code.specs.Run.{Slots, Results, Around, Caller, Block, State, Went, On, Ends, Stops, Stuck, synced, is_full, settled, put_in, given_back, going_on, event_of, rejoined, result_of, returns_to, back, act, step}
+use Rattle.cw_code.specs.Run.{Slots, Results, Around, Caller, Block, State, Transition, On, Ends, Stops, Stuck, synced, is_full, settled, put_in, given_back, going_on, event_of, rejoined, result_of, returns_to, back, act, step}
 use Rattle.cw_strands.specs.Jobs.{Extent, WholeCall, ToJoin, joins, is_first, has_come, standing, Arrives, Beyond, moved, travel}
 use Rattle.cw_strands.specs.Strands.{resumed}
 use Rattle.cw_strands.specs.RestLaws.{onwards}
-use Rattle.cw_strands.specs.Over.{under, went_under}
+use Rattle.cw_strands.specs.Over.{under, transition_under}
 use Rattle.cw_strands.specs.lemmas.Tests.{taken, not_taken}
 use Rattle.cw_strands.specs.lemmas.Acts.{acts_by}
 use Rattle.cw_strands.specs.lemmas.Under.{same_trace, HasCaller, IsCall, Allowed, act_under}
@@ -33,18 +33,18 @@ base_of depth (Block o ∷ around) = base_of depth around
 abbrev pub Based : ℕ → State → Type 0
 Based d s = base_of s.depth s.around ≡ d
 
-abbrev pub WentBased : ℕ → Went → Type 0
-WentBased d (On s) = Based d s
-WentBased d (Ends v arrays t) = Unit {0}
-WentBased d (Stops trap line lines) = Unit {0}
-WentBased d Stuck = Unit {0}
+abbrev pub TransitionBased : ℕ → Transition → Type 0
+TransitionBased d (On s) = Based d s
+TransitionBased d (Ends v arrays t) = Unit {0}
+TransitionBased d (Stops trap line lines) = Unit {0}
+TransitionBased d Stuck = Unit {0}
 
-either_based : (d : ℕ) (c : Bool) (x y : Went) → WentBased d x → WentBased d y → WentBased d (if c then x else y)
+either_based : (d : ℕ) (c : Bool) (x y : Transition) → TransitionBased d x → TransitionBased d y → TransitionBased d (if c then x else y)
 either_based d true x y h k = h
 either_based d false x y h k = k
 
 module _ (d : ℕ) where
-  result_based : (s : State) (kind : CallKind) (target : Option ℕ) (v : Option ℤ) (results : Results (List ℤ)) → Based d s → WentBased d (result_of kind target v results s)
+  result_based : (s : State) (kind : CallKind) (target : Option ℕ) (v : Option ℤ) (results : Results (List ℤ)) → Based d s → TransitionBased d (result_of kind target v results s)
   result_based s Plain None v results h = h
   result_based s Plain (Some a) None results h = tt
   result_based s Plain (Some a) (Some v) results h = either_based d (is_full (slice_get s.slots a)) (On (record s { arrays = settled results s.arrays; slots = slice_set s.slots a (Some v) })) Stuck h tt
@@ -52,17 +52,17 @@ module _ (d : ℕ) where
   result_based s Spawned (Some a) None results h = tt
   result_based s Spawned (Some a) (Some v) results h = h
 
-  back_based : (depth : ℕ) (around : List Around) (v : Option ℤ) (arrays : Slots (List ℤ)) (t : Trace) → base_of depth around ≡ d → WentBased d (back around v arrays t)
+  back_based : (depth : ℕ) (around : List Around) (v : Option ℤ) (arrays : Slots (List ℤ)) (t : Trace) → base_of depth around ≡ d → TransitionBased d (back around v arrays t)
   back_based depth [] v arrays t h = tt
   back_based depth (Caller w ∷ around) v arrays t h = by_arrays (given_back w.taken arrays)
     where
-      by_arrays : (o : Option (Results (List ℤ))) → WentBased d (returns_to w around v o t)
+      by_arrays : (o : Option (Results (List ℤ))) → TransitionBased d (returns_to w around v o t)
       by_arrays None = tt
       by_arrays (Some results) = result_based (going_on w around (rejoined (event_of w.kind w.site) w.events t)) w.kind w.target v results h
   back_based depth (Block o ∷ around) v arrays t h = tt
 
-  act_based : (code : Code) (s : State) (o : Option Instr) → Based d s → WentBased d (act code s o)
-  act_based code s o h = acts_by code s (λ j turn w. WentBased d w) (record {
+  act_based : (code : Code) (s : State) (o : Option Instr) → Based d s → TransitionBased d (act code s o)
+  act_based code s o h = acts_by code s (λ j turn w. TransitionBased d w) (record {
     stuck = λ j turn. tt;
     stops = λ j turn trap line lines. tt;
     local = λ place operands slots arrays lines additions. h;
@@ -163,8 +163,8 @@ module _ (code : Code) where
         cases WholeCall ToJoin [] k = none b.around (joins (slice_get code.instrs s.place)) k.caller
         cases x' ToJoin (a ∷ around) k = refl
 
-    moves_under : (w : Went) (n : ℕ) → WentBased b.depth w → ((s : State) → Based b.depth s → travel y code n (under b s) ≡ onwards code y b (travel x code n s))
-        → moved (went_under b w) n (λ s. travel y code n s) ≡ onwards code y b (moved w n (λ s. travel x code n s))
+    moves_under : (w : Transition) (n : ℕ) → TransitionBased b.depth w → ((s : State) → Based b.depth s → travel y code n (under b s) ≡ onwards code y b (travel x code n s))
+        → moved (transition_under b w) n (λ s. travel y code n s) ≡ onwards code y b (moved w n (λ s. travel x code n s))
     moves_under (On s) n d more = more s d
     moves_under (Ends v arrays t) n d more = refl
     moves_under (Stops trap line lines) n d more = refl

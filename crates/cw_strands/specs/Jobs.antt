@@ -8,7 +8,7 @@ use Rattle.cw_code.specs.declared.code.Func.{Func}
 use Rattle.cw_code.specs.declared.code.Instr.{Instr}
 use Rattle.cw_code.specs.declared.code.Instr.TheVariants.{EndCut, Sync, Close, ReturnValue, Return}
 use Rattle.cw_code.specs.Code.{Code}
-use Rattle.cw_code.specs.Run.{Slots, Around, State, Went, On, Ends, Stops, Stuck, settled, slots_of, arrays_of, fresh, step, reducers_of}
+use Rattle.cw_code.specs.Run.{Slots, Around, State, Transition, On, Ends, Stops, Stuck, settled, slots_of, arrays_of, fresh, step, reducers_of}
 
 -- how far a run goes: to the end of its call, or to before the join of the sync block that it begins in
 pub data Extent : Type 0 where
@@ -52,7 +52,7 @@ pub data Came : Type 0 where
   Beyond : Came
   Lost : Came
 
-abbrev pub moved : Went → ℕ → (State → Came) → Came
+abbrev pub moved : Transition → ℕ → (State → Came) → Came
 moved (On s) left next = next s
 moved (Ends v arrays t) left next = Returns v arrays t left
 moved (Stops trap line lines) left next = Falls trap line lines left

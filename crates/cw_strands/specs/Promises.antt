@@ -49,11 +49,11 @@ OutsHere limit bound s [] = ⊥
 OutsHere limit bound s (out ∷ outs) = IsOutHere limit bound s out × Outs limit bound s.around outs
 
 -- the serial run of a job comes to this state after so many instructions
-abbrev pub Leads : Code → Job → ℕ → State → Type 0
-Leads code job count s = Takes count (course code job) (λ n. travel job.extent code n s)
+abbrev pub ComesTo : Code → Job → ℕ → State → Type 0
+ComesTo code job count s = Takes count (course code job) (λ n. travel job.extent code n s)
 
 -- a strand of a job
 abbrev pub IsStrandOf : Code → Job → Strand → Type 0
-IsStrandOf code job (Going s count outs) = (job.before + count ≤ job.limit) × Leads code job count s × Outs job.limit (job.before + count) s.around outs
-IsStrandOf code job (Waits s count outs) = (job.before + count ≤ job.limit) × Leads code job count s × OutsHere job.limit (job.before + count) s outs
+IsStrandOf code job (Going s count outs) = (job.before + count ≤ job.limit) × ComesTo code job count s × Outs job.limit (job.before + count) s.around outs
+IsStrandOf code job (Waits s count outs) = (job.before + count ≤ job.limit) × ComesTo code job count s × OutsHere job.limit (job.before + count) s outs
 IsStrandOf code job (Halted e outs) = (job.before + cost_of e ≤ job.limit) × StandsFor code job e

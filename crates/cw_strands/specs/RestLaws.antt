@@ -3,7 +3,7 @@ use Rattle.std.specs.Prelude.{◌≡◌, ◌⊎◌, ℕ, ℤ, List, [], ◌++◌
 use Rattle.cw_model.specs.Outcome.{joined}
 use Rattle.cw_code.specs.declared.code.Func.{Func}
 use Rattle.cw_code.specs.Code.{Code}
-use Rattle.cw_code.specs.Run.{State, slots_of, arrays_of, Entering, begun, back, first_went, On, first_state, code_serial}
+use Rattle.cw_code.specs.Run.{State, slots_of, arrays_of, Entering, begun, back, first_transition, On, first_state, code_serial}
 use Rattle.cw_strands.specs.Jobs.{Extent, WholeCall, Came, Arrives, Returns, Falls, Beyond, Lost, moved, travel, Job, course, root_job, Effect, Memory, JobMeaning, answered}
 use Rattle.cw_strands.specs.Strands.{Strand, rest_at, resumed, Reached, Makes}
 use Rattle.cw_strands.specs.Promises.{IsStrandOf}
@@ -40,10 +40,10 @@ pub record Kept (code : Code) : Type 0 where
 
 -- an effect that means the whole run answers what the code gives, or memory was wanting
 abbrev pub RootsAreSerial : Type 0
-RootsAreSerial = (code : Code) (f : Func) (args : List ℤ) (limit : ℕ) (e : Effect) → first_went (slice_get code.funcs code.main) args ≡ On (first_state f args [])
+RootsAreSerial = (code : Code) (f : Func) (args : List ℤ) (limit : ℕ) (e : Effect) → first_transition (slice_get code.funcs code.main) args ≡ On (first_state f args [])
     → JobMeaning code (root_job f args limit) e → (e ≡ Memory) ⊎ (answered code e ≡ code_serial code args limit)
 
 -- whatever the schedule
 abbrev pub SchedulesAreSerial : Type 0
-SchedulesAreSerial = (code : Code) (f : Func) (args : List ℤ) (limit : ℕ) (e : Effect) → first_went (slice_get code.funcs code.main) args ≡ On (first_state f args [])
+SchedulesAreSerial = (code : Code) (f : Func) (args : List ℤ) (limit : ℕ) (e : Effect) → first_transition (slice_get code.funcs code.main) args ≡ On (first_state f args [])
     → Makes code (root_job f args limit) e → (e ≡ Memory) ⊎ (answered code e ≡ code_serial code args limit)

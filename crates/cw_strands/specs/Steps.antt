@@ -1,7 +1,7 @@
 -- What the calls on a strand do: an instruction, giving the effect of the newest job out, skipping it, want of memory.
 use Rattle.std.specs.Prelude.{◌≡◌, ℕ, ◌+◌, ◌≤◌, if◌then◌else◌, nat_lt, List, [], ◌∷◌}
 use Rattle.cw_code.specs.Code.{Code}
-use Rattle.cw_code.specs.Run.{State, Went, On, Ends, Stops, Stuck, step}
+use Rattle.cw_code.specs.Run.{State, Transition, On, Ends, Stops, Stuck, step}
 use Rattle.cw_strands.specs.Jobs.{has_come, standing, Job, job_start, Effect, Ended, Joined, TrapIn, OverLimit, Memory, JobMeaning}
 use Rattle.cw_strands.specs.Strands.{Strand, Going, Waits, Halted, outs_of, Turn, Goes, HandsOut, ComesBack, turn, spawn_job, resumed, stopped_after, dropped, cost_of}
 use Rattle.cw_strands.specs.Promises.{IsStrandOf}
@@ -28,7 +28,7 @@ turned Goes from to limit before count outs = Ran (Going to count outs)
 turned (HandsOut target taken) from to limit before count outs = let out = spawn_job from target taken limit (before + count) in Handed out (Going to count (out ∷ outs))
 turned ComesBack from to limit before count outs = Ran (Waits to count outs)
 
-abbrev pub went_on : Turn → State → Went → (limit before count : ℕ) → List Job → Advanced
+abbrev pub went_on : Turn → State → Transition → (limit before count : ℕ) → List Job → Advanced
 went_on turn from (On s) limit before count outs = turned turn from s limit before count outs
 went_on turn from (Ends v arrays t) limit before count outs = finished outs (Ended v arrays t count)
 went_on turn from (Stops trap line lines) limit before count outs = Ran (Halted (TrapIn trap line lines count) outs)

@@ -3,7 +3,7 @@ use Rattle.std.specs.Prelude.{◌≡◌, ◌≢◌, ◌⊎◌, ℕ, ◌<◌, ℤ
 use Rattle.cw_code.specs.declared.code.Func.{Func}
 use Rattle.cw_code.specs.Code.{Code}
 use Rattle.cw_code.specs.Fits.{Fits}
-use Rattle.cw_code.specs.Run.{On, first_state, first_went, code_serial}
+use Rattle.cw_code.specs.Run.{On, first_state, first_transition, code_serial}
 use Rattle.cw_strands.specs.Jobs.{Job, root_job, Effect, Memory, answered}
 use Rattle.cw_strands.specs.Strands.{Strand, Going, Waits, Halted}
 use Rattle.cw_strands.specs.Steps.{started, Ran, Handed, Finished, Unfit, advance, give, skip, take_back, out_of_memory}
@@ -107,7 +107,7 @@ world_of job = record { jobs = job ∷ []; places = Runs 0 (started job) [] ∷ 
 
 -- whatever the events, the effect of the root answers what the code gives, or memory was wanting
 abbrev pub WorldsAreSerial : Type 0
-WorldsAreSerial = (code : Code) (f : Func) (args : List ℤ) (limit : ℕ) (world : World) (place : Place) (e : Effect) → first_went (slice_get code.funcs code.main) args ≡ On (first_state f args [])
+WorldsAreSerial = (code : Code) (f : Func) (args : List ℤ) (limit : ℕ) (world : World) (place : Place) (e : Effect) → first_transition (slice_get code.funcs code.main) args ≡ On (first_state f args [])
     → After code (world_of (root_job f args limit)) world → slice_get world.places 0 ≡ Some place → effect_in place ≡ Some e → (e ≡ Memory) ⊎ (answered code e ≡ code_serial code args limit)
 
 -- in code that fits no strand of any world finds what does not fit

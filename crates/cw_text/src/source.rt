@@ -5,13 +5,11 @@ ghost use Rattle.cw_model.specs.Text.{IsSourceText};
 ghost use Rattle.cw_text.specs.Sources.{IsNoSource};
 
 use crate::fault::{Fault, Place};
+use cw_model::limits::MOST_SOURCE_BYTES;
 use std::alloc::Global;
 use std::marker::Model;
 
-/// The greatest length of a source, in bytes.
-pub const MOST_BYTES: usize = 1_048_576;
-
-/// The text of a program: ASCII bytes, at most `MOST_BYTES` of them.
+/// The text of a program: ASCII bytes, at most `MOST_SOURCE_BYTES` of them.
 #[derive(Drop, Debug)]
 pub struct Source {
     bytes: Vec<u8>,
@@ -36,7 +34,7 @@ impl Source {
     pub fn read(alloc: Global, bytes: &[u8]) -> Result<Source, Fault>
         ensures { MatchResult result (λ s. s ≡ bytes.now) (IsNoSource bytes.now) }
     {
-        if bytes.len() > MOST_BYTES {
+        if bytes.len() > MOST_SOURCE_BYTES {
             return Err(Fault::Size(Place { line: 1 }));
         }
         let mut line = 1;

@@ -5,7 +5,7 @@ use Rattle.std.proofs.lemmas.Bool.Decides.{nat_tests}
 use Rattle.std.proofs.lemmas.List.{length-map}
 use Rattle.std.proofs.lemmas.List.Folds.{list_all-append}
 use Rattle.std.proofs.lemmas.Slice.Eq.{bytes_eq-Decides}
-use Rattle.cw_model.specs.Limits.{most_grain, most_declared}
+use Rattle.cw_model.specs.declared.limits.TheConstants.{MOST_GRAIN, MOST_DECLARED}
 use Rattle.cw_model.specs.Lines.{unless}
 use Rattle.cw_model.specs.Names.{same_name, is_among}
 use Rattle.cw_model.specs.Syntax as model
@@ -298,7 +298,7 @@ fit_head program n known l a r x y z from to grain over body new h =
     let d = is_fine known from in
     let e = is_fine known to in
     let f = nat_le 1 grain in
-    let g = nat_le grain most_grain in
+    let g = nat_le grain MOST_GRAIN in
     let i = is_new program known x in
     let arrays = list_all (λ w. is_array known w) over in
     let most = both_left ((((i && b) && c) && d) && e) f (both_left (((((i && b) && c) && d) && e) && f) g (both_left ((((((i && b) && c) && d) && e) && f) && g) arrays h)) in
@@ -636,7 +636,7 @@ fit_function program f few tagged h =
     let params = params_count f.params in
     let p = few_ints_in lists l (length l.ints) f.body in
     let q = few_arrays_in lists l (length l.arrays) f.body in
-    both (both (no_more i most_declared (omega (arith, small, params, p))) (no_more j most_declared (omega (arith, small, params, q))))
+    both (both (no_more i MOST_DECLARED (omega (arith, small, params, p))) (no_more j MOST_DECLARED (omega (arith, small, params, q))))
     (fit_block program (counts_in program f) (tables_of program f) returns (known_of f.params) l (length l.ints) (length l.arrays) (agree_params f.params)
     (record { ints = omega arith; arrays = omega arith }) f.body (omega arith, omega arith) tagged
     (right_none (unless (is_head program f) f.line) (faults_in_block program returns (known_of f.params) f.body) h))

@@ -2,7 +2,7 @@
 use Rattle.std.proofs.Common.{◌≡◌, ℕ, Bool, true, false, not, ◌&&◌, ◌||◌, nat_le, if◌then◌else◌, List, [], ◌∷◌, ◌++◌, map, flat_map, Option, Some, None, option_map, refl, sym, ap, ◌∙◌}
 use Rattle.std.specs.List.{list_all}
 use Rattle.std.proofs.lemmas.Slice.Eq.{bytes_eq-Decides}
-use Rattle.cw_model.specs.Limits.{most_grain}
+use Rattle.cw_model.specs.declared.limits.TheConstants.{MOST_GRAIN}
 use Rattle.cw_model.specs.Lines.{unless}
 use Rattle.cw_model.specs.Names.{same_name, is_among}
 use Rattle.cw_model.specs.Syntax as model
@@ -62,7 +62,7 @@ head_names program known x y z from to grain over h =
     let d = is_fine known from in
     let e = is_fine known to in
     let f = nat_le 1 grain in
-    let g = nat_le grain most_grain in
+    let g = nat_le grain MOST_GRAIN in
     let most = both_left ((((a && b) && c) && d) && e) f (both_left (((((a && b) && c) && d) && e) && f) g (both_left ((((((a && b) && c) && d) && e) && f) && g) (list_all (λ n. is_array known n) over) h)) in
     let three = both_left ((a && b) && c) d (both_left (((a && b) && c) && d) e most) in
     (sym ((bytes_eq-Decides y x).0 (both_right a b (both_left (a && b) c three))), sym ((bytes_eq-Decides z x).0 (both_right (a && b) c three)))

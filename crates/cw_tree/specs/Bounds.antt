@@ -2,7 +2,7 @@
 -- names of a function, and each index is below the length of its table.
 use Rattle.std.specs.Prelude.{ℕ, Bool, true, ◌&&◌, nat_lt, nat_le, length, Option, Some, None}
 use Rattle.std.specs.List.{list_all}
-use Rattle.cw_model.specs.Limits.{most_declared}
+use Rattle.cw_model.specs.declared.limits.TheConstants.{MOST_DECLARED}
 use Rattle.cw_tree.specs.Resolved.{Expr, Number, Variable, Element, Length, Negative, Not, Binary, Use, Argument, Int, Array, Head, Parts, Stmt, Declare, DeclareArray, Assign, AssignElement, AddTo, Call, Sync, If, IfElse, While, For, Scope, Cut, Region, Print, Return, Block, End, Then, Function, Resolved}
 
 -- how many there are: slots of integers and of arrays, functions, reducers and tags
@@ -91,7 +91,7 @@ counts_of tree f = record {
 -- a function has few enough slots, and its body fits
 abbrev pub fits_function : Resolved → Function → Bool
 fits_function tree f =
-    nat_le f.ints most_declared && nat_le f.arrays most_declared && fits_block (counts_of tree f) f.body
+    nat_le f.ints MOST_DECLARED && nat_le f.arrays MOST_DECLARED && fits_block (counts_of tree f) f.body
 
 -- a program fits, and has a main
 abbrev pub is_fitting : Resolved → Bool

@@ -1,7 +1,7 @@
 -- What the code answers where it has looked names up.
 use Rattle.std.specs.Prelude.{◌≡◌, ◌≤◌, ◌+◌, ◌++◌, ℕ, List, length, map, Option, option_map}
 use Rattle.std.specs.Global.{Vec}
-use Rattle.cw_model.specs.Limits.{most_declared}
+use Rattle.cw_model.specs.declared.limits.TheConstants.{MOST_DECLARED}
 use Rattle.cw_model.specs.Syntax.{Name}
 use Rattle.cw_tree.specs.declared.syntax.Call.{Call}
 use Rattle.cw_tree.specs.declared.syntax.Cut.{Cut}
@@ -80,7 +80,7 @@ IsBlock lists locals b found =
 
 -- a function declares no more names than it may, its parameters included
 abbrev pub DeclaresFew : Function → Type 0
-DeclaresFew f = length f.params.items + declares_in_block (parsed.block_of f.body.items) ≤ most_declared
+DeclaresFew f = length f.params.items + declares_in_block (parsed.block_of f.body.items) ≤ MOST_DECLARED
 
 -- a function
 abbrev pub IsFunction : Lists → Function → made_function.Function → Type 0
@@ -108,8 +108,8 @@ abbrev pub FindsOne : ℕ → spec.Use → (before after : Vec made_use.Use) →
 FindsOne count used before after = map use_of after.items ≡ spec.with_first count (map use_of before.items) used
 
 -- and so for each of these
-abbrev pub Finds : ℕ → List spec.Use → (before after : Vec made_use.Use) → Type 0
-Finds count uses before after = map use_of after.items ≡ spec.first_uses count (map use_of before.items) uses
+abbrev pub FindsUses : ℕ → List spec.Use → (before after : Vec made_use.Use) → Type 0
+FindsUses count uses before after = map use_of after.items ≡ spec.first_uses count (map use_of before.items) uses
 
 -- the integers among parameters, in their order
 abbrev pub int_params : List Param → List Name

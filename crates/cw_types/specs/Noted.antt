@@ -1,6 +1,6 @@
 -- The lines that pass a limit, and what noting those of tags leaves.
 use Rattle.std.specs.Prelude.{◌≡◌, ℕ, nat_le, List, [], ◌∷◌, length, map, drop}
-use Rattle.cw_model.specs.Limits.{most_functions, most_reducers, most_tag_bytes, most_tags}
+use Rattle.cw_model.specs.declared.limits.TheConstants.{MOST_FUNCTIONS, MOST_REDUCERS, MOST_TAG_BYTES, MOST_TAGS}
 use Rattle.cw_model.specs.Lines.{lowest, unless}
 use Rattle.cw_model.specs.Sizes.{first_places, lines_beyond}
 use Rattle.cw_model.specs.Syntax.{Name}
@@ -22,19 +22,19 @@ reducer_lines reducers = map (λ r. r.line) (map reducer_of reducers)
 
 -- the lines of functions behind the most of them
 abbrev pub functions_past : List Function → List ℕ
-functions_past functions = lines_beyond most_functions (function_lines functions)
+functions_past functions = lines_beyond MOST_FUNCTIONS (function_lines functions)
 
 -- the lines of reducers behind the most of them
 abbrev pub reducers_past : List Reducer → List ℕ
-reducers_past reducers = lines_beyond most_reducers (reducer_lines reducers)
+reducers_past reducers = lines_beyond MOST_REDUCERS (reducer_lines reducers)
 
 -- the line of a region whose tag is too long
 abbrev pub long_tag : Name × ℕ → List ℕ
-long_tag d = unless (nat_le (length d.0) most_tag_bytes) d.1
+long_tag d = unless (nat_le (length d.0) MOST_TAG_BYTES) d.1
 
 -- the lines of the first places of tags behind the most of them
 abbrev pub tags_past : List (Name × ℕ) → List ℕ
-tags_past regions = lines_beyond most_tags (map (λ d. d.1) (first_places regions []))
+tags_past regions = lines_beyond MOST_TAGS (map (λ d. d.1) (first_places regions []))
 
 -- the lines of the first places of tags behind those that were seen
 abbrev pub places_behind : Known → List (Name × ℕ) → List ℕ

@@ -2,7 +2,7 @@
 #![tactic(auto, using(crate::proofs::Reading::uses, std::proofs::lemmas::Grind::common_steps))]
 
 ghost use Rattle.std.specs.Prelude.{◌≡◌, map, IfOk, OnOk};
-ghost use Rattle.cw_types.specs.Found.{AreCaptured, Finds, FindsOne, read_by};
+ghost use Rattle.cw_types.specs.Found.{AreCaptured, FindsUses, FindsOne, read_by};
 ghost use Rattle.cw_tree.specs.Resolved.{reads, argument_reads, head_reads};
 ghost use Rattle.cw_tree.specs.Resolved.{reads_in, reads_in_block, is_slot_in};
 ghost use Rattle.cw_tree.specs.ResolvedView.{use_of, expr_of, argument_of, head_of, stmt_of, block_of};
@@ -47,7 +47,7 @@ fn note(alloc: Global, count: u32, found: &mut Vec<Use>, used: &Use) -> Result<(
 
 // Uses in order.
 fn notes(alloc: Global, count: u32, found: &mut Vec<Use>, uses: &[Use]) -> Result<(), AllocError>
-    ensures { OnOk result (Finds count (map use_of uses.now) found.old found.new) }
+    ensures { OnOk result (FindsUses count (map use_of uses.now) found.old found.new) }
 {
     for used in uses {
         note(alloc, count, found, used)?;
@@ -57,7 +57,7 @@ fn notes(alloc: Global, count: u32, found: &mut Vec<Use>, uses: &[Use]) -> Resul
 
 // What an expression reads.
 fn expression(alloc: Global, count: u32, found: &mut Vec<Use>, e: &Expr) -> Result<(), AllocError>
-    ensures { OnOk result (Finds count (reads (expr_of e.now)) found.old found.new) }
+    ensures { OnOk result (FindsUses count (reads (expr_of e.now)) found.old found.new) }
 {
     match e {
         Expr::Number(_) | Expr::Length(_) => Ok(()),
@@ -75,7 +75,7 @@ fn expression(alloc: Global, count: u32, found: &mut Vec<Use>, e: &Expr) -> Resu
 
 // What an argument reads.
 fn argument(alloc: Global, count: u32, found: &mut Vec<Use>, e: &Argument) -> Result<(), AllocError>
-    ensures { OnOk result (Finds count (argument_reads (argument_of e.now)) found.old found.new) }
+    ensures { OnOk result (FindsUses count (argument_reads (argument_of e.now)) found.old found.new) }
 {
     match e {
         Argument::Int(e) => expression(alloc, count, found, e),
@@ -90,7 +90,7 @@ fn arguments(
     found: &mut Vec<Use>,
     es: &[Argument],
 ) -> Result<(), AllocError>
-    ensures { OnOk result (Finds count (read_by es.now) found.old found.new) }
+    ensures { OnOk result (FindsUses count (read_by es.now) found.old found.new) }
 {
     for e in es {
         argument(alloc, count, found, e)?;
@@ -100,7 +100,7 @@ fn arguments(
 
 // What the head of a loop reads, and what its body takes from outside.
 fn head(alloc: Global, count: u32, found: &mut Vec<Use>, head: &Head) -> Result<(), AllocError>
-    ensures { OnOk result (Finds count (head_reads (head_of head.now)) found.old found.new) }
+    ensures { OnOk result (FindsUses count (head_reads (head_of head.now)) found.old found.new) }
 {
     expression(alloc, count, found, &head.from)?;
     expression(alloc, count, found, &head.to)?;
@@ -111,7 +111,7 @@ fn head(alloc: Global, count: u32, found: &mut Vec<Use>, head: &Head) -> Result<
 // What statements in order read.
 #[cycle(reading)]
 fn block(alloc: Global, count: u32, found: &mut Vec<Use>, lines: &[Line]) -> Result<(), AllocError>
-    ensures { OnOk result (Finds count (reads_in_block (block_of lines.now)) found.old found.new) }
+    ensures { OnOk result (FindsUses count (reads_in_block (block_of lines.now)) found.old found.new) }
 {
     for line in lines {
         statement(alloc, count, found, &line.stmt)?;
@@ -122,7 +122,7 @@ fn block(alloc: Global, count: u32, found: &mut Vec<Use>, lines: &[Line]) -> Res
 // What a statement reads.
 #[cycle(reading)]
 fn statement(alloc: Global, count: u32, found: &mut Vec<Use>, stmt: &Stmt) -> Result<(), AllocError>
-    ensures { OnOk result (Finds count (reads_in (stmt_of stmt.now)) found.old found.new) }
+    ensures { OnOk result (FindsUses count (reads_in (stmt_of stmt.now)) found.old found.new) }
 {
     match stmt {
         Stmt::Declare(_, e)

@@ -12,27 +12,12 @@ ghost use Rattle.cw_types.specs.Regions.{regions_of};
 
 use crate::known::Known;
 use crate::regions::{Marked, regions};
+use cw_model::limits::{
+    MOST_DECLARED, MOST_FUNCTIONS, MOST_PARAMETERS, MOST_REDUCERS, MOST_TAG_BYTES, MOST_TAGS,
+};
 use cw_text::LeastLine;
 use cw_tree::syntax::{Ast, Function, Line, Param, Reducer, Stmt};
 use std::alloc::{AllocError, Global};
-
-/// The most functions of a program.
-const MOST_FUNCTIONS: usize = 1_024;
-
-/// The most reducers of a program.
-const MOST_REDUCERS: usize = 32;
-
-/// The most different tags of a program.
-const MOST_TAGS: usize = 64;
-
-/// The most bytes of a tag.
-const MOST_TAG_BYTES: usize = 32;
-
-/// The most parameters of a function.
-const MOST_PARAMETERS: usize = 16;
-
-/// The most names that a function declares, its parameters included.
-const MOST_DECLARED: usize = 256;
 
 /// The least line that passes a limit: that of the 1,025th function or a later one, of the 33rd
 /// reducer or a later one, of a function with more than 16 parameters, of what declares the 257th

@@ -13,13 +13,11 @@ ghost use Rattle.cw_types.specs.Within.{line_keeps};
 
 use crate::globals::Globals;
 use crate::known::Known;
+use cw_model::limits::MOST_GRAIN;
 use cw_tree::syntax::{Call, Cut, Expr, Function, Head, Line, Name, Param, Stmt};
 
 /// The name of the function that a run begins with.
 pub const MAIN: &[u8] = b"main";
-
-/// The most turns in a leaf of a loop.
-const MOST_GRAIN: u64 = 1_000_000;
 
 /// Which returns may stand in a block.
 #[derive(Clone, Copy)]

@@ -9,7 +9,7 @@ use Rattle.cw_text.specs.declared.fault.Fault.TheVariants as fault
 use Rattle.cw_code.specs.declared.code.Func.{Func}
 use Rattle.cw_code.specs.declared.code.Instr.{Instr}
 use Rattle.cw_code.specs.Code.{Code}
-use Rattle.cw_code.specs.Fits.{Shape, Table, Leads, AllLead, IsTable, first_shape, is_ready, leaves, nexts, names_well}
+use Rattle.cw_code.specs.Fits.{Shape, Table, FlowsInto, FlowsIntoEach, IsTable, first_shape, is_ready, leaves, nexts, names_well}
 use Rattle.cw_verify.specs.declared.found.Found.{Found}
 use Rattle.cw_verify.specs.declared.search.Search.{Search}
 use Rattle.cw_verify.specs.Table.{Shapes, shape_view, shapes_of, joined, come_at, come, visited, unmarked_at, unmarked_in, unreached, IsIn, IsNoted, Notes, left_to_do, Spread, Tells, table_of, IsDone, IsSearch, Fails, AllNamed, blocks_of}
@@ -158,7 +158,7 @@ visit_search code f old new work rest work' k i reached inside named h e is v sp
     here same = λ s i' q is'.
         let r : i ≡ i' = same_some i i' (sym is ∙ is') in
         let d = visit_done code f old k i is (named_at k lt i is) s new (sym same ∙ q) v in
-        subst (λ x. (is_ready code s x ≡ true) × AllLead (table_of f.start new) (leaves code s x) (nexts (f.start + k) x)) r d
+        subst (λ x. (is_ready code s x ≡ true) × FlowsIntoEach (table_of f.start new) (leaves code s x) (nexts (f.start + k) x)) r d
 
     at : (j : ℕ) → j < length old → slice_get new j ≡ slice_get old j → IsIn j work' ⊎ IsDone code f.start new j
     at j lt' same =
@@ -176,14 +176,14 @@ closed_is_table code f shapes inside h = record {
   goes = λ place s i e is. (both place s i e is).1;
 }
   where
-    both : (place : ℕ) (s : Shape) (i : Instr) → table_of f.start shapes place ≡ Some s → slice_get code.instrs place ≡ Some i → (is_ready code s i ≡ true) × AllLead (table_of f.start shapes) (leaves code s i) (nexts place i)
+    both : (place : ℕ) (s : Shape) (i : Instr) → table_of f.start shapes place ≡ Some s → slice_get code.instrs place ≡ Some i → (is_ready code s i ≡ true) × FlowsIntoEach (table_of f.start shapes) (leaves code s i) (nexts place i)
     both place s i e is =
         let p = held f.start shapes place s e in
         let same : f.start + (place - f.start) ≡ place = omega (arith, p.0) in
         let is' : slice_get code.instrs (f.start + (place - f.start)) ≡ Some i = ap (slice_get code.instrs) same ∙ is in
         let lt = slice_get_within shapes (place - f.start) (Some s) p.1 in
         let d : IsDone code f.start shapes (place - f.start) = ⊎_elim (λ (q : IsIn (place - f.start) []). absurd (nowhere q)) (λ (d : IsDone code f.start shapes (place - f.start)). d) (h.done (place - f.start) lt) in
-        subst (λ n. (is_ready code s i ≡ true) × AllLead (table_of f.start shapes) (leaves code s i) (nexts n i)) same (d s i p.1 is')
+        subst (λ n. (is_ready code s i ≡ true) × FlowsIntoEach (table_of f.start shapes) (leaves code s i) (nexts n i)) same (d s i p.1 is')
       where
         nowhere : {k : ℕ} → IsIn k [] → ⊥
         nowhere (j, e) = cc
@@ -208,7 +208,7 @@ nothing (suc n) (suc k) s e = nothing n k s e
 pub begins : (code : Code) (f : Func) (shapes : Shapes) (work : List ℕ) → f.start < f.end → shapes ≡ Some (first_shape f) ∷ replicate (f.end - f.start - 1) None → IsNoted 0 [] work → IsSearch code f shapes work
 begins code f shapes work order e w = subst (λ l. IsSearch code f l work) (sym e) (record {
   whole = omega (arith, order, length-replicate {A = Option Shape} (f.end - f.start - 1) None);
-  starts = subst (λ p. Leads (table_of f.start first) p (first_shape f)) zero_more (leads_at f.start first 0 (first_shape f) (first_shape f) refl refl (each_refl (blocks_of (first_shape f))));
+  starts = subst (λ p. FlowsInto (table_of f.start first) p (first_shape f)) zero_more (leads_at f.start first 0 (first_shape f) (first_shape f) refl refl (each_refl (blocks_of (first_shape f))));
   below = λ t table k s q. below t table k s q;
   small = λ k q. at_most_one k q;
   done = λ k lt. done k;
@@ -220,10 +220,10 @@ begins code f shapes work order e w = subst (λ l. IsSearch code f l work) (sym 
     zero_more : f.start + 0 ≡ f.start
     zero_more = omega arith
 
-    below : (t : Table) → IsTable code f t → (k : ℕ) (s : Shape) → slice_get first k ≡ Some (Some s) → Leads t (f.start + k) s
+    below : (t : Table) → IsTable code f t → (k : ℕ) (s : Shape) → slice_get first k ≡ Some (Some s) → FlowsInto t (f.start + k) s
     below t table zero s q =
         let is : first_shape f ≡ s = cc in
-        subst (λ p. Leads t p s) (sym zero_more) (subst (λ y. Leads t f.start y) is table.starts)
+        subst (λ p. FlowsInto t p s) (sym zero_more) (subst (λ y. FlowsInto t f.start y) is table.starts)
     below t table (suc k) s q = absurd (nothing (f.end - f.start - 1) k s q)
 
     nowhere : {k : ℕ} → IsIn k [] → ⊥

@@ -12,7 +12,7 @@ use Rattle.cw_code.specs.declared.code.Instr.{Instr}
 use Rattle.cw_code.specs.declared.code.Instr.TheVariants as instr
 use Rattle.cw_code.specs.Code.{Code}
 use Rattle.cw_code.specs.Run.{passed_by}
-use Rattle.cw_code.specs.Fits.{Row, Outer, empty_rows, gone_rows, params_of, names_well, Shape, is_full_in, full_in_all, has_slot, has_array, has_arrays, has_target, has_arguments, none_open, can_close, has_parts, can_uncut, is_no_half, is_no_part, are_no_parts, with_target, with_gone, with_passed, with_uncut, none_empty, closed_shape, uncut_shape, is_ready, leaves, nexts, Covers, CoversEach, Table, Leads, AllLead, IsTable}
+use Rattle.cw_code.specs.Fits.{Row, Outer, empty_rows, gone_rows, params_of, names_well, Shape, is_full_in, full_in_all, has_slot, has_array, has_arrays, has_target, has_arguments, none_open, can_close, has_parts, can_uncut, is_no_half, is_no_part, are_no_parts, with_target, with_gone, with_passed, with_uncut, none_empty, closed_shape, uncut_shape, is_ready, leaves, nexts, Covers, CoversEach, Table, FlowsInto, FlowsIntoEach, IsTable}
 use Rattle.cw_verify.specs.Table.{Shapes, either_empty, either_each, same_cut, is_alike, are_alike, blocks_of, can_meet, met, joined, come_at, come, then_come, come_all, next_distances, visited_at, visited, shape_at, table_of, Below, Grows, IsDone}
 use Rattle.cw_verify.proofs.Decided.{taken, both_true, both_less, first_true, second_true, at_most, equal, le_of, eq_of}
 use Rattle.cw_verify.proofs.Lists.{same_some, missing, get_set, set_other}
@@ -236,17 +236,17 @@ each_no_parts : (xs ys : List Outer) (h : Halves) → CoversEach xs ys → are_n
 each_no_parts xs ys h c = ap (λ b. b && is_no_part h.right xs) (each_no_part xs ys h.left c) ∙ ap (λ b. is_no_part h.left ys && b) (each_no_part xs ys h.right c)
 
 -- a place of a table takes what its shape covers
-pub leads_of : (t : Table) (place : ℕ) (there s : Shape) → t place ≡ Some there → there.operands ≡ s.operands → CoversEach (blocks_of there) (blocks_of s) → Leads t place s
+pub leads_of : (t : Table) (place : ℕ) (there s : Shape) → t place ≡ Some there → there.operands ≡ s.operands → CoversEach (blocks_of there) (blocks_of s) → FlowsInto t place s
 leads_of t place there s e n c = record { there = there; found = e; as_many = n; covers = c.0; covers_gone = c.1; covers_outer = c.3 }
 
-pub covers_all : {t : Table} {place : ℕ} {s : Shape} (l : Leads t place s) → CoversEach (blocks_of l.there) (blocks_of s)
+pub covers_all : {t : Table} {place : ℕ} {s : Shape} (l : FlowsInto t place s) → CoversEach (blocks_of l.there) (blocks_of s)
 covers_all l = (l.covers, l.covers_gone, refl, l.covers_outer)
 
 -- what comes to a place of a table from a shape that it covers
-pub leads_less : (t : Table) (place : ℕ) (big small : Shape) → big.operands ≡ small.operands → CoversEach (blocks_of big) (blocks_of small) → Leads t place big → Leads t place small
+pub leads_less : (t : Table) (place : ℕ) (big small : Shape) → big.operands ≡ small.operands → CoversEach (blocks_of big) (blocks_of small) → FlowsInto t place big → FlowsInto t place small
 leads_less t place big small e c l = leads_of t place l.there small l.found (l.as_many ∙ e) (each_trans (blocks_of l.there) (blocks_of big) (blocks_of small) (covers_all l) c)
 
-all_less : (t : Table) (places : List ℕ) (big small : Shape) → big.operands ≡ small.operands → CoversEach (blocks_of big) (blocks_of small) → AllLead t big places → AllLead t small places
+all_less : (t : Table) (places : List ℕ) (big small : Shape) → big.operands ≡ small.operands → CoversEach (blocks_of big) (blocks_of small) → FlowsIntoEach t big places → FlowsIntoEach t small places
 all_less t [] big small e c l = tt
 all_less t (p ∷ ps) big small e c l = (leads_less t p big small e c l.0, all_less t ps big small e c l.1)
 
@@ -379,7 +379,7 @@ table_at start shapes k =
     let same : start + k - start ≡ k = omega arith in
     taken (nat_le start (start + k)) (shape_at (slice_get shapes (start + k - start))) None (at_most start (start + k) (omega arith)) ∙ ap (λ j. shape_at (slice_get shapes j)) same
 
-pub leads_at : (start : ℕ) (shapes : Shapes) (k : ℕ) (there s : Shape) → slice_get shapes k ≡ Some (Some there) → there.operands ≡ s.operands → CoversEach (blocks_of there) (blocks_of s) → Leads (table_of start shapes) (start + k) s
+pub leads_at : (start : ℕ) (shapes : Shapes) (k : ℕ) (there s : Shape) → slice_get shapes k ≡ Some (Some there) → there.operands ≡ s.operands → CoversEach (blocks_of there) (blocks_of s) → FlowsInto (table_of start shapes) (start + k) s
 leads_at start shapes k there s e n c = leads_of (table_of start shapes) (start + k) there s (table_at start shapes k ∙ ap shape_at e) n c
 
 -- a shape has come to a place
@@ -435,7 +435,7 @@ module _ (start : ℕ) (shapes : Shapes) (k : ℕ) (s : Shape) (new : Shapes) (e
       let c = came shapes k s new e in
       ap (λ l. slice_get l k) c.new_is ∙ get_set shapes k (Some c.is) (slice_get_within shapes k c.was c.found)
 
-  come_leads : Leads (table_of start new) (start + k) s
+  come_leads : FlowsInto (table_of start new) (start + k) s
   come_leads =
       let c = came shapes k s new e in
       let j = joins c.was s c.is c.by in
@@ -452,7 +452,7 @@ module _ (start : ℕ) (shapes : Shapes) (k : ℕ) (s : Shape) (new : Shapes) (e
       (λ (q : i ≡ k → ⊥). leads_at start new i x x (ap (λ l. slice_get l i) c.new_is ∙ set_other shapes k i (Some c.is) q ∙ f) refl (each_refl (blocks_of x)))
       (cases_eq i k)
 
-  come_below : (t : Table) → Below start shapes t → Leads t (start + k) s → Below start new t
+  come_below : (t : Table) → Below start shapes t → FlowsInto t (start + k) s → Below start new t
   come_below t below l = λ i x f.
       let c = came shapes k s new e in
       let j = joins c.was s c.is c.by in
@@ -462,13 +462,13 @@ module _ (start : ℕ) (shapes : Shapes) (k : ℕ) (s : Shape) (new : Shapes) (e
       let old = below k u (c.found ∙ ap Some q) in
       let same : old.there ≡ l.there = same_some old.there l.there (sym old.found ∙ l.found) in
       subst (λ (y : Shape). CoversEach (blocks_of y) (blocks_of u)) same (covers_all old)) (covers_all l) in
-      let here : Leads t (start + k) c.is = leads_of t (start + k) l.there c.is l.found (l.as_many ∙ sym j.as_many) least in
-      subst (λ y. Leads t (start + i) y) is (subst (λ n. Leads t (start + n) c.is) (sym q) here))
+      let here : FlowsInto t (start + k) c.is = leads_of t (start + k) l.there c.is l.found (l.as_many ∙ sym j.as_many) least in
+      subst (λ y. FlowsInto t (start + i) y) is (subst (λ n. FlowsInto t (start + n) c.is) (sym q) here))
       (λ (q : i ≡ k → ⊥). below i x (sym (set_other shapes k i (Some c.is) q) ∙ ap (λ l. slice_get l i) (sym c.new_is) ∙ f))
       (cases_eq i k)
 
 -- a shape that a table takes can come
-come_goes : (start : ℕ) (shapes : Shapes) (k : ℕ) (s : Shape) (t : Table) → Below start shapes t → Leads t (start + k) s → k < length shapes → come shapes k s ≡ None → ⊥
+come_goes : (start : ℕ) (shapes : Shapes) (k : ℕ) (s : Shape) (t : Table) → Below start shapes t → FlowsInto t (start + k) s → k < length shapes → come shapes k s ≡ None → ⊥
 come_goes start shapes k s t below l lt e = at (slice_get shapes k) refl e
   where
     at : (o : Option (Option Shape)) → slice_get shapes k ≡ o → come_at shapes k s o ≡ None → ⊥
@@ -502,18 +502,18 @@ AllFrom start [] = Unit {0}
 AllFrom start (p ∷ ps) = (start ≤ p) × AllFrom start ps
 
 -- what a table that has grown takes
-pub leads_grown : (start : ℕ) (old new : Shapes) (place : ℕ) (s : Shape) → start ≤ place → Grows start old new → Leads (table_of start old) place s → Leads (table_of start new) place s
+pub leads_grown : (start : ℕ) (old new : Shapes) (place : ℕ) (s : Shape) → start ≤ place → Grows start old new → FlowsInto (table_of start old) place s → FlowsInto (table_of start new) place s
 leads_grown start old new place s le g l =
     let same : start + (place - start) ≡ place = omega (arith, le) in
     let found : shape_at (slice_get old (place - start)) ≡ Some l.there = sym (table_at start old (place - start)) ∙ ap (table_of start old) same ∙ l.found in
     let more = g (place - start) l.there (had (slice_get old (place - start)) found) in
-    leads_less (table_of start new) place l.there s l.as_many (covers_all l) (subst (λ p. Leads (table_of start new) p l.there) same more)
+    leads_less (table_of start new) place l.there s l.as_many (covers_all l) (subst (λ p. FlowsInto (table_of start new) p l.there) same more)
   where
     had : {x : Shape} (o : Option (Option Shape)) → shape_at o ≡ Some x → o ≡ Some (Some x)
     had None e = cc
     had (Some o) e = ap Some e
 
-all_grown : (start : ℕ) (old new : Shapes) (s : Shape) (ps : List ℕ) → AllFrom start ps → Grows start old new → AllLead (table_of start old) s ps → AllLead (table_of start new) s ps
+all_grown : (start : ℕ) (old new : Shapes) (s : Shape) (ps : List ℕ) → AllFrom start ps → Grows start old new → FlowsIntoEach (table_of start old) s ps → FlowsIntoEach (table_of start new) s ps
 all_grown start old new s [] from g l = tt
 all_grown start old new s (p ∷ ps) from g l = (leads_grown start old new p s from.0 g l.0, all_grown start old new s ps from.1 g l.1)
 
@@ -524,8 +524,8 @@ grows_refl start shapes = λ k s f. leads_at start shapes k s s f refl (each_ref
 record CameAll (start : ℕ) (shapes : Shapes) (ps : List ℕ) (s : Shape) (new : Shapes) : Type 0 where
   pub as_many : length new ≡ length shapes
   pub grows : Grows start shapes new
-  pub lead : AllLead (table_of start new) s ps
-  pub below : (t : Table) → Below start shapes t → AllLead t s ps → Below start new t
+  pub lead : FlowsIntoEach (table_of start new) s ps
+  pub below : (t : Table) → Below start shapes t → FlowsIntoEach t s ps → Below start new t
 
 came_all : (start : ℕ) (ps : List ℕ) (shapes : Shapes) (s : Shape) (new : Shapes) → AllFrom start ps → come_all shapes (map (λ p. p - start) ps) s ≡ Some new → CameAll start shapes ps s new
 came_all start [] shapes s new from e =
@@ -542,23 +542,23 @@ came_all start (p ∷ ps) shapes s new from e = by (λ mid e'. came_all start ps
         record {
           as_many = rest.as_many ∙ come_length start shapes (p - start) s mid f;
           grows = grows_trans start shapes mid new grows rest.grows;
-          lead = (leads_grown start mid new p s from.0 rest.grows (subst (λ q. Leads (table_of start mid) q s) same (come_leads start shapes (p - start) s mid f)), rest.lead);
-          below = λ t b l. rest.below t (come_below start shapes (p - start) s mid f t b (subst (λ q. Leads t q s) (sym same) l.0)) l.1;
+          lead = (leads_grown start mid new p s from.0 rest.grows (subst (λ q. FlowsInto (table_of start mid) q s) same (come_leads start shapes (p - start) s mid f)), rest.lead);
+          below = λ t b l. rest.below t (come_below start shapes (p - start) s mid f t b (subst (λ q. FlowsInto t q s) (sym same) l.0)) l.1;
         }
 
 -- shapes that a table takes can come to several places
-all_come : (start : ℕ) (ps : List ℕ) (shapes : Shapes) (s : Shape) (t : Table) → AllFrom start ps → ((p : ℕ) (x : Shape) → Leads t p x → p < start + length shapes) → Below start shapes t → AllLead t s ps → come_all shapes (map (λ p. p - start) ps) s ≡ None → ⊥
+all_come : (start : ℕ) (ps : List ℕ) (shapes : Shapes) (s : Shape) (t : Table) → AllFrom start ps → ((p : ℕ) (x : Shape) → FlowsInto t p x → p < start + length shapes) → Below start shapes t → FlowsIntoEach t s ps → come_all shapes (map (λ p. p - start) ps) s ≡ None → ⊥
 all_come start [] shapes s t from within below l e = cc
 all_come start (p ∷ ps) shapes s t from within below l e = by (λ mid w b e'. all_come start ps mid s t from.1 w b l.1 e') (come shapes (p - start) s) refl e
   where
-    by : ((mid : Shapes) → ((q : ℕ) (x : Shape) → Leads t q x → q < start + length mid) → Below start mid t → come_all mid (map (λ q. q - start) ps) s ≡ None → ⊥) → (o : Option Shapes) → come shapes (p - start) s ≡ o → then_come o (λ t. come_all t (map (λ q. q - start) ps) s) ≡ None → ⊥
+    by : ((mid : Shapes) → ((q : ℕ) (x : Shape) → FlowsInto t q x → q < start + length mid) → Below start mid t → come_all mid (map (λ q. q - start) ps) s ≡ None → ⊥) → (o : Option Shapes) → come shapes (p - start) s ≡ o → then_come o (λ t. come_all t (map (λ q. q - start) ps) s) ≡ None → ⊥
     by go None f e =
         let same : start + (p - start) ≡ p = omega (arith, from.0) in
-        come_goes start shapes (p - start) s t below (subst (λ q. Leads t q s) (sym same) l.0) (omega (arith, within p s l.0, from.0)) f
+        come_goes start shapes (p - start) s t below (subst (λ q. FlowsInto t q s) (sym same) l.0) (omega (arith, within p s l.0, from.0)) f
     by go (Some mid) f e =
         let same : start + (p - start) ≡ p = omega (arith, from.0) in
         let n = come_length start shapes (p - start) s mid f in
-        go mid (λ q x m. omega (arith, within q x m, n)) (come_below start shapes (p - start) s mid f t below (subst (λ q. Leads t q s) (sym same) l.0)) e
+        go mid (λ q x m. omega (arith, within q x m, n)) (come_below start shapes (p - start) s mid f t below (subst (λ q. FlowsInto t q s) (sym same) l.0)) e
 
 -- an instruction goes on to places of its function
 nexts_from : (code : Code) (f : Func) (place : ℕ) (i : Instr) → f.start ≤ place → names_well code f place i ≡ true → AllFrom f.start (nexts place i)
@@ -602,7 +602,7 @@ module _ (code : Code) (f : Func) (shapes : Shapes) (k : ℕ) (i : Instr) (is : 
   come_after b s = if b then come_all shapes (next_distances f.start k i) (leaves code s i) else None
 
   -- what a table says of a shape that it takes
-  taken_as : (t : Table) (s : Shape) → IsTable code f t → Leads t (f.start + k) s → (is_ready code s i ≡ true) × AllLead t (leaves code s i) (nexts (f.start + k) i)
+  taken_as : (t : Table) (s : Shape) → IsTable code f t → FlowsInto t (f.start + k) s → (is_ready code s i ≡ true) × FlowsIntoEach t (leaves code s i) (nexts (f.start + k) i)
   taken_as t s table l =
       let ready = table.ready (f.start + k) l.there i l.found is in
       let goes = table.goes (f.start + k) l.there i l.found is in
@@ -641,10 +641,10 @@ module _ (code : Code) (f : Func) (shapes : Shapes) (k : ℕ) (i : Instr) (is : 
           (sym (taken (is_ready code s i) (come_all shapes (next_distances f.start k i) (leaves code s i)) None h.0) ∙ e)
 
   -- an instruction that was visited has what it needs, and the places after it have what it leaves
-  pub visit_done : (s : Shape) (new : Shapes) → slice_get shapes k ≡ Some (Some s) → visited code f.start shapes k i ≡ Some new → (is_ready code s i ≡ true) × AllLead (table_of f.start new) (leaves code s i) (nexts (f.start + k) i)
+  pub visit_done : (s : Shape) (new : Shapes) → slice_get shapes k ≡ Some (Some s) → visited code f.start shapes k i ≡ Some new → (is_ready code s i ≡ true) × FlowsIntoEach (table_of f.start new) (leaves code s i) (nexts (f.start + k) i)
   visit_done s new found e = by (is_ready code s i) refl (sym (ap (visited_at code f.start shapes k i) found) ∙ e)
     where
-      by : (b : Bool) → is_ready code s i ≡ b → come_after b s ≡ Some new → (is_ready code s i ≡ true) × AllLead (table_of f.start new) (leaves code s i) (nexts (f.start + k) i)
+      by : (b : Bool) → is_ready code s i ≡ b → come_after b s ≡ Some new → (is_ready code s i ≡ true) × FlowsIntoEach (table_of f.start new) (leaves code s i) (nexts (f.start + k) i)
       by false r e = cc
       by true r e = (r, (came_all f.start (nexts (f.start + k) i) shapes (leaves code s i) new from e).lead)
 

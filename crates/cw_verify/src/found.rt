@@ -175,7 +175,7 @@ pub fn is_ready(code: &Code, found: &Found, i: &Instr) -> bool
 
 /// A shape like this one.
 pub fn copy(found: &Found) -> Result<Found, Fault>
-    ensures { table.Finds result (table.shape_view found.now) }
+    ensures { table.FindsShape result (table.shape_view found.now) }
 {
     let empty = found.empty.clone()?;
     let gone = found.gone.clone()?;
@@ -190,7 +190,7 @@ pub fn copy(found: &Found) -> Result<Found, Fault>
 
 /// What a function begins with.
 pub fn first(alloc: Global, f: &Func) -> Result<Found, Fault>
-    ensures { table.Finds result (fits.first_shape f.now) }
+    ensures { table.FindsShape result (fits.first_shape f.now) }
 {
     let empty = row::shared_none(alloc, f.slots)?;
     let gone = row::shared_none(alloc, f.arrays)?;

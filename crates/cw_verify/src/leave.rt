@@ -20,7 +20,7 @@ use std::rc::Rc;
 
 // One operand more. So many that they can't be counted have no room anywhere.
 fn one_more(found: Found) -> Result<Found, Fault>
-    ensures { table.Finds result (views.holding (found.operands + 1) found) }
+    ensures { table.FindsShape result (views.holding (found.operands + 1) found) }
 {
     match found.operands.checked_add(1) {
         Some(operands) => Ok(Found { operands, ..found }),
@@ -75,7 +75,7 @@ fn called(
     c: &Callee,
 ) -> Result<Found, Fault>
     requires { views.is_ready code.now found (instr.Call kind c.now) ≡ true }
-    ensures { table.Finds result (views.leaves code.now found (instr.Call kind c.now)) }
+    ensures { table.FindsShape result (views.leaves code.now found (instr.Call kind c.now)) }
 {
     let left = less(found, params_of(code, c.function));
     match kind {
@@ -101,7 +101,7 @@ fn recurred(
     c: &Inner,
 ) -> Result<Found, Fault>
     requires { views.is_ready code.now found (instr.Recur kind c.now) ≡ true }
-    ensures { table.Finds result (views.leaves code.now found (instr.Recur kind c.now)) }
+    ensures { table.FindsShape result (views.leaves code.now found (instr.Recur kind c.now)) }
 {
     let left = less(found, params_of(code, c.function));
     match kind {
@@ -115,7 +115,7 @@ fn recurred(
 
 // A join.
 fn synced(alloc: Global, found: Found) -> Result<Found, Fault>
-    ensures { table.Finds result (table.synced_shape (table.shape_view found)) }
+    ensures { table.FindsShape result (table.synced_shape (table.shape_view found)) }
 {
     let empty = row::shared_none(alloc, found.empty.len())?;
     let gone = row::shared_none(alloc, found.gone.len())?;
@@ -128,7 +128,7 @@ fn synced(alloc: Global, found: Found) -> Result<Found, Fault>
 
 // A sync block begins, by this cut, if any.
 fn opened(alloc: Global, found: Found, cut: Option<Halves>) -> Result<Found, Fault>
-    ensures { table.Finds result (table.opened_by cut (table.shape_view found)) }
+    ensures { table.FindsShape result (table.opened_by cut (table.shape_view found)) }
 {
     let empty = row::shared_none(alloc, found.empty.len())?;
     let gone = row::shared_none(alloc, found.gone.len())?;
@@ -151,7 +151,7 @@ fn opened(alloc: Global, found: Found, cut: Option<Halves>) -> Result<Found, Fau
 // A cut begins: its array is gone up to its end.
 fn cut(alloc: Global, found: Found, h: Halves) -> Result<Found, Fault>
     requires { 1 ≤ found.operands }
-    ensures { table.Finds result (table.cut_shape h (table.shape_view found)) }
+    ensures { table.FindsShape result (table.cut_shape h (table.shape_view found)) }
 {
     let left = less(found, 1);
     let mut gone = Vec::from_slice(alloc, &left.gone)?;
@@ -164,7 +164,7 @@ fn cut(alloc: Global, found: Found, h: Halves) -> Result<Found, Fault>
 // A sync block ends: the one round it goes on.
 fn closed(alloc: Global, found: Found) -> Result<Found, Fault>
     requires { fits.can_close (table.rounds_of found.outer.value.items) ≡ true }
-    ensures { table.Finds result (views.closed found) }
+    ensures { table.FindsShape result (views.closed found) }
 {
     let mut outer = copies(alloc, &found.outer)?;
     let round = outer.remove(0);
@@ -189,9 +189,9 @@ fn put_back(row: &mut Vec<bool>, cut: Option<Halves>)
 }
 
 // A cut ends: the sync block round it goes on, with the array.
-fn uncut(alloc: Global, found: Found) -> Result<Found, Fault>
+fn close_cut(alloc: Global, found: Found) -> Result<Found, Fault>
     requires { fits.can_uncut (table.rounds_of found.outer.value.items) ≡ true }
-    ensures { table.Finds result (views.uncut found) }
+    ensures { table.FindsShape result (views.cut_closed found) }
 {
     let mut outer = copies(alloc, &found.outer)?;
     let round = outer.remove(0);
@@ -211,7 +211,7 @@ fn uncut(alloc: Global, found: Found) -> Result<Found, Fault>
 /// What an instruction leaves.
 pub fn leave(alloc: Global, code: &Code, found: Found, i: &Instr) -> Result<Found, Fault>
     requires { views.is_ready code.now found i.now ≡ true }
-    ensures { table.Finds result (views.leaves code.now found i.now) }
+    ensures { table.FindsShape result (views.leaves code.now found i.now) }
 {
     match i {
         Instr::Push(_) => one_more(found),
@@ -230,7 +230,7 @@ pub fn leave(alloc: Global, code: &Code, found: Found, i: &Instr) -> Result<Foun
         Instr::Element(_, _) => Ok(found),
         Instr::SetElement(_, _) => Ok(less(found, 2)),
         Instr::Cut(h, _) => cut(alloc, found, *h),
-        Instr::EndCut => uncut(alloc, found),
+        Instr::EndCut => close_cut(alloc, found),
         Instr::Sync => synced(alloc, found),
         Instr::Open(_) => opened(alloc, found, None),
         Instr::Close => closed(alloc, found),

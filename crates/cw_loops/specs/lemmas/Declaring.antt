@@ -2,7 +2,7 @@
 use Rattle.std.proofs.Common.{◌≡◌, ℕ, Bool, true, false, List, [], ◌∷◌, ◌++◌, sym, subst}
 use Rattle.std.specs.Prelude.{if◌then◌else◌, not, ◌||◌, nat_le}
 use Rattle.std.specs.List.{list_all}
-use Rattle.cw_model.specs.Limits.{most_grain}
+use Rattle.cw_model.specs.declared.limits.TheConstants.{MOST_GRAIN}
 use Rattle.cw_model.specs.Lines.{unless}
 use Rattle.cw_model.specs.Syntax.{Name, Expr, Stmt, Declare, DeclareArray, Assign, AssignElement, AddTo, Call, Start, Begin, Sync, If, IfElse, While, For, Scope, Cut, Region, Print, Return, Block, End, Then, Program}
 use Rattle.cw_model.specs.Names.{same_name, is_among}
@@ -24,7 +24,7 @@ pub record HeadKept (program : Program) (known : Known) (x : Name) (from to : Ex
 pub head_kept : (program : Program) (known : Known) (x y z : Name) (from to : Expr) (grain : ℕ) (over : List Name) → is_head_of_loop program known x y z from to grain over ≡ true → HeadKept program known x from to grain over
 head_kept program known x y z from to grain over h =
     let a = both_true _ (list_all (λ a. is_array known a) over) h in
-    let b = both_true _ (nat_le grain most_grain) a.0 in
+    let b = both_true _ (nat_le grain MOST_GRAIN) a.0 in
     let c = both_true _ (nat_le 1 grain) b.0 in
     let d = both_true _ (is_fine known to) c.0 in
     let e = both_true _ (is_fine known from) d.0 in

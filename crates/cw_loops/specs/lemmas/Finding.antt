@@ -4,7 +4,7 @@ use Rattle.std.specs.Prelude.{if◌then◌else◌}
 use Rattle.std.specs.List.{list_all}
 use Rattle.cw_model.specs.Syntax.{Name, Function}
 use Rattle.cw_model.specs.Names.{same_name}
-use Rattle.cw_model.specs.Meaning.{no_function, function_of}
+use Rattle.cw_model.specs.Meaning.{no_function, function_named}
 use Rattle.cw_loops.specs.Lowered.{is_plain, loop_name, loop_count_in, made_in, lower_function, lower_functions, made_of}
 use Rattle.cw_loops.specs.Lowerable.{can_lower_function}
 use Rattle.cw_loops.specs.lemmas.Tests.{both_true}
@@ -14,7 +14,7 @@ use Rattle.cw_loops.specs.lemmas.Numbering.{Numbered, made_functions, loops_apar
 -- each of these functions is found by its name
 abbrev pub Found : List Function → List Function → Type 0
 Found fs [] = Unit {0}
-Found fs (f ∷ made) = (function_of f.name fs ≡ f) × Found fs made
+Found fs (f ∷ made) = (function_named f.name fs ≡ f) × Found fs made
 
 pub found_left : (fs xs ys : List Function) → Found fs (xs ++ ys) → Found fs xs
 found_left fs [] ys h = tt
@@ -26,17 +26,17 @@ found_right fs (x ∷ xs) ys h = found_right fs xs ys h.1
 
 -- none of these functions has the name
 abbrev Skips : Name → List Function → Type 0
-Skips g pre = (rest : List Function) → function_of g (pre ++ rest) ≡ function_of g rest
+Skips g pre = (rest : List Function) → function_named g (pre ++ rest) ≡ function_named g rest
 
 found_numbered : (made pre : List Function) (k : ℕ) → Numbered k made → ((j : ℕ) → k ≤ j → Skips (loop_name j) pre) → Found (pre ++ made) made
 found_numbered [] pre k h skips = tt
 found_numbered (f ∷ made) pre k h skips =
-    let here : function_of f.name (f ∷ made) ≡ f = ap (λ b. if b then f else function_of f.name made) (same_itself f.name) in
-    let skip : function_of f.name (pre ++ f ∷ made) ≡ function_of f.name (f ∷ made) = subst (λ n. function_of n (pre ++ f ∷ made) ≡ function_of n (f ∷ made)) (sym h.0) (skips k (omega arith) (f ∷ made)) in (
+    let here : function_named f.name (f ∷ made) ≡ f = ap (λ b. if b then f else function_named f.name made) (same_itself f.name) in
+    let skip : function_named f.name (pre ++ f ∷ made) ≡ function_named f.name (f ∷ made) = subst (λ n. function_named n (pre ++ f ∷ made) ≡ function_named n (f ∷ made)) (sym h.0) (skips k (omega arith) (f ∷ made)) in (
       skip ∙ here,
       subst (λ t. Found t made) (append_assoc pre (f ∷ []) made) (found_numbered made (pre ++ f ∷ []) (k + 1) h.1 (λ j le rest.
-          ap (function_of (loop_name j)) (append_assoc pre (f ∷ []) rest) ∙ skips j (omega arith) (f ∷ rest)
-          ∙ ap (λ b. if b then f else function_of (loop_name j) rest) (ap (λ n. same_name (loop_name j) n) h.0 ∙ loops_apart j k (omega arith)))),
+          ap (function_named (loop_name j)) (append_assoc pre (f ∷ []) rest) ∙ skips j (omega arith) (f ∷ rest)
+          ∙ ap (λ b. if b then f else function_named (loop_name j) rest) (ap (λ n. same_name (loop_name j) n) h.0 ∙ loops_apart j k (omega arith)))),
     )
 
 lowered_plain : (all0 fs : List Function) (k : ℕ) → list_all (can_lower_function all0) fs ≡ true → (j : ℕ) → Skips (loop_name j) (lower_functions k fs)
@@ -44,24 +44,24 @@ lowered_plain all0 [] k h j rest = refl
 lowered_plain all0 (f ∷ fs) k h j rest =
     let p = both_true (can_lower_function all0 f) (list_all (can_lower_function all0) fs) h in
     let n = both_true (is_plain f.name) _ p.0 in
-    ap (λ b. if b then lower_function k f else function_of (loop_name j) (lower_functions (k + loop_count_in f.body) fs ++ rest)) (apart_plain f.name (j ∷ []) n.0) ∙ lowered_plain all0 fs (k + loop_count_in f.body) p.1 j rest
+    ap (λ b. if b then lower_function k f else function_named (loop_name j) (lower_functions (k + loop_count_in f.body) fs ++ rest)) (apart_plain f.name (j ∷ []) n.0) ∙ lowered_plain all0 fs (k + loop_count_in f.body) p.1 j rest
 
 -- a name of the source among the functions of both
 pub record Looked (all0 all fs : List Function) (g : Name) : Type 0 where
   pub number : ℕ
   pub f : Function
-  pub is : function_of g fs ≡ f
-  pub is' : function_of g all ≡ lower_function number f
+  pub is : function_named g fs ≡ f
+  pub is' : function_named g all ≡ lower_function number f
   pub can : can_lower_function all0 f ≡ true
   pub made : Found all (made_in number f.body)
 
-no_loop : (g : Name) → is_plain g ≡ true → (made : List Function) (k : ℕ) → Numbered k made → function_of g made ≡ no_function
+no_loop : (g : Name) → is_plain g ≡ true → (made : List Function) (k : ℕ) → Numbered k made → function_named g made ≡ no_function
 no_loop g plain [] k h = refl
 no_loop g plain (f ∷ made) k h =
-    ap (λ b. if b then f else function_of g made) (ap (λ n. same_name g n) h.0 ∙ plain_apart g (k ∷ []) plain) ∙ no_loop g plain made (k + 1) h.1
+    ap (λ b. if b then f else function_named g made) (ap (λ n. same_name g n) h.0 ∙ plain_apart g (k ∷ []) plain) ∙ no_loop g plain made (k + 1) h.1
 
 looked_in : (all0 all : List Function) (g : Name) → is_plain g ≡ true → (fs : List Function) (k : ℕ) (rest : List Function) (j : ℕ) → Numbered j rest → list_all (can_lower_function all0) fs ≡ true → Found all (made_of k fs) →
-    function_of g all ≡ function_of g (lower_functions k fs ++ rest) → Looked all0 all fs g
+    function_named g all ≡ function_named g (lower_functions k fs ++ rest) → Looked all0 all fs g
 looked_in all0 all g plain [] k rest j num h found e = record { number = 0; f = no_function; is = refl; is' = e ∙ no_loop g plain rest j num; can = refl; made = tt }
 looked_in all0 all g plain (f ∷ fs) k rest j num h found e =
     by_name (same_name g f.name) refl (λ q. looked_in all0 all g plain fs (k + loop_count_in f.body) rest j num p.1 (found_right all (made_in k f.body) (made_of (k + loop_count_in f.body) fs) found) q)
@@ -69,18 +69,18 @@ looked_in all0 all g plain (f ∷ fs) k rest j num h found e =
     p : (can_lower_function all0 f ≡ true) × (list_all (can_lower_function all0) fs ≡ true)
     p = both_true (can_lower_function all0 f) (list_all (can_lower_function all0) fs) h
 
-    by_name : (b : Bool) → same_name g f.name ≡ b → (function_of g all ≡ function_of g (lower_functions (k + loop_count_in f.body) fs ++ rest) → Looked all0 all fs g) → Looked all0 all (f ∷ fs) g
+    by_name : (b : Bool) → same_name g f.name ≡ b → (function_named g all ≡ function_named g (lower_functions (k + loop_count_in f.body) fs ++ rest) → Looked all0 all fs g) → Looked all0 all (f ∷ fs) g
     by_name true s more = record {
       number = k;
       f = f;
-      is = ap (λ b. if b then f else function_of g fs) s;
-      is' = e ∙ ap (λ b. if b then lower_function k f else function_of g (lower_functions (k + loop_count_in f.body) fs ++ rest)) s;
+      is = ap (λ b. if b then f else function_named g fs) s;
+      is' = e ∙ ap (λ b. if b then lower_function k f else function_named g (lower_functions (k + loop_count_in f.body) fs ++ rest)) s;
       can = p.0;
       made = found_left all (made_in k f.body) (made_of (k + loop_count_in f.body) fs) found;
     }
     by_name false s more =
-        let r = more (e ∙ ap (λ b. if b then lower_function k f else function_of g (lower_functions (k + loop_count_in f.body) fs ++ rest)) s) in
-        record { number = r.number; f = r.f; is = ap (λ b. if b then f else function_of g fs) s ∙ r.is; is' = r.is'; can = r.can; made = r.made }
+        let r = more (e ∙ ap (λ b. if b then lower_function k f else function_named g (lower_functions (k + loop_count_in f.body) fs ++ rest)) s) in
+        record { number = r.number; f = r.f; is = ap (λ b. if b then f else function_named g fs) s ∙ r.is; is' = r.is'; can = r.can; made = r.made }
 
 module _ (fs : List Function) (can : list_all (can_lower_function fs) fs ≡ true) where
   abbrev pub fs' : List Function
@@ -92,5 +92,5 @@ module _ (fs : List Function) (can : list_all (can_lower_function fs) fs ≡ tru
   pub looked : (g : Name) → is_plain g ≡ true → Looked fs fs' fs g
   looked g plain = looked_in fs fs' g plain fs 0 (made_of 0 fs) 0 (made_functions fs 0).numbered can all_found refl
 
-  pub params_same : (g : Name) → is_plain g ≡ true → (function_of g fs').params ≡ (function_of g fs).params
+  pub params_same : (g : Name) → is_plain g ≡ true → (function_named g fs').params ≡ (function_named g fs).params
   params_same g plain = let l = looked g plain in ap (λ (f : Function). f.params) l.is' ∙ sym (ap (λ (f : Function). f.params) l.is)

@@ -6,7 +6,7 @@ use Rattle.cw_model.specs.Lines.{unless}
 use Rattle.cw_model.specs.declared.syntax.CallKind.{CallKind}
 use Rattle.cw_model.specs.Syntax.{Name, Expr, Number, Variable, Element, Length, Negative, Not, Binary, Stmt, Declare, DeclareArray, Assign, AssignElement, AddTo, Call, Start, Begin, Sync, If, IfElse, While, For, Scope, Cut, Region, Print, Return, Block, End, Then, Param, Function, Program}
 use Rattle.cw_model.specs.Names.{same_name, is_among, differ}
-use Rattle.cw_model.specs.Meaning.{function_of}
+use Rattle.cw_model.specs.Meaning.{function_named}
 use Rattle.cw_model.specs.Answers.{main_name}
 use Rattle.cw_model.specs.Captured.{read_by, read_by_all, read_in, read_in_block, declared_in, declared_in_block}
 use Rattle.cw_model.specs.Typing.{Known, is_int, is_array, is_fine, is_new, is_reducer, is_argument, are_arguments, called, is_target, is_call, is_head_of_loop, may_return, ends_block, surely_returns, faults_in, faults_in_block, declares, Returns, Nowhere, WithInt, Alone}
@@ -51,17 +51,17 @@ expr_seen known (Binary operator d e) source fine x o =
     go (in_second p) one other = other p
 
 -- the function of a call
-pub called_is : (f : Name) (fs : List Function) (g : Function) → called f fs ≡ Some g → function_of f fs ≡ g
+pub called_is : (f : Name) (fs : List Function) (g : Function) → called f fs ≡ Some g → function_named f fs ≡ g
 called_is f [] g h = absurd cc
 called_is f (k ∷ fs) g h = go (same_name f k.name) h (λ p. called_is f fs g p)
   where
-    go : (b : Bool) → (if b then Some k else called f fs) ≡ Some g → (called f fs ≡ Some g → function_of f fs ≡ g) → (if b then k else function_of f fs) ≡ g
+    go : (b : Bool) → (if b then Some k else called f fs) ≡ Some g → (called f fs ≡ Some g → function_named f fs ≡ g) → (if b then k else function_named f fs) ≡ g
     go true p more = cc
     go false p more = more p
 
 pub record CallKept (fs : List Function) (known : Known) (target : Option Name) (f : Name) (es : List Expr) : Type 0 where
-  pub target_fine : is_target known (function_of f fs) target ≡ true
-  pub arguments : are_arguments known (function_of f fs).params es ≡ true
+  pub target_fine : is_target known (function_named f fs) target ≡ true
+  pub arguments : are_arguments known (function_named f fs).params es ≡ true
 
 pub call_kept : (fs : List Function) (known : Known) (target : Option Name) (f : Name) (es : List Expr) → is_call known target (called f fs) es ≡ true → CallKept fs known target f es
 call_kept fs known target f es h = go (called f fs) refl h
@@ -213,7 +213,7 @@ module _ (program : Program) (fs : List Function) (fs_is : program.functions ≡
       let t = both_true (is_plain f) (list_all is_source_expr es) s.1 in
       let k = call_kept fs known target f es (ap (λ w. is_call known target (called f w) es) (sym fs_is) ∙ kept _ line types) in
       let g = given_kept around taken fs target f es (kept _ line owns) in
-      arguments_seen around known [] (function_of f fs).params es t.1 k.arguments g.arrays x o
+      arguments_seen around known [] (function_named f fs).params es t.1 k.arguments g.arrays x o
 
   tested_seen : (e : Expr) (b : Block) (returns : Returns) (known : Known) (around : Around) → is_source_expr e ≡ true → is_fine known e ≡ true → (x : Name) →
       (is_among x (read_in_block b) ≡ true → Seen around known (declared_in_block b) x) → is_among x (read_by e ++ read_in_block b) ≡ true → Seen around known (declared_in_block b) x

@@ -3,7 +3,7 @@ use Rattle.std.proofs.Common.{◌≡◌, ℕ, ◌+◌, ◌-◌, ℤ, pos, ◌+�
 use Rattle.std.specs.Prelude.{map, take, drop, is_none, slice_get, slice_set}
 use Rattle.cw_model.specs.declared.trap.Trap.{Trap}
 use Rattle.cw_model.specs.declared.trap.Trap.TheVariants as trap
-use Rattle.cw_model.specs.Limits.{most_depth}
+use Rattle.cw_model.specs.declared.limits.TheConstants.{MOST_DEPTH}
 use Rattle.cw_model.specs.declared.syntax.CallKind.{CallKind}
 use Rattle.cw_model.specs.declared.syntax.CallKind.TheVariants.{Plain}
 use Rattle.cw_model.specs.Syntax.{Name}
@@ -20,11 +20,11 @@ use Rattle.cw_code.specs.declared.code.Func.{Func}
 use Rattle.cw_code.specs.declared.code.Instr.{Instr}
 use Rattle.cw_code.specs.declared.code.Instr.TheVariants as instr
 use Rattle.cw_code.specs.Code.{Code}
-use Rattle.cw_code.specs.Run.{Slots, State, Went, On, Stops, Stuck, synced, on_top, on_two, on_slot, is_full, apply_unary, operated, set_array, adds, settled, put_in, Whole, arrays_in, Entering, arguments_of, may_begin, begun, begins, call_of, on_arrays, enter, recur, parts_of, looped, on_range, start, back, opened, opened_region, cut_arrays, may_cut, cuts, Opened, Around, Caller, Block, resumes, closed, uncut_arrays, uncut, cut_ends, passed_by, act}
+use Rattle.cw_code.specs.Run.{Slots, State, Transition, On, Stops, Stuck, synced, on_top, on_two, on_slot, is_full, apply_unary, operated, set_array, adds, settled, put_in, Whole, arrays_in, Entering, arguments_of, may_begin, begun, begins, call_of, on_arrays, enter, recur, parts_of, looped, on_range, start, back, opened, opened_region, cut_arrays, may_cut, cuts, Opened, Around, Caller, Block, resumes, closed, uncut_arrays, resumes_uncut, cut_ends, passed_by, act}
 use Rattle.cw_strands.specs.Jobs.{joins}
 use Rattle.cw_strands.specs.Strands.{Turn, Goes, turn_call, turn_in, turn_of}
 
-module _ (code : Code) (s : State) (P : (joins : Bool) → Turn → Went → Type 0) where
+module _ (code : Code) (s : State) (P : (joins : Bool) → Turn → Transition → Type 0) where
   -- what holds of each kind of move, with what it is to a strand: on in the same call and block, into a call, into a block, at a join, out of a block, and out of a call
   pub record Moves : Type 0 where
     pub stuck : (j : Bool) (turn : Turn) → P j turn Stuck
@@ -38,18 +38,18 @@ module _ (code : Code) (s : State) (P : (joins : Bool) → Turn → Went → Typ
     pub returns : (v : Option ℤ) → P true (turn_in s.around) (back s.around v (settled s.arrived s.arrays) (synced s.trace))
 
   module _ (moves : Moves) where
-    either : (j : Bool) (turn : Turn) (c : Bool) (x y : Went) → P j turn x → P j turn y → P j turn (if c then x else y)
+    either : (j : Bool) (turn : Turn) (c : Bool) (x y : Transition) → P j turn x → P j turn y → P j turn (if c then x else y)
     either j turn true x y h k = h
     either j turn false x y h k = k
 
-    top : (j : Bool) (turn : Turn) (go : ℤ → List ℤ → Went) → ((v : ℤ) (rest : List ℤ) → P j turn (go v rest)) → P j turn (on_top s go)
+    top : (j : Bool) (turn : Turn) (go : ℤ → List ℤ → Transition) → ((v : ℤ) (rest : List ℤ) → P j turn (go v rest)) → P j turn (on_top s go)
     top j turn go k = cases s.operands
       where
         cases : (ops : List ℤ) → P j turn (on_top (record s { operands = ops }) go)
         cases [] = moves.stuck j turn
         cases (v ∷ rest) = k v rest
 
-    two : (go : ℤ → ℤ → List ℤ → Went) → ((v w : ℤ) (rest : List ℤ) → P false Goes (go v w rest)) → P false Goes (on_two s go)
+    two : (go : ℤ → ℤ → List ℤ → Transition) → ((v w : ℤ) (rest : List ℤ) → P false Goes (go v w rest)) → P false Goes (on_two s go)
     two go k = cases s.operands
       where
         cases : (ops : List ℤ) → P false Goes (on_two (record s { operands = ops }) go)
@@ -57,7 +57,7 @@ module _ (code : Code) (s : State) (P : (joins : Bool) → Turn → Went → Typ
         cases (w ∷ []) = moves.stuck false Goes
         cases (w ∷ v ∷ rest) = k v w rest
 
-    on_it : {A : Type 0} (o : Option (Option A)) (go : A → Went) → ((x : A) → P false Goes (go x)) → P false Goes (on_slot o go)
+    on_it : {A : Type 0} (o : Option (Option A)) (go : A → Transition) → ((x : A) → P false Goes (go x)) → P false Goes (on_slot o go)
     on_it None go k = moves.stuck false Goes
     on_it (Some None) go k = moves.stuck false Goes
     on_it (Some (Some x)) go k = k x
@@ -77,14 +77,14 @@ module _ (code : Code) (s : State) (P : (joins : Bool) → Turn → Went → Typ
     begin : (e : Entering) → P false (turn_call e.kind e.target e.taken) (begins s e)
     begin e = either false (turn_call e.kind e.target e.taken) (may_begin s e) (On (begun s e)) Stuck (moves.enters e) (moves.stuck false (turn_call e.kind e.target e.taken))
 
-    with_arrays : (turn : Turn) (o : Option (List (List ℤ))) (go : List (List ℤ) → Went) → ((given : List (List ℤ)) → P false turn (go given)) → P false turn (on_arrays o go)
+    with_arrays : (turn : Turn) (o : Option (List (List ℤ))) (go : List (List ℤ) → Transition) → ((given : List (List ℤ)) → P false turn (go given)) → P false turn (on_arrays o go)
     with_arrays turn None go k = moves.stuck false turn
     with_arrays turn (Some given) go k = k given
 
     calls : (kind : CallKind) (c : Callee) (passed : List ℕ) (o : Option Func) → P false (turn_call kind c.target (map (λ a. Whole a) passed)) (enter s kind c passed o)
     calls kind c passed None = moves.stuck false (turn_call kind c.target (map (λ a. Whole a) passed))
     calls kind c passed (Some f) =
-        either false (turn_call kind c.target (map (λ a. Whole a) passed)) (nat_lt most_depth (s.depth + 1)) (Stops trap.TooDeep c.line s.trace.lines) (on_arrays (arrays_in passed s.arrays) (λ given. begins s (call_of s kind c passed f given)))
+        either false (turn_call kind c.target (map (λ a. Whole a) passed)) (nat_lt MOST_DEPTH (s.depth + 1)) (Stops trap.TooDeep c.line s.trace.lines) (on_arrays (arrays_in passed s.arrays) (λ given. begins s (call_of s kind c passed f given)))
         (moves.stops false (turn_call kind c.target (map (λ a. Whole a) passed)) trap.TooDeep c.line s.trace.lines)
         (with_arrays (turn_call kind c.target (map (λ a. Whole a) passed)) (arrays_in passed s.arrays) _ (λ given. begin (call_of s kind c passed f given)))
 
@@ -101,7 +101,7 @@ module _ (code : Code) (s : State) (P : (joins : Bool) → Turn → Went → Typ
       taken = map (λ a. Whole a) passed;
     }))
 
-    ranges : (arguments : List ℤ) (go : ℤ → ℤ → List ℤ → Went) → ((low high : ℤ) (captured : List ℤ) → P false Goes (go low high captured)) → P false Goes (on_range arguments go)
+    ranges : (arguments : List ℤ) (go : ℤ → ℤ → List ℤ → Transition) → ((low high : ℤ) (captured : List ℤ) → P false Goes (go low high captured)) → P false Goes (on_range arguments go)
     ranges [] go k = moves.stuck false Goes
     ranges (low ∷ []) go k = moves.stuck false Goes
     ranges (low ∷ high ∷ captured) go k = k low high captured
@@ -143,12 +143,12 @@ module _ (code : Code) (s : State) (P : (joins : Bool) → Turn → Went → Typ
     uncuts (Caller w ∷ around) e = moves.stuck true Goes
     uncuts (Block o ∷ around) e = by_cut o.cut
       where
-        part : (x : Option (Option (List ℤ))) (go : List ℤ → Went) → ((xs : List ℤ) → P true Goes (go xs)) → P true Goes (on_slot x go)
+        part : (x : Option (Option (List ℤ))) (go : List ℤ → Transition) → ((xs : List ℤ) → P true Goes (go xs)) → P true Goes (on_slot x go)
         part None go k = moves.stuck true Goes
         part (Some None) go k = moves.stuck true Goes
         part (Some (Some xs)) go k = k xs
 
-        by_cut : (c : Option Halves) → P true Goes (uncut (put_in s) o around c)
+        by_cut : (c : Option Halves) → P true Goes (resumes_uncut (put_in s) o around c)
         by_cut None = moves.stuck true Goes
         by_cut (Some h) =
             part (slice_get (settled s.arrived s.arrays) h.left) _ (λ left.

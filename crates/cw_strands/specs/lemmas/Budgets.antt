@@ -2,7 +2,7 @@
 use Rattle.std.proofs.Common.{◌≡◌, ℕ, zero, suc, ◌+◌, ◌-◌, ◌≤◌, Bool, true, false, refl, sym, ap, ◌∙◌, subst, inl, inr, arith}
 use Rattle.std.proofs.lemmas.Bool.{cases_lt}
 use Rattle.cw_code.specs.Code.{Code}
-use Rattle.cw_code.specs.Run.{State, Went, On, Ends, Stops, Stuck, step}
+use Rattle.cw_code.specs.Run.{State, Transition, On, Ends, Stops, Stuck, step}
 use Rattle.cw_strands.specs.Jobs.{Extent, has_come, standing, Came, Arrives, Returns, Falls, Beyond, Lost, moved, travel, Job, course, Effect, Ended, Joined, TrapIn, OverLimit, Memory, IsOf, JobMeaning, Same, Passed, Short}
 use Rattle.cw_strands.specs.Strands.{cost_of}
 use Rattle.cw_strands.specs.Promises.{Takes, StandsFor}
@@ -68,7 +68,7 @@ module _ (x : Extent) (code : Code) where
   go_one n s e = not_taken (has_come x code s) (Arrives (standing s) s.trace (suc n)) (moved (step code s) n (λ s'. travel x code n s')) e
 
   -- one instruction
-  pub takes_step : (s : State) (w : Went) → has_come x code s ≡ false → step code s ≡ w → Takes 1 (λ n. travel x code n s) (λ n. moved w n (λ s'. travel x code n s'))
+  pub takes_step : (s : State) (w : Transition) → has_come x code s ≡ false → step code s ≡ w → Takes 1 (λ n. travel x code n s) (λ n. moved w n (λ s'. travel x code n s'))
   takes_step s w e same = takes_one 1 (λ n. travel x code n s) (λ n. moved w n (λ s'. travel x code n s')) refl (none_left s e) (λ n. go_one n s e ∙ ap (λ w'. moved w' n (λ s'. travel x code n s')) same)
 
   pub exact : (budget : ℕ) (s : State) → Exact budget (λ n. travel x code n s) (travel x code budget s)
@@ -89,7 +89,7 @@ module _ (x : Extent) (code : Code) where
           (omega arith, takes_none (suc n - suc n) (λ k. travel x code k s) (λ k. Arrives (standing s) s.trace k) (omega arith) (λ k. come_at k s e))
       cases false e more = subst (λ c. Exact (suc n) (λ k. travel x code k s) c) (sym (go_one n s e)) (went (step code s) refl)
         where
-          went : (w : Went) → step code s ≡ w → Exact (suc n) (λ k. travel x code k s) (moved w n (λ s'. travel x code n s'))
+          went : (w : Transition) → step code s ≡ w → Exact (suc n) (λ k. travel x code k s) (moved w n (λ s'. travel x code n s'))
           went (On s') same =
               one_more n (λ k. travel x code k s') (λ k. travel x code k s) (travel x code n s') (none_left s e)
               (λ k. go_one k s e ∙ ap (λ w'. moved w' k (λ s2. travel x code k s2)) same) (more s')

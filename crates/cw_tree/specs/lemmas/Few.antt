@@ -5,7 +5,7 @@ use Rattle.std.proofs.lemmas.List.Elements.{All-cons}
 use Rattle.cw_model.specs.Lines.{unless}
 use Rattle.cw_model.specs.Syntax.{Name, Param, Reducer, Stmt, Declare, DeclareArray, Assign, AssignElement, AddTo, Call, Start, Begin, Sync, If, IfElse, While, For, Scope, Cut, Region, Print, Return, Block, End, Then, Program}
 use Rattle.cw_model.specs.Syntax as model
-use Rattle.cw_model.specs.Limits.{most_parameters, most_declared, most_tag_bytes}
+use Rattle.cw_model.specs.declared.limits.TheConstants.{MOST_PARAMETERS, MOST_DECLARED, MOST_TAG_BYTES}
 use Rattle.cw_model.specs.Sizes.{declaring_lines, declaring_lines_in, function_limits, limit_faults, lines_beyond, first_places, regions_of}
 use Rattle.cw_model.specs.lemmas.Kept.{left_none, right_none}
 use Rattle.cw_tree.specs.declared.syntax.Function.{Function}
@@ -70,7 +70,7 @@ pub tags_few : (program : Program) → limit_faults program ≡ [] → length (f
 tags_few program h =
     let places = first_places (regions_of program) [] in
     let lines = map (λ (d : Name × ℕ). d.1) places in
-    let last = right_none (flat_map (λ (d : Name × ℕ). unless (nat_le (length d.0) most_tag_bytes) d.1) (regions_of program)) _
+    let last = right_none (flat_map (λ (d : Name × ℕ). unless (nat_le (length d.0) MOST_TAG_BYTES) d.1) (regions_of program)) _
     (right_none (flat_map function_limits program.functions) _
     (right_none (lines_beyond 32 (map (λ (r : Reducer). r.line) program.reducers)) _
     (right_none (lines_beyond 1024 (map (λ (f : model.Function). f.line) program.functions)) _ h))) in
@@ -86,7 +86,7 @@ pub small_head : (f : model.Function) → function_limits f ≡ [] → length f.
 small_head f h =
     let lines = map (λ (p : Param). f.line) f.params in
     let declared = declaring_lines_in f.body in
-    let few : length (lines ++ declared) ≤ most_declared = none_left most_declared (lines ++ declared) (right_none (unless (nat_le (length f.params) most_parameters) f.line) (drop most_declared (lines ++ declared)) h) in
+    let few : length (lines ++ declared) ≤ MOST_DECLARED = none_left MOST_DECLARED (lines ++ declared) (right_none (unless (nat_le (length f.params) MOST_PARAMETERS) f.line) (drop MOST_DECLARED (lines ++ declared)) h) in
     let all = length-append lines declared in
     let count : length lines ≡ length f.params = length-map f.params (λ (p : Param). f.line) in
     let more = as_many f.body in

@@ -1,15 +1,15 @@
 use Rattle.std.proofs.Common.{◌≡◌, arith, refl}
 use Rattle.clap.proofs.OnLiterals.{clap_on_literals}
-use Rattle.cw_model.specs.Limits.{usual_burden, usual_limit}
-use Rattle.cw_model.specs.Pieces.{value_of}
+use Rattle.cw_model.specs.declared.limits.TheConstants.{USUAL_BURDEN, USUAL_LIMIT}
+use Rattle.cw_model.specs.Pieces.{decimal_value}
 use Rattle.cw_cli.specs.Command.{burden_row, limit_row}
 use Rattle.cw_cli.specs.WordLaws.{RefusalExamples, UsualNumbersAreWritten, WordExamples}
 use Rattle.cw_cli.proofs.laws.written_words.Goals as goal
 
 usual : UsualNumbersAreWritten
 usual =
-    let limit : value_of limit_row.usual ≡ usual_limit = refl in
-    let burden : value_of burden_row.usual ≡ usual_burden = refl in (
+    let limit : decimal_value limit_row.usual ≡ USUAL_LIMIT = refl in
+    let burden : decimal_value burden_row.usual ≡ USUAL_BURDEN = refl in (
       (
         ((refl, omega arith, omega (arith, limit)), omega (arith, limit), omega (arith, limit)),
         (((refl, omega arith, omega (arith, burden)), omega (arith, burden), omega (arith, burden)), tt),

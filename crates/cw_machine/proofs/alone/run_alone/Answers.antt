@@ -10,7 +10,7 @@ use Rattle.cw_verify.specs.declared.verified.Verified.{Verified}
 use Rattle.cw_verify.specs.Resolved.{room_of}
 use Rattle.cw_machine.specs.declared.run.Run.{Run}
 use Rattle.cw_machine.specs.Metered.{IsNewRun, Reaches}
-use Rattle.cw_machine.specs.Runs.{is_asked, Runs, Why}
+use Rattle.cw_machine.specs.Runs.{is_asked, Runs, IsFailure}
 use Rattle.cw_machine.proofs.Metering.{gauge_of}
 use Rattle.cw_machine.proofs.FromMain.{IsEnded-prop, is_ended, is_over, was_over, IsTrapped-prop, was_trapped, requested, asked_count, asked_limit, asked_burden, main_there, main_has_room, main_room, main_frame, first_run, ended, over, trapped}
 use Rattle.cw_machine.proofs.alone.run_alone.Goals as goal
@@ -94,7 +94,7 @@ returns-in-On c =
     let e : is_over serial ≡ true = ∥∥₁_elim v.ok (hlevel Bool-set) (λ ok.
     let g = gauge_of v ok burden light in
     over v f args n burden count r c.func-f.ensures asked ok g (subst (λ to. Reaches v ok g count to r n (first_state f args [])) c.in-On.is (c.go-stop.ensures.reaches ok g (first_state f args []) (first_run v ok g f args c.in_ok-run.run' c.func-f.ensures many made)))) in
-    subst (λ (w : Verified). Why (code_view w.code) args n burden fault.OverLimit) c.deref-verified.ensures
+    subst (λ (w : Verified). IsFailure (code_view w.code) args n burden fault.OverLimit) c.deref-verified.ensures
     (requested code f args n burden c.func-f.ensures asked, was_over serial e)
 
 pub returns-in-Trapped : goal.returns-in-Trapped
@@ -118,5 +118,5 @@ returns-in-Trapped c =
     let e = was_trapped trap line lines serial (∥∥₁_elim v.ok (IsTrapped-prop trap line lines serial) (λ ok.
     let g = gauge_of v ok burden light in
     trapped v f args n burden count r c.func-f.ensures asked ok g trap line (subst (λ to. Reaches v ok g count to r n (first_state f args [])) c.in-Trapped.is (c.go-stop.ensures.reaches ok g (first_state f args []) (first_run v ok g f args c.in_ok-run.run' c.func-f.ensures many made))))) in
-    subst (λ (w : Verified). Why (code_view w.code) args n burden (fault.Trap trap line r.machine.lines)) c.deref-verified.ensures
+    subst (λ (w : Verified). IsFailure (code_view w.code) args n burden (fault.Trap trap line r.machine.lines)) c.deref-verified.ensures
     (requested code f args n burden c.func-f.ensures asked, e)

@@ -13,7 +13,7 @@ use Rattle.cw_machine.specs.declared.values.Values.{Values}
 use Rattle.cw_machine.specs.Arrays.{Ok as IsOk}
 use Rattle.cw_machine.specs.Shows.{BeginsRun}
 use Rattle.cw_machine.specs.Steps.{Reaches, ReachesAny}
-use Rattle.cw_machine.specs.Runs.{is_asked, is_request, Gives, Why}
+use Rattle.cw_machine.specs.Runs.{is_asked, is_request, Gives, IsFailure}
 use Rattle.cw_machine.proofs.FromMain.{as_many_asked, Main, main_of, asked_of, is_over, was_over, IsTrapped-prop, was_trapped}
 use Rattle.cw_machine.proofs.Given.{IsGiven-prop, is_given, gave, passed, stopped}
 use Rattle.cw_machine.proofs.values.values_alone.Goals as goal
@@ -67,7 +67,7 @@ returns-in-On c =
     let e : is_over serial ≡ true = ∥∥₁_elim v.ok (hlevel Bool-set) (λ ok.
     let main = main_of v ok in
     passed v main.func args n burden m main.found (asked_of v main args n burden asked) ok (came v ok main args n c.in_ok-machine.machine m _ _ c.in_ok-machine.ensures c.run.ensures c.in-On.is)) in
-    subst (λ (w : Verified). Why (code_view w.code) args n burden fault.OverLimit) c.deref-verified.ensures (asked, was_over serial e)
+    subst (λ (w : Verified). IsFailure (code_view w.code) args n burden fault.OverLimit) c.deref-verified.ensures (asked, was_over serial e)
 
 pub returns-in-Trapped : goal.returns-in-Trapped
 returns-in-Trapped c =
@@ -85,4 +85,4 @@ returns-in-Trapped c =
     let e = was_trapped trap line lines serial (∥∥₁_elim v.ok (IsTrapped-prop trap line lines serial) (λ ok.
     let main = main_of v ok in
     stopped v main.func args n burden m main.found (asked_of v main args n burden asked) ok trap line (came v ok main args n c.in_ok-machine.machine m _ _ c.in_ok-machine.ensures c.run.ensures c.in-Trapped.is))) in
-    subst (λ (w : Verified). Why (code_view w.code) args n burden (fault.Trap trap line m.lines)) c.deref-verified.ensures (asked, e)
+    subst (λ (w : Verified). IsFailure (code_view w.code) args n burden (fault.Trap trap line m.lines)) c.deref-verified.ensures (asked, e)

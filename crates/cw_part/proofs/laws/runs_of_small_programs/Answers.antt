@@ -17,7 +17,7 @@ returns c =
     let trap = found example.division_after_print (pos 0 ∷ []) 100 in
     let over = found example.division_after_print (pos 0 ∷ []) 5 in
     record {
-      spawn = record { way = spawn.way; is_run = spawn.is_run };
-      trap = record { way = trap.way; is_run = trap.is_run };
-      limit = record { way = over.way; is_run = over.is_run };
+      spawn = record { exit = spawn.exit; is_run = spawn.is_run };
+      trap = record { exit = trap.exit; is_run = trap.is_run };
+      limit = record { exit = over.exit; is_run = over.is_run };
     }

@@ -1,6 +1,6 @@
 use Rattle.std.proofs.Common.{◌≡◌, ℕ, zero, suc, List, [], ◌∷◌, ◌++◌, map, drop, length, nat_le, ap, sym, refl, ◌∙◌, arith}
 use Rattle.std.proofs.lemmas.List.{length-map, append-nil}
-use Rattle.cw_model.specs.Limits.{most_declared}
+use Rattle.cw_model.specs.declared.limits.TheConstants.{MOST_DECLARED}
 use Rattle.cw_model.specs.Lines.{unless}
 use Rattle.cw_model.specs.Sizes.{declaring_lines_in}
 use Rattle.cw_tree.specs.SyntaxView.{param_of, block_of}
@@ -24,15 +24,15 @@ returns c =
     let old = c.args.least.now.line in
     let lines = declaring_lines_in (block_of c.args.function.now.body.items) in
     let count : c.len.result ≡ length (map param_of ps) = grind (arith, length-map) in
-    let room = drop most_declared (map (λ _. line) (map param_of ps) ++ lines) in
+    let room = drop MOST_DECLARED (map (λ _. line) (map param_of ps) ++ lines) in
     let nothing : drop c.block_beyond.result [] ≡ [] = dropped c.block_beyond.result in
     sym (ap (lowest c.block_beyond.new.least.line) nothing)
     ∙ c.block_beyond.ensures []
     ∙ ap (λ ls. lowest c.params_beyond-room.new.least.line (drop c.params_beyond-room.result ls)) (append-nil (declaring_lines_in (block_of c.deref-2.result.now)))
     ∙ ap (λ b. lowest c.params_beyond-room.new.least.line (drop c.params_beyond-room.result (declaring_lines_in (block_of b)))) c.deref-2.ensures.value
     ∙ c.params_beyond-room.ensures lines
-    ∙ ap (λ l. lowest c.note.new.self.line (drop most_declared (map (λ _. line) l ++ lines))) c.deref.ensures.value
-    ∙ ap (λ l. lowest c.note.new.self.line (drop most_declared (l ++ lines))) (heads line ps)
+    ∙ ap (λ l. lowest c.note.new.self.line (drop MOST_DECLARED (map (λ _. line) l ++ lines))) c.deref.ensures.value
+    ∙ ap (λ l. lowest c.note.new.self.line (drop MOST_DECLARED (l ++ lines))) (heads line ps)
     ∙ ap (λ o. lowest o room) c.note.ensures
     ∙ ap (λ n. lowest (lowest old (unless (nat_le n 16) line)) room) count
     ∙ sym (lowest-append old (unless (nat_le (length (map param_of ps)) 16) line) room)

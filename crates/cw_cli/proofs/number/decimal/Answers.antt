@@ -1,7 +1,7 @@
 use Rattle.std.proofs.Common.{rules}
 use Rattle.std.proofs.lemmas.Str.Parse.{parse_digits}
 use Rattle.cw_cli.proofs.Digits.{own, tells}
-use Rattle.cw_cli.proofs.number.value_of.Goals as goal
+use Rattle.cw_cli.proofs.number.decimal.Goals as goal
 
 pub returns-then-is_digits : goal.returns-then-is_digits
 returns-then-is_digits c =
