@@ -85,12 +85,12 @@ all_have_cost grain zero = true
 all_have_cost grain (suc n) = all_have_cost grain n && has_cost grain n
 
 -- lowered, it ends with this value within so many instructions, and is over with one less
-abbrev pub value_of : Answer → Option ℤ
-value_of (Ended v lines sums t) = Some v
-value_of _ = None
+abbrev pub value_answered : Answer → Option ℤ
+value_answered (Ended v lines sums t) = Some v
+value_answered _ = None
 
 abbrev pub CostsLowered : Program → ℕ → ℤ → Type 0
-CostsLowered program cost v = (value_of (serial (lowered program) [] cost) ≡ Some v) × (serial (lowered program) [] (cost - 1) ≡ OverLimit)
+CostsLowered program cost v = (value_answered (serial (lowered program) [] cost) ≡ Some v) × (serial (lowered program) [] (cost - 1) ≡ OverLimit)
 
 abbrev pub TrapsLowered : Program → (limit : ℕ) → Trap → Type 0
 TrapsLowered program limit trap = serial (lowered program) [] limit ≡ TrappedAt trap 1 []

@@ -48,6 +48,7 @@ pub record TakenExamples : Type 0 where
   pub element_written : IsRefused (AssignElement a (number 0) (number 1))
   pub addition : IsRefused (AddTo s (Variable x))
   pub argument : IsRefused (call 3 f (Variable x ∷ []))
+  pub argument_beside_a_free_one : IsRefused (call 3 q (Variable x ∷ Variable b ∷ []))
   pub second_argument : IsRefused (call 3 h (Variable b ∷ Variable a ∷ []))
   pub array_passed : IsRefused (call 3 g (Variable a ∷ []))
   pub target_of_a_call : IsRefused (call_into x 3 f (number 1 ∷ []))
@@ -136,6 +137,11 @@ pub record FreedExamples : Type 0 where
   pub sync_before_a_print_in_region : BreaksOwnership (around_print (λ body. Region t body)) (5 ∷ [])
   pub sync_before_a_print_in_loop :
       BreaksOwnership (around_print (λ body. For i i i (number 0) (number 1) 64 [] body)) (5 ∷ [])
+  -- the block of an if or a while is none of its own
+  pub sync_before_a_print_in_if : IsAccepted (around_print (λ body. If (number 1) body))
+  pub sync_before_a_print_in_one_branch : IsAccepted (around_print (λ body. IfElse (number 1) body End))
+  pub sync_before_a_print_in_the_other_branch : IsAccepted (around_print (λ body. IfElse (number 1) End body))
+  pub sync_before_a_print_in_while : IsAccepted (around_print (λ body. While (number 0) body))
   pub spawn_in_scope : IsAccepted (before_print (Scope takes_x))
   pub spawn_in_cut : IsAccepted (before_print (Cut a (number 0) l r takes_x))
   pub spawn_in_region : IsAccepted (before_print (Region t takes_x))

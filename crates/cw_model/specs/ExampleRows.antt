@@ -1,6 +1,6 @@
 -- Worked examples of reports: rows of tags and sites, and whole texts byte by byte.
 use Rattle.std.specs.Prelude.{◌≡◌, [], ◌∷◌, ◌++◌, codes}
-use Rattle.cw_model.specs.Limits.{usual_limit, usual_burden}
+use Rattle.cw_model.specs.declared.limits.TheConstants.{USUAL_LIMIT, USUAL_BURDEN}
 use Rattle.cw_model.specs.declared.syntax.Operator.TheVariants.{Less}
 use Rattle.cw_model.specs.Syntax.{Variable, Binary, Declare, If, Region, Print, For, Sync, End, Program}
 use Rattle.cw_model.specs.Answers.{OverLimit}
@@ -40,11 +40,19 @@ longer_rest_program = of_functions (
     ∷ main_of (spawn 1 f [] ∷ Print (number 1) ∷ Print (number 2) ∷ Sync ∷ give (number 0) ∷ [])
     ∷ [])
 
+-- a child of more work, most of it spawned, beside a rest of greater span
+abbrev pub wide_child_program : Program
+wide_child_program = of_functions (
+    void_function p [] End
+    ∷ void_function f [] (block (spawn 1 p [] ∷ spawn 2 p [] ∷ spawn 3 p [] ∷ []))
+    ∷ main_of (spawn 4 f [] ∷ Print (number 1) ∷ Print (number 2) ∷ Print (number 3) ∷ Sync ∷ give (number 0) ∷ [])
+    ∷ [])
+
 -- rows of tags and sites
 pub record RowExamples : Type 0 where
   -- the inner execution is not counted a second time
   pub nested_region :
-      Scales nested_region_program (2 ∷ []) usual_burden (codes ",40,40,1.000,40,1.000" ∷ codes "t,24,24,1.000,24,1.000" ∷ [])
+      Scales nested_region_program (2 ∷ []) USUAL_BURDEN (codes ",40,40,1.000,40,1.000" ∷ codes "t,24,24,1.000,24,1.000" ∷ [])
   -- what stands in a region belongs to the call around it
   pub nested_region_sites : Attributes nested_region_program (2 ∷ [])
       (codes "0,root,1,main,1,6,6,40,40" ∷ codes "1,call,1,f,2,20,20,20,20" ∷ codes "2,call,1,f,1,14,14,34,34" ∷ [])
@@ -63,6 +71,9 @@ pub record RowExamples : Type 0 where
       (codes "0,root,1,main,1,43,43,45,45" ∷ codes "1,call,1,p,2,2,2,2,2" ∷ [])
   pub longer_rest :
       Attributes longer_rest_program [] (codes "0,root,1,main,1,8,8,10,8" ∷ codes "1,spawn,1,f,1,2,0,2,2" ∷ [])
+  -- the child has work 3 + 3 + 1 and span 1 + (1 + 2) + 1, the rest 6
+  pub wide_child : Attributes wide_child_program [] (codes "0,root,1,main,1,10,10,17,10"
+      ∷ codes "1,spawn,1,p,1,1,0,1,1" ∷ codes "2,spawn,1,p,1,1,0,1,1" ∷ codes "3,spawn,1,p,1,1,0,1,1" ∷ codes "4,spawn,1,f,1,4,0,7,5" ∷ [])
   pub never_called :
       Attributes (idle_and (If (number 0) (block (spawn 1 p [] ∷ [])) ∷ give (number 0) ∷ [])) []
       (codes "0,root,1,main,1,4,4,4,4" ∷ codes "1,spawn,1,p,0,0,0,0,0" ∷ [])
@@ -74,10 +85,10 @@ pub record RowExamples : Type 0 where
 -- whole texts
 pub record TextExamples : Type 0 where
   pub check : report_text Check first_program 0 OverLimit ≡ codes "ok" ++ 10 ∷ []
-  pub run : report_text Run first_program 0 (serial first_program [] usual_limit) ≡ codes "return 1" ++ 10 ∷ []
-  pub scale : report_text Scale first_program 0 (serial first_program [] usual_limit)
+  pub run : report_text Run first_program 0 (serial first_program [] USUAL_LIMIT) ≡ codes "return 1" ++ 10 ∷ []
+  pub scale : report_text Scale first_program 0 (serial first_program [] USUAL_LIMIT)
       ≡ codes "tag,work,span,parallelism,burdened_span,burdened_parallelism" ++ 10 ∷ (codes ",9,9,1.000,9,1.000" ++ 10 ∷ [])
-  pub sites : report_text Sites first_program 0 (serial first_program [] usual_limit)
+  pub sites : report_text Sites first_program 0 (serial first_program [] USUAL_LIMIT)
       ≡ codes "site,kind,line,callee,calls,own_work,own_span,work,span" ++ 10 ∷ (codes "0,root,1,main,1,7,7,9,9" ++ 10 ∷ (codes "1,spawn,1,f,1,2,2,2,2" ++ 10 ∷ []))
   pub zeros_after_the_point : parallelism 2010 2000 ≡ codes "1.005"
   pub rounded_down : parallelism 1999999 1000000 ≡ codes "1.999"

@@ -68,6 +68,9 @@ pub record DeclarationSizeExamples : Type 0 where
       limit_faults (record { reducers = replicate 33 (record { name = s; line = 7 }); functions = [] }) ≡ 7 ∷ []
   pub most_tags : limit_faults (of_functions (int_function f 1 [] (tagged 64 1 End) ∷ [])) ≡ []
   pub tags : limit_faults (of_functions (int_function f 1 [] (tagged 65 1 End) ∷ [])) ≡ 65 ∷ []
+  -- tags of all functions are counted together
+  pub tags_of_two_functions :
+      limit_faults (of_functions (int_function f 1 [] (tagged 64 1 End) ∷ int_function g 1 [] (tagged 1 65 End) ∷ [])) ≡ 65 ∷ []
   -- a tag is counted once
   pub tags_again : limit_faults (of_functions (int_function f 1 [] (tagged 64 1 (tagged 64 1 End)) ∷ [])) ≡ []
 

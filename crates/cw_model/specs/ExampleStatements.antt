@@ -77,6 +77,9 @@ pub record EffectExamples : Type 0 where
       Writes (record { reducers = (record { name = s; line = 1 }) ∷ (record { name = t; line = 1 }) ∷ []; functions = main_of (AddTo t (number 1) ∷ AddTo s (number 2) ∷ AddTo t (number 3) ∷ give (number 0) ∷ []) ∷ [] })
       [] 1000
       (codes "sum s = 2" ∷ codes "sum t = 4" ∷ codes "return 0" ∷ [])
+  pub sums_after_printed_lines :
+      Writes (with_sum (main_of (Print (number 1) ∷ AddTo s (number 2) ∷ Print (number 3) ∷ give (number 0) ∷ []) ∷ [])) [] 1000
+      (codes "1" ∷ codes "3" ∷ codes "sum s = 2" ∷ codes "return 0" ∷ [])
   pub arguments_of_main :
       Writes (of_functions (int_function main 1 (int_param n ∷ int_param v ∷ []) (block (give (minus (Variable n) (Variable v)) ∷ [])) ∷ []))
       (5 ∷ 3 ∷ []) 1000 (codes "return 2" ∷ [])
@@ -254,6 +257,10 @@ pub record LoopExamples : Type 0 where
   pub both_halves_are_kept :
       Costs (alone (DeclareArray a (number 2) ∷ For i i i (number 0) (number 2) 1 (a ∷ []) (block (AssignElement a (Variable i) (number 5) ∷ [])) ∷ give (Element a (number 0)) ∷ []))
       [] 94 (codes "return 5" ∷ [])
+  -- 2 + 3 + 14 + 2 * (11 + 5) + 3
+  pub both_turns_are_kept :
+      Costs (alone (DeclareArray a (number 2) ∷ For i i i (number 0) (number 2) 64 (a ∷ []) (block (AssignElement a (Variable i) (number 5) ∷ [])) ∷ give (Element a (number 0)) ∷ []))
+      [] 54 (codes "return 5" ∷ [])
   -- the smaller half of an odd range is spawned: 3 + 17 + (3 + 47 beside 36) + 1 + 2
   pub odd_range : Scales (alone (For i i i (number 0) (number 5) 4 [] End ∷ give (number 0) ∷ [])) [] 0 (codes ",109,73,1.493,73,1.493" ∷ [])
   -- a node ends after its join, also where the child is the longer side: 3 + 17 + (35 beside 3 + 29) + 1 + 2
@@ -271,10 +278,16 @@ pub record LoopExamples : Type 0 where
   pub index_beside_own_names :
       Costs (alone (DeclareArray a (number 2) ∷ For i i i (number 0) (number 2) 64 (a ∷ []) (block (Declare y (number 0) ∷ Assign y (number 1) ∷ DeclareArray b (number 1) ∷ AssignElement a (Variable i) (Variable y) ∷ [])) ∷ give (Element a (number 1)) ∷ []))
       [] 66 (codes "return 1" ∷ [])
+  -- and so do the blocks of a turn: 2 + 3 + 14 + 2 * (11 + 7) + 3
+  pub index_after_a_block :
+      Costs (alone (DeclareArray a (number 2) ∷ For i i i (number 0) (number 2) 64 (a ∷ []) (block (If (number 1) End ∷ AssignElement a (Variable i) (Variable i) ∷ [])) ∷ give (Element a (number 1)) ∷ []))
+      [] 58 (codes "return 1" ∷ [])
   -- three leaves and two inner nodes: 3 * 14 + 5 * 11 + 2 * (21 + 5 + 2 * 2)
   pub cost_of_five_turns : loop_cost 2 2 1 5 ≡ 157
   pub cost_of_a_leaf : loop_cost 5 2 1 5 ≡ 69
   pub nodes_of_five_turns : inner_nodes 6 2 5 ≡ 2
+  -- the whole, and each of its halves of four turns
+  pub nodes_of_eight_turns : inner_nodes 9 2 8 ≡ 3
   -- one integer and two arrays: a node is 17 + 4 * 2 + 1 up to its spawn, 3 + 1 up to its call, and 2 + 1 after its join
   pub tree_of_three_turns : loop_tree 4 1 1 2 (Leaf 7 ∷ Leaf 11 ∷ Leaf 13 ∷ []) ≡
       Seq (Leaf 26) (Seq (Par (leaf_of 7) (Seq (Leaf 4) (Seq (Leaf 26) (Seq (Par (leaf_of 11) (Seq (Leaf 4) (leaf_of 13))) (Leaf 3))))) (Leaf 3))

@@ -157,6 +157,8 @@ headed first = with_sum (first ∷ main_of (give (number 0) ∷ []) ∷ [])
 pub record GlobalTypeExamples : Type 0 where
   pub parameter_twice :
       BreaksTypes (headed (int_function f 2 (int_param v ∷ int_param v ∷ []) (block (give (Variable v) ∷ [])))) (2 ∷ [])
+  pub later_parameters_alike :
+      BreaksTypes (headed (int_function f 2 (int_param v ∷ int_param y ∷ int_param y ∷ []) (block (give (Variable v) ∷ [])))) (2 ∷ [])
   pub parameter_named_as_its_function :
       BreaksTypes (headed (int_function f 2 (int_param f ∷ []) (block (give (number 0) ∷ [])))) (2 ∷ [])
   pub parameter_named_as_a_reducer :

@@ -19,4 +19,11 @@ returns c = record {
   tag = refl;
   most_loops = refl;
   loops = refl;
+  loops_of_two_functions = refl;
+  longest_source = refl;
+  longest_name = refl;
+  greatest_number = refl;
+  greatest_limit = refl;
+  greatest_burden = refl;
+  limit_that_is_usual = refl;
 }

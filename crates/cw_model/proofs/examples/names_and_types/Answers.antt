@@ -117,6 +117,7 @@ pub returns-clause-globals : goal.returns-clause-globals
 unfolding digits serial_answer call
 returns-clause-globals c = record {
   parameter_twice = (refl, refl);
+  later_parameters_alike = (refl, refl);
   parameter_named_as_its_function = (refl, refl);
   parameter_named_as_a_reducer = (refl, refl);
   parameter_declared = (refl, refl);

@@ -16,6 +16,7 @@ returns-clause-rows c = record {
   never_executed = refl;
   site_in_loop = refl;
   longer_rest = refl;
+  wide_child = refl;
   never_called = refl;
   tags_by_place = refl;
   tags_once = refl;

@@ -39,6 +39,7 @@ returns-clause-declarations c = record {
   reducers = refl;
   most_tags = refl;
   tags = refl;
+  tags_of_two_functions = refl;
   tags_again = refl;
 }
 

@@ -21,6 +21,7 @@ returns-clause-effects c = record {
   arrays_by_place = (refl, refl);
   integer_and_array = (refl, refl);
   sums_of_two_reducers = refl;
+  sums_after_printed_lines = refl;
   arguments_of_main = refl;
   parts_of_a_cut = refl;
   parts_end_with_a_cut = refl;
@@ -88,13 +89,16 @@ returns-clause-loops c = record {
   lower_end_above = (refl, refl);
   range_past_the_second_array = refl;
   both_halves_are_kept = (refl, refl);
+  both_turns_are_kept = (refl, refl);
   odd_range = refl;
   longer_child = refl;
   longest_first_leaf = refl;
   index_beside_own_names = (refl, refl);
+  index_after_a_block = (refl, refl);
   cost_of_five_turns = refl;
   cost_of_a_leaf = refl;
   nodes_of_five_turns = refl;
+  nodes_of_eight_turns = refl;
   tree_of_three_turns = refl;
 }
 
