@@ -1,0 +1,4 @@
+pub mod Held
+pub mod Memory
+pub mod Placed
+pub mod lemmas

@@ -1,0 +1,3 @@
+-- Lemmas on slices, which the proofs of crates above cite.
+pub mod Halves
+pub mod Sent
