@@ -1,3 +1,4 @@
 pub mod Holding
 pub mod MeasureLaws
+pub mod PieceWeightLaws
 pub mod StrandWeightLaws

@@ -28,9 +28,6 @@ work-append (e ∷ a) b =
     let two = work_parts e a in
     let three = work-append a b in omega arith
 
-more_work : (a : List Event) (e : Event) → work (tree_of (a ++ e ∷ [])) ≡ work (tree_of a) + work_of e
-more_work a e = let one = work-append a (e ∷ []) in let two = work_parts e [] in omega arith
-
 pub reads_tree : (burden : ℕ) (es : List Event) → ReadsTree burden (measure_of burden es) (tree_of es)
 reads_tree burden es = record {
   work_is = refl;

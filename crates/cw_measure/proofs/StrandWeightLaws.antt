@@ -119,7 +119,7 @@ enters_top : (b : Bool) (burden : ℕ) (L : BlockWeight) → top_of (enters b L)
 enters_top true burden L = omega arith
 enters_top false burden L = now_top L
 
-top_in : (burden : ℕ) (os : List Open) (es : List Event) → top_of (block_weight burden os es) ≤ burdened_work_in burden os es
+pub top_in : (burden : ℕ) (os : List Open) (es : List Event) → top_of (block_weight burden os es) ≤ burdened_work_in burden os es
 top_in burden [] es = let a = top_all burden (Straight 0) es in let w = works_is burden es in omega arith
 top_in burden (o ∷ os) es =
     let L = block_weight burden os o.outer in
@@ -130,9 +130,6 @@ pub weight_within : (burden : ℕ) (os : List Open) (es : List Event) → weight
 weight_within burden os es = let a = top_in burden os es in let b = now_top (block_weight burden os es) in omega arith
 
 -- the path of the strand that runs with the one up to its spawn
-saved_stands : (below : List BurdenedBlock → Type 0) (L : BlockWeight) (bs : List BurdenedBlock) (k : ℕ) → is_split L ≡ false → ((cs : List BurdenedBlock) → below cs → saved_of cs ≤ k) → StandsOn below L bs → saved_of bs ≤ k
-saved_stands below L bs k e bound h = bound bs (stands_straight below L bs e h)
-
 saved_rests : (below : List BurdenedBlock → Type 0) (L : BlockWeight) (bs : List BurdenedBlock) → RestsOn below L bs → saved_of bs ≡ now_of L
 saved_rests below L [] h = absurd h
 saved_rests below (Straight n) (b ∷ bs) h = h.1

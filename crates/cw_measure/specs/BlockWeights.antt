@@ -37,6 +37,12 @@ abbrev pub after_all : (burden : ℕ) → BlockWeight → List Event → BlockWe
 after_all burden L [] = L
 after_all burden L (e ∷ es) = after_all burden (after burden L e) es
 
+-- a piece of the same block, which has no join, after what is kept so far
+abbrev pub joined_on : BlockWeight → BlockWeight → BlockWeight
+joined_on L (Straight m) = gone_on m L
+joined_on (Straight n) (Split l m) = Split (n + l) (n + m)
+joined_on (Split k n) (Split l m) = Split (max k (n + l)) (n + m)
+
 -- the path with which a part begins: a spawned one begins its own
 abbrev pub enters : (spawned : Bool) → BlockWeight → BlockWeight
 enters true L = Straight 0

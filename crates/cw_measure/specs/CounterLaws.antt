@@ -63,10 +63,6 @@ pub of_events-append : (burden : ℕ) (a b : List Event) → of_events burden (a
 of_events-append burden [] b = sym (onward-fresh_first exactly exactly_is (of_events burden b))
 of_events-append burden (e ∷ a) b = ap (onward exactly (of_event burden e)) (of_events-append burden a b) ∙ sym (onward-assoc exactly exactly_is (of_event burden e) (of_events burden a) (of_events burden b))
 
--- and one more event
-pub of_events_more : (burden : ℕ) (a : List Event) (e : Event) → of_events burden (a ++ e ∷ []) ≡ onward exactly (of_events burden a) (of_event burden e)
-of_events_more burden a e = of_events-append burden a (e ∷ []) ∙ ap (onward exactly (of_events burden a)) (onward-fresh_last exactly exactly_is (of_event burden e))
-
 -- what counters say of the two parts of a tree
 abbrev pub Reads : Counters → (first second : ℕ) → Type 0
 Reads (Unsynced l k) first second = (max l k ≡ first) × (0 ≡ second)

@@ -45,6 +45,14 @@ has_spawned_from b (e ∷ es) = has_spawned_from (spawned_after b e) es
 abbrev pub has_spawned : List Event → Bool
 has_spawned es = has_spawned_from false es
 
+-- events without a join
+abbrev pub no_joins : List Event → Bool
+no_joins [] = true
+no_joins (Work k ∷ es) = no_joins es
+no_joins (Series t ∷ es) = no_joins es
+no_joins (Fork t ∷ es) = no_joins es
+no_joins (Join ∷ es) = false
+
 -- events of so many instructions in all, and of joins of a block that has spawned nothing since its last join
 abbrev pub IsSince : (has_spawned : Bool) → List Event → ℕ → Type 0
 IsSince b [] k = 0 ≡ k

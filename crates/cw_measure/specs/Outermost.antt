@@ -1,6 +1,6 @@
 -- What is summed over the parts with a mark that lie in no other part with it, over a run so far.
 use Rattle.std.specs.Prelude.{◌≡◌, ℕ, zero, suc, ◌+◌, ◌-◌, ◌==◌, Bool, true, false, List, [], ◌∷◌, ◌++◌, Option, Some, None, sum_by}
-use Rattle.cw_model.specs.Trees.{Mark, Marked, Tree, Event, Work, Series, Fork, Join, tree_of}
+use Rattle.cw_model.specs.Trees.{Mark, Marked, Tree, Event, Work, Join, tree_of}
 use Rattle.cw_model.specs.Rows.{outermost}
 use Rattle.cw_measure.specs.OpenParts.{Open, in_series, closed, has_spawned}
 
@@ -87,15 +87,22 @@ pub record TalliesKeep (f : Tree → ℕ) (read : Reading) (picks : Mark → Boo
   pub ends : (o : Open) (os : List Open) (es : List Event) (t : Tally) → is_counted picks o.mark ≡ true → has_spawned es ≡ false → Counts f read picks busy (o ∷ os) es t → Counts f read picks busy os (closed o es) (ended (read (o ∷ os) es) t)
   pub reads : (es : List Event) (t : Tally) → busy ≡ 0 → Counts f read picks busy [] es t → t.sum ≡ sum_by f (outermost picks (tree_of es))
 
--- a tally, and that of a piece that ran apart and of which no counted part is open
+-- so much more, unless counted parts are open
+abbrev pub unless_at : (none : Bool) → ℕ → ℕ
+unless_at true more = more
+unless_at false more = 0
+
+abbrev pub unless_open : (active more : ℕ) → ℕ
+unless_open active more = unless_at (active == 0) more
+
+-- a tally, and that of a piece that ran apart and of which no counted part is open: where some are open here, those of the piece
+-- lie in them, and its sum is left out
 abbrev pub joined_tally : Tally → Tally → Tally
-joined_tally t u = record { sum = t.sum + u.sum; active = t.active; began = t.began }
+joined_tally t u = record { sum = t.sum + unless_open t.active u.sum; active = t.active; began = t.began }
 
--- a piece that ran apart is told how many counted parts were open round it; its tally is then joined on, whether it is a
--- further piece of the block that runs or a spawned part of it
-pub record PiecesTally (f : Tree → ℕ) (read there : Reading) (picks : Mark → Bool) (busy : ℕ) (os : List Open) : Type 0 where
-  pub further : (es fs : List Event) (t u : Tally) → Counts f read picks busy os es t → Counts f there picks (active_in picks busy os) [] fs u → Counts f read picks busy os (es ++ fs) (joined_tally t u)
-  pub spawned : (es : List Event) (child : Tree) (t u : Tally) → Counts f read picks busy os es t → Counts f there picks (active_in picks busy os) [] (Series child ∷ []) u → Counts f read picks busy os (es ++ Fork child ∷ []) (joined_tally t u)
-
-abbrev pub AllPiecesTally : Type 0
-AllPiecesTally = (f : Tree → ℕ) (read there : Reading) (picks : Mark → Bool) (busy : ℕ) (os : List Open) → PiecesTally f read there picks busy os
+-- a piece that ran apart is told nothing of what is open round it; its tally is then joined on, as that of further events of the block
+-- that runs
+abbrev pub PiecesTally : Type 0
+PiecesTally =
+    (f : Tree → ℕ) (read there : Reading) (picks : Mark → Bool) (busy : ℕ) (os : List Open) (es fs : List Event) (t u : Tally)
+    → Counts f read picks busy os es t → Counts f there picks 0 [] fs u → Counts f read picks busy os (es ++ fs) (joined_tally t u)

@@ -3,7 +3,7 @@ use Rattle.std.specs.Prelude.{◌≡◌, ℕ, ◌+◌, ◌-◌, ◌^◌, ◌<◌
 use Rattle.cw_model.specs.Trees.{Mark, Event, Join, tree_of, burdened_span}
 use Rattle.cw_measure.specs.declared.burdened_path.BurdenedBlock.{BurdenedBlock}
 use Rattle.cw_measure.specs.declared.burdened_path.BurdenedPath.{BurdenedPath}
-use Rattle.cw_measure.specs.OpenParts.{Open, in_series, in_fork, closed, has_spawned, Since, work_in}
+use Rattle.cw_measure.specs.OpenParts.{Open, in_series, in_fork, closed, has_spawned, no_joins, Since, work_in}
 use Rattle.cw_measure.specs.BlockWeights.{BlockWeight, Straight, Split, now_of, block_weight, burdened_work_in}
 
 -- the weight of the path of the strand that runs, and the blocks that have spawned, the innermost first
@@ -57,6 +57,27 @@ joins v = at v.now v.blocks
     at : ℕ → List BurdenedBlock → StrandWeight
     at n [] = record { now = n; blocks = [] }
     at n (b ∷ bs) = record { now = max b.longest n; blocks = bs }
+
+-- a piece of the block that runs is joined on, of which nothing is open: its way into a child lies behind the path so far
+abbrev pub lengthened : (first : Bool) → (longest now : ℕ) → List BurdenedBlock → List BurdenedBlock
+lengthened true l n bs = record { longest = l; saved = n } ∷ bs
+lengthened false l n [] = []
+lengthened false l n (b ∷ bs) = record { longest = max b.longest l; saved = b.saved } ∷ bs
+
+abbrev pub appends_at : (first : Bool) → (now : ℕ) → List BurdenedBlock → StrandWeight → StrandWeight
+appends_at first now [] v = goes_on now v
+appends_at first now (p ∷ ps) v = record { now = v.now + now; blocks = lengthened first (v.now + p.longest) v.now v.blocks }
+
+abbrev pub appends : (first : Bool) → (piece v : StrandWeight) → StrandWeight
+appends first piece v = appends_at first piece.now piece.blocks v
+
+abbrev pub longest_of : List BurdenedBlock → ℕ
+longest_of [] = 0
+longest_of (b ∷ bs) = b.longest
+
+-- the paths of a piece behind the path so far fit 128 bits
+abbrev pub FitsPiece : (piece v : StrandWeight) → Type 0
+FitsPiece piece v = (v.now + piece.now < 2 ^ 128) × (v.now + longest_of piece.blocks < 2 ^ 128)
 
 -- the path of the strand that runs with that up to its spawn, and the latter with so much more, fit 128 bits
 abbrev pub saved_of : List BurdenedBlock → ℕ
@@ -120,6 +141,12 @@ abbrev pub JoinsWeight : BurdenedPath → BurdenedPath → (count : ℕ) → Typ
 JoinsWeight old new count =
     (burden : ℕ) (os : List Open) (es fs : List Event) → Since old.noted count es fs → FitsRun burden os (es ++ fs)
     → has_spawned es ≡ true → TellsWeight burden os es old → TellsWeight burden os ((es ++ fs) ++ Join ∷ []) new
+
+-- a piece of the block that runs, which ran apart and has no join, is joined on
+abbrev pub AppendsWeight : BurdenedPath → (piece : BurdenedPath) → BurdenedPath → (first : Bool) → Type 0
+AppendsWeight old piece new first =
+    (burden : ℕ) (os : List Open) (es fs : List Event) → has_spawned es ≡ not first → no_joins fs ≡ true → work_in os (es ++ fs) < 2 ^ 64
+    → FitsRun burden os (es ++ fs) → TellsWeight burden os es old → TellsWeight burden [] fs piece → TellsWeight burden os (es ++ fs) new
 
 -- parts in series begin and end without a call, once the instructions so far are noted
 pub record SeriesNeedNoCall (burden : ℕ) (path : BurdenedPath) : Type 0 where

@@ -1,9 +1,9 @@
 //! The weight of a heaviest path, with a burden for each spawn, as a strand keeps it: only a spawn pushes a block.
 
-ghost use Rattle.std.specs.Prelude.{◌≡◌, ℕ, [], OnOk};
-ghost use Rattle.cw_measure.specs.PathCalls.{BeginsChild, EndsWithin};
+ghost use Rattle.std.specs.Prelude.{◌≡◌, ℕ, [], true, false, OnOk};
+ghost use Rattle.cw_measure.specs.PathCalls.{AppendsWithin, BeginsChild, EndsWithin, Lengthens};
 ghost use Rattle.cw_measure.specs.StrandWeights.{begins, begins_again, joins, strand_weight};
-ghost use Rattle.cw_measure.specs.StrandWeights.{EndsChildWeight, JoinsWeight, HasGoneOn, NotesWeight, ReadsWeight, SpawnsWeight, TellsWeight};
+ghost use Rattle.cw_measure.specs.StrandWeights.{AppendsWeight, EndsChildWeight, JoinsWeight, HasGoneOn, NotesWeight, ReadsWeight, SpawnsWeight, TellsWeight};
 
 use std::alloc::{AllocError, Global};
 
@@ -81,6 +81,72 @@ impl BurdenedPath {
     {
         self.note(count);
         self.join_block();
+    }
+
+    /// Joins the path of a piece of the block that runs, which ran apart, has no join, and of which nothing is open;
+    /// `first` says that the block has not spawned since its last join. The instructions so far of both are noted.
+    pub fn append(&mut self, piece: &BurdenedPath, first: bool) -> Result<(), AllocError>
+        ensures { OnOk result (AppendsWeight self.old piece.now self.new first) }
+    {
+        self.append_paths(piece, first)?;
+        self.noted = self.noted.wrapping_add(piece.noted);
+        Ok(())
+    }
+
+    // The same, but for the count of instructions.
+    fn append_paths(&mut self, piece: &BurdenedPath, first: bool) -> Result<(), AllocError>
+        ensures weight { OnOk result (AppendsWithin self.old piece.now self.new first) }
+        ensures noted { OnOk result (self.new.noted ≡ self.old.noted) }
+    {
+        let len = piece.blocks.len();
+        if len == 0 {
+            self.weight = self.weight.wrapping_add(piece.weight);
+            return Ok(());
+        }
+        let longest = self.weight.wrapping_add(piece.blocks[len - 1].longest);
+        self.lengthen(longest, first)?;
+        self.weight = self.weight.wrapping_add(piece.weight);
+        Ok(())
+    }
+
+    // The block that runs has a way of this weight into a child that has ended.
+    fn lengthen(&mut self, longest: u128, first: bool) -> Result<(), AllocError>
+        ensures weight { OnOk result (Lengthens self.old self.new first longest) }
+        ensures noted { OnOk result (self.new.noted ≡ self.old.noted) }
+    {
+        if first {
+            self.lengthen_first(longest)?;
+            Ok(())
+        } else {
+            self.lengthen_more(longest);
+            Ok(())
+        }
+    }
+
+    fn lengthen_first(&mut self, longest: u128) -> Result<(), AllocError>
+        ensures weight { OnOk result (Lengthens self.old self.new true longest) }
+        ensures noted { OnOk result (self.new.noted ≡ self.old.noted) }
+    {
+        self.blocks.push(BurdenedBlock {
+            longest,
+            saved: self.weight,
+        })?;
+        Ok(())
+    }
+
+    fn lengthen_more(&mut self, longest: u128)
+        ensures weight { Lengthens self.old self.new false longest }
+        ensures noted { self.new.noted ≡ self.old.noted }
+    {
+        let len = self.blocks.len();
+        if len == 0 {
+            return;
+        }
+        let block = self.blocks[len - 1];
+        self.blocks[len - 1] = BurdenedBlock {
+            longest: block.longest.max(longest),
+            saved: block.saved,
+        };
     }
 
     /// The burdened span of a run, once no part is open and the block has joined.

@@ -5,7 +5,7 @@ ghost use Rattle.cw_measure.specs.BlockWeights.{BlocksWeighTheirSpans, WorkAndWe
 ghost use Rattle.cw_measure.specs.Counters.{CountersReadSpans};
 ghost use Rattle.cw_measure.specs.Laws.{AllTalliesKeep};
 ghost use Rattle.cw_measure.specs.Measured.{MeasuresReadTrees};
-ghost use Rattle.cw_measure.specs.Outermost.{AllPiecesTally};
+ghost use Rattle.cw_measure.specs.Outermost.{PiecesTally};
 ghost use Rattle.cw_measure.specs.StrandWeights.{SeriesNeedNoCall};
 ghost use Rattle.cw_measure.specs.declared.burdened_path.BurdenedPath.{BurdenedPath};
 
@@ -48,7 +48,7 @@ pub fn tallies_sum_outermost_parts()
 {}
 
 /// Sums of pieces that ran apart add, whatever is measured and whichever marks are counted.
-#[tactic(auto, using(crate::specs::lemmas::Outermost::pieces_tally))]
+#[tactic(auto, using(crate::specs::lemmas::Outermost::counts_further))]
 pub fn tallies_of_pieces_add()
-    ensures { AllPiecesTally }
+    ensures { PiecesTally }
 {}

@@ -7,8 +7,6 @@ pub mod ChildFacts
 pub mod Outcomes
 pub mod RunParts
 pub mod RunPartLaws
-pub mod BothTables
-pub mod Pieces
 pub mod Runs
 pub mod ModelRuns
 pub mod RunsHaveParts

@@ -41,10 +41,6 @@ as_child burden p = record {
   tested = child_above burden p.limit p.came ∙ p.tested;
 }
 
--- a part and then a spawned child of it
-abbrev pub child_joined : (burden : ℕ) → RunPart → (child : RunPart) → RunPart
-child_joined burden p child = run_joined p (as_child burden child)
-
 -- a call's part, as a piece of the block that made it
 abbrev pub as_call : RunPart → RunPart
 as_call p = record {

@@ -1,11 +1,10 @@
 //! How a part of a run came out: what it shows and what is counted of it, or a trap, the limit, or want of memory.
 //!
-//! - [`Part`] is the outcome of a part of a run, with its views and its measure, and the limit of its work. It is a
-//!   `Monoid`: parts join in serial order, in any grouping. What follows a trap or an end at the limit is dropped, work
-//!   above the lesser limit is over, and memory that was refused on either side was refused to both.
-//! - [`Tables`] are the tables of call sites and of region tags of a part. Two tables that tell the same of a run need
-//!   not be equal, so they are no monoid under equality; their joins are told by what they tell of.
-//! - [`Piece`] is both: a part that ran apart, with its tables. The tables of what follows a stop are dropped.
+//! [`Part`] is the outcome of a part of a run, with its views and its measure, and the limit of its work. It is a
+//! `Monoid`: parts join in serial order, in any grouping. What follows a trap or an end at the limit is dropped, work
+//! above the lesser limit is over, and memory that was refused on either side was refused to both. The tables of call
+//! sites and of region tags are no part of it: two that tell the same of a run need not be equal, so a strand's meter
+//! joins them, told by what they tell of (`cw_meter`).
 //!
 //! A part inside of a block is made a piece of that block before it is joined, a spawned child by `into_child` and a call
 //! by `into_call`; the next piece of the same block is joined as it is. `laws::pieces_are_the_run` says what comes of it:
@@ -17,12 +16,8 @@
 pub mod laws;
 mod outcome;
 mod part;
-mod piece;
 mod read;
-mod tables;
 
 pub use outcome::Outcome;
 pub use part::Part;
-pub use piece::Piece;
 pub use read::Read;
-pub use tables::Tables;

@@ -47,17 +47,6 @@ one_added from into now i f n h k e g a =
       size = length-set now i ((f + n) % 2 ^ 128) ∙ a.size;
     }
 
-take_all : (F : List Word) (i : ℕ) → length F ≤ i → take i F ≡ F
-take_all [] zero h = refl
-take_all [] (suc i) h = refl
-take_all (x ∷ F) zero h = absurd (omega arith)
-take_all (x ∷ F) (suc i) h = ap (λ (l : List Word). x ∷ l) (take_all F i (omega arith))
-
-pub all_added : (from into now : List ℕ) (i : ℕ) → length from ≤ i → AddedTo from into i now → map word now ≡ sums_joined (map word from) (map word into)
-all_added from into now i h a =
-    let lf = length-map from word in
-    a.sums ∙ ap (λ (l : List Word). sums_joined l (map word into)) (take_all (map word from) i (omega arith))
-
 -- the sum at a place, and one that was added to
 pub sum_at : (sums : List ℕ) (q : ℕ) → sum_of (map word sums) q ≡ word (slice_index_or sums q 0)
 sum_at sums q = listn.get_or-map word sums q 0

@@ -1,23 +1,23 @@
 -- A table tells of a run so far, and its calls keep it so.
-use Rattle.std.specs.Prelude.{◌≡◌, ℕ, zero, suc, ◌+◌, ◌==◌, ◌≤◌, ◌<◌, ◌^◌, if◌then◌else◌, Bool, true, false, List, [], ◌∷◌, ◌++◌, Some, refl}
+use Rattle.std.specs.Prelude.{◌≡◌, ℕ, ◌==◌, ◌≤◌, ◌<◌, Bool, true, false, List, [], ◌∷◌, ◌++◌, Some, refl}
 use Rattle.std.proofs.Common.{sym, ◌∙◌, ap, subst, true≢false, arith}
 use Rattle.std.proofs.lemmas.Slice.Eq.{bytes_eq-Decides}
 use Rattle.std.proofs.lemmas.Bool.Decides.{nat_tests}
 use borrow.Author.Tests.{eqb-true}
 use Rattle.cw_model.specs.Syntax.{Name}
 use Rattle.cw_model.specs.Names.{same_name}
-use Rattle.cw_model.specs.Trees.{Mark, Execution, Tree, Leaf, Seq, Par, Marked, Event, Series, Fork, tree_of, work, span, burdened_span}
+use Rattle.cw_model.specs.Trees.{Execution, Tree, Leaf, Seq, Par, Marked, Event, tree_of, work, span, burdened_span}
 use Rattle.cw_model.specs.Rows.{is_tag, region_row}
 use Rattle.cw_measure.specs.OpenParts.{Open, closed, has_spawned, sum_in, work_in}
-use Rattle.cw_measure.specs.Outermost.{is_counted, active_in, outer_sum, Tally, begun_at, begun, ended_at, ended, Counts}
+use Rattle.cw_measure.specs.Outermost.{is_counted, Tally, begun_at, begun, ended_at, ended, Counts}
 use Rattle.cw_measure.specs.BlockWeights.{burdened_work, burdened_work_in}
 use Rattle.cw_measure.specs.lemmas.OpenParts.{left_work, sum_begun, work_adds}
-use Rattle.cw_measure.specs.lemmas.Outermost.{Bounds, outer_in_within, counts_begun, counts_ended, counts_read, counts_alike, counts_further, counts_spawned}
+use Rattle.cw_measure.specs.lemmas.Outermost.{Bounds, outer_in_within, counts_begun, counts_ended, counts_read, counts_alike, counts_further}
 use Rattle.cw_measure.specs.lemmas.StrandWeights.{span_within, left_burdened_work, work_meters}
 use Rattle.cw_regions.specs.declared.rows.Row.{Row}
 use Rattle.cw_regions.specs.declared.table.RegionTable.{RegionTable}
 use Rattle.cw_regions.specs.RegionRows.{row_of, zero_row, entered_at, entered, left_at, left, work_tally, span_tally, burdened_tally, summed, FitsRow, IsReadAs, JoinsRows}
-use Rattle.cw_regions.specs.Regions.{Readings, Tags, CountsTag, TellsRegions, SmallRegions, executed, RegionsKeep, JoinsRegions, one_more, StandsInRegion}
+use Rattle.cw_regions.specs.Regions.{Readings, Tags, CountsTag, TellsRegions, SmallRegions, executed, RegionsKeep, JoinsRegions}
 use Rattle.cw_regions.specs.lemmas.Regions.{row_other, row_other_left, regions_need_no_call}
 
 -- the tallies of a row that an execution begins or ends
@@ -185,18 +185,11 @@ pub regions_keep : RegionsKeep
 regions_keep = regions_need_no_call
 
 -- pieces that ran apart
-row_further : (burden : ℕ) (along there : Readings burden) (tag : Name) (busy : ℕ) (os : List Open) (es fs : List Event) (r s : Row) → CountsTag burden along tag busy os es r → CountsTag burden there tag (active_in (is_tag tag) busy os) [] fs s → CountsTag burden along tag busy os (es ++ fs) (summed r s)
+row_further : (burden : ℕ) (along there : Readings burden) (tag : Name) (busy : ℕ) (os : List Open) (es fs : List Event) (r s : Row) → CountsTag burden along tag busy os es r → CountsTag burden there tag 0 [] fs s → CountsTag burden along tag busy os (es ++ fs) (summed r s)
 row_further burden along there tag busy os es fs r s h g = record {
   work_is = counts_further work work_in work_in (is_tag tag) busy os es fs (work_tally r) (work_tally s) h.work_is g.work_is;
   span_is = counts_further span along.path there.path (is_tag tag) busy os es fs (span_tally r) (span_tally s) h.span_is g.span_is;
   burdened_is = counts_further (burdened_span burden) along.burdened there.burdened (is_tag tag) busy os es fs (burdened_tally r) (burdened_tally s) h.burdened_is g.burdened_is;
-}
-
-row_spawned : (burden : ℕ) (along there : Readings burden) (tag : Name) (busy : ℕ) (os : List Open) (es : List Event) (child : Tree) (r s : Row) → CountsTag burden along tag busy os es r → CountsTag burden there tag (active_in (is_tag tag) busy os) [] (Series child ∷ []) s → CountsTag burden along tag busy os (es ++ Fork child ∷ []) (summed r s)
-row_spawned burden along there tag busy os es child r s h g = record {
-  work_is = counts_spawned work work_in work_in (is_tag tag) busy os es child (work_tally r) (work_tally s) h.work_is g.work_is;
-  span_is = counts_spawned span along.path there.path (is_tag tag) busy os es child (span_tally r) (span_tally s) h.span_is g.span_is;
-  burdened_is = counts_spawned (burdened_span burden) along.burdened there.burdened (is_tag tag) busy os es child (burdened_tally r) (burdened_tally s) h.burdened_is g.burdened_is;
 }
 
 -- a row that is read alike counts the same run
@@ -207,69 +200,8 @@ row_alike burden along tag busy os es r s a h = record {
   burdened_is = counts_alike (burdened_span burden) along.burdened (is_tag tag) busy os es (burdened_tally r) (burdened_tally s) a.burdened a.active a.at_burdened h.burdened_is;
 }
 
--- as many are open round a piece as it was told
-as_many : (burden : ℕ) (along there : Readings burden) (tag : Name) (busy : ℕ) (os : List Open) (es fs : List Event) (r s : Row) → CountsTag burden along tag busy os es r → CountsTag burden there tag (active_in (is_tag tag) busy os) [] fs s → s.active ≡ r.active
-as_many burden along there tag busy os es fs r s h g = g.work_is.active_is ∙ sym h.work_is.active_is
-
 pub regions_join : (old right new : RegionTable) → JoinsRows old.rows right.rows new.rows → JoinsRegions old right new
-regions_join old right new j = record {
-  further = λ burden along there tags busy os es fs small h g k less.
-      let row = row_further burden along there (tags.name k) (busy k) os es fs (row_of old.rows k) (row_of right.rows k) (h k less) (g k less) in
-      let sum = summed (row_of old.rows k) (row_of right.rows k) in
-      row_alike burden along (tags.name k) (busy k) os (es ++ fs) sum (row_of new.rows k) (j k (fits_row burden along tags busy os (es ++ fs) k sum small row) (as_many burden along there (tags.name k) (busy k) os es fs (row_of old.rows k) (row_of right.rows k) (h k less) (g k less))) row;
-  spawned = λ burden along there tags busy os es child small h g k less.
-      let row = row_spawned burden along there (tags.name k) (busy k) os es child (row_of old.rows k) (row_of right.rows k) (h k less) (g k less) in
-      let sum = summed (row_of old.rows k) (row_of right.rows k) in
-      row_alike burden along (tags.name k) (busy k) os (es ++ Fork child ∷ []) sum (row_of new.rows k) (j k (fits_row burden along tags busy os (es ++ Fork child ∷ []) k sum small row) (as_many burden along there (tags.name k) (busy k) os es (Series child ∷ []) (row_of old.rows k) (row_of right.rows k) (h k less) (g k less))) row;
-}
-
--- a row of a run that begins, as its tallies are
-begins_with : (burden : ℕ) (along : Readings burden) (tag : Name) (busy : ℕ) (r : Row) → r.work ≡ outer_sum work (is_tag tag) busy (tree_of []) → r.span ≡ outer_sum span (is_tag tag) busy (tree_of []) → r.burdened ≡ outer_sum (burdened_span burden) (is_tag tag) busy (tree_of []) → r.active ≡ busy → CountsTag burden along tag busy [] [] r
-begins_with burden along tag busy r w s b a = record {
-  work_is = record { sum_is = w; active_is = a; began_is = tt };
-  span_is = record { sum_is = s; active_is = a; began_is = tt };
-  burdened_is = record { sum_is = b; active_is = a; began_is = tt };
-}
-
-none_yet : (f : Tree → ℕ) (picks : Mark → Bool) (busy : ℕ) → outer_sum f picks busy (tree_of []) ≡ 0
-none_yet f picks zero = refl
-none_yet f picks (suc n) = refl
-
-entered_sums : (first : Bool) (r : Row) → ((entered_at first 0 0 0 r).work ≡ r.work) × ((entered_at first 0 0 0 r).span ≡ r.span) × ((entered_at first 0 0 0 r).burdened ≡ r.burdened) × ((entered_at first 0 0 0 r).active ≡ r.active + 1)
-entered_sums true r = (refl, refl, refl, refl)
-entered_sums false r = (refl, refl, refl, refl)
-
-stood_in : (burden : ℕ) (along : Readings burden) (tag : Name) (busy : ℕ) (r : Row) → CountsTag burden along tag busy [] [] r → CountsTag burden along tag (busy + 1) [] [] (entered 0 0 0 r)
-stood_in burden along tag busy r h =
-    let e = entered_sums (r.active == 0) r in
-    let picks = is_tag tag in
-    begins_with burden along tag (busy + 1) (entered 0 0 0 r)
-    (e.0 ∙ h.work_is.sum_is ∙ none_yet work picks busy ∙ sym (none_yet work picks (busy + 1)))
-    (e.1 ∙ h.span_is.sum_is ∙ none_yet span picks busy ∙ sym (none_yet span picks (busy + 1)))
-    (e.2 ∙ h.burdened_is.sum_is ∙ none_yet (burdened_span burden) picks busy ∙ sym (none_yet (burdened_span burden) picks (busy + 1)))
-    (let a = e.3 in let b = h.work_is.active_is in omega arith)
-
-pub region_stands : (old new : RegionTable) (tag : ℕ) → (FitsRow (entered 0 0 0 (row_of old.rows tag)) → row_of new.rows tag ≡ entered 0 0 0 (row_of old.rows tag)) → ((q : ℕ) → (tag == q) ≡ false → row_of new.rows q ≡ row_of old.rows q) → StandsInRegion old new tag
-region_stands old new tag own others = λ burden along tags busy small h k less. by_tag burden along tags busy small h k less (tag == k) refl
-  where
-    by_tag : (burden : ℕ) (along : Readings burden) (tags : Tags) (busy : ℕ → ℕ) → busy tag + 1 < 2 ^ 64 → TellsRegions burden along tags busy [] [] old → (k : ℕ) → k < tags.count → (b : Bool) → (tag == k) ≡ b → CountsTag burden along (tags.name k) (one_more tag busy k) [] [] (row_of new.rows k)
-    by_tag burden along tags busy small h k less true e =
-        let same : tag ≡ k = eqb-true tag k e in
-        let more : busy k + 1 ≡ one_more tag busy k = sym (ap (λ (b : Bool). if b then busy k + 1 else busy k) e) in
-        let row = stood_in burden along (tags.name k) (busy k) (row_of old.rows k) (h k less) in
-        let picks = is_tag (tags.name k) in
-        let fits : FitsRow (entered 0 0 0 (row_of old.rows k)) = record {
-          work = let a = row.work_is.sum_is in let z = none_yet work picks (busy k + 1) in omega arith;
-          span = let a = row.span_is.sum_is in let z = none_yet span picks (busy k + 1) in omega arith;
-          burdened = let a = row.burdened_is.sum_is in let z = none_yet (burdened_span burden) picks (busy k + 1) in omega arith;
-          active = let a = row.work_is.active_is in let b = ap busy same in omega arith;
-        } in
-        let P : ℕ → Type 0 = λ x. FitsRow (entered 0 0 0 (row_of old.rows x)) → row_of new.rows x ≡ entered 0 0 0 (row_of old.rows x) in
-        let D : Row → Type 0 = λ r. CountsTag burden along (tags.name k) (busy k + 1) [] [] r in
-        let B : ℕ → Type 0 = λ n. CountsTag burden along (tags.name k) n [] [] (row_of new.rows k) in
-        subst B more (subst D (sym ((subst P same own) fits)) row)
-    by_tag burden along tags busy small h k less false e =
-        let same : busy k ≡ one_more tag busy k = sym (ap (λ (b : Bool). if b then busy k + 1 else busy k) e) in
-        let B : ℕ → Type 0 = λ n. CountsTag burden along (tags.name k) n [] [] (row_of new.rows k) in
-        let D : Row → Type 0 = λ r. CountsTag burden along (tags.name k) (busy k) [] [] r in
-        subst B same (subst D (sym (others k e)) (h k less))
+regions_join old right new j burden along there tags busy os es fs small h g k less =
+    let row = row_further burden along there (tags.name k) (busy k) os es fs (row_of old.rows k) (row_of right.rows k) (h k less) (g k less) in
+    let sum = summed (row_of old.rows k) (row_of right.rows k) in
+    row_alike burden along (tags.name k) (busy k) os (es ++ fs) sum (row_of new.rows k) (j k (fits_row burden along tags busy os (es ++ fs) k sum small row) (g k less).work_is.active_is) row

@@ -4,6 +4,7 @@ use Rattle.std.proofs.lemmas.Bool.{cases_lt}
 use Rattle.std.proofs.lemmas.Bool.Decides.{nat_tests}
 use Rattle.std.proofs.lemmas.List.{get_or_past}
 use borrow.Author.Tests.{eqb-true}
+use Rattle.cw_measure.specs.Outermost.{unless_at}
 use Rattle.cw_regions.specs.declared.rows.Rows.{Rows}
 use Rattle.cw_regions.specs.declared.rows.Row.{Row}
 use Rattle.cw_regions.specs.RegionRows.{row_of, zero_row, summed, under, FitsRow, IsGiven, IsReadAs, AddsEach, JoinsRows}
@@ -61,19 +62,26 @@ read_same : (r s : Row) → r ≡ s → IsReadAs r s
 read_same r s e = record { work = ap (λ (x : Row). x.work) e; span = ap (λ (x : Row). x.span) e; burdened = ap (λ (x : Row). x.burdened) e; active = ap (λ (x : Row). x.active) e; at_work = λ h. ap (λ (x : Row). x.at_work) e; at_path = λ h. ap (λ (x : Row). x.at_path) e; at_burdened = λ h. ap (λ (x : Row). x.at_burdened) e }
 
 -- a row of the piece alone
-read_alone : (ours piece row : Row) → ours ≡ zero_row → row ≡ piece → piece.active ≡ ours.active → IsReadAs row (summed ours piece)
-read_alone ours piece row none e alike = record {
-  work = let z = ap (λ (x : Row). x.work) none in let n = ap (λ (x : Row). x.work) e in omega arith;
-  span = let z = ap (λ (x : Row). x.span) none in let n = ap (λ (x : Row). x.span) e in omega arith;
-  burdened = let z = ap (λ (x : Row). x.burdened) none in let n = ap (λ (x : Row). x.burdened) e in omega arith;
-  active = ap (λ (x : Row). x.active) e ∙ alike;
-  at_work = λ h. let z = ap (λ (x : Row). x.active) none in absurd (omega arith);
-  at_path = λ h. let z = ap (λ (x : Row). x.active) none in absurd (omega arith);
-  at_burdened = λ h. let z = ap (λ (x : Row). x.active) none in absurd (omega arith);
-}
+read_alone : (ours piece row : Row) → ours ≡ zero_row → row ≡ piece → piece.active ≡ 0 → IsReadAs row (summed ours piece)
+read_alone ours piece row none e idle =
+    let P : Row → Type 0 = λ x. IsReadAs row (summed x piece) in
+    subst P (sym none) (record {
+      work = let n = ap (λ (x : Row). x.work) e in omega arith;
+      span = let n = ap (λ (x : Row). x.span) e in omega arith;
+      burdened = let n = ap (λ (x : Row). x.burdened) e in omega arith;
+      active = ap (λ (x : Row). x.active) e ∙ idle;
+      at_work = λ h. absurd (omega arith);
+      at_path = λ h. absurd (omega arith);
+      at_burdened = λ h. absurd (omega arith);
+    })
+
+-- nothing more, whatever is open
+nothing_at : (b : Bool) → unless_at b 0 ≡ 0
+nothing_at true = refl
+nothing_at false = refl
 
 summed_none : (r : Row) → summed r zero_row ≡ r
-summed_none r = let a : r.work + 0 ≡ r.work = omega arith in let b : r.span + 0 ≡ r.span = omega arith in let c : r.burdened + 0 ≡ r.burdened = omega arith in simp (a, b, c)
+summed_none r = let z = nothing_at (r.active == 0) in let a : r.work + unless_at (r.active == 0) 0 ≡ r.work = omega arith in let b : r.span + unless_at (r.active == 0) 0 ≡ r.span = omega arith in let c : r.burdened + unless_at (r.active == 0) 0 ≡ r.burdened = omega arith in simp (a, b, c)
 
 -- where ours are no fewer, and where they are fewer
 pub joined_into_ours : (old piece new : Rows) → AddsEach summed old piece new → JoinsRows old piece new

@@ -2,7 +2,7 @@
 use Rattle.std.specs.Prelude.{◌≡◌, ℕ, ◌+◌, ◌-◌, ◌^◌, ◌<◌, ◌≤◌, ◌==◌, Bool, true, false, length, if◌then◌else◌, slice_index_or}
 use Rattle.cw_regions.specs.declared.rows.Row.{Row}
 use Rattle.cw_regions.specs.declared.rows.Rows.{Rows}
-use Rattle.cw_measure.specs.Outermost.{Tally}
+use Rattle.cw_measure.specs.Outermost.{unless_open, Tally}
 
 abbrev pub zero_row : Row
 zero_row = record { work = 0; span = 0; burdened = 0; active = 0; at_work = 0; at_path = 0; at_burdened = 0 }
@@ -48,9 +48,9 @@ pub record FitsRow (r : Row) : Type 0 where
 abbrev pub IsWhereItFits : (wanted row : Row) → Type 0
 IsWhereItFits wanted row = FitsRow wanted → row ≡ wanted
 
--- a row, and that of a piece that ran apart and of which no execution is open
+-- a row, and that of a piece that ran apart and of which no execution is open: where some are open here, those of the piece lie in them
 abbrev pub summed : Row → Row → Row
-summed a b = record { work = a.work + b.work; span = a.span + b.span; burdened = a.burdened + b.burdened; active = a.active; at_work = a.at_work; at_path = a.at_path; at_burdened = a.at_burdened }
+summed a b = record { work = a.work + unless_open a.active b.work; span = a.span + unless_open a.active b.span; burdened = a.burdened + unless_open a.active b.burdened; active = a.active; at_work = a.at_work; at_path = a.at_path; at_burdened = a.at_burdened }
 
 -- the same, the piece's row first
 abbrev pub under : Row → Row → Row
@@ -71,10 +71,10 @@ pub record IsReadAs (row other : Row) : Type 0 where
   pub at_path : 0 < other.active → row.at_path ≡ other.at_path
   pub at_burdened : 0 < other.active → row.at_burdened ≡ other.at_burdened
 
--- each row whose sums fit is read as ours with the piece's sums, where as many executions are open in both
+-- each row whose sums fit is read as ours with the piece's sums, where no execution is open in the piece
 abbrev pub JoinsRows : Rows → (piece : Rows) → Rows → Type 0
 JoinsRows old piece new =
-    (q : ℕ) → FitsRow (summed (row_of old q) (row_of piece q)) → (row_of piece q).active ≡ (row_of old q).active
+    (q : ℕ) → FitsRow (summed (row_of old q) (row_of piece q)) → (row_of piece q).active ≡ 0
     → IsReadAs (row_of new q) (summed (row_of old q) (row_of piece q))
 
 -- the row of one tag becomes this, where its sums fit, and the rows of the others stay

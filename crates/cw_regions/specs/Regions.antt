@@ -1,8 +1,8 @@
 -- What a region table tells of a run so far.
-use Rattle.std.specs.Prelude.{◌≡◌, ℕ, ◌+◌, ◌==◌, ◌<◌, ◌^◌, if◌then◌else◌, true, false, List, [], ◌∷◌, ◌++◌, Option, Some, None}
+use Rattle.std.specs.Prelude.{◌≡◌, ℕ, ◌<◌, ◌^◌, true, false, List, [], ◌∷◌, ◌++◌, Option, Some, None}
 use Rattle.cw_model.specs.Syntax.{Name}
 use Rattle.cw_model.specs.Names.{same_name}
-use Rattle.cw_model.specs.Trees.{Mark, Invocation, Execution, Tree, Event, Work, Series, Fork, Join, tree_of, work, span, burdened_span}
+use Rattle.cw_model.specs.Trees.{Mark, Invocation, Execution, Event, Work, Join, tree_of, work, span, burdened_span}
 use Rattle.cw_model.specs.Rows.{is_tag, region_row}
 use Rattle.cw_model.specs.Rows as model
 use Rattle.cw_measure.specs.OpenParts.{Open, in_series, closed, has_spawned, work_in}
@@ -97,20 +97,13 @@ RegionsKeep =
     (burden : ℕ) (along : Readings burden) (tags : Tags) (busy : ℕ → ℕ) (os : List Open) (table : RegionTable)
     → RegionsNeedNoCall burden along tags busy os table
 
--- how many executions of each tag are open round what runs
-abbrev pub busy_in : Tags → (busy : ℕ → ℕ) → List Open → ℕ → ℕ
-busy_in tags busy os k = active_in (is_tag (tags.name k)) (busy k) os
+-- nothing is open round a piece, as far as it is told
+abbrev pub nothing_open : ℕ → ℕ
+nothing_open tag = 0
 
--- a piece that ran apart inside of the open parts is joined on: further events of the block that runs, or a spawned part of it
-pub record JoinsRegions (old right new : RegionTable) : Type 0 where
-  pub further : (burden : ℕ) (along there : Readings burden) (tags : Tags) (busy : ℕ → ℕ) (os : List Open) (es fs : List Event) → SmallRegions burden tags busy os (es ++ fs) → TellsRegions burden along tags busy os es old → TellsRegions burden there tags (busy_in tags busy os) [] fs right → TellsRegions burden along tags busy os (es ++ fs) new
-  pub spawned : (burden : ℕ) (along there : Readings burden) (tags : Tags) (busy : ℕ → ℕ) (os : List Open) (es : List Event) (child : Tree) → SmallRegions burden tags busy os (es ++ Fork child ∷ []) → TellsRegions burden along tags busy os es old → TellsRegions burden there tags (busy_in tags busy os) [] (Series child ∷ []) right → TellsRegions burden along tags busy os (es ++ Fork child ∷ []) new
-
--- one more execution of a tag is open round a piece that begins
-abbrev pub one_more : (tag : ℕ) → (busy : ℕ → ℕ) → ℕ → ℕ
-one_more tag busy k = if tag == k then busy k + 1 else busy k
-
-abbrev pub StandsInRegion : RegionTable → RegionTable → (tag : ℕ) → Type 0
-StandsInRegion old new tag =
-    (burden : ℕ) (along : Readings burden) (tags : Tags) (busy : ℕ → ℕ) → busy tag + 1 < 2 ^ 64
-    → TellsRegions burden along tags busy [] [] old → TellsRegions burden along tags (one_more tag busy) [] [] new
+-- a piece that ran apart inside of the open parts is joined on, as further events of the block that runs
+abbrev pub JoinsRegions : RegionTable → (right : RegionTable) → RegionTable → Type 0
+JoinsRegions old right new =
+    (burden : ℕ) (along there : Readings burden) (tags : Tags) (busy : ℕ → ℕ) (os : List Open) (es fs : List Event)
+    → SmallRegions burden tags busy os (es ++ fs) → TellsRegions burden along tags busy os es old
+    → TellsRegions burden there tags nothing_open [] fs right → TellsRegions burden along tags busy os (es ++ fs) new

@@ -16,9 +16,9 @@
 //! (`laws::regions_need_no_call`). `TellsRegions` says that a table tells of a run so far; what is proved of it is the
 //! theory of outermost parts of `cw_measure`, at the marks of a tag.
 //!
-//! A piece that runs apart inside of open executions begins with a table of its own: `stand_in(tag)` once for each open
-//! execution of a tag. Where it has ended, `join` adds it, as the next piece of the block that runs or as a spawned part
-//! of it.
+//! A piece that runs apart inside of open executions begins with a table of its own (`new`), and is told of none of
+//! them. Where it has ended, `join` adds it, as the next piece of the block that runs, and leaves out what lies inside
+//! of open executions.
 #![tactic(auto)]
 
 pub mod laws;

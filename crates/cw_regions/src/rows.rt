@@ -122,7 +122,8 @@ impl Rows {
         Ok(())
     }
 
-    /// Adds the sums of a piece that ran apart, inside of as many open executions of each tag as are open here.
+    /// Adds the sums of a piece that ran apart, of which no execution is open. Where executions of a tag are open here,
+    /// those of the piece lie in them, and are left out.
     /// Takes one step for each row of the shorter of the two, which are added to those of the longer one, and no memory.
     pub fn join(&mut self, piece: Rows)
         ensures { JoinsRows self.old piece self.new }
@@ -200,11 +201,15 @@ pub fn left(row: Row, count: u64, span: u64, burdened: u128) -> Row
     row
 }
 
-/// The row with the sums of a piece's row.
+/// The row with the sums of a piece's row, where no execution is open.
 pub fn summed(row: Row, piece: Row) -> Row
     ensures { IsWhereItFits (rows.summed row piece) result }
 {
     let mut row = row;
+    // Inside of an open execution nothing is an outermost one.
+    if row.active > 0 {
+        return row;
+    }
     row.work = row.work.saturating_add(piece.work);
     row.span = row.span.saturating_add(piece.span);
     row.burdened = row.burdened.saturating_add(piece.burdened);

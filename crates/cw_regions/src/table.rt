@@ -1,7 +1,7 @@
 //! The table of region tags: what is summed over the executions of each tag that lie in no other one of it.
 
 ghost use Rattle.std.specs.Prelude.{ℕ, OnOk};
-ghost use Rattle.cw_regions.specs.Regions.{BeginsRegion, EndsRegion, JoinsRegions, ReadsRegion, StandsInRegion, StartsRegions};
+ghost use Rattle.cw_regions.specs.Regions.{BeginsRegion, EndsRegion, JoinsRegions, ReadsRegion, StartsRegions};
 
 use crate::rows::Rows;
 use std::alloc::{AllocError, Global};
@@ -51,16 +51,8 @@ impl RegionTable {
         Ok(())
     }
 
-    /// One more execution of this tag is open round a piece that begins, and whose table this is.
-    pub fn stand_in(&mut self, tag: u32) -> Result<(), AllocError>
-        ensures { OnOk result (StandsInRegion self.old self.new tag) }
-    {
-        self.rows.begin(tag, 0, 0, 0)?;
-        Ok(())
-    }
-
     /// Joins the table of a piece that ran apart inside of what is open, and of which nothing is open itself: the next
-    /// piece of the block that runs, or a spawned part of it.
+    /// piece of the block that runs. Its table is one that began by `new`, and knows of nothing that is open round it.
     pub fn join(&mut self, right: RegionTable)
         ensures { JoinsRegions self.old right self.new }
     {

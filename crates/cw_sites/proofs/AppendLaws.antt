@@ -6,8 +6,9 @@ use Rattle.cw_sites.specs.declared.paths.Block.{Block}
 use Rattle.cw_sites.specs.declared.paths.Paths.{Paths}
 use Rattle.cw_sites.specs.ChosenPaths.{Path, plus}
 use Rattle.cw_sites.specs.StepSums.{upto, whole as all_steps, if_site, Fits}
-use Rattle.cw_sites.specs.StepLists.{part, seen_blocks, strand_path, LaidFrom, Laid, SaysTheSame, AddsStep, IsBounded, StaysBoundedWith}
-use Rattle.cw_sites.specs.StrandPaths.{SeenBlock, StrandPath, longest_path, sum_of, whole, again, spawns, chooses, ends, extends_by, forks, appends_block}
+use Rattle.cw_sites.specs.StepLists.{part, seen_blocks, strand_path, LaidFrom, Laid, SaysTheSame, AddsStep, Appends}
+use Rattle.cw_sites.specs.PathBounds.{most_steps, IsBoundedBy, IsTight, StaysTightBeside}
+use Rattle.cw_sites.specs.StrandPaths.{SeenBlock, StrandPath, longest_path, sum_of, whole, again, spawns, chooses, ends, extends_by, forks, appends_block, appends}
 use Rattle.cw_sites.proofs.CompactingLaws.{all_below_at}
 use Rattle.cw_sites.proofs.StepSumLaws.{upto-mono, upto-next}
 use Rattle.cw_sites.proofs.PathLaws.{path_with, make, same_path, same_strand_path, strand_path_of, seen_blocks_same}
@@ -28,11 +29,18 @@ step_after old mid new one laid same more = λ l q fits.
     let P : StrandPath → Type 0 = λ t. t.now.own + if_site q one.site one.count < 2 ^ 64 in
     more (laid l) q (subst P (sym e) fits) ∙ ap (extends_by (path_with 0 (if_site q one.site one.count))) e
 
+pub append_after : (old mid new piece : Paths) (first : Bool) → (Laid old → Laid mid) → SaysTheSame old mid → Appends mid piece new first → Appends old piece new first
+append_after old mid new piece first laid same more = λ l p q fits.
+    let small = fits.1 in
+    let e = same l q (omega arith) in
+    let P : StrandPath → Type 0 = λ t. Fits (plus (whole t) (whole (strand_path q piece))) in
+    more (laid l) p q (subst P (sym e) fits) ∙ ap (appends first (strand_path q piece)) e
+
 -- the steps of a list from a place up to another
 pub record SteppedTo (old now : Paths) (steps : List Steps) (from i : ℕ) : Type 0 where
   pub laid : Laid old → Laid now
   pub path : Laid old → (q : ℕ) → (strand_path q old).now.own + (upto q steps i - upto q steps from) < 2 ^ 64 → strand_path q now ≡ extends_by (path_with 0 (upto q steps i - upto q steps from)) (strand_path q old)
-  pub bounded : StaysBoundedWith steps old now
+  pub bounded : StaysTightBeside steps old now
 
 no_more : (t : StrandPath) (n : ℕ) → n ≡ 0 → t ≡ extends_by (path_with 0 n) t
 no_more t n e = same_strand_path t.now (plus t.now (path_with 0 n)) t.blocks t.blocks (same_path t.now.weight (t.now.weight + 0) t.now.own (t.now.own + n) (omega arith) (omega arith)) refl
@@ -47,7 +55,7 @@ none_stepped old steps from = record {
   bounded = λ most a b. b;
 }
 
-pub one_stepped : (old now new : Paths) (steps : List Steps) (from i : ℕ) (s : Steps) → from ≤ i → i < length steps → s ≡ get_or steps i s → (Laid now → Laid new) → AddsStep now new s → ((most : ℕ) → s.site < most → IsBounded most now → IsBounded most new) → SteppedTo old now steps from i → SteppedTo old new steps from (i + 1)
+pub one_stepped : (old now new : Paths) (steps : List Steps) (from i : ℕ) (s : Steps) → from ≤ i → i < length steps → s ≡ get_or steps i s → (Laid now → Laid new) → AddsStep now new s → ((room most : ℕ) → s.site < most → IsBoundedBy room most now → IsTight most new) → SteppedTo old now steps from i → SteppedTo old new steps from (i + 1)
 one_stepped old now new steps from i s le lt at laid adds bounded h = record {
   laid = λ l. laid (h.laid l);
   path = λ l q fits.
@@ -60,7 +68,7 @@ one_stepped old now new steps from i s le lt at laid adds bounded h = record {
       adds (h.laid l) q (omega arith)
       ∙ ap (extends_by (path_with 0 (if_site q s.site s.count))) before
       ∙ more_twice t (upto q steps i - upto q steps from) (if_site q s.site s.count) (upto q steps (i + 1) - upto q steps from) (omega arith);
-  bounded = λ most a b. let P : Steps → Type 0 = λ x. x.site < most in bounded most (subst P (sym at) (all_below_at most steps i s lt a)) (h.bounded most a b);
+  bounded = λ most a b. let P : Steps → Type 0 = λ x. x.site < most in bounded (most_steps most + 1) most (subst P (sym at) (all_below_at most steps i s lt a)) (h.bounded most a b);
 }
 
 weighed : (t : StrandPath) (n : Path) (ps : List SeenBlock) (weight weight' own : ℕ) → make n ps ≡ extends_by (path_with 0 own) t → weight' ≡ t.now.weight + weight → make (path_with weight' n.own) ps ≡ extends_by (path_with weight own) t

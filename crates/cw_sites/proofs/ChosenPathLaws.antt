@@ -1,18 +1,14 @@
--- The counters of events in pieces join, and the leaves of a chosen path are what it says of each site.
+-- The leaves of a chosen path are what it says of each site.
 use Rattle.std.specs.Prelude.{◌≡◌, ℕ, ◌==◌, ◌≤◌, ◌<◌, List, [], ◌∷◌, ◌++◌, filter}
 use Rattle.std.proofs.Common.{sym, ◌∙◌, ap, inl, inr, arith}
 use Rattle.std.proofs.lemmas.Bool.{cases_lt}
 use Rattle.std.proofs.lemmas.Bool.Decides.{nat_tests}
 use Rattle.std.proofs.lemmas.List.Sums.{sum_by-append}
 use Rattle.std.proofs.lemmas.List.Elements.{filter-append}
-use Rattle.cw_model.specs.Trees.{Tree, Leaf, Seq, Par, Marked, Event, span}
+use Rattle.cw_model.specs.Trees.{Tree, Leaf, Seq, Par, Marked, span}
 use Rattle.cw_model.specs.Rows.{site_inside, chosen_leaves}
-use Rattle.cw_sites.specs.ChosenPaths.{Path, plus, path_of, steps_of, chosen, onward, of_event, of_events}
-use Rattle.cw_sites.specs.lemmas.ChosenPaths.{takes_second, takes_first, onward-assoc, onward-fresh_first, chosen-weight}
-
-pub of_events-append : (site here : ℕ) (a b : List Event) → of_events site here (a ++ b) ≡ onward (of_events site here a) (of_events site here b)
-of_events-append site here [] b = sym (onward-fresh_first (of_events site here b))
-of_events-append site here (e ∷ a) b = ap (onward (of_event site here e)) (of_events-append site here a b) ∙ sym (onward-assoc (of_event site here e) (of_events site here a) (of_events site here b))
+use Rattle.cw_sites.specs.ChosenPaths.{Path, plus, path_of, steps_of, chosen}
+use Rattle.cw_sites.specs.lemmas.ChosenPaths.{takes_second, takes_first, chosen-weight}
 
 -- leaves one after others
 pub path_of-append : (site : ℕ) (a b : List (ℕ × ℕ)) → path_of site (a ++ b) ≡ plus (path_of site a) (path_of site b)

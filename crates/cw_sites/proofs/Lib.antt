@@ -1,7 +1,8 @@
 pub mod ChosenPathLaws
-pub mod BlockPathLaws
 pub mod StepSumLaws
 pub mod CompactingLaws
+pub mod MovingLaws
+pub mod PathBoundLaws
 pub mod PieceLaws
 pub mod RowLaws
 pub mod SiteRowLaws

@@ -1,16 +1,17 @@
 -- Blocks whose paths are parts of one list.
-use Rattle.std.specs.Prelude.{◌≡◌, ℕ, ◌+◌, ◌-◌, ◌<◌, ◌≤◌, ◌^◌, Bool, true, false, List, [], ◌∷◌, ◌++◌, length, take, drop, Option, Some, None, option_map, refl}
+use Rattle.std.specs.Prelude.{◌≡◌, ℕ, ◌+◌, ◌-◌, ◌<◌, ◌≤◌, ◌^◌, Bool, true, false, List, [], ◌∷◌, ◌++◌, length, take, Option, Some, None, option_map, refl}
 use Rattle.std.proofs.Common.{sym, ◌∙◌, ap, subst, arith}
 use Rattle.std.proofs.lemmas.List.{length-take-le}
 use Rattle.cw_sites.specs.declared.steps.Steps.{Steps}
 use Rattle.cw_sites.specs.declared.paths.Block.{Block}
 use Rattle.cw_sites.specs.declared.paths.Paths.{Paths}
 use Rattle.cw_sites.specs.ChosenPaths.{Path, nowhere, plus, best, steps_of}
-use Rattle.cw_sites.specs.StepSums.{upto, whole, if_site, Fits, AsBelow, AddsUp}
-use Rattle.cw_sites.specs.StepLists.{part, seen, seen_blocks, strand_path, InOrder, LaidFrom, Laid, LaidWith, SaysTheSame, Extends}
+use Rattle.cw_sites.specs.StepSums.{upto, whole, if_site, Fits, CutsOut, IsCutOut}
+use Rattle.cw_sites.specs.Compacting.{IsAddedUp}
+use Rattle.cw_sites.specs.StepLists.{part, seen, seen_blocks, strand_path, InOrder, LaidFrom, Laid, LaidWith, SaysTheSame, Extends, KeepsBlocks, Gathers}
 use Rattle.cw_sites.specs.StrandPaths.{SeenBlock, StrandPath, goes_on, is_longer, begins, again, takes, chooses, ends_at, ends, whole as all_of}
 use Rattle.cw_sites.specs.lemmas.ChosenPaths.{takes_first, takes_second}
-use Rattle.cw_sites.proofs.StepSumLaws.{upto-mono, upto-take, upto-cut, upto_below-cut, length-cut}
+use Rattle.cw_sites.proofs.StepSumLaws.{upto-mono, upto-take}
 
 abbrev pub path_with : ℕ → ℕ → Path
 path_with w o = record { weight = w; own = o }
@@ -24,7 +25,7 @@ seen_blocks-push q steps (g ∷ fs) f ps = seen_blocks-push q steps fs f (seen q
 
 pub laid_le : (lo hi : ℕ) (fs : List Block) → LaidFrom lo fs hi → lo ≤ hi
 laid_le lo hi [] h = omega arith
-laid_le lo hi (f ∷ fs) h = let i = laid_le f.child hi fs h.2 in let a = h.0 in let b = h.1.0 in let c = h.1.1 in let d = h.1.2 in let e = h.1.3 in omega arith
+laid_le lo hi (f ∷ fs) h = let i = laid_le f.child hi fs h.2 in let a = h.0 in let b = h.1.0 in let c = h.1.1 in let d = h.1.2 in omega arith
 
 pub laid_push : (lo hi : ℕ) (fs : List Block) (f : Block) → LaidFrom lo fs f.from → InOrder f → f.child ≡ hi → LaidFrom lo (fs ++ f ∷ []) hi
 laid_push lo hi [] f h o c = (h, o, c)
@@ -47,8 +48,8 @@ place_same e f g = cc
 
 pub seen_same : (q : ℕ) (steps steps' : List Steps) (f : Block) (hi : ℕ) → ((n : ℕ) → n ≤ hi → upto q steps' n ≡ upto q steps n) → InOrder f → f.child ≤ hi → seen q steps' f ≡ seen q steps f
 seen_same q steps steps' f hi same o h =
-    let a = o.0 in let b = o.1 in let c = o.2 in let d = o.3 in
-    place_same (part_same q steps steps' f.from f.mid f.base hi same (omega arith) (omega arith)) (longest_same q steps steps' f.mid f.end hi f.longest same (omega arith) (omega arith)) (part_same q steps steps' f.at f.child f.rest hi same (omega arith) (omega arith))
+    let a = o.0 in let b = o.1 in let c = o.2 in
+    place_same (part_same q steps steps' f.from f.mid f.base hi same (omega arith) (omega arith)) (longest_same q steps steps' f.mid f.end hi f.longest same (omega arith) (omega arith)) (part_same q steps steps' f.end f.child f.rest hi same (omega arith) (omega arith))
 
 pub seen_blocks_same : (q : ℕ) (steps steps' : List Steps) (fs : List Block) (ps : List SeenBlock) (lo hi : ℕ) → ((n : ℕ) → n ≤ hi → upto q steps' n ≡ upto q steps n) → LaidFrom lo fs hi → seen_blocks q steps' fs ps ≡ seen_blocks q steps fs ps
 seen_blocks_same q steps steps' [] ps lo hi same h = refl
@@ -91,13 +92,29 @@ extended_strand_path q steps steps' weight weight' start site count fs below all
     (seen_blocks_same q steps steps' fs [] 0 start (λ n h. below n h (omega arith)) laid)
 
 -- the path is added up by site
-pub added_up : (q : ℕ) (steps steps' : List Steps) (weight start : ℕ) (fs : List Block) → AsBelow start steps steps' → (start ≤ length steps → AddsUp start steps steps') → start ≤ length steps → LaidFrom 0 fs start → (part q steps start (length steps) weight).own < 2 ^ 64 → strand_path_of q steps' weight start fs ≡ strand_path_of q steps weight start fs
-added_up q steps steps' weight start fs below all l laid fits =
-    let a = all l q fits in
-    let b = below q start (omega arith) l in
+pub added_up : (q : ℕ) (steps steps' : List Steps) (weight start end : ℕ) (fs : List Block) → IsAddedUp start (length steps) steps steps' end → start ≤ length steps → LaidFrom 0 fs start → (part q steps start (length steps) weight).own < 2 ^ 64 → strand_path_of q steps' weight start fs ≡ strand_path_of q steps weight start fs
+added_up q steps steps' weight start end fs h l laid fits =
+    let a = h.same q fits in
+    let b = h.below q start (omega arith) in
+    let n = h.count_is in
+    let e : length steps' ≡ end = omega arith in
+    let u = ap (upto q steps') e in
     same_strand_path (part q steps' start (length steps') weight) (part q steps start (length steps) weight) (seen_blocks q steps' fs []) (seen_blocks q steps fs [])
     (same_path weight weight (whole q steps' - upto q steps' start) (whole q steps - upto q steps start) refl (omega arith))
-    (seen_blocks_same q steps steps' fs [] 0 start (λ n h. below q n h (omega arith)) laid)
+    (seen_blocks_same q steps steps' fs [] 0 start (λ n h'. h.below q n h') laid)
+
+-- a strand_path whose blocks and weight stayed
+pub kept_path : (q : ℕ) (old new : Paths) → KeepsBlocks old new → strand_path q new ≡ strand_path_of q new.steps.items old.weight old.start old.blocks.items
+kept_path q old new k =
+    ap (λ (w : ℕ). strand_path_of q new.steps.items w new.start new.blocks.items) k.weight
+    ∙ ap (λ (n : ℕ). strand_path_of q new.steps.items old.weight n new.blocks.items) k.start
+    ∙ ap (λ (fs : List Block). strand_path_of q new.steps.items old.weight old.start fs) k.blocks
+
+pub kept_laid_from : (old new : Paths) → KeepsBlocks old new → LaidFrom 0 old.blocks.items old.start → LaidFrom 0 new.blocks.items new.start
+kept_laid_from old new k l =
+    let P : ℕ → Type 0 = λ n. LaidFrom 0 new.blocks.items n in
+    let Q : List Block → Type 0 = λ fs. LaidFrom 0 fs old.start in
+    subst P (sym k.start) (subst Q (sym k.blocks) l)
 
 pub extends_after : (old mid new : Paths) (site count : ℕ) → (Laid old → Laid mid) → SaysTheSame old mid → Extends mid new site count → Extends old new site count
 extends_after old mid new site count laid same more = λ l q fits.
@@ -108,13 +125,13 @@ extends_after old mid new site count laid same more = λ l q fits.
 
 -- a block's first spawn
 abbrev pub first_fork : (weight start len : ℕ) → Block
-first_fork weight start len = record { base = weight; longest = None; rest = 0; from = start; mid = len; end = len; at = len; child = len }
+first_fork weight start len = record { base = weight; longest = None; rest = 0; from = start; mid = len; end = len; child = len }
 
 pub begun_laid : (steps : List Steps) (weight start len : ℕ) (fs fs' : List Block) → len ≡ length steps → fs' ≡ fs ++ first_fork weight start len ∷ [] → laid_of steps start fs → laid_of steps len fs'
 begun_laid steps weight start len fs fs' e f h =
     let P : List Block → Type 0 = λ x. LaidFrom 0 x len in
     let b = h.1 in
-    (subst P (sym f) (laid_push 0 len fs (first_fork weight start len) h.0 (omega arith, omega arith, omega arith, omega arith) refl), omega arith)
+    (subst P (sym f) (laid_push 0 len fs (first_fork weight start len) h.0 (omega arith, omega arith, omega arith) refl), omega arith)
 
 pub begun_strand_path : (q : ℕ) (steps : List Steps) (weight start len : ℕ) (fs fs' : List Block) → len ≡ length steps → fs' ≡ fs ++ first_fork weight start len ∷ [] → strand_path_of q steps 0 len fs' ≡ begins (strand_path_of q steps weight start fs)
 begun_strand_path q steps weight start len fs fs' e f =
@@ -125,136 +142,123 @@ begun_strand_path q steps weight start len fs fs' e f =
     ∙ ap (λ (p : SeenBlock). p ∷ seen_blocks q steps fs []) (place_same (part_is q steps start len weight (part q steps start (length steps) weight) refl (omega arith)) refl (part_none q steps len len refl)))
 
 -- a further one
-abbrev pub again_fork : Block → (weight start len : ℕ) → Block
-again_fork f weight start len = record { base = f.base; longest = f.longest; rest = weight; from = f.from; mid = f.mid; end = f.end; at = start; child = len }
+abbrev pub again_fork : Block → (weight len : ℕ) → Block
+again_fork f weight len = record { base = f.base; longest = f.longest; rest = weight; from = f.from; mid = f.mid; end = f.end; child = len }
 
-pub again_laid : (steps : List Steps) (weight start len : ℕ) (all fs fs' : List Block) (f : Block) → len ≡ length steps → all ≡ fs ++ f ∷ [] → fs' ≡ fs ++ again_fork f weight start len ∷ [] → laid_of steps start all → laid_of steps len fs'
-again_laid steps weight start len all fs fs' f e g k h =
+pub again_laid : (steps steps' : List Steps) (weight start len : ℕ) (all fs fs' : List Block) (f : Block) → len ≡ length steps' → all ≡ fs ++ f ∷ [] → fs' ≡ fs ++ again_fork f weight len ∷ [] → CutsOut f.end f.child steps steps' → laid_of steps start all → laid_of steps' len fs'
+again_laid steps steps' weight start len all fs fs' f e g k cut h =
     let P : List Block → Type 0 = λ x. LaidFrom 0 x len in
     let Q : List Block → Type 0 = λ x. LaidFrom 0 x start in
     let p = laid_pop 0 start fs f (subst Q g h.0) in
-    let b = h.1 in let o = p.1 in let o0 = o.0 in let o1 = o.1 in let o2 = o.2 in let o3 = o.3 in let d = p.2 in
-    (subst P (sym k) (laid_push 0 len fs (again_fork f weight start len) p.0 (o0, o1, omega arith, omega arith) refl), omega arith)
+    let b = h.1 in let o = p.1 in let o0 = o.0 in let o1 = o.1 in let o2 = o.2 in let d = p.2 in
+    let n = (cut o2 (omega arith)).count_is in
+    (subst P (sym k) (laid_push 0 len fs (again_fork f weight len) p.0 (o0, o1, omega arith) refl), omega arith)
 
-pub again_strand_path : (q : ℕ) (steps : List Steps) (weight start len : ℕ) (all fs fs' : List Block) (f : Block) → len ≡ length steps → all ≡ fs ++ f ∷ [] → fs' ≡ fs ++ again_fork f weight start len ∷ [] → strand_path_of q steps 0 len fs' ≡ again (strand_path_of q steps weight start all)
-again_strand_path q steps weight start len all fs fs' f e g k =
-    let u = ap (upto q steps) e in
+pub again_strand_path : (q : ℕ) (steps steps' : List Steps) (weight start len : ℕ) (all fs fs' : List Block) (f : Block) → len ≡ length steps' → all ≡ fs ++ f ∷ [] → fs' ≡ fs ++ again_fork f weight len ∷ [] → CutsOut f.end f.child steps steps' → laid_of steps start all → strand_path_of q steps' 0 len fs' ≡ again (strand_path_of q steps weight start all)
+again_strand_path q steps steps' weight start len all fs fs' f e g k cut h =
+    let Q : List Block → Type 0 = λ x. LaidFrom 0 x start in
+    let p = laid_pop 0 start fs f (subst Q g h.0) in
+    let b = h.1 in let o = p.1 in let o0 = o.0 in let o1 = o.1 in let o2 = o.2 in let d = p.2 in
+    let x = cut o2 (omega arith) in
+    let a = x.all q in
+    let u = ap (upto q steps') e in
+    let at_start = ap (upto q steps) d in
+    let at_end = x.below q f.end (omega arith) in
+    let m = upto-mono q steps f.child (length steps) (omega arith) in
     let n = part q steps start (length steps) weight in
-    same_strand_path (part q steps len (length steps) 0) nowhere (seen_blocks q steps fs' []) (place_with (part q steps f.from f.mid f.base) (option_map (part q steps f.mid f.end) f.longest) n ∷ seen_blocks q steps fs [])
-    (part_none q steps len (length steps) e)
-    (ap (λ (x : List Block). seen_blocks q steps x []) k ∙ seen_blocks-push q steps fs (again_fork f weight start len) []
-    ∙ ap (λ (p : SeenBlock). p ∷ seen_blocks q steps fs []) (place_same refl refl (part_is q steps start len weight n refl (omega arith))))
+    same_strand_path (part q steps' len (length steps') 0) nowhere (seen_blocks q steps' fs' []) (place_with (part q steps f.from f.mid f.base) (option_map (part q steps f.mid f.end) f.longest) n ∷ seen_blocks q steps fs [])
+    (part_none q steps' len (length steps') e)
+    (ap (λ (x : List Block). seen_blocks q steps' x []) k ∙ seen_blocks-push q steps' fs (again_fork f weight len) []
+    ∙ ap (λ (p : SeenBlock). p ∷ seen_blocks q steps' fs [])
+    (place_same (part_same q steps steps' f.from f.mid f.base f.end (x.below q) (omega arith) (omega arith)) (longest_same q steps steps' f.mid f.end f.end f.longest (x.below q) (omega arith) (omega arith)) (part_is q steps' f.end len weight n refl (omega arith)))
+    ∙ ap (λ (x : List SeenBlock). place_with (part q steps f.from f.mid f.base) (option_map (part q steps f.mid f.end) f.longest) n ∷ x)
+    (seen_blocks_same q steps steps' fs [] 0 f.from (λ y l. x.below q y (omega arith)) p.0))
     ∙ sym (ap (λ (x : List SeenBlock). again (make n x)) (ap (λ (x : List Block). seen_blocks q steps x []) g ∙ seen_blocks-push q steps fs f []))
 
 -- the child is the longest
 abbrev pub taken_fork : Block → (base weight mid len : ℕ) → Block
-taken_fork f base weight mid len = record { base = base; longest = Some weight; rest = 0; from = f.from; mid = mid; end = len; at = len; child = len }
+taken_fork f base weight mid len = record { base = base; longest = Some weight; rest = 0; from = f.from; mid = mid; end = len; child = len }
 
-pub taken_laid : (steps steps' : List Steps) (weight start len mid base : ℕ) (fs fs' : List Block) (f : Block) → LaidFrom 0 fs f.from → InOrder f → f.child ≡ start → start ≤ length steps → steps' ≡ take f.mid steps ++ drop f.at steps → len ≡ length steps' → mid ≡ f.mid + (f.child - f.at) → fs' ≡ fs ++ taken_fork f base weight mid len ∷ [] → laid_of steps' len fs'
-taken_laid steps steps' weight start len mid base fs fs' f l o c b g e m k =
-    let o0 = o.0 in let o1 = o.1 in let o2 = o.2 in let o3 = o.3 in
-    let n = length-cut steps f.mid f.at (omega arith) (omega arith) in
-    let n' = ap length g in
+pub taken_laid : (steps steps' : List Steps) (weight start len mid base : ℕ) (fs fs' : List Block) (f : Block) → LaidFrom 0 fs f.from → f.child ≡ start → start ≤ length steps → Gathers steps steps' f mid → len ≡ length steps' → fs' ≡ fs ++ taken_fork f base weight mid len ∷ [] → laid_of steps' len fs'
+taken_laid steps steps' weight start len mid base fs fs' f l c b g e k =
+    let a = g.from in let n = g.count_is in
     let P : List Block → Type 0 = λ x. LaidFrom 0 x len in
-    (subst P (sym k) (laid_push 0 len fs (taken_fork f base weight mid len) l (omega arith, omega arith, omega arith, omega arith) refl), omega arith)
+    (subst P (sym k) (laid_push 0 len fs (taken_fork f base weight mid len) l (omega arith, omega arith, omega arith) refl), omega arith)
 
-pub taken_strand_path : (q : ℕ) (steps steps' : List Steps) (weight start len mid base : ℕ) (fs fs' : List Block) (f : Block) → LaidFrom 0 fs f.from → InOrder f → f.child ≡ start → start ≤ length steps → steps' ≡ take f.mid steps ++ drop f.at steps → len ≡ length steps' → mid ≡ f.mid + (f.child - f.at) → base ≡ f.base + f.rest → fs' ≡ fs ++ taken_fork f base weight mid len ∷ [] → strand_path_of q steps' 0 len fs' ≡ takes (part q steps f.from f.mid f.base) (part q steps f.at f.child f.rest) (part q steps start (length steps) weight) (seen_blocks q steps fs [])
-taken_strand_path q steps steps' weight start len mid base fs fs' f l o c b g e m w k =
-    let o0 = o.0 in let o1 = o.1 in let o2 = o.2 in let o3 = o.3 in
-    let n = length-cut steps f.mid f.at (omega arith) (omega arith) in
-    let n' = ap length g in
-    let low : (x : ℕ) → x ≤ f.mid → upto q steps' x ≡ upto q steps x = λ x h. ap (λ (y : List Steps). upto q y x) g ∙ upto_below-cut q steps f.mid f.at x h (omega arith) in
+pub taken_strand_path : (q : ℕ) (steps steps' : List Steps) (weight start len mid base : ℕ) (fs fs' : List Block) (f : Block) → LaidFrom 0 fs f.from → InOrder f → f.child ≡ start → start ≤ length steps → Gathers steps steps' f mid → len ≡ length steps' → base ≡ f.base + f.rest → (plus (part q steps f.from f.mid f.base) (part q steps f.end f.child f.rest)).own < 2 ^ 64 → fs' ≡ fs ++ taken_fork f base weight mid len ∷ [] → strand_path_of q steps' 0 len fs' ≡ takes (part q steps f.from f.mid f.base) (part q steps f.end f.child f.rest) (part q steps start (length steps) weight) (seen_blocks q steps fs [])
+taken_strand_path q steps steps' weight start len mid base fs fs' f l o c b g e w fits k =
+    let o0 = o.0 in let o1 = o.1 in let o2 = o.2 in
     let u = ap (upto q steps') e in
-    let at_mid = ap (upto q steps') m ∙ ap (λ (y : List Steps). upto q y (f.mid + (f.child - f.at))) g in
-    let cut_mid = upto-cut q steps f.mid f.at (f.child - f.at) (omega arith) (omega arith) in
-    let a1 : (f.child - f.at) + f.at ≡ f.child = omega arith in
-    let b1 = ap (upto q steps) a1 in
-    let at_len = ap (λ (y : List Steps). upto q y (f.mid + (length steps - f.at))) g in
-    let cut_len = upto-cut q steps f.mid f.at (length steps - f.at) (omega arith) (omega arith) in
-    let a2 : (length steps - f.at) + f.at ≡ length steps = omega arith in
-    let b2 = ap (upto q steps) a2 in
-    let a3 : length steps' ≡ f.mid + (length steps - f.at) = omega arith in
-    let b3 = ap (upto q steps') a3 in
-    let m1 = upto-mono q steps f.from f.mid o0 in
-    let m2 = upto-mono q steps f.mid f.at (omega arith) in
-    let m3 = upto-mono q steps f.at f.child o3 in
-    let m4 = upto-mono q steps f.child (length steps) (omega arith) in
-    let lf = low f.from o0 in
+    let first = g.base q fits in
+    let last = g.child q in
+    let lf = g.below q f.from (omega arith) in
     let cf = ap (upto q steps) c in
-    same_strand_path (part q steps' len (length steps') 0) nowhere (seen_blocks q steps' fs' []) (place_with (plus (part q steps f.from f.mid f.base) (part q steps f.at f.child f.rest)) (Some (part q steps start (length steps) weight)) nowhere ∷ seen_blocks q steps fs [])
+    let m1 = upto-mono q steps f.from f.mid o0 in
+    let m3 = upto-mono q steps f.end f.child o2 in
+    let m4 = upto-mono q steps f.child (length steps) (omega arith) in
+    same_strand_path (part q steps' len (length steps') 0) nowhere (seen_blocks q steps' fs' []) (place_with (plus (part q steps f.from f.mid f.base) (part q steps f.end f.child f.rest)) (Some (part q steps start (length steps) weight)) nowhere ∷ seen_blocks q steps fs [])
     (part_none q steps' len (length steps') e)
     (ap (λ (x : List Block). seen_blocks q steps' x []) k ∙ seen_blocks-push q steps' fs (taken_fork f base weight mid len) []
     ∙ ap (λ (p : SeenBlock). p ∷ seen_blocks q steps' fs [])
-    (place_same (part_is q steps' f.from mid base (plus (part q steps f.from f.mid f.base) (part q steps f.at f.child f.rest)) w (omega arith))
+    (place_same (part_is q steps' f.from mid base (plus (part q steps f.from f.mid f.base) (part q steps f.end f.child f.rest)) w (omega arith))
     (ap Some (part_is q steps' mid len weight (part q steps start (length steps) weight) refl (omega arith)))
     (part_none q steps' len len refl))
-    ∙ ap (λ (x : List SeenBlock). place_with (plus (part q steps f.from f.mid f.base) (part q steps f.at f.child f.rest)) (Some (part q steps start (length steps) weight)) nowhere ∷ x)
-    (seen_blocks_same q steps steps' fs [] 0 f.from (λ x h. low x (omega arith)) l))
+    ∙ ap (λ (x : List SeenBlock). place_with (plus (part q steps f.from f.mid f.base) (part q steps f.end f.child f.rest)) (Some (part q steps start (length steps) weight)) nowhere ∷ x)
+    (seen_blocks_same q steps steps' fs [] 0 f.from (λ x h. g.below q x h) l))
 
 -- the child is not the longest
 abbrev pub gone_fork : Block → Block
-gone_fork f = record { base = f.base; longest = f.longest; rest = 0; from = f.from; mid = f.mid; end = f.end; at = f.at; child = f.at }
+gone_fork f = record { base = f.base; longest = f.longest; rest = 0; from = f.from; mid = f.mid; end = f.end; child = f.end }
 
-pub gone_laid : (steps steps' : List Steps) (start : ℕ) (fs fs' : List Block) (f : Block) → LaidFrom 0 fs f.from → InOrder f → f.child ≡ start → start ≤ length steps → steps' ≡ take f.child steps → fs' ≡ fs ++ gone_fork f ∷ [] → laid_of steps' f.at fs'
+pub gone_laid : (steps steps' : List Steps) (start : ℕ) (fs fs' : List Block) (f : Block) → LaidFrom 0 fs f.from → InOrder f → f.child ≡ start → start ≤ length steps → steps' ≡ take f.child steps → fs' ≡ fs ++ gone_fork f ∷ [] → laid_of steps' f.end fs'
 gone_laid steps steps' start fs fs' f l o c b g k =
-    let o0 = o.0 in let o1 = o.1 in let o2 = o.2 in let o3 = o.3 in
+    let o0 = o.0 in let o1 = o.1 in let o2 = o.2 in
     let n = length-take-le f.child steps (omega arith) in
     let n' = ap length g in
-    let P : List Block → Type 0 = λ x. LaidFrom 0 x f.at in
-    (subst P (sym k) (laid_push 0 f.at fs (gone_fork f) l (o0, o1, o2, omega arith) refl), omega arith)
+    let P : List Block → Type 0 = λ x. LaidFrom 0 x f.end in
+    (subst P (sym k) (laid_push 0 f.end fs (gone_fork f) l (o0, o1, omega arith) refl), omega arith)
 
-pub gone_strand_path : (q : ℕ) (steps steps' : List Steps) (start : ℕ) (fs fs' : List Block) (f : Block) → LaidFrom 0 fs f.from → InOrder f → f.child ≡ start → start ≤ length steps → steps' ≡ take f.child steps → fs' ≡ fs ++ gone_fork f ∷ [] → strand_path_of q steps' f.rest f.at fs' ≡ goes_on (seen q steps f) (seen_blocks q steps fs [])
+pub gone_strand_path : (q : ℕ) (steps steps' : List Steps) (start : ℕ) (fs fs' : List Block) (f : Block) → LaidFrom 0 fs f.from → InOrder f → f.child ≡ start → start ≤ length steps → steps' ≡ take f.child steps → fs' ≡ fs ++ gone_fork f ∷ [] → strand_path_of q steps' f.rest f.end fs' ≡ goes_on (seen q steps f) (seen_blocks q steps fs [])
 gone_strand_path q steps steps' start fs fs' f l o c b g k =
-    let o0 = o.0 in let o1 = o.1 in let o2 = o.2 in let o3 = o.3 in
+    let o0 = o.0 in let o1 = o.1 in let o2 = o.2 in
     let n : length steps' ≡ f.child = ap length g ∙ length-take-le f.child steps (omega arith) in
     let low : (x : ℕ) → x ≤ f.child → upto q steps' x ≡ upto q steps x = λ x h. ap (λ (y : List Steps). upto q y x) g ∙ upto-take q steps f.child x h in
     let u = ap (upto q steps') n in
     let lc = low f.child (omega arith) in
-    let la = low f.at o3 in
-    same_strand_path (part q steps' f.at (length steps') f.rest) (part q steps f.at f.child f.rest) (seen_blocks q steps' fs' []) (place_with (part q steps f.from f.mid f.base) (option_map (part q steps f.mid f.end) f.longest) nowhere ∷ seen_blocks q steps fs [])
-    (part_is q steps' f.at (length steps') f.rest (part q steps f.at f.child f.rest) refl (omega arith))
+    let la = low f.end o2 in
+    same_strand_path (part q steps' f.end (length steps') f.rest) (part q steps f.end f.child f.rest) (seen_blocks q steps' fs' []) (place_with (part q steps f.from f.mid f.base) (option_map (part q steps f.mid f.end) f.longest) nowhere ∷ seen_blocks q steps fs [])
+    (part_is q steps' f.end (length steps') f.rest (part q steps f.end f.child f.rest) refl (omega arith))
     (ap (λ (x : List Block). seen_blocks q steps' x []) k ∙ seen_blocks-push q steps' fs (gone_fork f) []
     ∙ ap (λ (p : SeenBlock). p ∷ seen_blocks q steps' fs [])
-    (place_same (part_same q steps steps' f.from f.mid f.base f.child low (omega arith) (omega arith)) (longest_same q steps steps' f.mid f.end f.child f.longest low (omega arith) (omega arith)) (part_none q steps' f.at f.at refl))
+    (place_same (part_same q steps steps' f.from f.mid f.base f.child low (omega arith) (omega arith)) (longest_same q steps steps' f.mid f.end f.child f.longest low (omega arith) (omega arith)) (part_none q steps' f.end f.end refl))
     ∙ ap (λ (x : List SeenBlock). place_with (part q steps f.from f.mid f.base) (option_map (part q steps f.mid f.end) f.longest) nowhere ∷ x)
     (seen_blocks_same q steps steps' fs [] 0 f.from (λ x h. low x (omega arith)) l))
 
 -- the block joins, and its longest child is taken out
-pub closed_laid : (steps steps' : List Steps) (start : ℕ) (fs : List Block) (f : Block) → LaidFrom 0 fs f.from → InOrder f → f.child ≡ start → start ≤ length steps → steps' ≡ take f.mid steps ++ drop start steps → laid_of steps' f.from fs
-closed_laid steps steps' start fs f l o c b g =
-    let o0 = o.0 in let o1 = o.1 in let o2 = o.2 in let o3 = o.3 in
-    let n = length-cut steps f.mid start (omega arith) (omega arith) in
-    let n' = ap length g in (l, omega arith)
+pub closed_laid : (steps steps' : List Steps) (start : ℕ) (fs : List Block) (f : Block) → LaidFrom 0 fs f.from → InOrder f → f.child ≡ start → start ≤ length steps → IsCutOut f.mid start steps steps' → laid_of steps' f.from fs
+closed_laid steps steps' start fs f l o c b g = let o0 = o.0 in let o1 = o.1 in let o2 = o.2 in let n = g.count_is in (l, omega arith)
 
-pub closed_strand_path : (q : ℕ) (steps steps' : List Steps) (weight weight' start : ℕ) (fs : List Block) (f : Block) → LaidFrom 0 fs f.from → InOrder f → f.child ≡ start → start ≤ length steps → steps' ≡ take f.mid steps ++ drop start steps → weight' ≡ f.base + weight → strand_path_of q steps' weight' f.from fs ≡ record { now = plus (part q steps f.from f.mid f.base) (part q steps start (length steps) weight); blocks = seen_blocks q steps fs [] }
+pub closed_strand_path : (q : ℕ) (steps steps' : List Steps) (weight weight' start : ℕ) (fs : List Block) (f : Block) → LaidFrom 0 fs f.from → InOrder f → f.child ≡ start → start ≤ length steps → IsCutOut f.mid start steps steps' → weight' ≡ f.base + weight → strand_path_of q steps' weight' f.from fs ≡ record { now = plus (part q steps f.from f.mid f.base) (part q steps start (length steps) weight); blocks = seen_blocks q steps fs [] }
 closed_strand_path q steps steps' weight weight' start fs f l o c b g w =
-    let o0 = o.0 in let o1 = o.1 in let o2 = o.2 in let o3 = o.3 in
-    let n = length-cut steps f.mid start (omega arith) (omega arith) in
-    let n' = ap length g in
-    let low : (x : ℕ) → x ≤ f.mid → upto q steps' x ≡ upto q steps x = λ x h. ap (λ (y : List Steps). upto q y x) g ∙ upto_below-cut q steps f.mid start x h (omega arith) in
-    let at_len = ap (λ (y : List Steps). upto q y (f.mid + (length steps - start))) g in
-    let cut_len = upto-cut q steps f.mid start (length steps - start) (omega arith) (omega arith) in
-    let a2 : (length steps - start) + start ≡ length steps = omega arith in
-    let b2 = ap (upto q steps) a2 in
-    let a3 : length steps' ≡ f.mid + (length steps - start) = omega arith in
-    let b3 = ap (upto q steps') a3 in
+    let o0 = o.0 in let o1 = o.1 in let o2 = o.2 in
+    let a = g.all q in
+    let lf = g.below q f.from o0 in
     let m1 = upto-mono q steps f.from f.mid o0 in
     let m2 = upto-mono q steps f.mid start (omega arith) in
     let m4 = upto-mono q steps start (length steps) b in
-    let lf = low f.from o0 in
     same_strand_path (part q steps' f.from (length steps') weight') (plus (part q steps f.from f.mid f.base) (part q steps start (length steps) weight)) (seen_blocks q steps' fs []) (seen_blocks q steps fs [])
     (part_is q steps' f.from (length steps') weight' (plus (part q steps f.from f.mid f.base) (part q steps start (length steps) weight)) w (omega arith))
-    (seen_blocks_same q steps steps' fs [] 0 f.from (λ x h. low x (omega arith)) l)
+    (seen_blocks_same q steps steps' fs [] 0 f.from (λ x h. g.below q x (omega arith)) l)
 
 -- the block joins on its longest child
 pub kept_laid : (steps steps' : List Steps) (start : ℕ) (fs : List Block) (f : Block) → LaidFrom 0 fs f.from → InOrder f → f.child ≡ start → start ≤ length steps → steps' ≡ take f.end steps → laid_of steps' f.from fs
 kept_laid steps steps' start fs f l o c b g =
-    let o0 = o.0 in let o1 = o.1 in let o2 = o.2 in let o3 = o.3 in
+    let o0 = o.0 in let o1 = o.1 in let o2 = o.2 in
     let n : length steps' ≡ f.end = ap length g ∙ length-take-le f.end steps (omega arith) in (l, omega arith)
 
 pub kept_strand_path : (q : ℕ) (steps steps' : List Steps) (weight' start longest : ℕ) (fs : List Block) (f : Block) → LaidFrom 0 fs f.from → InOrder f → f.child ≡ start → start ≤ length steps → steps' ≡ take f.end steps → weight' ≡ f.base + longest → strand_path_of q steps' weight' f.from fs ≡ record { now = plus (part q steps f.from f.mid f.base) (part q steps f.mid f.end longest); blocks = seen_blocks q steps fs [] }
 kept_strand_path q steps steps' weight' start longest fs f l o c b g w =
-    let o0 = o.0 in let o1 = o.1 in let o2 = o.2 in let o3 = o.3 in
+    let o0 = o.0 in let o1 = o.1 in let o2 = o.2 in
     let n : length steps' ≡ f.end = ap length g ∙ length-take-le f.end steps (omega arith) in
     let low : (x : ℕ) → x ≤ f.end → upto q steps' x ≡ upto q steps x = λ x h. ap (λ (y : List Steps). upto q y x) g ∙ upto-take q steps f.end x h in
     let u = ap (upto q steps') n in
@@ -286,16 +290,16 @@ fits_with q r r' f e h = let P : StrandPath → Type 0 = λ t. Fits (all_of t) i
 pub ends_taken : (q : ℕ) (steps : List Steps) (f : Block) (n : Path) (ps : List SeenBlock) → is_longer f.longest (f.rest + n.weight) ≡ true → takes (seen q steps f).base (seen q steps f).rest n ps ≡ ends (make n (seen q steps f ∷ ps))
 ends_taken q steps f n ps e = by_longest f.longest e
   where
-    by_longest : (l : Option ℕ) → is_longer l (f.rest + n.weight) ≡ true → takes (part q steps f.from f.mid f.base) (part q steps f.at f.child f.rest) n ps ≡ ends_at (part q steps f.from f.mid f.base) (option_map (part q steps f.mid f.end) l) (part q steps f.at f.child f.rest) n ps
+    by_longest : (l : Option ℕ) → is_longer l (f.rest + n.weight) ≡ true → takes (part q steps f.from f.mid f.base) (part q steps f.end f.child f.rest) n ps ≡ ends_at (part q steps f.from f.mid f.base) (option_map (part q steps f.mid f.end) l) (part q steps f.end f.child f.rest) n ps
     by_longest None e = refl
-    by_longest (Some w) e = sym (ap (λ (b : Bool). chooses b (part q steps f.from f.mid f.base) (part q steps f.mid f.end w) (part q steps f.at f.child f.rest) n ps) e)
+    by_longest (Some w) e = sym (ap (λ (b : Bool). chooses b (part q steps f.from f.mid f.base) (part q steps f.mid f.end w) (part q steps f.end f.child f.rest) n ps) e)
 
 pub ends_gone : (q : ℕ) (steps : List Steps) (f : Block) (n : Path) (ps : List SeenBlock) → is_longer f.longest (f.rest + n.weight) ≡ false → goes_on (seen q steps f) ps ≡ ends (make n (seen q steps f ∷ ps))
 ends_gone q steps f n ps e = by_longest f.longest e
   where
-    by_longest : (l : Option ℕ) → is_longer l (f.rest + n.weight) ≡ false → goes_on (place_with (part q steps f.from f.mid f.base) (option_map (part q steps f.mid f.end) l) (part q steps f.at f.child f.rest)) ps ≡ ends_at (part q steps f.from f.mid f.base) (option_map (part q steps f.mid f.end) l) (part q steps f.at f.child f.rest) n ps
+    by_longest : (l : Option ℕ) → is_longer l (f.rest + n.weight) ≡ false → goes_on (place_with (part q steps f.from f.mid f.base) (option_map (part q steps f.mid f.end) l) (part q steps f.end f.child f.rest)) ps ≡ ends_at (part q steps f.from f.mid f.base) (option_map (part q steps f.mid f.end) l) (part q steps f.end f.child f.rest) n ps
     by_longest None e = cc
-    by_longest (Some w) e = sym (ap (λ (b : Bool). chooses b (part q steps f.from f.mid f.base) (part q steps f.mid f.end w) (part q steps f.at f.child f.rest) n ps) e)
+    by_longest (Some w) e = sym (ap (λ (b : Bool). chooses b (part q steps f.from f.mid f.base) (part q steps f.mid f.end w) (part q steps f.end f.child f.rest) n ps) e)
 
 -- the longest child is chosen where it weighs as much as the rest
 pub best_kept : (q : ℕ) (steps : List Steps) (from to w : ℕ) (l : Option ℕ) (n : Path) → l ≡ Some w → n.weight ≤ w → part q steps from to w ≡ best (option_map (part q steps from to) l) n

@@ -4,7 +4,8 @@ use Rattle.std.proofs.Common.{sym, ◌∙◌, ap, subst, inl, inr, arith}
 use Rattle.std.proofs.lemmas.Bool.{cases_lt}
 use Rattle.cw_model.specs.Trees.{Event, Work, Series, Fork, Join}
 use Rattle.cw_sites.specs.ChosenPaths.{Path, nowhere, plus, heavier, steps_of, chosen}
-use Rattle.cw_sites.specs.BlockPaths.{BlockPath, Straight, Split, extended, child_ended, joins as joined, after, after_all, joined_on, no_joins}
+use Rattle.cw_sites.specs.BlockPaths.{BlockPath, Straight, Split, extended, child_ended, joins as joined, after, after_all, joined_on}
+use Rattle.cw_measure.specs.OpenParts.{no_joins}
 use Rattle.cw_sites.specs.OpenPaths.{is_split}
 use Rattle.cw_sites.specs.lemmas.ChosenPaths.{plus-assoc, plus-nowhere_first, plus-nowhere_last}
 use Rattle.cw_sites.specs.lemmas.BlockPaths.{takes_later, keeps_longest}

@@ -1,15 +1,16 @@
 -- A strand_path shows a run so far with a piece that ran apart joined on.
 use Rattle.std.specs.Prelude.{◌≡◌, ℕ, Bool, true, false, ◌||◌, not, List, [], ◌∷◌, ◌++◌, Option, Some, None, refl}
 use Rattle.std.proofs.Common.{sym, ◌∙◌, subst}
-use Rattle.cw_model.specs.Trees.{Tree, Event, Series, Fork}
+use Rattle.cw_model.specs.Trees.{Event}
 use Rattle.cw_measure.specs.OpenParts.{Open, has_spawned}
-use Rattle.cw_sites.specs.ChosenPaths.{Path, nowhere, chosen}
-use Rattle.cw_sites.specs.BlockPaths.{BlockPath, Straight, Split, now_of, extended, child_ended, after_all, joined_on, no_joins}
+use Rattle.cw_sites.specs.ChosenPaths.{Path, nowhere}
+use Rattle.cw_sites.specs.BlockPaths.{BlockPath, Straight, Split, now_of, extended, child_ended, after_all, joined_on}
+use Rattle.cw_measure.specs.OpenParts.{no_joins}
 use Rattle.cw_sites.specs.StrandPaths.{SeenBlock, StrandPath, begins, ends, extends_by, forks, appends_block, appends_at, appends}
 use Rattle.cw_sites.specs.OpenPaths.{here_in, enters, block_path, StandsOn, Under, Shows, is_split}
 use Rattle.cw_sites.specs.lemmas.ChosenPaths.{plus-nowhere_first}
 use Rattle.cw_sites.proofs.PieceLaws.{extended_twice, piece_joined}
-use Rattle.cw_sites.specs.lemmas.OpenPaths.{ShowsLocal, after_all-append, block_more, split-block_path, extends, begins_split, again_at, ends_places}
+use Rattle.cw_sites.specs.lemmas.OpenPaths.{ShowsLocal, after_all-append, split-block_path, extends, begins_split, again_at, ends_places}
 
 split_extended : (p : Path) (L : BlockPath) → is_split (extended p L) ≡ is_split L
 split_extended p (Straight n) = refl
@@ -67,16 +68,4 @@ shows_piece site base os es fs t u first s n h g =
     let w = appended_at (Under site base os) first L (after_all site here (Straight nowhere) fs) u.now u.blocks t split (record { now_is = h.now_is; blocks_are = h.blocks_are }) g.now_is g.blocks_are in
     let P : BlockPath → Type 0 = λ K. ShowsLocal (Under site base os) K (appends first u t) in
     let k = subst P (piece_joined site here first L fs split n ∙ sym (block_append site base os es fs)) w in
-    record { now_is = k.now_is; blocks_are = k.blocks_are }
-
--- a spawned part that ran apart
-pub shows_child : (site base : ℕ) (os : List Open) (es : List Event) (child : Tree) (t u : StrandPath) (first : Bool) → has_spawned es ≡ not first → Shows site base os es t → Shows site (here_in base os) [] (Series child ∷ []) u → Shows site base os (es ++ Fork child ∷ []) (forks first u.now t)
-shows_child site base os es child t u first s h g =
-    let L = block_path site base os es in
-    let c = chosen site (here_in base os) child in
-    let e : u.now ≡ c = g.now_is ∙ plus-nowhere_first c in
-    let w = forked_at (Under site base os) first c L t (split-block_path site base os es ∙ s) (record { now_is = h.now_is; blocks_are = h.blocks_are }) in
-    let Q : Path → Type 0 = λ x. ShowsLocal (Under site base os) (child_ended c L) (forks first x t) in
-    let P : BlockPath → Type 0 = λ K. ShowsLocal (Under site base os) K (forks first u.now t) in
-    let k = subst P (sym (block_more site base os es (Fork child))) (subst Q (sym e) w) in
     record { now_is = k.now_is; blocks_are = k.blocks_are }

@@ -4,6 +4,7 @@ use Rattle.std.proofs.lemmas.Bool.{cases_lt}
 use Rattle.std.proofs.lemmas.Bool.Decides.{nat_tests}
 use Rattle.std.proofs.lemmas.List.{get_or_past}
 use borrow.Author.Tests.{eqb-true}
+use Rattle.cw_measure.specs.Outermost.{unless_at}
 use Rattle.cw_sites.specs.declared.rows.Rows.{Rows}
 use Rattle.cw_sites.specs.declared.rows.Row.{Row}
 use Rattle.cw_sites.specs.SiteRows.{row_of, zero_row, summed, under, FitsRow, IsGiven, IsReadAs, AddsEach, JoinsRows}
@@ -61,19 +62,26 @@ read_same : (r s : Row) → r ≡ s → IsReadAs r s
 read_same r s e = record { calls = ap (λ (x : Row). x.calls) e; own = ap (λ (x : Row). x.own) e; work = ap (λ (x : Row). x.work) e; span = ap (λ (x : Row). x.span) e; active = ap (λ (x : Row). x.active) e; at_work = λ h. ap (λ (x : Row). x.at_work) e; at_path = λ h. ap (λ (x : Row). x.at_path) e }
 
 -- a row of the piece alone
-read_alone : (ours piece row : Row) → ours ≡ zero_row → row ≡ piece → piece.active ≡ ours.active → IsReadAs row (summed ours piece)
-read_alone ours piece row none e alike = record {
-  calls = let z = ap (λ (x : Row). x.calls) none in let n = ap (λ (x : Row). x.calls) e in omega arith;
-  own = let z = ap (λ (x : Row). x.own) none in let n = ap (λ (x : Row). x.own) e in omega arith;
-  work = let z = ap (λ (x : Row). x.work) none in let n = ap (λ (x : Row). x.work) e in omega arith;
-  span = let z = ap (λ (x : Row). x.span) none in let n = ap (λ (x : Row). x.span) e in omega arith;
-  active = ap (λ (x : Row). x.active) e ∙ alike;
-  at_work = λ h. let z = ap (λ (x : Row). x.active) none in absurd (omega arith);
-  at_path = λ h. let z = ap (λ (x : Row). x.active) none in absurd (omega arith);
-}
+read_alone : (ours piece row : Row) → ours ≡ zero_row → row ≡ piece → piece.active ≡ 0 → IsReadAs row (summed ours piece)
+read_alone ours piece row none e idle =
+    let P : Row → Type 0 = λ x. IsReadAs row (summed x piece) in
+    subst P (sym none) (record {
+      calls = let n = ap (λ (x : Row). x.calls) e in omega arith;
+      own = let n = ap (λ (x : Row). x.own) e in omega arith;
+      work = let n = ap (λ (x : Row). x.work) e in omega arith;
+      span = let n = ap (λ (x : Row). x.span) e in omega arith;
+      active = ap (λ (x : Row). x.active) e ∙ idle;
+      at_work = λ h. absurd (omega arith);
+      at_path = λ h. absurd (omega arith);
+    })
+
+-- nothing more, whatever is open
+nothing_at : (b : Bool) → unless_at b 0 ≡ 0
+nothing_at true = refl
+nothing_at false = refl
 
 summed_none : (r : Row) → summed r zero_row ≡ r
-summed_none r = let a : r.calls + 0 ≡ r.calls = omega arith in let b : r.own + 0 ≡ r.own = omega arith in let c : r.work + 0 ≡ r.work = omega arith in let d : r.span + 0 ≡ r.span = omega arith in simp (a, b, c, d)
+summed_none r = let a : r.calls + 0 ≡ r.calls = omega arith in let b : r.own + 0 ≡ r.own = omega arith in let z = nothing_at (r.active == 0) in let c : r.work + unless_at (r.active == 0) 0 ≡ r.work = omega arith in let d : r.span + unless_at (r.active == 0) 0 ≡ r.span = omega arith in simp (a, b, c, d)
 
 -- where ours are no fewer, and where they are fewer
 pub joined_into_ours : (old piece new : Rows) → AddsEach summed old piece new → JoinsRows old piece new

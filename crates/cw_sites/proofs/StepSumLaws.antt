@@ -1,7 +1,6 @@
 -- The first so many steps of a list that was changed.
 use Rattle.std.specs.Prelude.{◌≡◌, ℕ, zero, suc, ◌+◌, ◌-◌, ◌^◌, ◌≤◌, ◌<◌, ◌==◌, min, Bool, true, false, if◌then◌else◌, List, [], ◌∷◌, ◌++◌, length, take, drop, refl}
 use Rattle.std.proofs.Common.{sym, ◌∙◌, ap, set, get_or, arith}
-use Rattle.std.proofs.lemmas.List.{length-take-le}
 use Rattle.cw_sites.specs.declared.steps.Steps.{Steps}
 use Rattle.cw_sites.specs.StepSums.{if_site, upto, whole}
 
@@ -45,39 +44,12 @@ upto_all-set q [] i y d h = absurd (omega arith)
 upto_all-set q (x ∷ xs) zero y d h = omega arith
 upto_all-set q (x ∷ xs) (suc i) y d h = let k = upto_all-set q xs i y d (omega arith) in omega arith
 
--- with the part from a to b taken out: what lies before a, and what lay after b
+-- without the first b
 pub upto-drop : (q : ℕ) (xs : List Steps) (b n : ℕ) → upto q (drop b xs) n + upto q xs b ≡ upto q xs (n + b)
 upto-drop q [] zero n = refl
 upto-drop q [] (suc b) n = refl
 upto-drop q (x ∷ xs) zero n = let z : n + 0 ≡ n = omega arith in let e = ap (upto q (x ∷ xs)) z in omega arith
 upto-drop q (x ∷ xs) (suc b) n = let i = upto-drop q xs b n in let z : n + suc b ≡ suc (n + b) = omega arith in let e = ap (upto q (x ∷ xs)) z in omega arith
-
-pub upto-cut : (q : ℕ) (xs : List Steps) (a b n : ℕ) → a ≤ b → b ≤ length xs → upto q (take a xs ++ drop b xs) (a + n) + upto q xs b ≡ upto q xs a + upto q xs (n + b)
-upto-cut q [] zero zero n h k = refl
-upto-cut q [] zero (suc b) n h k = absurd (omega arith)
-upto-cut q [] (suc a) b n h k = absurd (omega arith)
-upto-cut q (x ∷ xs) zero b n h k = let e = upto-drop q (x ∷ xs) b n in let z : 0 + n ≡ n = omega arith in let f = ap (upto q (drop b (x ∷ xs))) z in omega arith
-upto-cut q (x ∷ xs) (suc a) zero n h k = absurd (omega arith)
-upto-cut q (x ∷ xs) (suc a) (suc b) n h k =
-    let i = upto-cut q xs a b n (omega arith) (omega arith) in
-    let z : suc a + n ≡ suc (a + n) = omega arith in
-    let y : n + suc b ≡ suc (n + b) = omega arith in
-    let e = ap (upto q (take (suc a) (x ∷ xs) ++ drop (suc b) (x ∷ xs))) z in
-    let f = ap (upto q (x ∷ xs)) y in omega arith
-
-pub length-cut : (xs : List Steps) (a b : ℕ) → a ≤ b → b ≤ length xs → length (take a xs ++ drop b xs) + (b - a) ≡ length xs
-length-cut [] zero zero h k = refl
-length-cut [] zero (suc b) h k = absurd (omega arith)
-length-cut [] (suc a) b h k = absurd (omega arith)
-length-cut (x ∷ xs) zero zero h k = omega arith
-length-cut (x ∷ xs) zero (suc b) h k = let i = length-cut xs zero b (omega arith) (omega arith) in omega arith
-length-cut (x ∷ xs) (suc a) zero h k = absurd (omega arith)
-length-cut (x ∷ xs) (suc a) (suc b) h k = let i = length-cut xs a b (omega arith) (omega arith) in omega arith
-
-pub upto-at : (q : ℕ) (xs : List Steps) (i : ℕ) (d : Steps) → i < length xs → if_site q (get_or xs i d).site (get_or xs i d).count ≤ upto q xs (length xs)
-upto-at q [] i d h = absurd (omega arith)
-upto-at q (x ∷ xs) zero d h = omega arith
-upto-at q (x ∷ xs) (suc i) d h = let k = upto-at q xs i d (omega arith) in omega arith
 
 abbrev steps_if : Bool → ℕ → ℕ
 steps_if b k = if b then k else 0
@@ -103,18 +75,6 @@ upto-more q xs i start s site count sum h below g e m fits =
     let c : if_site q (get_or xs i s).site (get_or xs i s).count ≡ if_site q site s.count = ap (λ (x : Steps). if_site q x.site x.count) (sym g) ∙ ap (λ (x : ℕ). if_site q x s.count) e in
     by_site (site == q) (upto q xs start) (whole q xs) (whole q (set xs i (record { site = site; count = sum }))) s.count count sum (omega arith) (omega arith) fits m
 
-pub upto_below-cut : (q : ℕ) (xs : List Steps) (a b n : ℕ) → n ≤ a → a ≤ length xs → upto q (take a xs ++ drop b xs) n ≡ upto q xs n
-upto_below-cut q [] zero b zero h k = upto-zero q (take zero [] ++ drop b [])
-upto_below-cut q [] zero b (suc n) h k = absurd (omega arith)
-upto_below-cut q [] (suc a) b n h k = absurd (omega arith)
-upto_below-cut q (x ∷ xs) zero b zero h k = upto-zero q (drop b (x ∷ xs))
-upto_below-cut q (x ∷ xs) zero b (suc n) h k = absurd (omega arith)
-upto_below-cut q (x ∷ xs) (suc a) b zero h k = refl
-upto_below-cut q (x ∷ xs) (suc a) zero (suc n) h k =
-    let e = upto-take q xs a n (omega arith) in
-    let f = upto-append q (take (suc a) (x ∷ xs)) (x ∷ xs) (suc n) (omega (arith, length-take-le a xs (omega arith))) in omega arith
-upto_below-cut q (x ∷ xs) (suc a) (suc b) (suc n) h k = let i = upto_below-cut q xs a b n (omega arith) (omega arith) in omega arith
-
 pub upto-next : (q : ℕ) (xs : List Steps) (i : ℕ) (d : Steps) → i < length xs → upto q xs (i + 1) ≡ upto q xs i + if_site q (get_or xs i d).site (get_or xs i d).count
 upto-next q [] i d h = absurd (omega arith)
 upto-next q (x ∷ xs) zero d h = let z = upto-zero q xs in omega arith
@@ -124,10 +84,22 @@ next_by : (b : Bool) (count sum next all from more : ℕ) → more ≡ all + ste
 next_by true count sum next all from more e f g h k = omega arith
 next_by false count sum next all from more e f g h k = omega arith
 
-pub own_next : (q : ℕ) (xs : List Steps) (start i : ℕ) (s : Steps) (sum next : ℕ) → start ≤ i → i < length xs → s ≡ get_or xs i s → sum ≡ upto q xs i - upto q xs start → whole q xs - upto q xs start < 2 ^ 64 → next ≡ (if s.site == q then min (sum + s.count) (2 ^ 64 - 1) else sum) → next ≡ upto q xs (i + 1) - upto q xs start
-own_next q xs start i s sum next le lt g e small n =
+pub own_next : (q : ℕ) (xs : List Steps) (start i to : ℕ) (s : Steps) (sum next : ℕ) → start ≤ i → i < length xs → i + 1 ≤ to → s ≡ get_or xs i s → sum ≡ upto q xs i - upto q xs start → upto q xs to - upto q xs start < 2 ^ 64 → next ≡ (if s.site == q then min (sum + s.count) (2 ^ 64 - 1) else sum) → next ≡ upto q xs (i + 1) - upto q xs start
+own_next q xs start i to s sum next le lt within g e small n =
     let a = upto-next q xs i s lt in
     let c = ap (λ (x : Steps). if_site q x.site x.count) (sym g) in
     let m = upto-mono q xs start i le in
-    let t = upto-mono q xs (i + 1) (length xs) (omega arith) in
+    let t = upto-mono q xs (i + 1) to within in
     next_by (s.site == q) s.count sum next (upto q xs i) (upto q xs start) (upto q xs (i + 1)) (omega arith) e m (omega arith) n
+
+-- one step is put in the place of another: up to it, and past it
+pub upto_to-set : (q : ℕ) (xs : List Steps) (i : ℕ) (y : Steps) → i < length xs → upto q (set xs i y) (i + 1) ≡ upto q xs i + if_site q y.site y.count
+upto_to-set q [] i y h = absurd (omega arith)
+upto_to-set q (x ∷ xs) zero y h = let z = upto-zero q xs in omega arith
+upto_to-set q (x ∷ xs) (suc i) y h = let k = upto_to-set q xs i y (omega arith) in let e : suc i + 1 ≡ suc (i + 1) = omega arith in let f = ap (upto q (x ∷ set xs i y)) e in omega arith
+
+pub upto_past-set : (q : ℕ) (xs : List Steps) (i n : ℕ) (y d : Steps) → i < length xs → i < n → upto q (set xs i y) n + if_site q (get_or xs i d).site (get_or xs i d).count ≡ upto q xs n + if_site q y.site y.count
+upto_past-set q [] i n y d h k = absurd (omega arith)
+upto_past-set q (x ∷ xs) i zero y d h k = absurd (omega arith)
+upto_past-set q (x ∷ xs) zero (suc n) y d h k = omega arith
+upto_past-set q (x ∷ xs) (suc i) (suc n) y d h k = let m = upto_past-set q xs i n y d (omega arith) (omega arith) in omega arith

@@ -1,5 +1,5 @@
 -- A table tells of a run so far, and its calls keep it so.
-use Rattle.std.specs.Prelude.{◌≡◌, ℕ, ◌+◌, ◌-◌, ◌^◌, ◌==◌, ◌<◌, Bool, true, false, not, List, [], ◌∷◌, ◌++◌, Option, Some, refl}
+use Rattle.std.specs.Prelude.{◌≡◌, ℕ, ◌+◌, ◌-◌, ◌^◌, ◌==◌, ◌<◌, Bool, true, false, not, List, [], ◌∷◌, ◌++◌, Option, Some, refl, ◌*◌}
 use Rattle.std.proofs.Common.{sym, ◌∙◌, ap, subst, arith}
 use borrow.Author.Tests.{eqb-true}
 use Rattle.cw_model.specs.Trees.{Mark, Invocation, Event, Work, Join, tree_of, work, span}
@@ -13,17 +13,18 @@ use Rattle.cw_sites.specs.declared.table.SiteTable.{SiteTable}
 use Rattle.cw_sites.specs.ChosenPaths.{Path, plus, steps_of}
 use Rattle.cw_sites.specs.StepSums.{Fits}
 use Rattle.cw_sites.specs.BlockPaths.{now_of}
-use Rattle.cw_sites.specs.StepLists.{strand_path, IsBounded, Laid}
+use Rattle.cw_sites.specs.StepLists.{strand_path, Laid}
+use Rattle.cw_sites.specs.PathBounds.{most_steps, IsTight}
+use Rattle.cw_sites.proofs.PathBoundLaws.{looser}
 use Rattle.cw_sites.specs.StrandPaths.{StrandPath, whole, spawns, ends, joins}
 use Rattle.cw_sites.specs.OpenPaths.{here_in, block_path, path_in, Shows}
 use Rattle.cw_sites.specs.SiteRows.{row_of, worked, entered, left, work_tally, span_tally, CountsSite, FitsRow}
-use Rattle.cw_sites.specs.Laws.{BlocksReadChosenPaths, PiecesJoin}
-use Rattle.cw_sites.specs.Tables.{IsBoundedTable, IsQuiet, Small, Tells, called, spawned, Flushed, RowBegun, RowLeft}
+use Rattle.cw_sites.specs.Laws.{BlocksReadChosenPaths}
+use Rattle.cw_sites.specs.Tables.{IsBoundedTable, IsTightTable, IsQuiet, Small, Tells, called, spawned, Flushed, RowBegun, RowLeft}
 use Rattle.cw_sites.proofs.ChosenPathLaws.{path_of-chosen_leaves}
 use Rattle.cw_sites.specs.lemmas.BlockPaths.{finished-after_all}
-use Rattle.cw_sites.proofs.BlockPathLaws.{pieces-finished}
 use Rattle.cw_sites.specs.lemmas.OpenPaths.{shows_work, shows_entered, shows_spawned, shows_spawned_again, shows_joined, shows_unjoined, shows_left, shows_ended, shows_all}
-use Rattle.cw_sites.specs.lemmas.SiteRows.{steps_if, calls_more, row_other, row_other_left, left_calls}
+use Rattle.cw_sites.specs.lemmas.SiteRows.{steps_if, row_other, row_other_left, left_calls}
 use Rattle.cw_sites.proofs.SiteRowLaws.{row_work, row_join, row_entered, row_left}
 use Rattle.cw_sites.proofs.Bounds.{whole_within, own_in_within, works_within, spans_within}
 use Rattle.cw_sites.specs.lemmas.Tables.{quiet_calls, quiet_inside}
@@ -47,13 +48,6 @@ small_outer busy o os es small = record {
   work = let a = small.work in omega arith;
   calls = λ q. let a = small.calls q in omega arith;
   active = λ q. let a = small.active q in omega arith;
-}
-
-small_before : (busy : ℕ → ℕ) (os : List Open) (es : List Event) (k : ℕ) → Small busy os (es ++ Work k ∷ []) → Small busy os es
-small_before busy os es k small = record {
-  work = let a = small.work in let b = work_more os es (Work k) in omega arith;
-  calls = λ q. let a = small.calls q in let b = calls_more q os es (Work k) in omega arith;
-  active = small.active;
 }
 
 pub small_closed : (busy : ℕ → ℕ) (o : Open) (os : List Open) (es : List Event) → Small busy (o ∷ os) es → Small busy os (closed o es)
@@ -344,11 +338,11 @@ half_ends base busy mark os before es fs old mid paths count quiet since n small
     }
 
 -- a table whose paths are another's is bounded with it
-pub bounded_by : (most : ℕ) (old new : SiteTable) (site : ℕ) → new.paths ≡ old.paths → new.here ≡ site → site < most → IsBoundedTable most old → IsBoundedTable most new
-bounded_by most old new site p e less h = let P : Paths → Type 0 = IsBounded most in record { paths = subst P (sym p) h.paths; here = omega arith }
+pub bounded_by : (most : ℕ) (old new : SiteTable) (site : ℕ) → new.paths ≡ old.paths → new.here ≡ site → site < most → IsTightTable most old → IsTightTable most new
+bounded_by most old new site p e less h = let P : Paths → Type 0 = IsTight most in record { paths = subst P (sym p) h.paths; here = omega arith }
+
+pub tight_bounded : (most : ℕ) (table : SiteTable) → IsTightTable most table → IsBoundedTable most table
+tight_bounded most table h = record { paths = looser (most_steps most + 1) (2 * (most_steps most + 1)) most table.paths (omega arith) h.paths; here = h.here }
 
 pub blocks_read_chosen_paths : BlocksReadChosenPaths
 blocks_read_chosen_paths = record { blocks = finished-after_all; leaves = path_of-chosen_leaves }
-
-pub pieces_join : PiecesJoin
-pieces_join = pieces-finished

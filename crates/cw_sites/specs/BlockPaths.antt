@@ -56,10 +56,3 @@ abbrev pub joined_on : BlockPath → BlockPath → BlockPath
 joined_on L (Straight m) = extended m L
 joined_on L (Split b None n) = extended (plus b n) L
 joined_on L (Split b (Some c) n) = extended n (child_ended c (extended b L))
-
-abbrev pub no_joins : List Event → Bool
-no_joins [] = true
-no_joins (Work k ∷ es) = no_joins es
-no_joins (Series t ∷ es) = no_joins es
-no_joins (Fork t ∷ es) = no_joins es
-no_joins (Join ∷ es) = false

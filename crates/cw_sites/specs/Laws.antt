@@ -1,10 +1,12 @@
 -- Statements of laws.
-use Rattle.std.specs.Prelude.{◌≡◌, ℕ, Bool, true, false, ◌||◌, not, List, [], ◌∷◌, ◌++◌, Option}
+use Rattle.std.specs.Prelude.{◌≡◌, ℕ, ◌+◌, ◌*◌, ◌≤◌, Bool, true, false, ◌||◌, not, List, [], ◌∷◌, ◌++◌, length, Option}
 use Rattle.cw_model.specs.Trees.{Mark, Tree, Event, Work, Join, tree_of, span}
 use Rattle.cw_model.specs.Rows.{chosen_leaves}
 use Rattle.cw_measure.specs.Outermost.{Meters}
-use Rattle.cw_sites.specs.BlockPaths.{Straight, finished, after_all, joined_on, no_joins}
-use Rattle.cw_sites.specs.Tables.{QuietParts}
+use Rattle.cw_sites.specs.BlockPaths.{Straight, finished, after_all, joined_on}
+use Rattle.cw_measure.specs.OpenParts.{no_joins}
+use Rattle.cw_sites.specs.Tables.{IsBoundedTable, QuietParts}
+use Rattle.cw_sites.specs.PathBounds.{most_steps}
 use Rattle.cw_sites.specs.declared.table.SiteTable.{SiteTable}
 use Rattle.cw_measure.specs.OpenParts.{Open, closed, has_spawned}
 use Rattle.cw_sites.specs.ChosenPaths.{Path, nowhere, path_of, plus, steps_of, chosen}
@@ -28,13 +30,6 @@ pub record BlocksReadChosenPaths : Type 0 where
   pub blocks : (site here : ℕ) (before : Path) (es : List Event) → finished (after_all site here (Straight before) es) ≡ plus before (chosen site here (tree_of es))
   pub leaves : (site here : ℕ) (t : Tree) → path_of site (chosen_leaves here t) ≡ chosen site here t
 
--- a piece of a block that has no join, kept apart, is joined to what is kept of the block before it; whatever follows, the block adds the chosen path of the tree of all its events
-abbrev pub PiecesJoin : Type 0
-PiecesJoin =
-    (site here : ℕ) (before : Path) (es fs gs : List Event) → no_joins fs ≡ true
-    → finished (after_all site here (joined_on (after_all site here (Straight before) es) (after_all site here (Straight nowhere) fs)) gs)
-    ≡ plus before (chosen site here (tree_of ((es ++ fs) ++ gs)))
-
 -- a piece without a join, or one with joins after a block that has spawned nothing: joined on, it is what would be kept if its events had come one after another
 abbrev pub PiecesAreOne : Type 0
 PiecesAreOne =
@@ -51,3 +46,10 @@ QuietPartsNeedNoCall = (base : ℕ) (busy : ℕ → ℕ) (os : List Open) (table
 
 abbrev pub AllRunsAreShown : Type 0
 AllRunsAreShown = (site base : ℕ) → RunsAreShown site base
+
+-- all steps of paths that a bounded table keeps: three paths for each open block that has spawned, and two for the strand
+-- that runs
+abbrev pub PathsAreFew : Type 0
+PathsAreFew =
+    (most : ℕ) (table : SiteTable) → IsBoundedTable most table
+    → length table.paths.steps.items ≤ (most_steps most + 1) * (3 * length table.paths.blocks.items + 2)

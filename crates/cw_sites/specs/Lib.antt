@@ -7,6 +7,7 @@ pub mod OpenPaths
 pub mod PathCalls
 pub mod SiteRows
 pub mod StepLists
+pub mod PathBounds
 pub mod Tables
 pub mod Laws
 pub mod lemmas

@@ -1,12 +1,8 @@
 -- What calls on the paths of a strand keep and say.
 use Rattle.std.specs.Prelude.{◌≡◌, ℕ, ◌^◌, ◌<◌, List}
 use Rattle.cw_sites.specs.declared.paths.Paths.{Paths}
-use Rattle.cw_sites.specs.StepLists.{strand_path, IsBounded, Laid}
+use Rattle.cw_sites.specs.StepLists.{strand_path, Laid}
 use Rattle.cw_sites.specs.StepSums.{sum_at}
-
--- what is bounded stays so, with steps of this site
-abbrev pub StaysBoundedAt : (site : ℕ) → Paths → Paths → Type 0
-StaysBoundedAt site old new = (most : ℕ) → site < most → IsBounded most old → IsBounded most new
 
 -- how much of the path of the strand that runs is a site's own
 abbrev pub ReadsOwn : Paths → (site own : ℕ) → Type 0

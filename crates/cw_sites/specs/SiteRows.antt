@@ -3,7 +3,7 @@ use Rattle.std.specs.Prelude.{◌≡◌, ℕ, ◌+◌, ◌-◌, ◌^◌, ◌<◌
 use Rattle.cw_model.specs.Trees.{Tree, Event, tree_of, work, span}
 use Rattle.cw_model.specs.Rows.{is_site, leaves, weight_of_site, calls_of}
 use Rattle.cw_measure.specs.OpenParts.{Open, work_in}
-use Rattle.cw_measure.specs.Outermost.{is_counted, one_if, Tally, Counts}
+use Rattle.cw_measure.specs.Outermost.{is_counted, one_if, unless_open, Tally, Counts}
 use Rattle.cw_sites.specs.declared.rows.Row.{Row}
 use Rattle.cw_sites.specs.declared.rows.Rows.{Rows}
 use Rattle.cw_sites.specs.OpenPaths.{here_in, path_in}
@@ -87,13 +87,9 @@ IsGiven old new site row = (q : ℕ) → row_of new q ≡ (if site == q then row
 abbrev pub SayTheSame : Rows → Rows → Type 0
 SayTheSame old new = (q : ℕ) → row_of new q ≡ row_of old q
 
--- one more invocation is open round a piece that begins
-abbrev pub stood_in : Row → Row
-stood_in r = record { calls = r.calls; own = r.own; work = r.work; span = r.span; active = r.active + 1; at_work = r.at_work; at_path = r.at_path }
-
--- a row, and that of a piece that ran apart and of which no invocation is open
+-- a row, and that of a piece that ran apart and of which no invocation is open: where some are open here, those of the piece lie in them
 abbrev pub summed : Row → Row → Row
-summed a b = record { calls = a.calls + b.calls; own = a.own + b.own; work = a.work + b.work; span = a.span + b.span; active = a.active; at_work = a.at_work; at_path = a.at_path }
+summed a b = record { calls = a.calls + b.calls; own = a.own + b.own; work = a.work + unless_open a.active b.work; span = a.span + unless_open a.active b.span; active = a.active; at_work = a.at_work; at_path = a.at_path }
 
 -- the same, the piece's row first
 abbrev pub under : Row → Row → Row
@@ -114,8 +110,8 @@ pub record IsReadAs (row other : Row) : Type 0 where
   pub at_work : 0 < other.active → row.at_work ≡ other.at_work
   pub at_path : 0 < other.active → row.at_path ≡ other.at_path
 
--- each row whose sums fit is read as ours with the piece's sums, where as many invocations are open in both
+-- each row whose sums fit is read as ours with the piece's sums, where no invocation is open in the piece
 abbrev pub JoinsRows : Rows → (piece : Rows) → Rows → Type 0
 JoinsRows old piece new =
-    (q : ℕ) → FitsRow (summed (row_of old q) (row_of piece q)) → (row_of piece q).active ≡ (row_of old q).active
+    (q : ℕ) → FitsRow (summed (row_of old q) (row_of piece q)) → (row_of piece q).active ≡ 0
     → IsReadAs (row_of new q) (summed (row_of old q) (row_of piece q))

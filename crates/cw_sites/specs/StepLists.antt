@@ -1,10 +1,10 @@
 -- The open blocks of a strand, whose paths are parts of one list, as one site sees them.
-use Rattle.std.specs.Prelude.{◌≡◌, ℕ, ◌+◌, ◌-◌, ◌*◌, ◌^◌, ◌≤◌, ◌<◌, Bool, List, [], ◌∷◌, length, option_map}
+use Rattle.std.specs.Prelude.{◌≡◌, ℕ, ◌+◌, ◌-◌, ◌^◌, ◌≤◌, ◌<◌, Bool, List, [], ◌∷◌, length, option_map}
 use Rattle.cw_sites.specs.ChosenPaths.{Path, plus, best, steps_of}
 use Rattle.cw_sites.specs.declared.steps.Steps.{Steps}
 use Rattle.cw_sites.specs.declared.paths.Block.{Block}
 use Rattle.cw_sites.specs.declared.paths.Paths.{Paths}
-use Rattle.cw_sites.specs.StepSums.{upto, if_site, AllBelow, Fits}
+use Rattle.cw_sites.specs.StepSums.{upto, whole, if_site, Fits}
 use Rattle.cw_sites.specs.StrandPaths.{SeenBlock, StrandPath, takes, goes_on, longest_path, extends_by, forks, appends, appends_block, whole as all_of}
 
 -- the path of this weight whose steps lie from a place to another
@@ -12,7 +12,7 @@ abbrev pub part : (site : ℕ) → List Steps → (from to weight : ℕ) → Pat
 part site steps from to weight = record { weight = weight; own = upto site steps to - upto site steps from }
 
 abbrev pub seen : (site : ℕ) → List Steps → Block → SeenBlock
-seen site steps f = record { base = part site steps f.from f.mid f.base; longest = option_map (part site steps f.mid f.end) f.longest; rest = part site steps f.at f.child f.rest }
+seen site steps f = record { base = part site steps f.from f.mid f.base; longest = option_map (part site steps f.mid f.end) f.longest; rest = part site steps f.end f.child f.rest }
 
 abbrev pub seen_blocks : (site : ℕ) → List Steps → List Block → List SeenBlock → List SeenBlock
 seen_blocks site steps [] ps = ps
@@ -23,7 +23,7 @@ strand_path site r = record { now = part site r.steps.items r.start (length r.st
 
 -- the parts of blocks lie in order, each block's after those of the one round it
 abbrev pub InOrder : Block → Type 0
-InOrder f = (f.from ≤ f.mid) × (f.mid ≤ f.end) × (f.end ≤ f.at) × (f.at ≤ f.child)
+InOrder f = (f.from ≤ f.mid) × (f.mid ≤ f.end) × (f.end ≤ f.child)
 
 abbrev pub LaidFrom : ℕ → List Block → ℕ → Type 0
 LaidFrom lo [] hi = lo ≡ hi
@@ -40,26 +40,38 @@ pub record LaidWith (r : Paths) (f : Block) : Type 0 where
   pub child : f.child ≡ r.start
   pub start : r.start ≤ length r.steps.items
 
--- all steps are of sites below a number, and no path may be longer than twice that and a constant before it is added up
-pub record IsBounded (most : ℕ) (paths : Paths) : Type 0 where
-  pub sites : AllBelow most paths.steps.items
-  pub limit : paths.limit ≤ 2 * most + 64
-
--- what is bounded stays so
-abbrev pub StaysBounded : Paths → Paths → Type 0
-StaysBounded old new = (most : ℕ) → IsBounded most old → IsBounded most new
-
--- the path of the strand that runs has no more steps than that and one
+-- the path of the strand that runs has at most one step more than it may have before those of the same sites are added up
 abbrev pub IsShort : Paths → Type 0
 IsShort paths = length paths.steps.items ≤ paths.start + paths.limit + 1
 
--- it has no more steps than its limit
+-- it has no step more
 abbrev pub IsWithinLimit : Paths → Type 0
 IsWithinLimit paths = length paths.steps.items ≤ paths.start + paths.limit
 
 -- at most one step is new
 abbrev pub GrowsByOne : Paths → Paths → Type 0
 GrowsByOne old new = length new.steps.items ≤ length old.steps.items + 1
+
+-- the blocks and the weight of the path that runs stay, and where its steps begin
+pub record KeepsBlocks (old new : Paths) : Type 0 where
+  pub blocks : new.blocks.items ≡ old.blocks.items
+  pub weight : new.weight ≡ old.weight
+  pub start : new.start ≡ old.start
+
+-- how much of a site's own a block's base and its rest are
+abbrev pub rested : (site : ℕ) → List Steps → Block → ℕ
+rested q steps f = (upto q steps f.mid - upto q steps f.from) + (upto q steps f.child - upto q steps f.end)
+
+-- the base of a block comes to end at `mid`, where its child that runs begins now; what was its longest is taken out
+pub record Gathers (old new : List Steps) (f : Block) (mid : ℕ) : Type 0 where
+  pub from : f.from ≤ mid
+  pub count_is : length new + f.child ≡ length old + mid
+  pub below : (q n : ℕ) → n ≤ f.from → upto q new n ≡ upto q old n
+  pub base : (q : ℕ) → rested q old f < 2 ^ 64 → upto q new mid + upto q old f.end ≡ upto q old f.mid + upto q old f.child
+  pub child : (q : ℕ) → whole q new + upto q old f.child ≡ upto q new mid + whole q old
+
+abbrev pub GathersBase : Paths → Paths → Block → (mid : ℕ) → Type 0
+GathersBase old new f mid = LaidWith old f → Gathers old.steps.items new.steps.items f mid
 
 -- the same is said of each site whose steps fit 64 bits
 abbrev pub SaysTheSame : Paths → Paths → Type 0
@@ -81,7 +93,7 @@ ComesWithin f old new = Laid old → (q : ℕ) → Fits (all_of (strand_path q o
 -- the same, where the innermost block is not in the list
 abbrev pub TakesChild : Paths → Paths → Block → Type 0
 TakesChild old new f =
-    LaidWith old f → (q : ℕ) → f.base + f.rest < 2 ^ 64
+    LaidWith old f → (q : ℕ) → Fits (plus (seen q old.steps.items f).base (seen q old.steps.items f).rest)
     → strand_path q new ≡ takes (seen q old.steps.items f).base (seen q old.steps.items f).rest (strand_path q old).now (strand_path q old).blocks
 
 abbrev pub LetsChildGo : Paths → Paths → Block → Type 0
@@ -121,19 +133,9 @@ Appends old piece new first =
     Laid old → Laid piece → (q : ℕ) → Fits (plus (all_of (strand_path q old)) (all_of (strand_path q piece)))
     → strand_path q new ≡ appends first (strand_path q piece) (strand_path q old)
 
--- what is bounded stays so, with steps of sites below the same number
-abbrev pub StaysBoundedWith : List Steps → Paths → Paths → Type 0
-StaysBoundedWith steps old new = (most : ℕ) → AllBelow most steps → IsBounded most old → IsBounded most new
-
 -- the same, where the block that the piece has spawned in is not in its list
 abbrev pub AppendsBlock : Paths → (piece : Paths) → Paths → Block → (first : Bool) → Type 0
 AppendsBlock old piece new f first =
     Laid old → LaidWith piece f → (q : ℕ)
     → Fits (plus (all_of (strand_path q old)) (all_of (record { now = (strand_path q piece).now; blocks = seen q piece.steps.items f ∷ [] })))
     → strand_path q new ≡ appends_block first (seen q piece.steps.items f).base (seen q piece.steps.items f).longest (strand_path q piece).now (strand_path q old)
-
--- a spawned part that ran apart, and of which nothing is open
-abbrev pub AppendsChild : Paths → (child : Paths) → Paths → (first : Bool) → Type 0
-AppendsChild old child new first =
-    Laid old → Laid child → (q : ℕ) → Fits (plus (all_of (strand_path q old)) (strand_path q child).now)
-    → strand_path q new ≡ forks first (strand_path q child).now (strand_path q old)

@@ -1,5 +1,5 @@
 -- What a list of steps says of a site.
-use Rattle.std.specs.Prelude.{◌≡◌, ℕ, zero, suc, ◌+◌, ◌-◌, min, slice_index_or, ◌^◌, ◌<◌, ◌≤◌, ◌==◌, List, [], ◌∷◌, length, if◌then◌else◌, ◌++◌, take, drop}
+use Rattle.std.specs.Prelude.{◌≡◌, ℕ, zero, suc, ◌+◌, ◌-◌, min, slice_index_or, ◌^◌, ◌<◌, ◌≤◌, ◌==◌, List, [], ◌∷◌, length, if◌then◌else◌, ◌⊎◌}
 use Rattle.cw_sites.specs.ChosenPaths.{Path}
 use Rattle.cw_sites.specs.declared.steps.Steps.{Steps}
 
@@ -33,15 +33,10 @@ added site here count sum = if here == site then min (sum + count) (2 ^ 64 - 1) 
 abbrev pub AsBelow : (start : ℕ) → List Steps → List Steps → Type 0
 AsBelow start old new = (q n : ℕ) → n ≤ start → n ≤ length old → upto q new n ≡ upto q old n
 
--- for each site whose steps from a place on fit 64 bits: they are in its sum; all steps say the same; the sums were put at the end
-abbrev pub SumsUp : (start : ℕ) → List Steps → (sums : List ℕ) → Type 0
-SumsUp start steps sums = (q : ℕ) → whole q steps - upto q steps start < 2 ^ 64 → sum_at q sums ≡ whole q steps - upto q steps start
-
-abbrev pub AddsUp : (start : ℕ) → List Steps → List Steps → Type 0
-AddsUp start old new = (q : ℕ) → whole q old - upto q old start < 2 ^ 64 → whole q new ≡ whole q old
-
-abbrev pub PushesSums : List Steps → List Steps → (sums : List ℕ) → Type 0
-PushesSums old new sums = (q : ℕ) → whole q new ≡ whole q old + sum_at q sums
+-- for each site whose steps from a place up to another fit 64 bits: they are in its sum
+abbrev pub SumsUp : (from to : ℕ) → List Steps → (sums : List ℕ) → Type 0
+SumsUp from to steps sums =
+    (q : ℕ) → upto q steps to - upto q steps from < 2 ^ 64 → sum_at q sums ≡ upto q steps to - upto q steps from
 
 -- all steps are of sites below a number
 abbrev pub AllBelow : (most : ℕ) → List Steps → Type 0
@@ -60,6 +55,48 @@ StaysBelow old new = (most : ℕ) → AllBelow most old → AllBelow most new
 abbrev pub StaysBelowWith : (site : ℕ) → List Steps → List Steps → Type 0
 StaysBelowWith site old new = (most : ℕ) → site < most → AllBelow most old → AllBelow most new
 
--- a part is taken out, where it is one
+-- what lies from `to` up to `end` comes to lie from `from` on, in another order; what lies behind `end` stays
+pub record IsMovedDown (from to end : ℕ) (old new : List Steps) : Type 0 where
+  pub count_is : length new ≡ length old
+  pub below : (q n : ℕ) → n ≤ from → upto q new n ≡ upto q old n
+  pub moved : (q : ℕ) → upto q new (from + (end - to)) + upto q old to ≡ upto q old from + upto q old end
+  pub behind : (q n : ℕ) → end ≤ n → upto q new n + upto q old end ≡ upto q old n + upto q new end
+
+-- a part is taken out; what lay behind it may have another order
+pub record IsCutOut (from to : ℕ) (old new : List Steps) : Type 0 where
+  pub count_is : length new + (to - from) ≡ length old
+  pub below : (q n : ℕ) → n ≤ from → upto q new n ≡ upto q old n
+  pub all : (q : ℕ) → whole q new + upto q old to ≡ upto q old from + whole q old
+
 abbrev pub CutsOut : (from to : ℕ) → List Steps → List Steps → Type 0
-CutsOut from to old new = from ≤ to → to ≤ length old → new ≡ take from old ++ drop to old
+CutsOut from to old new = from ≤ to → to ≤ length old → IsCutOut from to old new
+
+-- a part is taken out in front of a path that ended at `end`, and ends at `mid` now; what lies behind stays apart
+pub record IsClosedUp (from to end : ℕ) (old new : List Steps) (mid : ℕ) : Type 0 where
+  pub mid_is : mid ≡ from + (end - to)
+  pub count_is : length new + (to - from) ≡ length old
+  pub below : (q n : ℕ) → n ≤ from → upto q new n ≡ upto q old n
+  pub first : (q : ℕ) → upto q new mid + upto q old to ≡ upto q old from + upto q old end
+  pub last : (q : ℕ) → whole q new + upto q old end ≡ upto q new mid + whole q old
+
+abbrev pub ClosesUp : (from to end : ℕ) → List Steps → List Steps → (mid : ℕ) → Type 0
+ClosesUp from to end old new mid = from ≤ to → to ≤ end → end ≤ length old → IsClosedUp from to end old new mid
+
+-- all steps outside of a part stay where they are, as far as the list goes: so no more are written than lay there
+abbrev pub IsOutside : (from to place : ℕ) → Type 0
+IsOutside from to place = (place < from) ⊎ (to ≤ place)
+
+abbrev pub WritesWithin : (from to : ℕ) → List Steps → List Steps → Type 0
+WritesWithin from to old new =
+    (place : ℕ) (d : Steps) → IsOutside from to place → place < length new
+    → slice_index_or new place d ≡ slice_index_or old place d
+
+-- or outside of two parts, each as long as the first
+abbrev pub WritesWithinTwo : (from to mid end : ℕ) → List Steps → List Steps → Type 0
+WritesWithinTwo from to mid end old new =
+    (place : ℕ) (d : Steps) → IsOutside from to place → IsOutside mid end place → place < length new
+    → slice_index_or new place d ≡ slice_index_or old place d
+
+abbrev pub WritesTwice : (from to end : ℕ) → List Steps → List Steps → (mid : ℕ) → Type 0
+WritesTwice from to end old new mid =
+    from ≤ to → to ≤ end → end ≤ length old → (end - mid ≡ to - from) × WritesWithinTwo from to mid end old new

@@ -1,15 +1,16 @@
 -- What a site table tells of a run so far.
-use Rattle.std.specs.Prelude.{◌≡◌, ℕ, ◌+◌, ◌-◌, ◌^◌, ◌<◌, ◌≤◌, ◌==◌, Bool, true, false, ◌||◌, not, if◌then◌else◌, List, [], ◌∷◌, ◌++◌, Option, Some, None}
-use Rattle.cw_model.specs.Trees.{Mark, Invocation, Execution, Tree, Event, Series, Fork, Join, tree_of}
+use Rattle.std.specs.Prelude.{◌≡◌, ℕ, ◌-◌, ◌^◌, ◌<◌, ◌≤◌, ◌==◌, Bool, true, false, ◌||◌, not, List, [], ◌∷◌, ◌++◌, Option, Some, None}
+use Rattle.cw_model.specs.Trees.{Mark, Invocation, Execution, Event, Join, tree_of}
 use Rattle.cw_model.specs.Rows.{SiteRow, is_site, site_row}
 use Rattle.cw_measure.specs.OpenParts.{Open, in_series, in_fork, closed, has_spawned, Since, work_in}
 use Rattle.cw_measure.specs.Outermost.{active_in}
 use Rattle.cw_sites.specs.declared.table.SiteRow as declared
 use Rattle.cw_sites.specs.declared.table.SiteTable.{SiteTable}
 use Rattle.cw_sites.specs.ChosenPaths.{plus, steps_of}
-use Rattle.cw_sites.specs.BlockPaths.{no_joins}
+use Rattle.cw_measure.specs.OpenParts.{no_joins}
 use Rattle.cw_sites.specs.StepSums.{Fits}
-use Rattle.cw_sites.specs.StepLists.{strand_path, IsBounded, Laid}
+use Rattle.cw_sites.specs.StepLists.{strand_path, Laid}
+use Rattle.cw_sites.specs.PathBounds.{IsBounded, IsTight}
 use Rattle.cw_sites.specs.OpenPaths.{here_in, path_in, Shows}
 use Rattle.cw_sites.specs.SiteRows.{row_of, worked, entered, left, calls_in, CountsSite, FitsRow}
 
@@ -131,73 +132,39 @@ abbrev pub ReadsPath : SiteTable → (weight : ℕ) → Type 0
 ReadsPath table weight =
     (site base : ℕ) (busy : ℕ → ℕ) (os : List Open) (es : List Event) → Tells base busy os es table → weight ≡ path_in site base os es
 
--- the steps of a table are of sites below a number, and its paths are no longer than twice that and a constant
+-- the steps of a table are of sites below a number, and each path that it keeps, of the strand that runs and of each open
+-- block, has at most so many of them: twice the number and a constant, and after a join two such paths
 pub record IsBoundedTable (most : ℕ) (table : SiteTable) : Type 0 where
   pub paths : IsBounded most table.paths
   pub here : table.here < most
+
+-- once the instructions so far are given to their sites
+pub record IsTightTable (most : ℕ) (table : SiteTable) : Type 0 where
+  pub paths : IsTight most table.paths
+  pub here : table.here < most
+
+abbrev pub FlushesBounded : SiteTable → SiteTable → Type 0
+FlushesBounded old new = (most : ℕ) → IsBoundedTable most old → IsTightTable most new
 
 -- what is bounded stays so, where an invocation of this site comes to be the innermost one
 abbrev pub StaysBoundedIn : (site : ℕ) → SiteTable → SiteTable → Type 0
 StaysBoundedIn site old new = (most : ℕ) → site < most → IsBoundedTable most old → IsBoundedTable most new
 
--- how many invocations of each site are open round what runs
-abbrev pub busy_in : (busy : ℕ → ℕ) → List Open → ℕ → ℕ
-busy_in busy os site = active_in (is_site site) (busy site) os
+-- nothing is open round a piece, as far as it is told
+abbrev pub nothing_open : ℕ → ℕ
+nothing_open site = 0
 
--- a table tells of a piece that ran apart inside of the open parts, and of which no part is open
-abbrev pub TellsPiece : (base : ℕ) → (busy : ℕ → ℕ) → List Open → List Event → SiteTable → Type 0
-TellsPiece base busy os fs piece = Tells (here_in base os) (busy_in busy os) [] fs piece
+-- a table tells of a piece that ran apart inside of the open parts, and of which no part is open: of those it knows the site of the
+-- innermost invocation alone
+abbrev pub TellsPiece : (base : ℕ) → List Open → List Event → SiteTable → Type 0
+TellsPiece base os fs piece = Tells (here_in base os) nothing_open [] fs piece
 
 -- the piece is joined on, as the next events of the block that runs: it has no join, or the block has spawned nothing since its last join
 abbrev pub JoinsPiece : SiteTable → (piece : SiteTable) → SiteTable → (first : Bool) → Type 0
 JoinsPiece old piece new first =
     (base : ℕ) (busy : ℕ → ℕ) (os : List Open) (es fs : List Event) → has_spawned es ≡ not first → (first || no_joins fs) ≡ true
-    → Small busy os (es ++ fs) → Tells base busy os es old → TellsPiece base busy os fs piece → Tells base busy os (es ++ fs) new
-
--- the piece is a spawned part, and is joined on as one
-abbrev pub JoinsChild : SiteTable → (child : SiteTable) → SiteTable → (first : Bool) → Type 0
-JoinsChild old child new first =
-    (base : ℕ) (busy : ℕ → ℕ) (os : List Open) (es : List Event) (t : Tree) → has_spawned es ≡ not first
-    → Small busy os (es ++ Fork t ∷ []) → Tells base busy os es old → TellsPiece base busy os (Series t ∷ []) child
-    → Tells base busy os (es ++ Fork t ∷ []) new
-
--- one more invocation of a site is open round a piece that begins
-abbrev pub one_more : (site : ℕ) → (busy : ℕ → ℕ) → ℕ → ℕ
-one_more site busy q = if site == q then busy q + 1 else busy q
-
-abbrev pub StandsInSite : SiteTable → SiteTable → (site : ℕ) → Type 0
-StandsInSite old new site =
-    (base : ℕ) (busy : ℕ → ℕ) → busy site + 1 < 2 ^ 64 → Tells base busy [] [] old → Tells base (one_more site busy) [] [] new
+    → Small busy os (es ++ fs) → Tells base busy os es old → TellsPiece base os fs piece → Tells base busy os (es ++ fs) new
 
 -- what is bounded stays so, with a piece that is
 abbrev pub StaysBoundedBeside : (piece : SiteTable) → SiteTable → SiteTable → Type 0
 StaysBoundedBeside piece old new = (most : ℕ) → IsBoundedTable most piece → IsBoundedTable most old → IsBoundedTable most new
-
--- what is bounded stays so, whatever the site of the innermost invocation
-abbrev pub StaysBoundedTable : SiteTable → SiteTable → Type 0
-StaysBoundedTable old new = (most : ℕ) → IsBoundedTable most old → IsBoundedTable most new
-
--- a block joins here; `spawned` tells whether it has spawned since its last join
-abbrev pub JoinsHere : SiteTable → SiteTable → (spawned : Bool) → Type 0
-JoinsHere old new spawned =
-    (base : ℕ) (busy : ℕ → ℕ) (os : List Open) (es : List Event) → has_spawned es ≡ spawned → Small busy os es
-    → Tells base busy os es old → Tells base busy os (es ++ Join ∷ []) new
-
--- the events up to a join, and those after it
-abbrev pub across : (before after : List Event) → List Event
-across before after = (before ++ Join ∷ []) ++ after
-
--- a piece that has joined is joined on: what ran up to its first join, and what ran from there on
-abbrev pub JoinsAcross : SiteTable → (before after : SiteTable) → SiteTable → (first : Bool) → Type 0
-JoinsAcross old before after new first =
-    (base : ℕ) (busy : ℕ → ℕ) (os : List Open) (es fs gs : List Event) → has_spawned es ≡ not first → no_joins fs ≡ true
-    → Small busy os (across (es ++ fs) gs) → Tells base busy os es old → TellsPiece base busy os fs before → TellsPiece base busy os gs after
-    → Tells base busy os (across (es ++ fs) gs) new
-
--- whether the block of a piece, of which nothing is open, has spawned since its last join
-abbrev pub ReadsSpawned : SiteTable → Bool → Type 0
-ReadsSpawned table spawned = (base : ℕ) (busy : ℕ → ℕ) (es : List Event) → Tells base busy [] es table → spawned ≡ has_spawned es
-
-abbrev pub StaysBoundedAcross : (before after : SiteTable) → SiteTable → SiteTable → Type 0
-StaysBoundedAcross before after old new =
-    (most : ℕ) → IsBoundedTable most before → IsBoundedTable most after → IsBoundedTable most old → IsBoundedTable most new

@@ -1,35 +1,49 @@
-//! Steps of the same sites, added up, so that a list of steps is at most as long as there are sites.
+//! Steps of the same sites, added up, so that a path has at most as many steps as there are sites.
 
-ghost use Rattle.std.specs.Prelude.{◌≡◌, ◌+◌, ◌≤◌, ◌<◌, ◌^◌, ℕ, length, OnOk};
-ghost use Rattle.cw_sites.specs.Compacting.{AddsTo, AddsUpWithin, GrowsByNoMore, NoMoreThanSites, StaysBelowBeside, StaysWithin, SumsUpWithin};
-ghost use Rattle.cw_sites.specs.StepSums.{sum_at, AsBelow, PushesSums, StaysBelow};
+ghost use Rattle.std.specs.Prelude.{◌≡◌, ◌+◌, ◌≤◌, ◌<◌, ◌^◌, ℕ, length, IfOk, OnOk};
+ghost use Rattle.cw_sites.specs.Compacting.{AddsTo, AddsUpWithin, CountsOn, NoMoreThanSites, PutsSums, StaysBelowBeside, StaysWithin, SumsUpWithin};
+ghost use Rattle.cw_sites.specs.StepSums.{sum_at, StaysBelow};
 
-use crate::steps::Steps;
+use crate::steps::{Steps, take_out};
 use std::alloc::AllocError;
 
-/// Adds up, by site, the steps from `start` on; `sums` is room to work in.
-pub fn add_up(steps: &mut Vec<Steps>, start: usize, sums: &mut Vec<u64>) -> Result<(), AllocError>
-    ensures below { OnOk result (AsBelow start steps.old.items steps.new.items) }
-    ensures all { OnOk result (AddsUpWithin start steps.old.items steps.new.items) }
+/// Adds up, by site, the steps from a place up to another, where they are no fewer than the sites; gives the place where
+/// they end then. `sums` is room to work in.
+pub fn add_up(
+    steps: &mut Vec<Steps>,
+    from: usize,
+    to: usize,
+    sums: &mut Vec<u64>,
+) -> Result<usize, AllocError>
+    ensures all { IfOk result (λ end. AddsUpWithin from to steps.old.items steps.new.items end) }
     ensures sums { OnOk result (NoMoreThanSites steps.old.items sums.new.items) }
-    ensures short { OnOk result (length steps.new.items ≤ start + length sums.new.items) }
-    ensures longer { OnOk result (start ≤ length steps.old.items → start ≤ length steps.new.items) }
+    ensures short { IfOk result (λ end. to ≤ length steps.old.items → end ≤ from + length sums.new.items) }
+    ensures count { IfOk result (λ end. CountsOn to steps.old.items steps.new.items end) }
     ensures kept { OnOk result (StaysBelow steps.old.items steps.new.items) }
 {
-    sum_up(steps, start, sums)?;
-    steps.truncate(start);
-    push_sums(steps, sums)?;
-    Ok(())
+    sum_up(steps, from, to, sums)?;
+    if from > to || to > steps.len() || sums.len() > to - from {
+        return Ok(to);
+    }
+    let end = put_sums(steps, from, sums);
+    take_out(steps, end, to);
+    Ok(end)
 }
 
-/// The sum of each site over the steps from `start` on.
-pub fn sum_up(steps: &Vec<Steps>, start: usize, sums: &mut Vec<u64>) -> Result<(), AllocError>
-    ensures sums { OnOk result (SumsUpWithin start steps.now.items sums.new.items) }
+/// The sum of each site over the steps from a place up to another.
+pub fn sum_up(
+    steps: &Vec<Steps>,
+    from: usize,
+    to: usize,
+    sums: &mut Vec<u64>,
+) -> Result<(), AllocError>
+    ensures sums { OnOk result (SumsUpWithin from to steps.now.items sums.new.items) }
     ensures words { OnOk result (length sums.new.items ≤ 2 ^ 32) }
     ensures sites { OnOk result (NoMoreThanSites steps.now.items sums.new.items) }
 {
     sums.clear();
-    for i in start..steps.len() {
+    let end = to.min(steps.len());
+    for i in from..end {
         let one = steps[i];
         add_to(sums, one.site, one.count)?;
     }
@@ -61,23 +75,23 @@ fn reach(sums: &mut Vec<u64>, site: u32) -> Result<(), AllocError>
     Ok(())
 }
 
-// The sums as steps, at the end.
-fn push_sums(steps: &mut Vec<Steps>, sums: &Vec<u64>) -> Result<(), AllocError>
-    requires { length sums.now.items ≤ 2 ^ 32 }
-    ensures below { OnOk result (AsBelow (length steps.old.items) steps.old.items steps.new.items) }
-    ensures all { OnOk result (PushesSums steps.old.items steps.new.items sums.now.items) }
-    ensures short { OnOk result (GrowsByNoMore steps.old.items steps.new.items sums.now.items) }
-    ensures longer { OnOk result (length steps.old.items ≤ length steps.new.items) }
-    ensures kept { OnOk result (StaysBelowBeside steps.old.items steps.new.items sums.now.items) }
+// The sums as steps, from a place on; gives the place where they end.
+fn put_sums(steps: &mut Vec<Steps>, from: usize, sums: &Vec<u64>) -> usize
+    requires words { length sums.now.items ≤ 2 ^ 32 }
+    requires room { from + length sums.now.items ≤ length steps.old.items }
+    ensures all { PutsSums from steps.old.items steps.new.items sums.now.items result }
+    ensures kept { StaysBelowBeside steps.old.items steps.new.items sums.now.items }
 {
+    let mut end = from;
     for place in 0..sums.len() {
         let count = sums[place];
         if count > 0 {
-            steps.push(Steps {
+            steps[end] = Steps {
                 site: place as u32,
                 count,
-            })?;
+            };
+            end += 1;
         }
     }
-    Ok(())
+    end
 }

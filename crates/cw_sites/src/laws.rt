@@ -1,6 +1,6 @@
 //! The laws of the chosen path: each function has one as its contract, and does nothing.
 
-ghost use Rattle.cw_sites.specs.Laws.{AllRunsAreShown, BlocksReadChosenPaths, PathsAreMetered, PiecesAreOne, PiecesJoin, QuietPartsNeedNoCall};
+ghost use Rattle.cw_sites.specs.Laws.{AllRunsAreShown, BlocksReadChosenPaths, PathsAreFew, PathsAreMetered, PiecesAreOne, QuietPartsNeedNoCall};
 
 /// What a run keeps of a block adds the chosen path of the block's tree to what came before, for each site.
 #[tactic(auto, using(crate::proofs::TableLaws::blocks_read_chosen_paths))]
@@ -28,16 +28,16 @@ pub fn paths_are_metered()
     ensures { PathsAreMetered }
 {}
 
-/// A piece of a block that has no join, kept apart, is joined to what is kept of the block before it by the same few
-/// steps; whatever then follows, the block adds the chosen path of the tree of all its events.
-#[tactic(auto, using(crate::proofs::TableLaws::pieces_join))]
-pub fn pieces_join()
-    ensures { PiecesJoin }
-{}
-
 /// A piece of a block that has no join, or any piece of one that has spawned nothing since its last join, is joined on
 /// so that all is kept that would be if its events had come one after another.
 #[tactic(auto, using(crate::proofs::PieceLaws::pieces_are_one))]
 pub fn pieces_are_one()
     ensures { PiecesAreOne }
+{}
+
+/// What a bounded table keeps of paths is at most three paths for each open block that has spawned and two for the
+/// strand that runs, of twice the sites and a constant each.
+#[tactic(auto, using(crate::proofs::PathBoundLaws::paths_are_few))]
+pub fn paths_are_few()
+    ensures { PathsAreFew }
 {}

@@ -2,8 +2,11 @@
 //!
 //! A [`table::SiteTable`] counts, over a run so far, calls, own work, own span on the chosen path, and work and span of the
 //! invocations that lie in no other one of the site. No path is ever copied: the paths of a strand and of the blocks
-//! round it lie one after another in one list of steps, and choosing cuts the list. Steps of the same sites are added
-//! up where a path is longer than twice the sites and a constant.
+//! round it lie one after another in one list of steps, and choosing cuts the list. The steps of one path are in no
+//! order, so what is cut out is filled from the end, and at most as many steps move. Steps of the same sites are added
+//! up where a path is longer than twice the sites and a constant. So all that is kept is at most a constant times the
+//! sites for the strand and for each open block that has spawned (`laws::paths_are_few`), and each call takes a constant
+//! time, spread over the calls before it.
 //!
 //! # How a run calls a `SiteTable`
 //!
@@ -27,15 +30,10 @@
 //! # Pieces that run apart
 //!
 //! A piece that runs apart inside of open parts begins with a table of its own: `SiteTable::new(alloc, here)` with the
-//! site of the innermost open invocation, and `stand_in(site)` once for each open invocation of each site, so that what
-//! is inside of one is not summed again. It counts its own instructions from 0. Where it has ended, and nothing of it is
-//! open, both tables are noted and joined:
-//!
-//! | the piece is | call |
-//! |---|---|
-//! | the next events of the block that runs, without a join, or after a block that has spawned nothing since its last join | `join_piece(piece, first)` |
-//! | the next events of the block, with joins of its own | `join_across(before, after, first)`, with a table up to its first join and one from there on |
-//! | a spawned part of the block, a call or half of a loop | `join_child(child, first)` |
+//! site of the innermost open invocation, and is told of no other: what of it lies inside of open invocations is left
+//! out where it is joined. It counts its own instructions from 0. Where it has ended, and nothing of it is
+//! open, both tables are noted, and `join_piece(piece, first)` joins it, as the next events of the block that runs: it has
+//! no join, or the block has spawned nothing since its last join.
 //!
 //! `first` tells that the block has not spawned since its last join. Later counts go on from the count of both. The table
 //! then tells of all events in serial order, as if none had run apart (`laws::pieces_are_one`): ties too. A join takes one

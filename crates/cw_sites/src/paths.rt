@@ -1,13 +1,25 @@
 //! The path of the strand that runs, and of the blocks round it that have spawned.
+//!
+//! The steps of all paths lie in one list, one path behind the other, and those of one path are in no order. So what is
+//! taken out of the middle is filled from the end: at most twice as many steps move as are let go of (`WritesWithin`). A
+//! path longer than its limit, which is twice the sites of the paths that were added up so far and a constant, is added up
+//! by site, and then has at most half of that: the path of the strand that runs before a step is put to it, and a block's
+//! base where it takes a rest in. So each step that is put pays for its moves and its adding up once, whatever the length
+//! of the paths that are joined.
 
 ghost use Rattle.std.specs.Prelude.{◌≡◌, ℕ, ◌+◌, ◌-◌, ◌^◌, ◌<◌, ◌==◌, ◌≤◌, length, min, if◌then◌else◌, IfOk, OnOk};
-ghost use Rattle.cw_sites.specs.StepLists.{strand_path, Extends, IsBounded, IsShort, Laid, LaidWith, SaysTheSame, StaysBounded, Comes, ComesWithin, TakesChild, LetsChildGo, JoinsBlock, ClosesBlock};
-ghost use Rattle.cw_sites.specs.PathCalls.{ReadsOwn, ReadsOwnBySite, StaysBoundedAt};
-ghost use Rattle.cw_sites.specs.StepLists.{AddsStep, Appends, AppendsBlock, AppendsChild, ExtendsBy, Forks, GrowsByOne, IsWithinLimit, StaysBoundedWith};
+ghost use Rattle.cw_sites.specs.Compacting.{AddsUpWithin, CountsOn};
+ghost use Rattle.cw_sites.specs.PathBounds.{ComesToFit, FitsAt, FitsBeside, GrowsAt, IsTight, JoinsTight, JoinsTightWith, KeepsLimit};
+ghost use Rattle.cw_sites.specs.PathBounds.{StaysShort, StaysTight, StaysTightBeside, StaysTightWith};
+ghost use Rattle.cw_sites.specs.PathCalls.{ReadsOwn, ReadsOwnBySite};
+ghost use Rattle.cw_sites.specs.StepLists.{strand_path, Comes, ComesWithin, ClosesBlock, Extends, GathersBase, GrowsByOne, IsShort, IsWithinLimit};
+ghost use Rattle.cw_sites.specs.StepLists.{AddsStep, Appends, AppendsBlock, ExtendsBy, Forks, JoinsBlock, KeepsBlocks};
+ghost use Rattle.cw_sites.specs.StepLists.{Laid, LaidWith, LetsChildGo, SaysTheSame, TakesChild};
+ghost use Rattle.cw_sites.specs.StepSums.{StaysBelow};
 ghost use Rattle.cw_sites.specs.StrandPaths.{nothing_run, begins, again, spawns, is_longer, ends, joins};
 
 use crate::compacting::{add_up, sum_up};
-use crate::steps::{Steps, add_steps, take_out};
+use crate::steps::{Steps, add_steps, close_up, take_out};
 use std::alloc::{AllocError, Global};
 
 /// A block that has spawned since its last join: weights of paths, and where their steps lie in the list.
@@ -17,12 +29,11 @@ pub struct Block {
     pub base: u64,
     /// The longest child that has ended, from its spawn on: from `mid` to `end`.
     pub longest: Option<u64>,
-    /// While a child runs, the path from that spawn to the child's: from `at` to `child`.
+    /// While a child runs, the path from that spawn to the child's: from `end` to `child`.
     pub rest: u64,
     pub from: usize,
     pub mid: usize,
     pub end: usize,
-    pub at: usize,
     pub child: usize,
 }
 
@@ -51,7 +62,7 @@ impl Paths {
     pub fn new(alloc: Global) -> Paths
         ensures laid { Laid result }
         ensures nothing { (q : ℕ) → strand_path q result ≡ nothing_run }
-        ensures bounded { (most : ℕ) → IsBounded most result }
+        ensures bounded { (most : ℕ) → IsTight most result }
     {
         Paths {
             steps: Vec::new(alloc),
@@ -69,12 +80,9 @@ impl Paths {
         ensures laid { OnOk result (Laid self.old → Laid self.new) }
         ensures strand_path { OnOk result (Extends self.old self.new site count) }
         ensures short { OnOk result (IsShort self.new) }
-        ensures bounded { OnOk result (StaysBoundedAt site self.old self.new) }
+        ensures bounded { OnOk result (FitsAt site self.old self.new) }
     {
-        // A sum that is too great is less than it was, so that no path is longer for it.
-        if self.steps.len() > self.start.wrapping_add(self.limit) {
-            self.compact()?;
-        }
+        self.shorten()?;
         self.add(site, count)?;
         Ok(())
     }
@@ -87,33 +95,51 @@ impl Paths {
         ensures short { OnOk result (GrowsByOne self.old self.new) }
         ensures limit { OnOk result (self.new.limit ≡ self.old.limit) }
         ensures start { OnOk result (self.new.start ≡ self.old.start) }
-        ensures bounded { OnOk result (StaysBoundedAt site self.old self.new) }
+        ensures bounded { OnOk result (GrowsAt site self.old self.new) }
     {
         add_steps(&mut self.steps, self.start, site, count)?;
         self.weight = self.weight.wrapping_add(count);
         Ok(())
     }
 
-    // The steps of the path that runs are added up by site.
-    #[cold]
-    #[inline(never)]
-    fn compact(&mut self) -> Result<(), AllocError>
+    // The path that runs is added up by site where it is longer than its limit.
+    #[inline(always)]
+    fn shorten(&mut self) -> Result<(), AllocError>
         ensures laid { OnOk result (Laid self.old → Laid self.new) }
         ensures same { OnOk result (SaysTheSame self.old self.new) }
         ensures short { OnOk result (IsWithinLimit self.new) }
-        ensures bounded { OnOk result (StaysBounded self.old self.new) }
+        ensures bounded { OnOk result (ComesToFit self.old self.new) }
     {
-        add_up(&mut self.steps, self.start, &mut self.sums)?;
+        // A sum that is too great is less than it was, so that no path is longer for it.
+        let end = self.steps.len();
+        if end > self.start.wrapping_add(self.limit) {
+            self.compact(self.start, end)?;
+        }
+        Ok(())
+    }
+
+    // The steps from a place up to another are added up by site. Gives the place where they end then.
+    #[cold]
+    #[inline(never)]
+    fn compact(&mut self, from: usize, to: usize) -> Result<usize, AllocError>
+        ensures all { IfOk result (λ end. AddsUpWithin from to self.old.steps.items self.new.steps.items end) }
+        ensures short { IfOk result (λ end. to ≤ length self.old.steps.items → end ≤ from + self.new.limit) }
+        ensures count { IfOk result (λ end. CountsOn to self.old.steps.items self.new.steps.items end) }
+        ensures kept { OnOk result (StaysBelow self.old.steps.items self.new.steps.items) }
+        ensures limit { OnOk result (KeepsLimit self.old self.new) }
+        ensures rest { OnOk result (KeepsBlocks self.old self.new) }
+    {
+        let end = add_up(&mut self.steps, from, to, &mut self.sums)?;
         let twice = self.sums.len().saturating_mul(2);
         self.limit = self.limit.max(twice.saturating_add(LEAST));
-        Ok(())
+        Ok(end)
     }
 
     /// A block's first spawn since its last join.
     #[inline(always)]
     pub fn begin(&mut self) -> Result<(), AllocError>
         ensures laid { OnOk result (Laid self.old → Laid self.new) }
-        ensures bounded { OnOk result (StaysBounded self.old self.new) }
+        ensures bounded { OnOk result (StaysTight self.old self.new) }
         ensures strand_path { OnOk result (Comes begins self.old self.new) }
     {
         let len = self.steps.len();
@@ -124,7 +150,6 @@ impl Paths {
             from: self.start,
             mid: len,
             end: len,
-            at: len,
             child: len,
         })?;
         self.weight = 0;
@@ -136,10 +161,9 @@ impl Paths {
     #[inline(always)]
     pub fn begin_again(&mut self) -> Result<(), AllocError>
         ensures laid { OnOk result (Laid self.old → Laid self.new) }
-        ensures bounded { OnOk result (StaysBounded self.old self.new) }
+        ensures bounded { OnOk result (StaysTight self.old self.new) }
         ensures strand_path { OnOk result (Comes again self.old self.new) }
     {
-        let len = self.steps.len();
         match self.blocks.pop() {
             None => {
                 self.steps.clear();
@@ -148,6 +172,9 @@ impl Paths {
                 Ok(())
             }
             Some(f) => {
+                // Nothing, where the child before has ended.
+                take_out(&mut self.steps, f.end, f.child);
+                let len = self.steps.len();
                 self.blocks.push(Block {
                     base: f.base,
                     longest: f.longest,
@@ -155,7 +182,6 @@ impl Paths {
                     from: f.from,
                     mid: f.mid,
                     end: f.end,
-                    at: self.start,
                     child: len,
                 })?;
                 self.weight = 0;
@@ -169,7 +195,7 @@ impl Paths {
     #[inline(always)]
     pub fn spawn(&mut self, first: bool) -> Result<(), AllocError>
         ensures laid { OnOk result (Laid self.old → Laid self.new) }
-        ensures bounded { OnOk result (StaysBounded self.old self.new) }
+        ensures bounded { OnOk result (StaysTight self.old self.new) }
         ensures strand_path { OnOk result (Comes (spawns first) self.old self.new) }
     {
         if first {
@@ -185,7 +211,7 @@ impl Paths {
     #[inline(always)]
     pub fn end(&mut self) -> Result<(), AllocError>
         ensures laid { OnOk result (Laid self.old → Laid self.new) }
-        ensures bounded { OnOk result (StaysBounded self.old self.new) }
+        ensures bounded { OnOk result (StaysTight self.old self.new) }
         ensures strand_path { OnOk result (ComesWithin ends self.old self.new) }
     {
         match self.blocks.pop() {
@@ -206,11 +232,10 @@ impl Paths {
     #[inline(always)]
     fn take(&mut self, f: Block) -> Result<(), AllocError>
         ensures laid { OnOk result (LaidWith self.old f → Laid self.new) }
-        ensures bounded { OnOk result (StaysBounded self.old self.new) }
+        ensures bounded { OnOk result (StaysTightWith self.old f self.new) }
         ensures strand_path { OnOk result (TakesChild self.old self.new f) }
     {
-        let mid = f.mid.saturating_add(f.child.saturating_sub(f.at));
-        take_out(&mut self.steps, f.mid, f.at);
+        let mid = self.gather(f)?;
         let len = self.steps.len();
         self.blocks.push(Block {
             base: f.base.saturating_add(f.rest),
@@ -219,7 +244,6 @@ impl Paths {
             from: f.from,
             mid,
             end: len,
-            at: len,
             child: len,
         })?;
         self.weight = 0;
@@ -227,11 +251,41 @@ impl Paths {
         Ok(())
     }
 
+    // The base of this block comes to end where the child that ran begins. Gives that place.
+    #[inline(always)]
+    fn gather(&mut self, f: Block) -> Result<usize, AllocError>
+        ensures all { IfOk result (λ mid. GathersBase self.old self.new f mid) }
+        ensures short { IfOk result (λ mid. StaysShort self.old self.new f mid) }
+        ensures rest { OnOk result (KeepsBlocks self.old self.new) }
+    {
+        // The block's first child, at whose spawn the base ended.
+        if f.mid == f.child {
+            return Ok(f.mid);
+        }
+        let mid = self.gather_steps(f)?;
+        Ok(mid)
+    }
+
+    // The same, where there are steps between the base and that child.
+    #[inline(never)]
+    fn gather_steps(&mut self, f: Block) -> Result<usize, AllocError>
+        ensures all { IfOk result (λ mid. GathersBase self.old self.new f mid) }
+        ensures short { IfOk result (λ mid. StaysShort self.old self.new f mid) }
+        ensures rest { OnOk result (KeepsBlocks self.old self.new) }
+    {
+        let mid = close_up(&mut self.steps, f.mid, f.end, f.child);
+        if mid > f.from.wrapping_add(self.limit) {
+            let end = self.compact(f.from, mid)?;
+            return Ok(end);
+        }
+        Ok(mid)
+    }
+
     // The child that ran is not the longest of this block: its steps are dropped.
     #[inline(always)]
     fn let_go(&mut self, f: Block) -> Result<(), AllocError>
         ensures laid { OnOk result (LaidWith self.old f → Laid self.new) }
-        ensures bounded { OnOk result (StaysBounded self.old self.new) }
+        ensures bounded { OnOk result (StaysTightWith self.old f self.new) }
         ensures strand_path { OnOk result (LetsChildGo self.old self.new f) }
     {
         self.steps.truncate(f.child);
@@ -242,11 +296,10 @@ impl Paths {
             from: f.from,
             mid: f.mid,
             end: f.end,
-            at: f.at,
-            child: f.at,
+            child: f.end,
         })?;
         self.weight = f.rest;
-        self.start = f.at;
+        self.start = f.end;
         Ok(())
     }
 
@@ -254,7 +307,7 @@ impl Paths {
     #[inline(always)]
     pub fn join(&mut self)
         ensures laid { Laid self.old → Laid self.new }
-        ensures bounded { StaysBounded self.old self.new }
+        ensures bounded { JoinsTight self.old self.new }
         ensures strand_path { ComesWithin joins self.old self.new }
     {
         if let Some(f) = self.blocks.pop() {
@@ -280,7 +333,7 @@ impl Paths {
         ensures { IfOk result (λ sums. ReadsOwnBySite self.now sums.items) }
     {
         let mut sums = Vec::new(alloc);
-        sum_up(&self.steps, self.start, &mut sums)?;
+        sum_up(&self.steps, self.start, self.steps.len(), &mut sums)?;
         Ok(sums)
     }
 
@@ -288,7 +341,7 @@ impl Paths {
     #[inline(always)]
     fn join_block(&mut self, f: Block)
         ensures laid { LaidWith self.old f → Laid self.new }
-        ensures bounded { StaysBounded self.old self.new }
+        ensures bounded { JoinsTightWith self.old f self.new }
         ensures strand_path { JoinsBlock self.old self.new f }
     {
         match f.longest {
@@ -307,7 +360,7 @@ impl Paths {
     #[inline(always)]
     fn close(&mut self, f: Block)
         ensures laid { LaidWith self.old f → Laid self.new }
-        ensures bounded { StaysBounded self.old self.new }
+        ensures bounded { JoinsTightWith self.old f self.new }
         ensures strand_path { ClosesBlock self.old self.new f }
     {
         take_out(&mut self.steps, f.mid, self.start);
@@ -319,7 +372,18 @@ impl Paths {
     /// the block has not spawned since its last join.
     pub fn append(&mut self, piece: Paths, first: bool) -> Result<(), AllocError>
         ensures laid { OnOk result (Laid self.old → Laid self.new) }
-        ensures bounded { OnOk result (StaysBoundedWith piece.steps.items self.old self.new) }
+        ensures bounded { OnOk result (FitsBeside piece.steps.items self.old self.new) }
+        ensures strand_path { OnOk result (Appends self.old piece self.new first) }
+    {
+        self.shorten()?;
+        self.append_piece(piece, first)?;
+        Ok(())
+    }
+
+    // The same, where the path that runs is no longer than its limit.
+    fn append_piece(&mut self, piece: Paths, first: bool) -> Result<(), AllocError>
+        ensures laid { OnOk result (Laid self.old → Laid self.new) }
+        ensures bounded { OnOk result (StaysTightBeside piece.steps.items self.old self.new) }
         ensures strand_path { OnOk result (Appends self.old piece self.new first) }
     {
         let mut piece = piece;
@@ -339,7 +403,7 @@ impl Paths {
     // Joins the path of a piece that has spawned since its last join.
     fn append_block(&mut self, piece: &Paths, f: Block, first: bool) -> Result<(), AllocError>
         ensures laid { OnOk result (Laid self.old → Laid self.new) }
-        ensures bounded { OnOk result (StaysBoundedWith piece.now.steps.items self.old self.new) }
+        ensures bounded { OnOk result (StaysTightBeside piece.now.steps.items self.old self.new) }
         ensures strand_path { OnOk result (AppendsBlock self.old piece.now self.new f first) }
     {
         self.extend_by(&piece.steps, f.from, f.mid, f.base)?;
@@ -348,17 +412,6 @@ impl Paths {
         }
         let end = piece.steps.len();
         self.extend_by(&piece.steps, piece.start, end, piece.weight)?;
-        Ok(())
-    }
-
-    /// Joins the path of a spawned part that ran apart and of which nothing is open; `first` as for `append`.
-    pub fn append_child(&mut self, child: Paths, first: bool) -> Result<(), AllocError>
-        ensures laid { OnOk result (Laid self.old → Laid self.new) }
-        ensures bounded { OnOk result (StaysBoundedWith child.steps.items self.old self.new) }
-        ensures strand_path { OnOk result (AppendsChild self.old child self.new first) }
-    {
-        let end = child.steps.len();
-        self.fork_by(first, &child.steps, child.start, end, child.weight)?;
         Ok(())
     }
 
@@ -372,7 +425,7 @@ impl Paths {
         weight: u64,
     ) -> Result<(), AllocError>
         ensures laid { OnOk result (Laid self.old → Laid self.new) }
-        ensures bounded { OnOk result (StaysBoundedWith steps.now.items self.old self.new) }
+        ensures bounded { OnOk result (StaysTightBeside steps.now.items self.old self.new) }
         ensures path { OnOk result (Forks self.old self.new first steps.now.items from to weight) }
     {
         self.spawn(first)?;
@@ -390,7 +443,7 @@ impl Paths {
         weight: u64,
     ) -> Result<(), AllocError>
         ensures laid { OnOk result (Laid self.old → Laid self.new) }
-        ensures bounded { OnOk result (StaysBoundedWith steps.now.items self.old self.new) }
+        ensures bounded { OnOk result (StaysTightBeside steps.now.items self.old self.new) }
         ensures path { OnOk result (ExtendsBy self.old self.new steps.now.items from to weight) }
     {
         let end = to.min(steps.len());
@@ -405,12 +458,10 @@ impl Paths {
     // These steps more, whose weight is added apart.
     fn step(&mut self, one: Steps) -> Result<(), AllocError>
         ensures laid { OnOk result (Laid self.old → Laid self.new) }
-        ensures bounded { OnOk result (StaysBoundedAt one.site self.old self.new) }
+        ensures bounded { OnOk result (FitsAt one.site self.old self.new) }
         ensures strand_path { OnOk result (AddsStep self.old self.new one) }
     {
-        if self.steps.len().saturating_sub(self.start) > self.limit {
-            self.compact()?;
-        }
+        self.shorten()?;
         self.add_step(one)?;
         Ok(())
     }
@@ -418,7 +469,7 @@ impl Paths {
     // The same, however long the path is.
     fn add_step(&mut self, one: Steps) -> Result<(), AllocError>
         ensures laid { OnOk result (Laid self.old → Laid self.new) }
-        ensures bounded { OnOk result (StaysBoundedAt one.site self.old self.new) }
+        ensures bounded { OnOk result (GrowsAt one.site self.old self.new) }
         ensures strand_path { OnOk result (AddsStep self.old self.new one) }
     {
         add_steps(&mut self.steps, self.start, one.site, one.count)?;

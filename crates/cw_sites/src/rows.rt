@@ -140,17 +140,8 @@ impl Rows {
         Ok(())
     }
 
-    /// One more invocation of a site is open round a piece that begins, and whose rows these are.
-    pub fn stand_in(&mut self, site: u32) -> Result<(), AllocError>
-        ensures own { OnOk result (Becomes tallies.stood_in self.old self.new site) }
-        ensures others { OnOk result (OthersStay self.old self.new site) }
-    {
-        let row = stood_in(self.row(site));
-        self.set(site as usize, row)?;
-        Ok(())
-    }
-
-    /// Adds the sums of a piece that ran apart, inside of as many open invocations of each site as are open here.
+    /// Adds the sums of a piece that ran apart, of which no invocation is open. Where invocations of a site are open here,
+    /// those of the piece lie in them: their work and span are left out.
     /// Takes one step for each row of the shorter of the two, which are added to those of the longer one, and no memory.
     pub fn join(&mut self, piece: Rows)
         ensures { JoinsRows self.old piece self.new }
@@ -193,15 +184,6 @@ impl Rows {
         ensures as_long { length self.new.by_site.items ≡ length self.old.by_site.items }
     {
         self.by_site[place] = row;
-    }
-
-    // Gives a site its row.
-    fn set(&mut self, place: usize, row: Row) -> Result<(), AllocError>
-        ensures { OnOk result (IsGiven self.old self.new place row) }
-    {
-        self.reach(place)?;
-        self.put(place, row);
-        Ok(())
     }
 }
 
@@ -261,22 +243,17 @@ pub fn left_inner(row: Row) -> Row
     row
 }
 
-/// The row where one more invocation of its site is open round a piece that begins.
-pub fn stood_in(row: Row) -> Row
-    ensures { IsWhereItFits (tallies.stood_in row) result }
-{
-    let mut row = row;
-    row.active = row.active.saturating_add(1);
-    row
-}
-
-/// The row with the sums of a piece's row.
+/// The row with the sums of a piece's row: work and span where no invocation is open.
 pub fn summed(row: Row, piece: Row) -> Row
     ensures { IsWhereItFits (tallies.summed row piece) result }
 {
     let mut row = row;
     row.calls = row.calls.saturating_add(piece.calls);
     row.own = row.own.saturating_add(piece.own);
+    // Inside of an open invocation nothing is an outermost one.
+    if row.active > 0 {
+        return row;
+    }
     row.work = row.work.saturating_add(piece.work);
     row.span = row.span.saturating_add(piece.span);
     row

@@ -1,7 +1,7 @@
-//! The steps of paths, in one list: a path is a part of it.
+//! The steps of paths, in one list: a path is a part of it, and has no order.
 
-ghost use Rattle.std.specs.Prelude.{◌≡◌, ◌+◌, ◌-◌, ◌^◌, ◌<◌, ◌≤◌, ◌∷◌, ◌++◌, [], length, take, drop, OnOk};
-ghost use Rattle.cw_sites.specs.StepSums.{AddsSteps, AsBelow, CutsOut, StaysBelow, StaysBelowWith};
+ghost use Rattle.std.specs.Prelude.{◌≡◌, ◌+◌, ◌-◌, ◌^◌, ◌<◌, ◌≤◌, length, OnOk};
+ghost use Rattle.cw_sites.specs.StepSums.{AddsSteps, AsBelow, ClosesUp, CutsOut, IsCutOut, IsMovedDown, StaysBelow, StaysBelowWith, WritesTwice, WritesWithin};
 
 use std::alloc::AllocError;
 
@@ -41,10 +41,12 @@ pub fn add_steps(
     Ok(())
 }
 
-/// Takes a part out of the list, where it is one.
+/// Takes a part out of the list, where it is one: the last steps come to lie in its place, as many as it had or as lie
+/// behind it. So steps move at most once for each that is taken out.
 #[inline(always)]
 pub fn take_out(steps: &mut Vec<Steps>, from: usize, to: usize)
     ensures cut { CutsOut from to steps.old.items steps.new.items }
+    ensures written { WritesWithin from to steps.old.items steps.new.items }
     ensures kept { StaysBelow steps.old.items steps.new.items }
 {
     if from >= to || to > steps.len() {
@@ -56,7 +58,40 @@ pub fn take_out(steps: &mut Vec<Steps>, from: usize, to: usize)
 fn cut(steps: &mut Vec<Steps>, from: usize, to: usize)
     requires order { from ≤ to }
     requires within { to ≤ length steps.old.items }
-    ensures { steps.new.items ≡ take from steps.old.items ++ drop to steps.old.items }
+    ensures cut { IsCutOut from to steps.old.items steps.new.items }
+    ensures written { WritesWithin from to steps.old.items steps.new.items }
+    ensures kept { StaysBelow steps.old.items steps.new.items }
 {
-    steps.drain(from..to);
+    let end = steps.len();
+    move_down(steps, from, to, end);
+    steps.truncate(end - (to - from));
+}
+
+/// Takes a part out of the list in front of a path that ends at `end`, where it is one, and gives the place where that
+/// path ends then. What lies behind it stays apart from it.
+pub fn close_up(steps: &mut Vec<Steps>, from: usize, to: usize, end: usize) -> usize
+    ensures closed { ClosesUp from to end steps.old.items steps.new.items result }
+    ensures written { WritesTwice from to end steps.old.items steps.new.items result }
+    ensures kept { StaysBelow steps.old.items steps.new.items }
+{
+    if from > to || to > end || end > steps.len() {
+        return end;
+    }
+    move_down(steps, from, to, end);
+    let new_end = from + (end - to);
+    cut(steps, new_end, end);
+    new_end
+}
+
+// What lies from `to` up to `end` comes to lie from `from` on, in another order.
+fn move_down(steps: &mut Vec<Steps>, from: usize, to: usize, end: usize)
+    requires order { from ≤ to }
+    requires behind { to ≤ end }
+    requires within { end ≤ length steps.old.items }
+    ensures moved { IsMovedDown from to end steps.old.items steps.new.items }
+    ensures written { WritesWithin from to steps.old.items steps.new.items }
+    ensures kept { StaysBelow steps.old.items steps.new.items }
+{
+    let count = (to - from).min(end - to);
+    steps.copy_within(end - count..end, from);
 }

@@ -4,9 +4,9 @@ ghost use Rattle.std.specs.Prelude.{◌≡◌, ◌<◌, ℕ, [], OnOk};
 ghost use Rattle.cw_sites.specs.PathCalls.{ReadsOwn};
 ghost use Rattle.cw_sites.specs.StepLists.{IsShort};
 ghost use Rattle.cw_sites.specs.StepSums.{sum_at};
-ghost use Rattle.cw_sites.specs.Tables.{Flushed, IsBoundedTable, RowBegun, RowLeft, StaysBoundedIn, Tells};
+ghost use Rattle.cw_sites.specs.Tables.{Flushed, FlushesBounded, IsBoundedTable, RowBegun, RowLeft, StaysBoundedIn, Tells};
 ghost use Rattle.cw_sites.specs.Tables.{EndsChild, EndsHalf, Enters, Joins, Leaves, Notes};
-ghost use Rattle.cw_sites.specs.Tables.{JoinsAcross, JoinsChild, JoinsHere, JoinsPiece, ReadsSpawned, StandsInSite, StaysBoundedAcross, StaysBoundedBeside, StaysBoundedTable};
+ghost use Rattle.cw_sites.specs.Tables.{JoinsPiece, StaysBoundedBeside};
 ghost use Rattle.cw_sites.specs.Tables.{ReadsPath, ReadsSite, Spawns, SpawnsHalf};
 
 use crate::paths::Paths;
@@ -44,7 +44,7 @@ impl SiteTable {
     #[inline(always)]
     fn flush(&mut self, count: u64) -> Result<(), AllocError>
         ensures flushed { OnOk result (Flushed self.old self.new count) }
-        ensures bounded { OnOk result (StaysBoundedIn self.old.here self.old self.new) }
+        ensures bounded { OnOk result (FlushesBounded self.old self.new) }
         ensures short { OnOk result (IsShort self.new.paths) }
     {
         let here = self.here;
@@ -166,18 +166,10 @@ impl SiteTable {
         Ok(())
     }
 
-    /// One more invocation of this site is open round a piece that begins, and whose table this is.
-    pub fn stand_in(&mut self, site: u32) -> Result<(), AllocError>
-        ensures told { OnOk result (StandsInSite self.old self.new site) }
-        ensures bounded { OnOk result (StaysBoundedTable self.old self.new) }
-    {
-        self.rows.stand_in(site)?;
-        Ok(())
-    }
-
     /// Joins the table of a piece that ran apart inside of what is open, and of which nothing is open itself, as the next
     /// events of the block that runs: the piece has no join, or the block has not spawned since its last join, which
-    /// `first` tells. The instructions so far of both are noted.
+    /// `first` tells. The instructions so far of both are noted. Its table is one that began in the site that this one is
+    /// in (`new`), and knows of no other invocation that is open.
     pub fn join_piece(&mut self, piece: SiteTable, first: bool) -> Result<(), AllocError>
         ensures told { OnOk result (JoinsPiece self.old piece self.new first) }
         ensures bounded { OnOk result (StaysBoundedBeside piece self.old self.new) }
@@ -185,54 +177,6 @@ impl SiteTable {
         self.rows.join(piece.rows);
         self.paths.append(piece.paths, first)?;
         self.noted = self.noted.saturating_add(piece.noted);
-        Ok(())
-    }
-
-    /// Joins, as `join_piece` does, a piece that has joined: `before` is the table of what ran up to its first join, `after`
-    /// that of what ran from there on, with all its later joins.
-    pub fn join_across(
-        &mut self,
-        before: SiteTable,
-        after: SiteTable,
-        first: bool,
-    ) -> Result<(), AllocError>
-        ensures told { OnOk result (JoinsAcross self.old before after self.new first) }
-        ensures bounded { OnOk result (StaysBoundedAcross before after self.old self.new) }
-    {
-        let more = before.has_spawned();
-        let spawned = !first || more;
-        self.join_piece(before, first)?;
-        self.join_here(spawned);
-        self.join_piece(after, true)?;
-        Ok(())
-    }
-
-    // The block joins here; `spawned` tells whether it has spawned since its last join.
-    fn join_here(&mut self, spawned: bool)
-        ensures told { JoinsHere self.old self.new spawned }
-        ensures bounded { StaysBoundedTable self.old self.new }
-    {
-        if spawned {
-            self.paths.join();
-        }
-    }
-
-    /// Whether the block of a piece, of which nothing is open, has spawned since its last join.
-    pub fn has_spawned(&self) -> bool
-        ensures { ReadsSpawned self.now result }
-    {
-        !self.paths.blocks.is_empty()
-    }
-
-    /// Joins the table of a spawned part that ran apart inside of what is open, and of which nothing is open itself;
-    /// `first` as for `spawn`. The instructions so far of both are noted.
-    pub fn join_child(&mut self, child: SiteTable, first: bool) -> Result<(), AllocError>
-        ensures told { OnOk result (JoinsChild self.old child self.new first) }
-        ensures bounded { OnOk result (StaysBoundedBeside child self.old self.new) }
-    {
-        self.rows.join(child.rows);
-        self.paths.append_child(child.paths, first)?;
-        self.noted = self.noted.saturating_add(child.noted);
         Ok(())
     }
 

@@ -39,6 +39,11 @@ pub sum_more : (F : Tree → ℕ) (A : Adds F) (os : List Open) (es : List Event
 sum_more F A [] es e = adds_more F A es e
 sum_more F A (o ∷ os) es e = let a = adds_more F A es e in omega arith
 
+-- so many events more
+pub sum_append : (F : Tree → ℕ) (A : Adds F) (os : List Open) (es fs : List Event) → sum_in F os (es ++ fs) ≡ sum_in F os es + F (tree_of fs)
+sum_append F A [] es fs = adds_append F A es fs
+sum_append F A (o ∷ os) es fs = let a = adds_append F A es fs in omega arith
+
 -- a part begins, and ends
 pub sum_begun : (F : Tree → ℕ) (A : Adds F) (o : Open) (os : List Open) → sum_in F (o ∷ os) [] ≡ sum_in F os o.outer
 sum_begun F A o os = let a = adds_none F A in omega arith
@@ -59,6 +64,9 @@ work_marked (Some m) t = refl
 
 pub work_more : (os : List Open) (es : List Event) (e : Event) → work_in os (es ++ e ∷ []) ≡ work_in os es + work (tree_in e)
 work_more os es e = sum_more work work_adds os es e
+
+pub work_append : (os : List Open) (es fs : List Event) → work_in os (es ++ fs) ≡ work_in os es + work (tree_of fs)
+work_append os es fs = sum_append work work_adds os es fs
 
 pub left_work : (o : Open) (os : List Open) (es : List Event) → work_in os (closed o es) ≡ work_in (o ∷ os) es
 left_work o os es = let a = sum_ended work work_adds o os es in let b = work_marked o.mark (tree_of es) in omega arith

@@ -3,11 +3,11 @@ use Rattle.std.specs.Prelude.{◌≡◌, ℕ, zero, suc, ◌+◌, ◌==◌, ◌�
 use Rattle.std.proofs.Common.{sym, ◌∙◌, ap, subst, true≢false, arith}
 use borrow.Author.Tests.{eqb-true}
 use Rattle.std.proofs.lemmas.List.Sums.{sum_by-append}
-use Rattle.cw_model.specs.Trees.{Mark, Tree, Leaf, Seq, Par, Marked, Event, Work, Series, Fork, Join, tree_of}
+use Rattle.cw_model.specs.Trees.{Mark, Tree, Leaf, Seq, Par, Marked, Event, Work, Join, tree_of}
 use Rattle.cw_model.specs.Rows.{outermost}
 use Rattle.cw_measure.specs.OpenParts.{Open, marked, event_of, closed, has_spawned, sum_in}
-use Rattle.cw_measure.specs.Outermost.{is_counted, one_if, active_in, outer_sum, outer_in, Reading, Meters, BeganAt, Began, Tally, begun_at, begun, ended_at, ended, Counts, TalliesKeep, joined_tally, PiecesTally}
-use Rattle.cw_measure.specs.lemmas.OpenParts.{Adds, tree_in, adds_none, adds_first, adds_more, adds_append, tree_in-part_of}
+use Rattle.cw_measure.specs.Outermost.{is_counted, one_if, active_in, outer_sum, outer_in, Reading, Meters, BeganAt, Began, Tally, begun_at, begun, ended_at, ended, Counts, TalliesKeep, unless_at, unless_open, joined_tally}
+use Rattle.cw_measure.specs.lemmas.OpenParts.{Adds, tree_in, adds_none, adds_more, adds_append, tree_in-part_of}
 
 outer_adds : (f : Tree → ℕ) (picks : Mark → Bool) (n : ℕ) → Adds (outer_sum f picks n)
 outer_adds f picks zero = record {
@@ -243,24 +243,20 @@ outer_append : (f : Tree → ℕ) (picks : Mark → Bool) (busy : ℕ) (os : Lis
 outer_append f picks busy [] es fs = adds_append (outer_sum f picks busy) (outer_adds f picks busy) es fs
 outer_append f picks busy (o ∷ os) es fs = let a = adds_append (outer_sum f picks (active_in picks busy (o ∷ os))) (outer_adds f picks (active_in picks busy (o ∷ os))) es fs in omega arith
 
-pub counts_further : (f : Tree → ℕ) (read there : Reading) (picks : Mark → Bool) (busy : ℕ) (os : List Open) (es fs : List Event) (t u : Tally) → Counts f read picks busy os es t → Counts f there picks (active_in picks busy os) [] fs u → Counts f read picks busy os (es ++ fs) (joined_tally t u)
+-- where counted parts are open round a piece, nothing of it is summed
+left_out_at : (f : Tree → ℕ) (picks : Mark → Bool) (n : ℕ) (t : Tree) (b : Bool) → (n == 0) ≡ b → outer_sum f picks n t ≡ unless_at b (outer_sum f picks 0 t)
+left_out_at f picks n t true e = let P : ℕ → Type 0 = λ x. outer_sum f picks x t ≡ outer_sum f picks 0 t in subst P (sym (eqb-true n 0 e)) refl
+left_out_at f picks n t false e = outer_some f picks n t (some_active n e)
+
+left_out : (f : Tree → ℕ) (picks : Mark → Bool) (n : ℕ) (t : Tree) → outer_sum f picks n t ≡ unless_open n (outer_sum f picks 0 t)
+left_out f picks n t = left_out_at f picks n t (n == 0) refl
+
+told_apart : (f : Tree → ℕ) (there : Reading) (picks : Mark → Bool) (n active : ℕ) (fs : List Event) (u : Tally) → active ≡ n → Counts f there picks 0 [] fs u → unless_open active u.sum ≡ outer_sum f picks n (tree_of fs)
+told_apart f there picks n active fs u e g = ap (λ (x : ℕ). unless_open x u.sum) e ∙ ap (unless_open n) g.sum_is ∙ sym (left_out f picks n (tree_of fs))
+
+pub counts_further : (f : Tree → ℕ) (read there : Reading) (picks : Mark → Bool) (busy : ℕ) (os : List Open) (es fs : List Event) (t u : Tally) → Counts f read picks busy os es t → Counts f there picks 0 [] fs u → Counts f read picks busy os (es ++ fs) (joined_tally t u)
 counts_further f read there picks busy os es fs t u h g = record {
-  sum_is = let a = outer_append f picks busy os es fs in let b = h.sum_is in let c = g.sum_is in omega arith;
+  sum_is = let a = outer_append f picks busy os es fs in let b = h.sum_is in let c = told_apart f there picks (active_in picks busy os) t.active fs u h.active_is g in omega arith;
   active_is = h.active_is;
   began_is = h.began_is;
 }
-
-pub counts_spawned : (f : Tree → ℕ) (read there : Reading) (picks : Mark → Bool) (busy : ℕ) (os : List Open) (es : List Event) (child : Tree) (t u : Tally) → Counts f read picks busy os es t → Counts f there picks (active_in picks busy os) [] (Series child ∷ []) u → Counts f read picks busy os (es ++ Fork child ∷ []) (joined_tally t u)
-counts_spawned f read there picks busy os es child t u h g = record {
-  sum_is =
-      let n = active_in picks busy os in
-      let a = outer_more f picks busy os es (Fork child) in
-      let d = adds_first (outer_sum f picks n) (outer_adds f picks n) (Series child) [] in
-      let z = adds_none (outer_sum f picks n) (outer_adds f picks n) in
-      let b = h.sum_is in let c = g.sum_is in omega arith;
-  active_is = h.active_is;
-  began_is = h.began_is;
-}
-
-pub pieces_tally : (f : Tree → ℕ) (read there : Reading) (picks : Mark → Bool) (busy : ℕ) (os : List Open) → PiecesTally f read there picks busy os
-pieces_tally f read there picks busy os = record { further = counts_further f read there picks busy os; spawned = counts_spawned f read there picks busy os }

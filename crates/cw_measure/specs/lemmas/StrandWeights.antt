@@ -12,7 +12,7 @@ use Rattle.cw_measure.specs.lemmas.BlockWeights.{top-after_all}
 use Rattle.cw_measure.specs.lemmas.OpenParts.{work_adds, sum_begun, left_work}
 
 -- one event more in the block that runs
-after_all-append : (burden : ℕ) (L : BlockWeight) (es fs : List Event) → after_all burden L (es ++ fs) ≡ after_all burden (after_all burden L es) fs
+pub after_all-append : (burden : ℕ) (L : BlockWeight) (es fs : List Event) → after_all burden L (es ++ fs) ≡ after_all burden (after_all burden L es) fs
 after_all-append burden L [] fs = refl
 after_all-append burden L (e ∷ es) fs = after_all-append burden (after burden L e) es fs
 
@@ -156,6 +156,17 @@ burdened_works_more burden es e = sym (works_is burden (es ++ e ∷ [])) ∙ sum
 burdened_works_in : (burden : ℕ) (os : List Open) (es : List Event) (e : Event) → burdened_work_in burden os (es ++ e ∷ []) ≡ burdened_work_in burden os es + event_work burden e
 burdened_works_in burden [] es e = burdened_works_more burden es e
 burdened_works_in burden (o ∷ os) es e = let a = burdened_works_more burden es e in omega arith
+
+burdened_works_all : (burden : ℕ) (es fs : List Event) → burdened_work burden (tree_of (es ++ fs)) ≡ burdened_work burden (tree_of es) + burdened_work burden (tree_of fs)
+burdened_works_all burden es fs = sym (works_is burden (es ++ fs)) ∙ sum_all burden es fs ∙ ap (λ (x : ℕ). x + sum_of_works burden fs) (works_is burden es) ∙ ap (λ (x : ℕ). burdened_work burden (tree_of es) + x) (works_is burden fs)
+  where
+    sum_all : (burden : ℕ) (es fs : List Event) → sum_of_works burden (es ++ fs) ≡ sum_of_works burden es + sum_of_works burden fs
+    sum_all burden [] fs = omega arith
+    sum_all burden (d ∷ es) fs = let i = sum_all burden es fs in omega arith
+
+pub burdened_append : (burden : ℕ) (os : List Open) (es fs : List Event) → burdened_work_in burden os (es ++ fs) ≡ burdened_work_in burden os es + burdened_work burden (tree_of fs)
+burdened_append burden [] es fs = burdened_works_all burden es fs
+burdened_append burden (o ∷ os) es fs = let a = burdened_works_all burden es fs in omega arith
 
 event_work_is : (burden : ℕ) (spawned : Bool) (mark : Option Mark) (t : Tree) → event_work burden (part_of spawned (marked mark t)) ≡ burdened_work burden t + burden_if spawned burden
 event_work_is burden true None t = refl

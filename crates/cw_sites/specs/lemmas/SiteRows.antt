@@ -7,7 +7,7 @@ use Rattle.cw_model.specs.Trees.{Mark, Tree, Leaf, Event, tree_of, work, span}
 use Rattle.cw_model.specs.Rows.{is_site, leaves, weight_of_site, calls_of}
 use Rattle.cw_measure.specs.OpenParts.{Open, marked, event_of, closed, has_spawned, work_in}
 use Rattle.cw_measure.specs.Outermost.{is_counted, one_if, Meters}
-use Rattle.cw_measure.specs.lemmas.OpenParts.{Adds, tree_in, adds_none, adds_more, tree_in-part_of}
+use Rattle.cw_measure.specs.lemmas.OpenParts.{Adds, tree_in, adds_none, adds_more, tree_in-part_of, adds_append}
 use Rattle.cw_measure.specs.lemmas.Outermost.{counts_other, counts_other_left}
 use Rattle.cw_sites.specs.declared.rows.Row.{Row}
 use Rattle.cw_sites.specs.ChosenPaths.{steps_of}
@@ -70,6 +70,10 @@ own_adds site here = record {
 }
 
 -- one event more in the block that runs
+pub calls_append : (site : ℕ) (os : List Open) (es fs : List Event) → calls_in site os (es ++ fs) ≡ calls_in site os es + calls_of site (tree_of fs)
+calls_append site [] es fs = adds_append (calls_of site) (calls_adds site) es fs
+calls_append site (o ∷ os) es fs = let a = adds_append (calls_of site) (calls_adds site) es fs in omega arith
+
 pub calls_more : (site : ℕ) (os : List Open) (es : List Event) (e : Event) → calls_in site os (es ++ e ∷ []) ≡ calls_in site os es + calls_of site (tree_in e)
 calls_more site [] es e = adds_more (calls_of site) (calls_adds site) es e
 calls_more site (o ∷ os) es e = let a = adds_more (calls_of site) (calls_adds site) es e in omega arith

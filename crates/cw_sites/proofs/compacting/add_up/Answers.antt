@@ -1,30 +1,14 @@
-use Rattle.std.proofs.Common.{length, List, sym, ap, subst, arith}
-use Rattle.std.proofs.lemmas.List.{length-take-le}
-use Rattle.cw_sites.specs.declared.steps.Steps.{Steps}
-use Rattle.cw_sites.specs.StepSums.{AllBelow}
-use Rattle.cw_sites.proofs.CompactingLaws.{added_below, added_all, cut_short, all_below-take}
+use Rattle.std.proofs.Common.{arith}
+use Rattle.cw_sites.proofs.CompactingLaws.{added_up}
 use Rattle.cw_sites.proofs.compacting.add_up.Goals as goal
 
-pub returns-clause-below : goal.returns-clause-below
-returns-clause-below c =
-    added_below c.args.steps.now.items c.truncate.new.self.items c.push_sums.new.steps.items c.args.start c.truncate.ensures.items c.in_ok-push_sums.ensures.below
-
 pub returns-clause-all : goal.returns-clause-all
-returns-clause-all c = λ l.
-    added_all c.args.steps.now.items c.truncate.new.self.items c.push_sums.new.steps.items c.args.start c.sum_up.new.sums.items l c.truncate.ensures.items (c.in_ok-sum_up.ensures.sums l) c.in_ok-push_sums.ensures.all
-
-pub returns-clause-short : goal.returns-clause-short
-returns-clause-short c =
-    let a = cut_short c.args.steps.now.items c.truncate.new.self.items c.args.start c.truncate.ensures.items in
-    let b = c.in_ok-push_sums.ensures.short in omega arith
+returns-clause-all c = λ o l.
+    added_up c.args.from c.args.to c.put_sums-end.result c.args.steps.now.items c.put_sums-end.new.steps.items c.take_out.new.steps.items c.sum_up.new.sums.items o l (omega arith)
+    (c.in_ok-sum_up.ensures.sums o l) c.put_sums-end.ensures.all (let p = c.put_sums-end.ensures.all in let s = p.short in let n = p.count_is in c.take_out.ensures.cut (omega arith) (omega arith))
 
 pub returns-clause-kept : goal.returns-clause-kept
-returns-clause-kept c = λ most b.
-    let P : List Steps → Type 0 = AllBelow most in
-    c.in_ok-push_sums.ensures.kept most (c.in_ok-sum_up.ensures.sites most b) (subst P (sym c.truncate.ensures.items) (all_below-take most c.args.steps.now.items c.args.start b))
+returns-clause-kept c = λ most b. c.take_out.ensures.kept most (c.put_sums-end.ensures.kept most (c.in_ok-sum_up.ensures.sites most b) b)
 
-pub returns-clause-longer : goal.returns-clause-longer
-returns-clause-longer c = λ l.
-    let a = ap length c.truncate.ensures.items in
-    let b = length-take-le c.args.start c.args.steps.now.items l in
-    let d = c.in_ok-push_sums.ensures.longer in omega arith
+pub returns-clause-count : goal.returns-clause-count
+returns-clause-count c = λ l. (returns-clause-all c (omega arith) l).count_is

@@ -3,6 +3,7 @@ use Rattle.cw_sites.specs.declared.paths.Paths.{Paths}
 use Rattle.cw_sites.specs.StrandPaths.{ends}
 use Rattle.cw_sites.specs.StepLists.{seen_blocks, strand_path}
 use Rattle.cw_sites.proofs.PathLaws.{laid_with, strand_path_by, fits_with, ends_taken, ends_gone}
+use Rattle.cw_sites.proofs.PathBoundLaws.{tight_with}
 use Rattle.cw_sites.proofs.paths.Paths.end.Goals as goal
 
 pub returns-in_ok-take-in-Some-clause-laid : goal.returns-in_ok-take-in-Some-clause-laid
@@ -12,10 +13,10 @@ returns-in_ok-take-in-Some-clause-laid c = λ laid. let r : Paths = record { ste
 pub returns-in_ok-take-in-Some-clause-strand_path : goal.returns-in_ok-take-in-Some-clause-strand_path
 returns-in_ok-take-in-Some-clause-strand_path c = λ laid q fits. let r : Paths = record { steps = c.args.self.now.steps; weight = c.args.self.now.weight; start = c.args.self.now.start; blocks = c.pop.new.self; limit = c.args.self.now.limit; sums = c.args.self.now.sums } in
     let k = fits_with q c.args.self.now r c.in-Some.f c.in-Some.ensures.items fits in
-    let k0 = k.0 in
+    let k0 = k.0 in let k1 = k.1 in
     let small : c.in-Some.f.rest + c.args.self.now.weight < 2 ^ 64 = omega arith in
     let test = sym (c.is_longest.ensures small) ∙ c.if-is_longest.true in
-    c.in_ok-take-in-Some.ensures.strand_path (laid_with c.args.self.now r c.in-Some.f c.in-Some.ensures.items refl refl laid) q (omega arith)
+    c.in_ok-take-in-Some.ensures.strand_path (laid_with c.args.self.now r c.in-Some.f c.in-Some.ensures.items refl refl laid) q (omega arith, omega arith)
     ∙ ends_taken q c.args.self.now.steps.items c.in-Some.f (strand_path q c.args.self.now).now (seen_blocks q c.args.self.now.steps.items c.pop.new.self.items []) test
     ∙ sym (ap ends (strand_path_by q c.args.self.now r c.in-Some.f c.in-Some.ensures.items))
 
@@ -26,7 +27,7 @@ returns-in_ok-let_go-in-Some-clause-laid c = λ laid. let r : Paths = record { s
 pub returns-in_ok-let_go-in-Some-clause-strand_path : goal.returns-in_ok-let_go-in-Some-clause-strand_path
 returns-in_ok-let_go-in-Some-clause-strand_path c = λ laid q fits. let r : Paths = record { steps = c.args.self.now.steps; weight = c.args.self.now.weight; start = c.args.self.now.start; blocks = c.pop.new.self; limit = c.args.self.now.limit; sums = c.args.self.now.sums } in
     let k = fits_with q c.args.self.now r c.in-Some.f c.in-Some.ensures.items fits in
-    let k0 = k.0 in
+    let k0 = k.0 in let k1 = k.1 in
     let small : c.in-Some.f.rest + c.args.self.now.weight < 2 ^ 64 = omega arith in
     let test = sym (c.is_longest.ensures small) ∙ c.if-is_longest.false in
     c.in_ok-let_go-in-Some.ensures.strand_path (laid_with c.args.self.now r c.in-Some.f c.in-Some.ensures.items refl refl laid) q
@@ -34,7 +35,9 @@ returns-in_ok-let_go-in-Some-clause-strand_path c = λ laid q fits. let r : Path
     ∙ sym (ap ends (strand_path_by q c.args.self.now r c.in-Some.f c.in-Some.ensures.items))
 
 pub returns-in_ok-take-in-Some-clause-bounded : goal.returns-in_ok-take-in-Some-clause-bounded
-returns-in_ok-take-in-Some-clause-bounded c = λ most b. c.in_ok-take-in-Some.ensures.bounded most (record { sites = b.sites; limit = b.limit })
+returns-in_ok-take-in-Some-clause-bounded c = λ most b. let r : Paths = record { steps = c.args.self.now.steps; weight = c.args.self.now.weight; start = c.args.self.now.start; blocks = c.pop.new.self; limit = c.args.self.now.limit; sums = c.args.self.now.sums } in
+    c.in_ok-take-in-Some.ensures.bounded most (tight_with most c.args.self.now r c.in-Some.f c.in-Some.ensures.items refl refl refl b)
 
 pub returns-in_ok-let_go-in-Some-clause-bounded : goal.returns-in_ok-let_go-in-Some-clause-bounded
-returns-in_ok-let_go-in-Some-clause-bounded c = λ most b. c.in_ok-let_go-in-Some.ensures.bounded most (record { sites = b.sites; limit = b.limit })
+returns-in_ok-let_go-in-Some-clause-bounded c = λ most b. let r : Paths = record { steps = c.args.self.now.steps; weight = c.args.self.now.weight; start = c.args.self.now.start; blocks = c.pop.new.self; limit = c.args.self.now.limit; sums = c.args.self.now.sums } in
+    c.in_ok-let_go-in-Some.ensures.bounded most (tight_with most c.args.self.now r c.in-Some.f c.in-Some.ensures.items refl refl refl b)

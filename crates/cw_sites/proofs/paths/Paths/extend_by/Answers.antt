@@ -14,4 +14,4 @@ returns-clause-path c = λ order within laid q fits.
     all_stepped c.args.self.now c.loop-i.self c.args.steps.now.items c.args.from c.args.to c.loop-i.i c.args.weight c.saturating_add-self.result (λ o w. omega arith) (λ h. omega arith) c.loop-i.invariant order within laid q fits
 
 pub returns-clause-bounded : goal.returns-clause-bounded
-returns-clause-bounded c = λ most a b. let k = c.loop-i.invariant.bounded most a b in record { sites = k.sites; limit = k.limit }
+returns-clause-bounded c = λ most a b. let k = c.loop-i.invariant.bounded most a b in record { laid = record { blocks = k.laid.blocks; start = k.laid.start }; sites = k.sites; limit = k.limit; blocks = k.blocks; now = k.now }

@@ -1,13 +1,9 @@
-use Rattle.std.proofs.Common.{sym, subst}
-use Rattle.cw_sites.specs.declared.paths.Paths.{Paths}
-use Rattle.cw_sites.specs.StepLists.{IsBounded}
+use Rattle.cw_sites.specs.PathBounds.{most_steps}
+use Rattle.cw_sites.proofs.AppendLaws.{step_after}
 use Rattle.cw_sites.proofs.paths.Paths.step.Goals as goal
-use Rattle.cw_sites.proofs.paths.Paths.step.Goals.{then-saturating_sub-self+in_ok-compact, else-saturating_sub-self}
+
+pub returns-clause-strand_path : goal.returns-clause-strand_path
+returns-clause-strand_path c = step_after c.args.self.now c.shorten.new.self c.add_step.new.self c.args.one c.in_ok-shorten.ensures.laid c.in_ok-shorten.ensures.same c.in_ok-add_step.ensures.strand_path
 
 pub returns-clause-bounded : goal.returns-clause-bounded
-returns-clause-bounded c = λ most h b.
-    let P : Paths → Type 0 = IsBounded most in
-    c.in_ok-add_step.ensures.bounded most h (elim c.if-saturating_sub-self.branch as (λ w. IsBounded most c.if-saturating_sub-self.self) [
-      | then-saturating_sub-self+in_ok-compact w ↦ subst P (sym w.self-is) (w.in_ok-compact.ensures.bounded most b)
-      | else-saturating_sub-self w ↦ subst P (sym w.self-is) b
-    ])
+returns-clause-bounded c = λ room most h b. c.in_ok-add_step.ensures.bounded (most_steps most) most h (c.in_ok-shorten.ensures.bounded room most b)

@@ -1,6 +1,6 @@
 use Rattle.std.proofs.Common.{refl}
 use Rattle.cw_sites.specs.declared.table.SiteTable.{SiteTable}
-use Rattle.cw_sites.proofs.TableLaws.{bounded_by}
+use Rattle.cw_sites.proofs.TableLaws.{bounded_by, tight_bounded}
 use Rattle.cw_sites.proofs.TableLaws.{spawn_ends}
 use Rattle.cw_sites.proofs.table.SiteTable.end_child.Goals as goal
 
@@ -12,7 +12,7 @@ returns-clause-told c = λ base busy os before es fs site le n at small h.
 
 pub returns-clause-bounded : goal.returns-clause-bounded
 returns-clause-bounded c = λ most h b.
-    let f = c.in_ok-flush.ensures.bounded most b.here b in
+    let f = c.in_ok-flush.ensures.bounded most b in
     let g = c.in_ok-end_row.ensures.left in
     let k = bounded_by most c.flush.new.self c.end_row.new.self c.args.outer g.paths g.here_is h f in
-    record { paths = c.in_ok-end.ensures.bounded most k.paths; here = k.here }
+    tight_bounded most _ (record { paths = c.in_ok-end.ensures.bounded most k.paths; here = k.here })

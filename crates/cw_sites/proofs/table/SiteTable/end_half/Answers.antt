@@ -1,4 +1,4 @@
-use Rattle.cw_sites.proofs.TableLaws.{half_ends}
+use Rattle.cw_sites.proofs.TableLaws.{half_ends, tight_bounded}
 use Rattle.cw_sites.proofs.table.SiteTable.end_half.Goals as goal
 
 pub returns-clause-told : goal.returns-clause-told
@@ -7,5 +7,5 @@ returns-clause-told c = λ base busy mark os before es fs quiet since n small h.
 
 pub returns-clause-bounded : goal.returns-clause-bounded
 returns-clause-bounded c = λ most h b.
-    let f = c.in_ok-flush.ensures.bounded most h b in
-    record { paths = c.in_ok-end.ensures.bounded most f.paths; here = f.here }
+    let f = c.in_ok-flush.ensures.bounded most b in
+    tight_bounded most _ (record { paths = c.in_ok-end.ensures.bounded most f.paths; here = f.here })

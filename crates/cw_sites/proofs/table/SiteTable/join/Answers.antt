@@ -13,5 +13,5 @@ returns-clause-told c = λ base busy os es fs le n small h.
 
 pub returns-clause-bounded : goal.returns-clause-bounded
 returns-clause-bounded c = λ most h b.
-    let f = c.in_ok-flush.ensures.bounded most h b in
+    let f = c.in_ok-flush.ensures.bounded most b in
     record { paths = c.join.ensures.bounded most f.paths; here = f.here }

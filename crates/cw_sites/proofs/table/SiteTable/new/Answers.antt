@@ -1,4 +1,7 @@
+use Rattle.std.proofs.Common.{◌+◌, ◌*◌, arith}
+use Rattle.cw_sites.specs.PathBounds.{most_steps}
+use Rattle.cw_sites.proofs.PathBoundLaws.{looser}
 use Rattle.cw_sites.proofs.table.SiteTable.new.Goals as goal
 
 pub returns-clause-bounded : goal.returns-clause-bounded
-returns-clause-bounded c = λ most h. record { paths = c.new-2.ensures.bounded most; here = h }
+returns-clause-bounded c = λ most h. record { paths = looser (most_steps most + 1) (2 * (most_steps most + 1)) most c.new-2.result (omega arith) (c.new-2.ensures.bounded most); here = h }

@@ -1,6 +1,6 @@
 use Rattle.std.proofs.Common.{refl}
 use Rattle.cw_sites.specs.declared.table.SiteTable.{SiteTable}
-use Rattle.cw_sites.proofs.TableLaws.{bounded_by}
+use Rattle.cw_sites.proofs.TableLaws.{bounded_by, tight_bounded}
 use Rattle.cw_sites.proofs.TableLaws.{spawn_begins}
 use Rattle.cw_sites.proofs.table.SiteTable.spawn.Goals as goal
 
@@ -12,8 +12,8 @@ returns-clause-told c = λ base busy os es fs le n small h.
 
 pub returns-clause-bounded : goal.returns-clause-bounded
 returns-clause-bounded c = λ most h b.
-    let f = c.in_ok-flush.ensures.bounded most b.here b in
+    let f = c.in_ok-flush.ensures.bounded most b in
     let g = c.in_ok-begin_row.ensures.begun in
     let mid = c.flush.new.self in
     let forked : SiteTable = record { rows = mid.rows; paths = c.spawn.new.self; noted = mid.noted; here = mid.here } in
-    bounded_by most forked c.begin_row.new.self c.args.site g.paths g.here_is h (record { paths = c.in_ok-spawn.ensures.bounded most f.paths; here = f.here })
+    tight_bounded most _ (bounded_by most forked c.begin_row.new.self c.args.site g.paths g.here_is h (record { paths = c.in_ok-spawn.ensures.bounded most f.paths; here = f.here }))
