@@ -29,3 +29,4 @@ pub mod Ahead
 pub mod Rests
 pub mod Effects
 pub mod Given
+pub mod MeteredRests

@@ -15,6 +15,7 @@ use Rattle.cw_sites.specs.lemmas.Tables.{quiet_parts}
 use Rattle.cw_regions.specs.declared.table.RegionTable.{RegionTable}
 use Rattle.cw_regions.specs.Regions.{Tags}
 use Rattle.cw_regions.specs.Regions as regions
+use Rattle.cw_meter.specs.Origins.{Origin, base_of}
 use Rattle.cw_meter.specs.declared.tables.Tables.{Tables}
 use Rattle.cw_meter.specs.declared.parts.PartKind.{PartKind}
 use Rattle.cw_meter.specs.declared.parts.PartKind.TheVariants as kind
@@ -26,8 +27,8 @@ use Rattle.cw_meter.proofs.Counting.{counted_closed, small_tags}
 use Rattle.cw_meter.proofs.TableLaws.{tables_told, tags_closed, told_spawned, sites_since, path_since, told_small, told_fits, path_told, with_tables, with_regions}
 
 -- what tables tell where a part with this mark ends, told at its events
-abbrev Ended : (t new : Tables) (count burden : ℕ) (tags : Tags) (os : List Open) (es : List Event) → Open → Type 0
-Ended t new count burden tags os es o = TablesTell burden tags count (o ∷ os) es t → TablesTell burden tags count os (closed o es) new
+abbrev Ended : (t new : Tables) (count burden : ℕ) (tags : Tags) (from : Origin) (os : List Open) (es : List Event) → Open → Type 0
+Ended t new count burden tags from os es o = TablesTell burden tags from count (o ∷ os) es t → TablesTell burden tags from count os (closed o es) new
 
 -- a part is known by what it is
 of_mark : (P : Open → Type 0) (o : Open) (spawned : Bool) (mark : Option Mark) → o.spawned ≡ spawned → o.mark ≡ mark → P (record { spawned = spawned; mark = mark; outer = o.outer }) → P o
@@ -35,8 +36,8 @@ of_mark P o spawned mark e f h =
     let A : Option Mark → Type 0 = λ x. P (record { spawned = spawned; mark = x; outer = o.outer }) in
     let B : Bool → Type 0 = λ x. P (record { spawned = x; mark = o.mark; outer = o.outer }) in subst B (sym e) (subst A (sym f) h)
 
-kind_of : (tags : Tags) (o : Open) (os : List Open) (part : Part) (k : PartKind) → part.kind ≡ k → IsPart tags o os part → IsOfKind tags o k
-kind_of tags o os part k e h = let P : PartKind → Type 0 = λ x. IsOfKind tags o x in subst P e h.kind
+kind_of : (from : Origin) (tags : Tags) (o : Open) (os : List Open) (part : Part) (k : PartKind) → part.kind ≡ k → IsPart from tags o os part → IsOfKind tags o k
+kind_of from tags o os part k e h = let P : PartKind → Type 0 = λ x. IsOfKind tags o x in subst P e h.kind
 
 -- the block that goes on has spawned as before, where the part was none that is spawned
 goes_on : (mark : Option Mark) (before es : List Event) (b : Bool) → b ≡ has_spawned before → b ≡ has_spawned (closed (record { spawned = false; mark = mark; outer = before }) es)
@@ -45,103 +46,103 @@ goes_on mark before es b e = e ∙ sym (spawned_append false before (Series (mar
 has_now : (mark : Option Mark) (before es : List Event) → true ≡ has_spawned (closed (record { spawned = true; mark = mark; outer = before }) es)
 has_now mark before es = sym (spawned_append false before (Fork (marked mark (tree_of es)) ∷ []))
 
-joined_now : (burden : ℕ) (tags : Tags) (count : ℕ) (os : List Open) (es : List Event) (t : Tables) → t.spawned ≡ false → TablesTell burden tags count os es t → has_spawned es ≡ false
-joined_now burden tags count os es t e h = sym h.spawned_is ∙ e
+joined_now : (burden : ℕ) (tags : Tags) (from : Origin) (count : ℕ) (os : List Open) (es : List Event) (t : Tables) → t.spawned ≡ false → TablesTell burden tags from count os es t → has_spawned es ≡ false
+joined_now burden tags from count os es t e h = sym h.spawned_is ∙ e
 
 -- a call in place ends
 pub call_closed : (t : Tables) (s : SiteTable) (p : BurdenedPath) (count : ℕ) (part : Part) → Leaves t.sites s count part.site → NotesWeight t.path p count → part.kind ≡ kind.Call → Closes t (with_tables t s p part.spawned) count part
-call_closed t s p count part leaves notes e = λ burden tags o os es is joined small light.
-    let k = kind_of tags o os part kind.Call e is in
-    of_mark (Ended t (with_tables t s p part.spawned) count burden tags os es) o false (Some (Invocation k.1.0)) k.0 k.1.1 (λ h.
+call_closed t s p count part leaves notes e = λ burden tags from o os es is joined small light.
+    let k = kind_of from tags o os part kind.Call e is in
+    of_mark (Ended t (with_tables t s p part.spawned) count burden tags from os es) o false (Some (Invocation k.1.0)) k.0 k.1.1 (λ h.
     let site = k.1.0 in
     let mark : Option Mark = Some (Invocation site) in
     let here = opened false mark o.outer os in
-    let S : List Event → Type 0 = λ x. sites.Tells 0 nothing_open os (closed (record { spawned = false; mark = mark; outer = o.outer }) x) s in
-    tables_told burden tags count os (closed (record { spawned = false; mark = mark; outer = o.outer }) es) (with_tables t s p part.spawned) (record {
-      sites = subst S h.all (leaves 0 nothing_open os o.outer h.told h.since site (sites_since burden tags count here es t h) (told_spawned burden tags count here es t h ∙ joined) is.site (told_small burden tags count here es t h small) h.sites);
-      path = (series_need_no_call burden p).ends (record { spawned = false; mark = mark; outer = o.outer }) os es refl (joined_now burden tags count here es t joined h) (path_told burden tags count here es t p notes small light h);
-      regions = tags_closed burden tags false mark o.outer os es t.regions tt h.regions;
-      counted = counted_closed burden count (record { spawned = false; mark = mark; outer = o.outer }) os es h.counted;
+    let S : List Event → Type 0 = λ x. sites.Tells (base_of from) nothing_open os (closed (record { spawned = false; mark = mark; outer = o.outer }) x) s in
+    tables_told burden tags from count os (closed (record { spawned = false; mark = mark; outer = o.outer }) es) (with_tables t s p part.spawned) (record {
+      sites = subst S h.all (leaves (base_of from) nothing_open os o.outer h.told h.since site (sites_since burden tags from count here es t h) (told_spawned burden tags from count here es t h ∙ joined) is.site (told_small burden tags from count here es t h small) h.sites);
+      path = (series_need_no_call burden p).ends (record { spawned = false; mark = mark; outer = o.outer }) os es refl (joined_now burden tags from count here es t joined h) (path_told burden tags from count here es t p notes small light h);
+      regions = tags_closed burden tags from false mark o.outer os es t.regions tt h.regions;
+      counted = counted_closed burden from count (record { spawned = false; mark = mark; outer = o.outer }) os es h.counted;
       burden_is = h.burden_is;
       spawned_is = goes_on mark o.outer es part.spawned is.spawned;
     }))
 
 -- the path of a spawned part that ends
-child_path : (burden : ℕ) (tags : Tags) (count : ℕ) (mark : Option Mark) (before : List Event) (os : List Open) (es : List Event) (t : Tables) (p : BurdenedPath) → EndsChildWeight t.path p count t.burden → t.spawned ≡ false → count ≤ MOST_LIMIT → burden ≤ MOST_BURDEN → TablesTell burden tags count (opened true mark before os) es t → TellsWeight burden os (closed (record { spawned = true; mark = mark; outer = before }) es) p
-child_path burden tags count mark before os es t p ends joined small light h =
+child_path : (burden : ℕ) (tags : Tags) (from : Origin) (count : ℕ) (mark : Option Mark) (before : List Event) (os : List Open) (es : List Event) (t : Tables) (p : BurdenedPath) → EndsChildWeight t.path p count t.burden → t.spawned ≡ false → count ≤ MOST_LIMIT → burden ≤ MOST_BURDEN → TablesTell burden tags from count (opened true mark before os) es t → TellsWeight burden os (closed (record { spawned = true; mark = mark; outer = before }) es) p
+child_path burden tags from count mark before os es t p ends joined small light h =
     let here = opened true mark before os in
     let o : Open = record { spawned = true; mark = mark; outer = before } in
     let P : List Event → Type 0 = λ x. TellsWeight burden os (closed o x) p in
     let E : ℕ → Type 0 = λ x. EndsChildWeight t.path p count x in
-    subst P h.all (subst E h.burden_is ends o os h.told h.since (path_since burden tags count here es t h) (told_fits burden tags count here es t h small light) refl (told_spawned burden tags count here es t h ∙ joined) h.path)
+    subst P h.all (subst E h.burden_is ends o os h.told h.since (path_since burden tags from count here es t h) (told_fits burden tags from count here es t h small light) refl (told_spawned burden tags from count here es t h ∙ joined) h.path)
 
 pub spawned_call_closed : (t : Tables) (s : SiteTable) (p : BurdenedPath) (count : ℕ) (part : Part) → EndsChild t.sites s count part.site → EndsChildWeight t.path p count t.burden → part.kind ≡ kind.SpawnedCall → Closes t (with_tables t s p true) count part
-spawned_call_closed t s p count part ends heavier e = λ burden tags o os es is joined small light.
-    let k = kind_of tags o os part kind.SpawnedCall e is in
-    of_mark (Ended t (with_tables t s p true) count burden tags os es) o true (Some (Invocation k.1.0)) k.0 k.1.1 (λ h.
+spawned_call_closed t s p count part ends heavier e = λ burden tags from o os es is joined small light.
+    let k = kind_of from tags o os part kind.SpawnedCall e is in
+    of_mark (Ended t (with_tables t s p true) count burden tags from os es) o true (Some (Invocation k.1.0)) k.0 k.1.1 (λ h.
     let site = k.1.0 in
     let mark : Option Mark = Some (Invocation site) in
     let here = opened true mark o.outer os in
-    let S : List Event → Type 0 = λ x. sites.Tells 0 nothing_open os (closed (record { spawned = true; mark = mark; outer = o.outer }) x) s in
-    tables_told burden tags count os (closed (record { spawned = true; mark = mark; outer = o.outer }) es) (with_tables t s p true) (record {
-      sites = subst S h.all (ends 0 nothing_open os o.outer h.told h.since site (sites_since burden tags count here es t h) (told_spawned burden tags count here es t h ∙ joined) is.site (told_small burden tags count here es t h small) h.sites);
-      path = child_path burden tags count mark o.outer os es t p heavier joined small light h;
-      regions = tags_closed burden tags true mark o.outer os es t.regions tt h.regions;
-      counted = counted_closed burden count (record { spawned = true; mark = mark; outer = o.outer }) os es h.counted;
+    let S : List Event → Type 0 = λ x. sites.Tells (base_of from) nothing_open os (closed (record { spawned = true; mark = mark; outer = o.outer }) x) s in
+    tables_told burden tags from count os (closed (record { spawned = true; mark = mark; outer = o.outer }) es) (with_tables t s p true) (record {
+      sites = subst S h.all (ends (base_of from) nothing_open os o.outer h.told h.since site (sites_since burden tags from count here es t h) (told_spawned burden tags from count here es t h ∙ joined) is.site (told_small burden tags from count here es t h small) h.sites);
+      path = child_path burden tags from count mark o.outer os es t p heavier joined small light h;
+      regions = tags_closed burden tags from true mark o.outer os es t.regions tt h.regions;
+      counted = counted_closed burden from count (record { spawned = true; mark = mark; outer = o.outer }) os es h.counted;
       burden_is = h.burden_is;
       spawned_is = has_now mark o.outer es;
     }))
 
 pub half_closed : (t : Tables) (s : SiteTable) (p : BurdenedPath) (count : ℕ) (part : Part) → EndsHalf t.sites s count → EndsChildWeight t.path p count t.burden → part.kind ≡ kind.Half → Closes t (with_tables t s p true) count part
-half_closed t s p count part ends heavier e = λ burden tags o os es is joined small light.
-    let k = kind_of tags o os part kind.Half e is in
-    of_mark (Ended t (with_tables t s p true) count burden tags os es) o true None k.0 k.1 (λ h.
+half_closed t s p count part ends heavier e = λ burden tags from o os es is joined small light.
+    let k = kind_of from tags o os part kind.Half e is in
+    of_mark (Ended t (with_tables t s p true) count burden tags from os es) o true None k.0 k.1 (λ h.
     let here = opened true None o.outer os in
-    let S : List Event → Type 0 = λ x. sites.Tells 0 nothing_open os (closed (record { spawned = true; mark = None; outer = o.outer }) x) s in
-    tables_told burden tags count os (closed (record { spawned = true; mark = None; outer = o.outer }) es) (with_tables t s p true) (record {
-      sites = subst S h.all (ends 0 nothing_open None os o.outer h.told h.since tt (sites_since burden tags count here es t h) (told_spawned burden tags count here es t h ∙ joined) (told_small burden tags count here es t h small) h.sites);
-      path = child_path burden tags count None o.outer os es t p heavier joined small light h;
-      regions = tags_closed burden tags true None o.outer os es t.regions tt h.regions;
-      counted = counted_closed burden count (record { spawned = true; mark = None; outer = o.outer }) os es h.counted;
+    let S : List Event → Type 0 = λ x. sites.Tells (base_of from) nothing_open os (closed (record { spawned = true; mark = None; outer = o.outer }) x) s in
+    tables_told burden tags from count os (closed (record { spawned = true; mark = None; outer = o.outer }) es) (with_tables t s p true) (record {
+      sites = subst S h.all (ends (base_of from) nothing_open None os o.outer h.told h.since tt (sites_since burden tags from count here es t h) (told_spawned burden tags from count here es t h ∙ joined) (told_small burden tags from count here es t h small) h.sites);
+      path = child_path burden tags from count None o.outer os es t p heavier joined small light h;
+      regions = tags_closed burden tags from true None o.outer os es t.regions tt h.regions;
+      counted = counted_closed burden from count (record { spawned = true; mark = None; outer = o.outer }) os es h.counted;
       burden_is = h.burden_is;
       spawned_is = has_now None o.outer es;
     }))
 
 pub quiet_closed : (t now : Tables) (count : ℕ) (part : Part) → Settles t now count → part.kind ≡ kind.Quiet → Closes t (with_tables now now.sites now.path part.spawned) count part
-quiet_closed t now count part settles e = λ burden tags o os es is joined small light.
-    let k = kind_of tags o os part kind.Quiet e is in
-    of_mark (Ended t (with_tables now now.sites now.path part.spawned) count burden tags os es) o false None k.0 k.1 (λ h.
-    let a = settles burden tags (opened false None o.outer os) es small light h in
-    let n = joined_now burden tags count (opened false None o.outer os) es t joined h in
-    tables_told burden tags count os (closed (record { spawned = false; mark = None; outer = o.outer }) es) (with_tables now now.sites now.path part.spawned) (record {
-      sites = (quiet_parts 0 nothing_open os now.sites).ends None o.outer es tt n a.sites;
+quiet_closed t now count part settles e = λ burden tags from o os es is joined small light.
+    let k = kind_of from tags o os part kind.Quiet e is in
+    of_mark (Ended t (with_tables now now.sites now.path part.spawned) count burden tags from os es) o false None k.0 k.1 (λ h.
+    let a = settles burden tags from (opened false None o.outer os) es small light h in
+    let n = joined_now burden tags from count (opened false None o.outer os) es t joined h in
+    tables_told burden tags from count os (closed (record { spawned = false; mark = None; outer = o.outer }) es) (with_tables now now.sites now.path part.spawned) (record {
+      sites = (quiet_parts (base_of from) nothing_open os now.sites).ends None o.outer es tt n a.sites;
       path = (series_need_no_call burden now.path).ends (record { spawned = false; mark = None; outer = o.outer }) os es refl n a.path;
-      regions = tags_closed burden tags false None o.outer os es now.regions tt a.regions;
-      counted = counted_closed burden count (record { spawned = false; mark = None; outer = o.outer }) os es a.counted;
+      regions = tags_closed burden tags from false None o.outer os es now.regions tt a.regions;
+      counted = counted_closed burden from count (record { spawned = false; mark = None; outer = o.outer }) os es a.counted;
       burden_is = a.burden_is;
       spawned_is = goes_on None o.outer es part.spawned is.spawned;
     }))
 
 pub region_closed : (t now : Tables) (r : RegionTable) (count tag path heavy : ℕ) (part : Part) → Settles t now count → ReadsPath now.sites path → heavy ≡ now.path.weight → regions.EndsRegion now.regions r tag count path heavy → part.kind ≡ kind.Region tag → Closes t (with_regions now r part.spawned) count part
-region_closed t now r count tag path heavy part settles reads weighs ends e = λ burden tags o os es is joined small light.
-    let k = kind_of tags o os part (kind.Region tag) e is in
-    of_mark (Ended t (with_regions now r part.spawned) count burden tags os es) o false (Some (Execution (tags.name tag))) k.0 k.2 (λ h.
+region_closed t now r count tag path heavy part settles reads weighs ends e = λ burden tags from o os es is joined small light.
+    let k = kind_of from tags o os part (kind.Region tag) e is in
+    of_mark (Ended t (with_regions now r part.spawned) count burden tags from os es) o false (Some (Execution (tags.name tag))) k.0 k.2 (λ h.
     let mark : Option Mark = Some (Execution (tags.name tag)) in
     let here = opened false mark o.outer os in
-    let a = settles burden tags here es small light h in
-    let n = joined_now burden tags count here es t joined h in
-    tables_told burden tags count os (closed (record { spawned = false; mark = mark; outer = o.outer }) es) (with_regions now r part.spawned) (record {
-      sites = (quiet_parts 0 nothing_open os now.sites).ends mark o.outer es tt n a.sites;
+    let a = settles burden tags from here es small light h in
+    let n = joined_now burden tags from count here es t joined h in
+    tables_told burden tags from count os (closed (record { spawned = false; mark = mark; outer = o.outer }) es) (with_regions now r part.spawned) (record {
+      sites = (quiet_parts (base_of from) nothing_open os now.sites).ends mark o.outer es tt n a.sites;
       path = (series_need_no_call burden now.path).ends (record { spawned = false; mark = mark; outer = o.outer }) os es refl n a.path;
       regions = record {
         along = a.regions.along;
         path_is = a.regions.path_is;
         burdened_is = a.regions.burdened_is;
         tells =
-            ends burden a.regions.along tags nothing_open os o.outer es k.1 (sym a.counted.work) (reads 0 0 nothing_open here es a.sites ∙ sym (a.regions.path_is here es))
-            (weighs ∙ a.path.shows.now_is ∙ sym (a.regions.burdened_is here es)) n (small_tags burden tags count here es small light a.counted) a.regions.tells;
+            ends burden a.regions.along tags nothing_open os o.outer es k.1 (sym a.counted.work) (reads 0 (base_of from) nothing_open here es a.sites ∙ sym (a.regions.path_is here es))
+            (weighs ∙ a.path.shows.now_is ∙ sym (a.regions.burdened_is here es)) n (small_tags burden tags from count here es small light a.counted) a.regions.tells;
       };
-      counted = counted_closed burden count (record { spawned = false; mark = mark; outer = o.outer }) os es a.counted;
+      counted = counted_closed burden from count (record { spawned = false; mark = mark; outer = o.outer }) os es a.counted;
       burden_is = a.burden_is;
       spawned_is = goes_on mark o.outer es part.spawned is.spawned;
     }))

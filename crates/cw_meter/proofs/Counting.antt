@@ -2,7 +2,7 @@
 use Rattle.std.specs.Prelude.{◌≡◌, ℕ, ◌+◌, ◌*◌, ◌≤◌, Bool, true, false, List, [], ◌∷◌, ◌++◌, length, Option}
 use Rattle.std.proofs.Common.{add-one, ap, ◌∙◌, arith}
 use Rattle.std.proofs.lemmas.Nat.{mul-le}
-use Rattle.std.proofs.Math.Nat.{suc-mul}
+use Rattle.std.proofs.Math.Nat.{add-mul, suc-mul}
 use Rattle.cw_model.specs.declared.limits.TheConstants.{MOST_LIMIT, MOST_BURDEN}
 use Rattle.cw_model.specs.Trees.{Mark, Event, Work, Series, Fork, Join, tree_of}
 use Rattle.cw_model.specs.Rows.{is_site, is_tag}
@@ -10,11 +10,12 @@ use Rattle.cw_measure.specs.OpenParts.{Open, closed}
 use Rattle.cw_measure.specs.Outermost.{is_counted, one_if, active_in}
 use Rattle.cw_measure.specs.BlockWeights.{burdened_work, burden_if, burdened_work_in}
 use Rattle.cw_measure.specs.StrandWeights.{FitsRun}
-use Rattle.cw_measure.specs.lemmas.OpenParts.{work_more, left_work}
-use Rattle.cw_measure.specs.lemmas.StrandWeights.{left_burdened_work}
+use Rattle.cw_measure.specs.lemmas.OpenParts.{work_append, work_more, left_work}
+use Rattle.cw_measure.specs.lemmas.StrandWeights.{burdened_append, left_burdened_work}
 use Rattle.cw_sites.specs.Tables.{Small}
-use Rattle.cw_sites.specs.lemmas.SiteRows.{calls_more, left_calls}
+use Rattle.cw_sites.specs.lemmas.SiteRows.{calls_append, calls_more, left_calls}
 use Rattle.cw_regions.specs.Regions.{Tags, SmallRegions}
+use Rattle.cw_meter.specs.Origins.{Origin, Main, Rest, given_open}
 use Rattle.cw_meter.specs.Meters.{IsCounted, nothing_open, ticked}
 use Rattle.cw_meter.specs.Tables.{opened}
 
@@ -53,32 +54,32 @@ one_at_most true = omega arith
 one_at_most false = omega arith
 
 -- what counts a run counts what it comes to
-pub counted_ticked : (burden count : ℕ) (os : List Open) (es : List Event) → IsCounted burden count os es → IsCounted burden (count + 1) os (ticked es)
-counted_ticked burden count os es k = record {
+pub counted_ticked : (burden : ℕ) (from : Origin) (count : ℕ) (os : List Open) (es : List Event) → IsCounted burden from count os es → IsCounted burden from (count + 1) os (ticked es)
+counted_ticked burden from count os es k = record {
   work = let a = k.work in let b = work_more os es (Work 1) in omega arith;
   calls = λ site. let a = k.calls site in let b = calls_more site os es (Work 1) in omega arith;
   opened = let a = k.opened in omega arith;
   burdened = let a = k.burdened in let b = burdened_ticked_in burden os es 1 in let c = one_more_time count (burden + 1) in omega arith;
 }
 
-pub counted_joined : (burden count : ℕ) (os : List Open) (es : List Event) → IsCounted burden count os es → IsCounted burden count os (es ++ Join ∷ [])
-counted_joined burden count os es k = record {
+pub counted_joined : (burden : ℕ) (from : Origin) (count : ℕ) (os : List Open) (es : List Event) → IsCounted burden from count os es → IsCounted burden from count os (es ++ Join ∷ [])
+counted_joined burden from count os es k = record {
   work = let a = k.work in let b = work_more os es Join in omega arith;
   calls = λ site. let a = k.calls site in let b = calls_more site os es Join in omega arith;
   opened = k.opened;
   burdened = let a = k.burdened in let b = burdened_joined_in burden os es in omega arith;
 }
 
-pub counted_opened : (burden count : ℕ) (spawned : Bool) (mark : Option Mark) (os : List Open) (es : List Event) → IsCounted burden count os es → IsCounted burden (count + 1) (opened spawned mark (ticked es) os) []
-counted_opened burden count spawned mark os es k = record {
+pub counted_opened : (burden : ℕ) (from : Origin) (count : ℕ) (spawned : Bool) (mark : Option Mark) (os : List Open) (es : List Event) → IsCounted burden from count os es → IsCounted burden from (count + 1) (opened spawned mark (ticked es) os) []
+counted_opened burden from count spawned mark os es k = record {
   work = let a = k.work in let b = work_more os es (Work 1) in omega arith;
   calls = λ site. let a = k.calls site in let b = calls_more site os es (Work 1) in let c = one_at_most (is_counted (is_site site) mark) in omega arith;
   opened = let a = k.opened in omega arith;
   burdened = let a = k.burdened in let b = burdened_ticked_in burden os es 1 in let c = one_more_time count (burden + 1) in let d = burden_at_most spawned burden in omega arith;
 }
 
-pub counted_closed : (burden count : ℕ) (o : Open) (os : List Open) (es : List Event) → IsCounted burden count (o ∷ os) es → IsCounted burden count os (closed o es)
-counted_closed burden count o os es k = record {
+pub counted_closed : (burden : ℕ) (from : Origin) (count : ℕ) (o : Open) (os : List Open) (es : List Event) → IsCounted burden from count (o ∷ os) es → IsCounted burden from count os (closed o es)
+counted_closed burden from count o os es k = record {
   work = let a = k.work in let b = left_work o os es in omega arith;
   calls = λ site. let a = k.calls site in let b = left_calls site o os es in omega arith;
   opened = let a = k.opened in omega arith;
@@ -90,21 +91,34 @@ active_at_most : (picks : Mark → Bool) (os : List Open) → active_in picks 0 
 active_at_most picks [] = omega arith
 active_at_most picks (o ∷ os) = let a = active_at_most picks os in let b = one_at_most (is_counted picks o.mark) in omega arith
 
-pub small_run : (burden count : ℕ) (os : List Open) (es : List Event) → count ≤ MOST_LIMIT → IsCounted burden count os es → Small nothing_open os es
-small_run burden count os es small k = record {
+few_given : (from : Origin) → given_open from ≤ 1
+few_given Main = omega arith
+few_given (Rest site) = omega arith
+
+pub small_run : (burden : ℕ) (from : Origin) (count : ℕ) (os : List Open) (es : List Event) → count ≤ MOST_LIMIT → IsCounted burden from count os es → Small nothing_open os es
+small_run burden from count os es small k = record {
   work = let a = k.work in omega arith;
-  calls = λ site. let a = k.calls site in omega arith;
-  active = λ site. let a = k.opened in let b = active_at_most (is_site site) os in omega arith;
+  calls = λ site. let a = k.calls site in let g = few_given from in omega arith;
+  active = λ site. let a = k.opened in let g = few_given from in let b = active_at_most (is_site site) os in omega arith;
 }
 
-pub fits_run : (burden count : ℕ) (os : List Open) (es : List Event) → count ≤ MOST_LIMIT → burden ≤ MOST_BURDEN → IsCounted burden count os es → FitsRun burden os es
-fits_run burden count os es small light k =
+pub fits_run : (burden : ℕ) (from : Origin) (count : ℕ) (os : List Open) (es : List Event) → count ≤ MOST_LIMIT → burden ≤ MOST_BURDEN → IsCounted burden from count os es → FitsRun burden os es
+fits_run burden from count os es small light k =
     let more : burden + 1 ≤ MOST_BURDEN + 1 = omega arith in
     let a = k.burdened in let b = mul-le count (burden + 1) MOST_LIMIT (MOST_BURDEN + 1) small more in omega arith
 
-pub small_tags : (burden : ℕ) (tags : Tags) (count : ℕ) (os : List Open) (es : List Event) → count ≤ MOST_LIMIT → burden ≤ MOST_BURDEN → IsCounted burden count os es → SmallRegions burden tags nothing_open os es
-small_tags burden tags count os es small light k = record {
+pub small_tags : (burden : ℕ) (tags : Tags) (from : Origin) (count : ℕ) (os : List Open) (es : List Event) → count ≤ MOST_LIMIT → burden ≤ MOST_BURDEN → IsCounted burden from count os es → SmallRegions burden tags nothing_open os es
+small_tags burden tags from count os es small light k = record {
   work = let a = k.work in omega arith;
-  burdened = fits_run burden count os es small light k;
-  active = λ number. let a = k.opened in let b = active_at_most (is_tag (tags.name number)) os in omega arith;
+  burdened = fits_run burden from count os es small light k;
+  active = λ number. let a = k.opened in let g = few_given from in let b = active_at_most (is_tag (tags.name number)) os in omega arith;
+}
+
+-- a rest that ran apart
+pub counted_rest : (burden : ℕ) (from : Origin) (count cost site : ℕ) (os : List Open) (es fs : List Event) → IsCounted burden from count os es → IsCounted burden (Rest site) cost [] fs → IsCounted burden from (count + cost) os (es ++ fs)
+counted_rest burden from count cost site os es fs k r = record {
+  work = let a = k.work in let b = r.work in let c = work_append os es fs in omega arith;
+  calls = λ q. let a = k.calls q in let b = r.calls q in let c = calls_append q os es fs in omega arith;
+  opened = let a = k.opened in omega arith;
+  burdened = let a = k.burdened in let b = r.burdened in let c = burdened_append burden os es fs in let d = add-mul count cost (burden + 1) in omega arith;
 }

@@ -4,3 +4,4 @@ pub mod Counting
 pub mod MeterLaws
 pub mod ReadingLaws
 pub mod TableLaws
+pub mod RestLaws

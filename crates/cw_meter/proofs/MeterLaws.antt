@@ -19,13 +19,14 @@ use Rattle.cw_sites.specs.Tables as sites
 use Rattle.cw_sites.specs.lemmas.SiteRows.{path_meters}
 use Rattle.cw_regions.specs.declared.table.RegionTable.{RegionTable}
 use Rattle.cw_regions.specs.Regions.{Readings, Tags, StartsRegions}
+use Rattle.cw_meter.specs.Origins.{Origin, Main, main_open}
 use Rattle.cw_meter.specs.declared.meter.Meter.{Meter}
 use Rattle.cw_meter.specs.declared.tables.Tables.{Tables}
 use Rattle.cw_meter.specs.declared.parts.PartKind.{PartKind}
 use Rattle.cw_meter.specs.declared.parts.PartKind.TheVariants as kind
 use Rattle.cw_meter.specs.declared.parts.Part.{Part}
 use Rattle.cw_meter.specs.Alike.{AreAlike, AreOpenAlike}
-use Rattle.cw_meter.specs.Meters.{Begins, BeginsRegion, Ends, Returns, Syncs, Starts, Meters, IsCounted, InstructionsNeedNoCall, TablesTell, main_open, nothing_open, ticked, synced}
+use Rattle.cw_meter.specs.Meters.{Begins, BeginsRegion, Ends, Returns, Syncs, Starts, Meters, IsCounted, InstructionsNeedNoCall, TablesTell, nothing_open, ticked, synced}
 use Rattle.cw_meter.specs.Moves.{ClosesPart, JoinsBlock, Stacks, part_in}
 use Rattle.cw_meter.specs.Parts.{AreParts, IsOfKind, IsPart}
 use Rattle.cw_meter.specs.Tables.{Closes, Opens, OpensRegion, StartsTables, opened}
@@ -34,12 +35,12 @@ use Rattle.cw_meter.proofs.Counting.{counted_opened, one_at_most, small_run}
 use Rattle.cw_meter.proofs.TableLaws.{tables_ticked, tables_told, tags_opened}
 
 pub instructions_need_no_call : InstructionsNeedNoCall
-instructions_need_no_call m count burden tags os es small light h = record {
+instructions_need_no_call m count burden tags from os es small light h = record {
   told_open = h.told_open;
   told = ticked h.told;
   open_alike = h.open_alike;
   alike = alike_more es h.told (Work 1 ∷ []) h.alike;
-  tables = tables_ticked burden tags count h.told_open h.told m.tables h.tables;
+  tables = tables_ticked burden tags from count h.told_open h.told m.tables h.tables;
   parts = h.parts;
 }
 
@@ -47,17 +48,17 @@ instructions_need_no_call m count burden tags os es small light h = record {
 reverse_push : (parts : List Part) (p : Part) → reverse (parts ++ p ∷ []) ≡ p ∷ reverse parts
 reverse_push parts p = reverse-append parts (p ∷ [])
 
-pub parts_pushed : (tags : Tags) (o : Open) (os : List Open) (p : Part) (old new : List Part) → new ≡ old ++ p ∷ [] → IsPart tags o os p → AreParts tags os (reverse old) → AreParts tags (o ∷ os) (reverse new)
-parts_pushed tags o os p old new e is h =
-    let P : List Part → Type 0 = λ x. AreParts tags (o ∷ os) x in subst P (sym (ap (λ (x : List Part). reverse x) e ∙ reverse_push old p)) (is, h)
+pub parts_pushed : (from : Origin) (tags : Tags) (o : Open) (os : List Open) (p : Part) (old new : List Part) → new ≡ old ++ p ∷ [] → IsPart from tags o os p → AreParts from tags os (reverse old) → AreParts from tags (o ∷ os) (reverse new)
+parts_pushed from tags o os p old new e is h =
+    let P : List Part → Type 0 = λ x. AreParts from tags (o ∷ os) x in subst P (sym (ap (λ (x : List Part). reverse x) e ∙ reverse_push old p)) (is, h)
 
-pub parts_popped : (tags : Tags) (o : Open) (os : List Open) (p : Part) (old new : List Part) → old ≡ new ++ p ∷ [] → AreParts tags (o ∷ os) (reverse old) → IsPart tags o os p × AreParts tags os (reverse new)
-parts_popped tags o os p old new e h =
-    let P : List Part → Type 0 = λ x. AreParts tags (o ∷ os) x in
+pub parts_popped : (from : Origin) (tags : Tags) (o : Open) (os : List Open) (p : Part) (old new : List Part) → old ≡ new ++ p ∷ [] → AreParts from tags (o ∷ os) (reverse old) → IsPart from tags o os p × AreParts from tags os (reverse new)
+parts_popped from tags o os p old new e h =
+    let P : List Part → Type 0 = λ x. AreParts from tags (o ∷ os) x in
     let a = subst P (ap (λ (x : List Part). reverse x) e ∙ reverse_push new p) h in (a.0, a.1)
 
-no_parts : (tags : Tags) (o : Open) (os : List Open) (parts : List Part) → parts ≡ [] → AreParts tags (o ∷ os) (reverse parts) → ⊥
-no_parts tags o os parts e h = let P : List Part → Type 0 = λ x. AreParts tags (o ∷ os) (reverse x) in subst P e h
+no_parts : (from : Origin) (tags : Tags) (o : Open) (os : List Open) (parts : List Part) → parts ≡ [] → AreParts from tags (o ∷ os) (reverse parts) → ⊥
+no_parts from tags o os parts e h = let P : List Part → Type 0 = λ x. AreParts from tags (o ∷ os) (reverse x) in subst P e h
 
 -- a run begins
 pub tables_start : (burden : ℕ) (empty s : SiteTable) (p : BurdenedPath) (r : RegionTable) → sites.Tells 0 (λ q. 0) [] [] empty → Enters empty s 0 0 → ((b : ℕ) → TellsWeight b [] [] p) → StartsRegions r → StartsTables burden (record { sites = s; path = p; regions = r; burden = burden; spawned = false })
@@ -65,12 +66,12 @@ tables_start burden empty s p r told enters weighs starts = λ tags.
     let t : Tables = record { sites = s; path = p; regions = r; burden = burden; spawned = false } in
     let mark : Option Mark = Some (Invocation 0) in
     let along : Readings burden = record { path = path_in 0 0; burdened = weight_in burden; path_is = path_meters 0 0; burdened_is = weight_meters burden } in
-    let k : IsCounted burden 0 main_open [] = record { work = omega arith; calls = λ site. let a = one_at_most (is_counted (is_site site) mark) in omega arith; opened = omega arith; burdened = omega arith } in
+    let k : IsCounted burden Main 0 main_open [] = record { work = omega arith; calls = λ site. let a = one_at_most (is_counted (is_site site) mark) in omega arith; opened = omega arith; burdened = omega arith } in
     let n = told.noted_is in
-    tables_told burden tags 0 main_open [] t (record {
-      sites = enters 0 nothing_open [] [] [] (record { goes_on = omega arith; instructions = omega arith }) (small_run burden 0 main_open [] (omega arith) k) told;
+    tables_told burden tags Main 0 main_open [] t (record {
+      sites = enters 0 nothing_open [] [] [] (record { goes_on = omega arith; instructions = omega arith }) (small_run burden Main 0 main_open [] (omega arith) k) told;
       path = (series_need_no_call burden p).begins mark [] [] (weighs burden);
-      regions = tags_opened burden tags false mark [] [] r tt (record { along = along; path_is = λ qs fs. refl; burdened_is = λ qs fs. refl; tells = starts burden along tags });
+      regions = tags_opened burden tags Main false mark [] [] r tt (record { along = along; path_is = λ qs fs. refl; burdened_is = λ qs fs. refl; tells = starts burden along tags });
       counted = k;
       burden_is = refl;
       spawned_is = refl;
@@ -83,16 +84,16 @@ meter_starts burden m starts e = λ tags. record {
   open_alike = (refl, refl, alike_itself [], tt);
   alike = alike_itself [];
   tables = starts tags;
-  parts = parts_pushed tags (record { spawned = false; mark = Some (Invocation 0); outer = [] }) [] (record { kind = kind.Call; site = 0; spawned = false }) [] m.parts.items e (record { kind = (refl, (0, refl)); site = refl; spawned = refl }) tt;
+  parts = parts_pushed Main tags (record { spawned = false; mark = Some (Invocation 0); outer = [] }) [] (record { kind = kind.Call; site = 0; spawned = false }) [] m.parts.items e (record { kind = (refl, (0, refl)); site = refl; spawned = refl }) tt;
 }
 
 -- a part begins
-part_stacked : (burden : ℕ) (tags : Tags) (count : ℕ) (spawned : Bool) (mark : Option Mark) (os : List Open) (es : List Event) (old mid : Meter) (k : PartKind) → Stacks old mid k → IsOfKind tags (record { spawned = spawned; mark = mark; outer = ticked es }) k → TablesTell burden tags count os es old.tables → AreParts tags os (reverse old.parts.items) → AreParts tags (opened spawned mark (ticked es) os) (reverse mid.parts.items)
-part_stacked burden tags count spawned mark os es old mid k stacks is h parts =
-    parts_pushed tags (record { spawned = spawned; mark = mark; outer = ticked es }) os (part_in k old.tables) old.parts.items mid.parts.items stacks.pushed (record { kind = is; site = h.sites.here_is; spawned = h.spawned_is ∙ sym (has_spawned-work es 1) }) parts
+part_stacked : (burden : ℕ) (tags : Tags) (from : Origin) (count : ℕ) (spawned : Bool) (mark : Option Mark) (os : List Open) (es : List Event) (old mid : Meter) (k : PartKind) → Stacks old mid k → IsOfKind tags (record { spawned = spawned; mark = mark; outer = ticked es }) k → TablesTell burden tags from count os es old.tables → AreParts from tags os (reverse old.parts.items) → AreParts from tags (opened spawned mark (ticked es) os) (reverse mid.parts.items)
+part_stacked burden tags from count spawned mark os es old mid k stacks is h parts =
+    parts_pushed from tags (record { spawned = spawned; mark = mark; outer = ticked es }) os (part_in k old.tables) old.parts.items mid.parts.items stacks.pushed (record { kind = is; site = h.sites.here_is; spawned = h.spawned_is ∙ sym (has_spawned-work es 1) }) parts
 
 pub meter_begins : (old mid : Meter) (t : Tables) (count next : ℕ) (k : PartKind) (spawned : Bool) (mark : Option Mark) → Stacks old mid k → Opens mid.tables t next spawned mark → ((tags : Tags) (outer : List Event) → IsOfKind tags (record { spawned = spawned; mark = mark; outer = outer }) k) → (count < MOST_LIMIT → next ≡ count + 1) → Begins old (record { tables = t; parts = mid.parts }) count spawned mark
-meter_begins old mid t count next k spawned mark stacks opens is sat = λ burden tags os es small light h.
+meter_begins old mid t count next k spawned mark stacks opens is sat = λ burden tags from os es small light h.
     let N : ℕ → Type 0 = λ x. Opens mid.tables t x spawned mark in
     let T : Tables → Type 0 = λ x. Opens x t (count + 1) spawned mark in
     let opens_old = subst T stacks.tables (subst N (sat small) opens) in
@@ -102,12 +103,12 @@ meter_begins old mid t count next k spawned mark stacks opens is sat = λ burden
       told = [];
       open_alike = (refl, refl, alike_more es h.told (Work 1 ∷ []) h.alike, h.open_alike);
       alike = alike_itself [];
-      tables = opens_old burden tags h.told_open (ticked h.told) (counted_opened burden count spawned mark h.told_open h.told h.tables.counted) within light (tables_ticked burden tags count h.told_open h.told old.tables h.tables);
-      parts = part_stacked burden tags count spawned mark h.told_open h.told old mid k stacks (is tags (ticked h.told)) h.tables h.parts;
+      tables = opens_old burden tags from h.told_open (ticked h.told) (counted_opened burden from count spawned mark h.told_open h.told h.tables.counted) within light (tables_ticked burden tags from count h.told_open h.told old.tables h.tables);
+      parts = part_stacked burden tags from count spawned mark h.told_open h.told old mid k stacks (is tags (ticked h.told)) h.tables h.parts;
     }
 
 pub meter_begins_region : (old mid : Meter) (t : Tables) (count next tag : ℕ) → Stacks old mid (kind.Region tag) → OpensRegion mid.tables t next tag → (count < MOST_LIMIT → next ≡ count + 1) → BeginsRegion old (record { tables = t; parts = mid.parts }) count tag
-meter_begins_region old mid t count next tag stacks opens sat = λ burden tags os es known small light h.
+meter_begins_region old mid t count next tag stacks opens sat = λ burden tags from os es known small light h.
     let N : ℕ → Type 0 = λ x. OpensRegion mid.tables t x tag in
     let T : Tables → Type 0 = λ x. OpensRegion x t (count + 1) tag in
     let mark : Option Mark = Some (Execution (tags.name tag)) in
@@ -118,8 +119,8 @@ meter_begins_region old mid t count next tag stacks opens sat = λ burden tags o
       told = [];
       open_alike = (refl, refl, alike_more es h.told (Work 1 ∷ []) h.alike, h.open_alike);
       alike = alike_itself [];
-      tables = opens_old burden tags h.told_open (ticked h.told) known (counted_opened burden count false mark h.told_open h.told h.tables.counted) within light (tables_ticked burden tags count h.told_open h.told old.tables h.tables);
-      parts = part_stacked burden tags count false mark h.told_open h.told old mid (kind.Region tag) stacks (refl, known, refl) h.tables h.parts;
+      tables = opens_old burden tags from h.told_open (ticked h.told) known (counted_opened burden from count false mark h.told_open h.told h.tables.counted) within light (tables_ticked burden tags from count h.told_open h.told old.tables h.tables);
+      parts = part_stacked burden tags from count false mark h.told_open h.told old mid (kind.Region tag) stacks (refl, known, refl) h.tables h.parts;
     }
 
 -- the block that runs joins
@@ -127,58 +128,58 @@ synced_alike : (es fs : List Event) → AreAlike es fs → AreAlike (synced es) 
 synced_alike es fs h =
     let P : List Event → Type 0 = λ x. AreAlike (synced es) x in subst P (sym (append_twice fs (Join ∷ []) (Work 1 ∷ []))) (alike_more es fs (Join ∷ Work 1 ∷ []) h)
 
-same_parts : (tags : Tags) (os : List Open) (old new : List Part) → new ≡ old → AreParts tags os (reverse old) → AreParts tags os (reverse new)
-same_parts tags os old new e h = let P : List Part → Type 0 = λ x. AreParts tags os (reverse x) in subst P (sym e) h
+same_parts : (from : Origin) (tags : Tags) (os : List Open) (old new : List Part) → new ≡ old → AreParts from tags os (reverse old) → AreParts from tags os (reverse new)
+same_parts from tags os old new e h = let P : List Part → Type 0 = λ x. AreParts from tags os (reverse x) in subst P (sym e) h
 
 pub meter_syncs : (old new : Meter) (count : ℕ) → JoinsBlock old new count → new.parts.items ≡ old.parts.items → Syncs old new count
-meter_syncs old new count joins e = λ burden tags os es small light h.
+meter_syncs old new count joins e = λ burden tags from os es small light h.
     let within : count ≤ MOST_LIMIT = omega arith in
     record {
       told_open = h.told_open;
       told = ticked (h.told ++ Join ∷ []);
       open_alike = h.open_alike;
       alike = synced_alike es h.told h.alike;
-      tables = tables_ticked burden tags count h.told_open (h.told ++ Join ∷ []) new.tables (joins burden tags h.told_open h.told within light h.tables);
-      parts = same_parts tags h.told_open old.parts.items new.parts.items e h.parts;
+      tables = tables_ticked burden tags from count h.told_open (h.told ++ Join ∷ []) new.tables (joins burden tags from h.told_open h.told within light h.tables);
+      parts = same_parts from tags h.told_open old.parts.items new.parts.items e h.parts;
     }
 
 -- the innermost part ends
-pub part_closed : (old : Meter) (left : List Part) (part : Part) (t : Tables) (count : ℕ) → Closes old.tables t count part → old.parts.items ≡ left ++ part ∷ [] → (burden : ℕ) (tags : Tags) (o : Open) (os : List Open) (es : List Event) → old.tables.spawned ≡ false → AreParts tags (o ∷ os) (reverse old.parts.items) → count ≤ MOST_LIMIT → burden ≤ MOST_BURDEN → TablesTell burden tags count (o ∷ os) es old.tables → TablesTell burden tags count os (closed o es) t × AreParts tags os (reverse left)
-part_closed old left part t count closes e = λ burden tags o os es joined parts small light h.
-    let a = parts_popped tags o os part old.parts.items left e parts in (closes burden tags o os es a.0 joined small light h, a.1)
+pub part_closed : (old : Meter) (left : List Part) (part : Part) (t : Tables) (count : ℕ) → Closes old.tables t count part → old.parts.items ≡ left ++ part ∷ [] → (burden : ℕ) (tags : Tags) (from : Origin) (o : Open) (os : List Open) (es : List Event) → old.tables.spawned ≡ false → AreParts from tags (o ∷ os) (reverse old.parts.items) → count ≤ MOST_LIMIT → burden ≤ MOST_BURDEN → TablesTell burden tags from count (o ∷ os) es old.tables → TablesTell burden tags from count os (closed o es) t × AreParts from tags os (reverse left)
+part_closed old left part t count closes e = λ burden tags from o os es joined parts small light h.
+    let a = parts_popped from tags o os part old.parts.items left e parts in (closes burden tags from o os es a.0 joined small light h, a.1)
 
 none_of : (parts : List Part) → length parts ≡ 0 → parts ≡ []
 none_of [] e = refl
 none_of (p ∷ parts) e = absurd (omega arith)
 
 pub nothing_closed : (old new : Meter) (count : ℕ) → length old.parts.items ≡ 0 → ClosesPart old new count
-nothing_closed old new count e = λ burden tags o os es joined parts small light h. absurd (no_parts tags o os old.parts.items (none_of old.parts.items e) parts)
+nothing_closed old new count e = λ burden tags from o os es joined parts small light h. absurd (no_parts from tags o os old.parts.items (none_of old.parts.items e) parts)
 
-ended_in : (old mid new : Meter) (count : ℕ) → JoinsBlock old mid count → mid.tables.spawned ≡ false → mid.parts.items ≡ old.parts.items → ClosesPart mid new count → (burden : ℕ) (tags : Tags) (o : Open) (os : List Open) (es : List Event) (opens : List Open) (events : List Event) → count < MOST_LIMIT → burden ≤ MOST_BURDEN → AreOpenAlike (o ∷ os) opens → AreAlike es events → TablesTell burden tags count opens events old.tables → AreParts tags opens (reverse old.parts.items) → Meters burden tags (count + 1) os (ticked (closed o es)) new
-ended_in old mid new count joins joined e closes burden tags o os es [] events small light alike_open alike h parts = absurd alike_open
-ended_in old mid new count joins joined e closes burden tags o os es (p ∷ ps) events small light alike_open alike h parts =
+ended_in : (old mid new : Meter) (count : ℕ) → JoinsBlock old mid count → mid.tables.spawned ≡ false → mid.parts.items ≡ old.parts.items → ClosesPart mid new count → (burden : ℕ) (tags : Tags) (from : Origin) (o : Open) (os : List Open) (es : List Event) (opens : List Open) (events : List Event) → count < MOST_LIMIT → burden ≤ MOST_BURDEN → AreOpenAlike (o ∷ os) opens → AreAlike es events → TablesTell burden tags from count opens events old.tables → AreParts from tags opens (reverse old.parts.items) → Meters burden tags from (count + 1) os (ticked (closed o es)) new
+ended_in old mid new count joins joined e closes burden tags from o os es [] events small light alike_open alike h parts = absurd alike_open
+ended_in old mid new count joins joined e closes burden tags from o os es (p ∷ ps) events small light alike_open alike h parts =
     let within : count ≤ MOST_LIMIT = omega arith in
-    let c = closes burden tags p ps (events ++ Join ∷ []) joined (same_parts tags (p ∷ ps) old.parts.items mid.parts.items e parts) within light (joins burden tags (p ∷ ps) events within light h) in
+    let c = closes burden tags from p ps (events ++ Join ∷ []) joined (same_parts from tags (p ∷ ps) old.parts.items mid.parts.items e parts) within light (joins burden tags from (p ∷ ps) events within light h) in
     record {
       told_open = ps;
       told = ticked (closed p (events ++ Join ∷ []));
       open_alike = alike_open.3;
       alike = alike_more (closed o es) (closed p (events ++ Join ∷ [])) (Work 1 ∷ []) (alike_closed o p es (events ++ Join ∷ []) alike_open.0 alike_open.1 alike_open.2 (alike_joined es events alike));
-      tables = tables_ticked burden tags count ps (closed p (events ++ Join ∷ [])) new.tables c.0;
+      tables = tables_ticked burden tags from count ps (closed p (events ++ Join ∷ [])) new.tables c.0;
       parts = c.1;
     }
 
 pub meter_ends : (old mid new : Meter) (count : ℕ) → JoinsBlock old mid count → mid.tables.spawned ≡ false → mid.parts.items ≡ old.parts.items → ClosesPart mid new count → Ends old new count
-meter_ends old mid new count joins joined e closes = λ burden tags o os es series small light h.
-    ended_in old mid new count joins joined e closes burden tags o os es h.told_open h.told small light h.open_alike h.alike h.tables h.parts
+meter_ends old mid new count joins joined e closes = λ burden tags from o os es series small light h.
+    ended_in old mid new count joins joined e closes burden tags from o os es h.told_open h.told small light h.open_alike h.alike h.tables h.parts
 
-returned_in : (old mid new : Meter) (count : ℕ) → JoinsBlock old mid count → mid.tables.spawned ≡ false → mid.parts.items ≡ old.parts.items → ClosesPart mid new (count + 1) → (burden : ℕ) (tags : Tags) (o : Open) (os : List Open) (es : List Event) (opens : List Open) (events : List Event) → count < MOST_LIMIT → burden ≤ MOST_BURDEN → AreOpenAlike (o ∷ os) opens → AreAlike es events → TablesTell burden tags count opens events old.tables → AreParts tags opens (reverse old.parts.items) → Meters burden tags (count + 1) os (closed o (synced es)) new
-returned_in old mid new count joins joined e closes burden tags o os es [] events small light alike_open alike h parts = absurd alike_open
-returned_in old mid new count joins joined e closes burden tags o os es (p ∷ ps) events small light alike_open alike h parts =
+returned_in : (old mid new : Meter) (count : ℕ) → JoinsBlock old mid count → mid.tables.spawned ≡ false → mid.parts.items ≡ old.parts.items → ClosesPart mid new (count + 1) → (burden : ℕ) (tags : Tags) (from : Origin) (o : Open) (os : List Open) (es : List Event) (opens : List Open) (events : List Event) → count < MOST_LIMIT → burden ≤ MOST_BURDEN → AreOpenAlike (o ∷ os) opens → AreAlike es events → TablesTell burden tags from count opens events old.tables → AreParts from tags opens (reverse old.parts.items) → Meters burden tags from (count + 1) os (closed o (synced es)) new
+returned_in old mid new count joins joined e closes burden tags from o os es [] events small light alike_open alike h parts = absurd alike_open
+returned_in old mid new count joins joined e closes burden tags from o os es (p ∷ ps) events small light alike_open alike h parts =
     let before : count ≤ MOST_LIMIT = omega arith in
     let within : count + 1 ≤ MOST_LIMIT = omega arith in
     let all = ticked (events ++ Join ∷ []) in
-    let c = closes burden tags p ps all joined (same_parts tags (p ∷ ps) old.parts.items mid.parts.items e parts) within light (tables_ticked burden tags count (p ∷ ps) (events ++ Join ∷ []) mid.tables (joins burden tags (p ∷ ps) events before light h)) in
+    let c = closes burden tags from p ps all joined (same_parts from tags (p ∷ ps) old.parts.items mid.parts.items e parts) within light (tables_ticked burden tags from count (p ∷ ps) (events ++ Join ∷ []) mid.tables (joins burden tags from (p ∷ ps) events before light h)) in
     record {
       told_open = ps;
       told = closed p all;
@@ -189,6 +190,6 @@ returned_in old mid new count joins joined e closes burden tags o os es (p ∷ p
     }
 
 pub meter_returns : (old mid new : Meter) (count next : ℕ) → JoinsBlock old mid count → mid.tables.spawned ≡ false → mid.parts.items ≡ old.parts.items → ClosesPart mid new next → (count < MOST_LIMIT → next ≡ count + 1) → Returns old new count
-meter_returns old mid new count next joins joined e closes sat = λ burden tags o os es small light h.
+meter_returns old mid new count next joins joined e closes sat = λ burden tags from o os es small light h.
     let N : ℕ → Type 0 = λ x. ClosesPart mid new x in
-    returned_in old mid new count joins joined e (subst N (sat small) closes) burden tags o os es h.told_open h.told small light h.open_alike h.alike h.tables h.parts
+    returned_in old mid new count joins joined e (subst N (sat small) closes) burden tags from o os es h.told_open h.told small light h.open_alike h.alike h.tables h.parts

@@ -26,6 +26,7 @@ use Rattle.cw_meter.specs.declared.meter.Meter.{Meter}
 use Rattle.cw_meter.specs.declared.meter.Measures.{Measures}
 use Rattle.cw_meter.specs.declared.tables.Tables.{Tables}
 use Rattle.cw_meter.specs.Alike.{AreAlike, AreOpenAlike}
+use Rattle.cw_meter.specs.Origins.{Main}
 use Rattle.cw_meter.specs.Meters.{AreTold, nothing_open}
 use Rattle.cw_meter.specs.Moves.{ListsRegions, ListsSites}
 use Rattle.cw_meter.specs.Tables.{Settles}
@@ -88,7 +89,7 @@ same_region : (row : region.RegionRow) (a b : model.RegionRow) → b ≡ a → r
 same_region row a b e h = let P : model.RegionRow → Type 0 = λ x. regions.IsRow row x in subst P (sym e) h
 
 -- all that is read of a run that has been told
-measures_told : (burden count sites : ℕ) (by_number : Tags) (names : List Name) (t : Tables) (whole : Tree) (es : List Event) (all : Measures) → count ≤ MOST_LIMIT → burden ≤ MOST_BURDEN → HasNames by_number names → AreTold burden by_number count [] es t → has_spawned es ≡ false → ReadSame whole (tree_of es) → all.measure.work ≡ count → ReadsPath t.sites all.measure.span → ReadsWeight t.path all.measure.burdened → ListsSites t sites all.sites.items → ListsRegions t (length names) all.regions.items → AreMeasures burden sites names whole all
+measures_told : (burden count sites : ℕ) (by_number : Tags) (names : List Name) (t : Tables) (whole : Tree) (es : List Event) (all : Measures) → count ≤ MOST_LIMIT → burden ≤ MOST_BURDEN → HasNames by_number names → AreTold burden by_number Main count [] es t → has_spawned es ≡ false → ReadSame whole (tree_of es) → all.measure.work ≡ count → ReadsPath t.sites all.measure.span → ReadsWeight t.path all.measure.burdened → ListsSites t sites all.sites.items → ListsRegions t (length names) all.regions.items → AreMeasures burden sites names whole all
 measures_told burden count most by_number names t whole es all small light named a n r work path heavy rows tags = record {
   measure = record {
     work = work ∙ sym a.counted.work ∙ sym r.same_work;
@@ -97,7 +98,7 @@ measures_told burden count most by_number names t whole es all small light named
   };
   sites = record {
     as_many = rows.as_many;
-    are = λ number row at. same_site row (model.site_row number (tree_of es)) (model.site_row number whole) (r.same_site_row number) (rows.are number row at nothing_open es refl n (small_run burden count [] es small a.counted) a.sites);
+    are = λ number row at. same_site row (model.site_row number (tree_of es)) (model.site_row number whole) (r.same_site_row number) (rows.are number row at nothing_open es refl n (small_run burden Main count [] es small a.counted) a.sites);
   };
   regions = record {
     as_many = tags.as_many;
@@ -114,7 +115,7 @@ measures_told burden count most by_number names t whole es all small light named
 pub meter_reads : (m : Meter) (t : Tables) (count sites tags : ℕ) (all : Measures) → Settles m.tables t count → all.measure.work ≡ count → ReadsPath t.sites all.measure.span → ReadsWeight t.path all.measure.burdened → ListsSites t sites all.sites.items → ListsRegions t tags all.regions.items → Reads m count sites tags all
 meter_reads m t count sites tags all settles work path heavy rows regions_are = λ burden by_number names es small light named many h.
     let whole = Marked (Invocation 0) (tree_of es) in
-    let O : List Open → Type 0 = λ x. AreTold burden by_number count x h.told t in
+    let O : List Open → Type 0 = λ x. AreTold burden by_number Main count x h.told t in
     let L : ℕ → Type 0 = λ x. ListsRegions t x all.regions.items in
-    let a = subst O (nothing_alike h.told_open h.open_alike) (settles burden by_number h.told_open h.told small light h.tables) in
+    let a = subst O (nothing_alike h.told_open h.open_alike) (settles burden by_number Main h.told_open h.told small light h.tables) in
     measures_told burden count sites by_number names t (normal whole) h.told all small light named a (sym h.alike.spawned) (same_readings (normal whole) (tree_of h.told) (whole_tree whole h.told h.alike)) work path heavy rows (subst L (sym many) regions_are)

@@ -16,6 +16,7 @@ use Rattle.cw_regions.specs.declared.table.RegionTable.{RegionTable}
 use Rattle.cw_regions.specs.Regions.{Readings, Tags, TellsRegions, StartsRegions, IsNoExecution, SmallRegions}
 use Rattle.cw_regions.specs.Regions as regions
 use Rattle.cw_regions.specs.lemmas.Regions.{regions_need_no_call}
+use Rattle.cw_meter.specs.Origins.{Origin, base_of}
 use Rattle.cw_meter.specs.declared.tables.Tables.{Tables}
 use Rattle.cw_meter.specs.Meters.{AreTold, TablesTell, TellsTags, nothing_open, ticked}
 use Rattle.cw_meter.specs.Tables.{JoinsSpawned, Opens, OpensRegion, Settles, opened}
@@ -44,29 +45,29 @@ since_join b (Series t ∷ fs) k e s = absurd s
 since_join b (Fork t ∷ fs) k e s = absurd s
 
 -- the tags, as the run goes on
-tags_ticked : (burden : ℕ) (tags : Tags) (os : List Open) (es : List Event) (r : RegionTable) (k : ℕ) → TellsTags burden tags os es r → TellsTags burden tags os (es ++ Work k ∷ []) r
-tags_ticked burden tags os es r k h = record { along = h.along; path_is = h.path_is; burdened_is = h.burdened_is; tells = (regions_need_no_call burden h.along tags nothing_open os r).work es k h.tells }
+tags_ticked : (burden : ℕ) (tags : Tags) (from : Origin) (os : List Open) (es : List Event) (r : RegionTable) (k : ℕ) → TellsTags burden tags from os es r → TellsTags burden tags from os (es ++ Work k ∷ []) r
+tags_ticked burden tags from os es r k h = record { along = h.along; path_is = h.path_is; burdened_is = h.burdened_is; tells = (regions_need_no_call burden h.along tags nothing_open os r).work es k h.tells }
 
-tags_joined : (burden : ℕ) (tags : Tags) (os : List Open) (es : List Event) (r : RegionTable) → TellsTags burden tags os es r → TellsTags burden tags os (es ++ Join ∷ []) r
-tags_joined burden tags os es r h = record { along = h.along; path_is = h.path_is; burdened_is = h.burdened_is; tells = (regions_need_no_call burden h.along tags nothing_open os r).join es h.tells }
+tags_joined : (burden : ℕ) (tags : Tags) (from : Origin) (os : List Open) (es : List Event) (r : RegionTable) → TellsTags burden tags from os es r → TellsTags burden tags from os (es ++ Join ∷ []) r
+tags_joined burden tags from os es r h = record { along = h.along; path_is = h.path_is; burdened_is = h.burdened_is; tells = (regions_need_no_call burden h.along tags nothing_open os r).join es h.tells }
 
-pub tags_opened : (burden : ℕ) (tags : Tags) (spawned : Bool) (mark : Option Mark) (os : List Open) (es : List Event) (r : RegionTable) → IsNoExecution mark → TellsTags burden tags os es r → TellsTags burden tags (opened spawned mark es os) [] r
-tags_opened burden tags spawned mark os es r quiet h = record { along = h.along; path_is = h.path_is; burdened_is = h.burdened_is; tells = (regions_need_no_call burden h.along tags nothing_open os r).begins (record { spawned = spawned; mark = mark; outer = es }) quiet h.tells }
+pub tags_opened : (burden : ℕ) (tags : Tags) (from : Origin) (spawned : Bool) (mark : Option Mark) (os : List Open) (es : List Event) (r : RegionTable) → IsNoExecution mark → TellsTags burden tags from os es r → TellsTags burden tags from (opened spawned mark es os) [] r
+tags_opened burden tags from spawned mark os es r quiet h = record { along = h.along; path_is = h.path_is; burdened_is = h.burdened_is; tells = (regions_need_no_call burden h.along tags nothing_open os r).begins (record { spawned = spawned; mark = mark; outer = es }) quiet h.tells }
 
-pub tags_closed : (burden : ℕ) (tags : Tags) (spawned : Bool) (mark : Option Mark) (before : List Event) (os : List Open) (es : List Event) (r : RegionTable) → IsNoExecution mark → TellsTags burden tags (opened spawned mark before os) es r → TellsTags burden tags os (closed (record { spawned = spawned; mark = mark; outer = before }) es) r
-tags_closed burden tags spawned mark before os es r quiet h = record { along = h.along; path_is = h.path_is; burdened_is = h.burdened_is; tells = (regions_need_no_call burden h.along tags nothing_open os r).ends (record { spawned = spawned; mark = mark; outer = before }) es quiet h.tells }
+pub tags_closed : (burden : ℕ) (tags : Tags) (from : Origin) (spawned : Bool) (mark : Option Mark) (before : List Event) (os : List Open) (es : List Event) (r : RegionTable) → IsNoExecution mark → TellsTags burden tags from (opened spawned mark before os) es r → TellsTags burden tags from os (closed (record { spawned = spawned; mark = mark; outer = before }) es) r
+tags_closed burden tags from spawned mark before os es r quiet h = record { along = h.along; path_is = h.path_is; burdened_is = h.burdened_is; tells = (regions_need_no_call burden h.along tags nothing_open os r).ends (record { spawned = spawned; mark = mark; outer = before }) es quiet h.tells }
 
 -- whether what has been told has spawned
-pub told_spawned : (burden : ℕ) (tags : Tags) (count : ℕ) (os : List Open) (es : List Event) (t : Tables) (h : TablesTell burden tags count os es t) → has_spawned h.told ≡ t.spawned
-told_spawned burden tags count os es t h =
+pub told_spawned : (burden : ℕ) (tags : Tags) (from : Origin) (count : ℕ) (os : List Open) (es : List Event) (t : Tables) (h : TablesTell burden tags from count os es t) → has_spawned h.told ≡ t.spawned
+told_spawned burden tags from count os es t h =
     sym (has_spawned_since h.told h.since (count - work_in os h.told) h.waits.instructions) ∙ ap has_spawned_of h.all ∙ sym h.spawned_is
   where
     has_spawned_of : List Event → Bool
     has_spawned_of x = has_spawned x
 
 -- an instruction, and a join of a block that has spawned nothing, need no call
-pub tables_ticked : (burden : ℕ) (tags : Tags) (count : ℕ) (os : List Open) (es : List Event) (t : Tables) → TablesTell burden tags count os es t → TablesTell burden tags (count + 1) os (ticked es) t
-tables_ticked burden tags count os es t h = record {
+pub tables_ticked : (burden : ℕ) (tags : Tags) (from : Origin) (count : ℕ) (os : List Open) (es : List Event) (t : Tables) → TablesTell burden tags from count os es t → TablesTell burden tags from (count + 1) os (ticked es) t
+tables_ticked burden tags from count os es t h = record {
   told = h.told;
   since = h.since ++ Work 1 ∷ [];
   all = more_is h.told h.since (Work 1 ∷ []) es h.all;
@@ -77,32 +78,32 @@ tables_ticked burden tags count os es t h = record {
       record { goes_on = omega arith; instructions = subst P e (since_work (has_spawned h.told) h.since (count - work_in os h.told) 1 h.waits.instructions) };
   sites = h.sites;
   path = h.path;
-  regions = tags_ticked burden tags os es t.regions 1 h.regions;
-  counted = counted_ticked burden count os es h.counted;
+  regions = tags_ticked burden tags from os es t.regions 1 h.regions;
+  counted = counted_ticked burden from count os es h.counted;
   burden_is = h.burden_is;
   spawned_is = h.spawned_is ∙ sym (has_spawned-work es 1);
 }
 
-pub tables_unspawned : (burden : ℕ) (tags : Tags) (count : ℕ) (os : List Open) (es : List Event) (t : Tables) → t.spawned ≡ false → TablesTell burden tags count os es t → TablesTell burden tags count os (es ++ Join ∷ []) t
-tables_unspawned burden tags count os es t e h = record {
+pub tables_unspawned : (burden : ℕ) (tags : Tags) (from : Origin) (count : ℕ) (os : List Open) (es : List Event) (t : Tables) → t.spawned ≡ false → TablesTell burden tags from count os es t → TablesTell burden tags from count os (es ++ Join ∷ []) t
+tables_unspawned burden tags from count os es t e h = record {
   told = h.told;
   since = h.since ++ Join ∷ [];
   all = more_is h.told h.since (Join ∷ []) es h.all;
   waits = record {
     goes_on = h.waits.goes_on;
-    instructions = since_join (has_spawned h.told) h.since (count - work_in os h.told) (told_spawned burden tags count os es t h ∙ e) h.waits.instructions;
+    instructions = since_join (has_spawned h.told) h.since (count - work_in os h.told) (told_spawned burden tags from count os es t h ∙ e) h.waits.instructions;
   };
   sites = h.sites;
   path = h.path;
-  regions = tags_joined burden tags os es t.regions h.regions;
-  counted = counted_joined burden count os es h.counted;
+  regions = tags_joined burden tags from os es t.regions h.regions;
+  counted = counted_joined burden from count os es h.counted;
   burden_is = h.burden_is;
   spawned_is = e ∙ sym (spawned_append false es (Join ∷ []));
 }
 
 -- what has all been told tells
-pub tables_told : (burden : ℕ) (tags : Tags) (count : ℕ) (os : List Open) (es : List Event) (t : Tables) → AreTold burden tags count os es t → TablesTell burden tags count os es t
-tables_told burden tags count os es t h = record {
+pub tables_told : (burden : ℕ) (tags : Tags) (from : Origin) (count : ℕ) (os : List Open) (es : List Event) (t : Tables) → AreTold burden tags from count os es t → TablesTell burden tags from count os es t
+tables_told burden tags from count os es t h = record {
   told = es;
   since = [];
   all = append_none es;
@@ -116,22 +117,22 @@ tables_told burden tags count os es t h = record {
 }
 
 -- what each table is owed
-pub sites_since : (burden : ℕ) (tags : Tags) (count : ℕ) (os : List Open) (es : List Event) (t : Tables) (h : TablesTell burden tags count os es t) → Since t.sites.noted count h.told h.since
-sites_since burden tags count os es t h = let P : ℕ → Type 0 = λ x. Since x count h.told h.since in subst P (sym h.sites.noted_is) h.waits
+pub sites_since : (burden : ℕ) (tags : Tags) (from : Origin) (count : ℕ) (os : List Open) (es : List Event) (t : Tables) (h : TablesTell burden tags from count os es t) → Since t.sites.noted count h.told h.since
+sites_since burden tags from count os es t h = let P : ℕ → Type 0 = λ x. Since x count h.told h.since in subst P (sym h.sites.noted_is) h.waits
 
-pub path_since : (burden : ℕ) (tags : Tags) (count : ℕ) (os : List Open) (es : List Event) (t : Tables) (h : TablesTell burden tags count os es t) → Since t.path.noted count h.told h.since
-path_since burden tags count os es t h = let P : ℕ → Type 0 = λ x. Since x count h.told h.since in subst P (sym h.path.noted_is) h.waits
+pub path_since : (burden : ℕ) (tags : Tags) (from : Origin) (count : ℕ) (os : List Open) (es : List Event) (t : Tables) (h : TablesTell burden tags from count os es t) → Since t.path.noted count h.told h.since
+path_since burden tags from count os es t h = let P : ℕ → Type 0 = λ x. Since x count h.told h.since in subst P (sym h.path.noted_is) h.waits
 
-pub told_small : (burden : ℕ) (tags : Tags) (count : ℕ) (os : List Open) (es : List Event) (t : Tables) (h : TablesTell burden tags count os es t) → count ≤ MOST_LIMIT → Small nothing_open os (h.told ++ h.since)
-told_small burden tags count os es t h small = let P : List Event → Type 0 = λ x. Small nothing_open os x in subst P (sym h.all) (small_run burden count os es small h.counted)
+pub told_small : (burden : ℕ) (tags : Tags) (from : Origin) (count : ℕ) (os : List Open) (es : List Event) (t : Tables) (h : TablesTell burden tags from count os es t) → count ≤ MOST_LIMIT → Small nothing_open os (h.told ++ h.since)
+told_small burden tags from count os es t h small = let P : List Event → Type 0 = λ x. Small nothing_open os x in subst P (sym h.all) (small_run burden from count os es small h.counted)
 
-pub told_fits : (burden : ℕ) (tags : Tags) (count : ℕ) (os : List Open) (es : List Event) (t : Tables) (h : TablesTell burden tags count os es t) → count ≤ MOST_LIMIT → burden ≤ MOST_BURDEN → FitsRun burden os (h.told ++ h.since)
-told_fits burden tags count os es t h small light = let P : List Event → Type 0 = λ x. FitsRun burden os x in subst P (sym h.all) (fits_run burden count os es small light h.counted)
+pub told_fits : (burden : ℕ) (tags : Tags) (from : Origin) (count : ℕ) (os : List Open) (es : List Event) (t : Tables) (h : TablesTell burden tags from count os es t) → count ≤ MOST_LIMIT → burden ≤ MOST_BURDEN → FitsRun burden os (h.told ++ h.since)
+told_fits burden tags from count os es t h small light = let P : List Event → Type 0 = λ x. FitsRun burden os x in subst P (sym h.all) (fits_run burden from count os es small light h.counted)
 
-pub path_told : (burden : ℕ) (tags : Tags) (count : ℕ) (os : List Open) (es : List Event) (t : Tables) (p : BurdenedPath) → NotesWeight t.path p count → count ≤ MOST_LIMIT → burden ≤ MOST_BURDEN → TablesTell burden tags count os es t → TellsWeight burden os es p
-path_told burden tags count os es t p notes small light h =
+pub path_told : (burden : ℕ) (tags : Tags) (from : Origin) (count : ℕ) (os : List Open) (es : List Event) (t : Tables) (p : BurdenedPath) → NotesWeight t.path p count → count ≤ MOST_LIMIT → burden ≤ MOST_BURDEN → TablesTell burden tags from count os es t → TellsWeight burden os es p
+path_told burden tags from count os es t p notes small light h =
     let P : List Event → Type 0 = λ x. TellsWeight burden os x p in
-    subst P h.all (notes burden os h.told h.since (path_since burden tags count os es t h) (told_fits burden tags count os es t h small light) h.path)
+    subst P h.all (notes burden os h.told h.since (path_since burden tags from count os es t h) (told_fits burden tags from count os es t h small light) h.path)
 
 -- tables with these sites, this path, and this of the block that runs
 abbrev pub with_tables : Tables → SiteTable → BurdenedPath → (spawned : Bool) → Tables
@@ -142,11 +143,11 @@ with_regions t r spawned = record { sites = t.sites; path = t.path; regions = r;
 
 -- all is told
 pub tables_settled : (t : Tables) (s : SiteTable) (p : BurdenedPath) (count : ℕ) → Notes t.sites s count → NotesWeight t.path p count → Settles t (with_tables t s p t.spawned) count
-tables_settled t s p count notes heavier = λ burden tags os es small light h. record {
+tables_settled t s p count notes heavier = λ burden tags from os es small light h. record {
   sites =
-      let P : List Event → Type 0 = λ x. sites.Tells 0 nothing_open os x s in
-      subst P h.all (notes 0 nothing_open os h.told h.since (sites_since burden tags count os es t h) (told_small burden tags count os es t h small) h.sites);
-  path = path_told burden tags count os es t p heavier small light h;
+      let P : List Event → Type 0 = λ x. sites.Tells (base_of from) nothing_open os x s in
+      subst P h.all (notes (base_of from) nothing_open os h.told h.since (sites_since burden tags from count os es t h) (told_small burden tags from count os es t h small) h.sites);
+  path = path_told burden tags from count os es t p heavier small light h;
   regions = h.regions;
   counted = h.counted;
   burden_is = h.burden_is;
@@ -155,14 +156,14 @@ tables_settled t s p count notes heavier = λ burden tags os es small light h. r
 
 -- a call begins
 pub call_opened : (t : Tables) (s : SiteTable) (p : BurdenedPath) (count site : ℕ) → Enters t.sites s count site → NotesWeight t.path p count → Opens t (with_tables t s p false) count false (Some (Invocation site))
-call_opened t s p count site enters notes = λ burden tags os es k small light h.
+call_opened t s p count site enters notes = λ burden tags from os es k small light h.
     let mark : Option Mark = Some (Invocation site) in
-    let P : List Event → Type 0 = λ x. sites.Tells 0 nothing_open (opened false mark x os) [] s in
+    let P : List Event → Type 0 = λ x. sites.Tells (base_of from) nothing_open (opened false mark x os) [] s in
     let S : List Event → Type 0 = λ x. Small nothing_open (opened false mark x os) [] in
-    tables_told burden tags count (opened false mark es os) [] (with_tables t s p false) (record {
-      sites = subst P h.all (enters 0 nothing_open os h.told h.since (sites_since burden tags count os es t h) (subst S (sym h.all) (small_run burden count (opened false mark es os) [] small k)) h.sites);
-      path = (series_need_no_call burden p).begins mark os es (path_told burden tags count os es t p notes small light h);
-      regions = tags_opened burden tags false mark os es t.regions tt h.regions;
+    tables_told burden tags from count (opened false mark es os) [] (with_tables t s p false) (record {
+      sites = subst P h.all (enters (base_of from) nothing_open os h.told h.since (sites_since burden tags from count os es t h) (subst S (sym h.all) (small_run burden from count (opened false mark es os) [] small k)) h.sites);
+      path = (series_need_no_call burden p).begins mark os es (path_told burden tags from count os es t p notes small light h);
+      regions = tags_opened burden tags from false mark os es t.regions tt h.regions;
       counted = k;
       burden_is = h.burden_is;
       spawned_is = refl;
@@ -173,64 +174,64 @@ not_twice true = refl
 not_twice false = refl
 
 -- a spawned part begins, by a table's own rule
-spawned_path : (burden : ℕ) (tags : Tags) (count : ℕ) (os : List Open) (es : List Event) (t : Tables) (p : BurdenedPath) (mark : Option Mark) → SpawnsWeight t.path p count (not t.spawned) → count ≤ MOST_LIMIT → burden ≤ MOST_BURDEN → TablesTell burden tags count os es t → TellsWeight burden (opened true mark es os) [] p
-spawned_path burden tags count os es t p mark spawns small light h =
+spawned_path : (burden : ℕ) (tags : Tags) (from : Origin) (count : ℕ) (os : List Open) (es : List Event) (t : Tables) (p : BurdenedPath) (mark : Option Mark) → SpawnsWeight t.path p count (not t.spawned) → count ≤ MOST_LIMIT → burden ≤ MOST_BURDEN → TablesTell burden tags from count os es t → TellsWeight burden (opened true mark es os) [] p
+spawned_path burden tags from count os es t p mark spawns small light h =
     let P : List Event → Type 0 = λ x. TellsWeight burden (opened true mark x os) [] p in
-    subst P h.all (spawns burden mark os h.told h.since (path_since burden tags count os es t h) (told_fits burden tags count os es t h small light) (told_spawned burden tags count os es t h ∙ sym (not_twice t.spawned)) h.path)
+    subst P h.all (spawns burden mark os h.told h.since (path_since burden tags from count os es t h) (told_fits burden tags from count os es t h small light) (told_spawned burden tags from count os es t h ∙ sym (not_twice t.spawned)) h.path)
 
 pub spawned_call_opened : (t : Tables) (s : SiteTable) (p : BurdenedPath) (count site : ℕ) → Spawns t.sites s count site (not t.spawned) → SpawnsWeight t.path p count (not t.spawned) → Opens t (with_tables t s p false) count true (Some (Invocation site))
-spawned_call_opened t s p count site spawns heavier = λ burden tags os es k small light h.
+spawned_call_opened t s p count site spawns heavier = λ burden tags from os es k small light h.
     let mark : Option Mark = Some (Invocation site) in
-    let P : List Event → Type 0 = λ x. sites.Tells 0 nothing_open (opened true mark x os) [] s in
+    let P : List Event → Type 0 = λ x. sites.Tells (base_of from) nothing_open (opened true mark x os) [] s in
     let S : List Event → Type 0 = λ x. Small nothing_open (opened true mark x os) [] in
-    tables_told burden tags count (opened true mark es os) [] (with_tables t s p false) (record {
-      sites = subst P h.all (spawns 0 nothing_open os h.told h.since (sites_since burden tags count os es t h) (told_spawned burden tags count os es t h ∙ sym (not_twice t.spawned)) (subst S (sym h.all) (small_run burden count (opened true mark es os) [] small k)) h.sites);
-      path = spawned_path burden tags count os es t p mark heavier small light h;
-      regions = tags_opened burden tags true mark os es t.regions tt h.regions;
+    tables_told burden tags from count (opened true mark es os) [] (with_tables t s p false) (record {
+      sites = subst P h.all (spawns (base_of from) nothing_open os h.told h.since (sites_since burden tags from count os es t h) (told_spawned burden tags from count os es t h ∙ sym (not_twice t.spawned)) (subst S (sym h.all) (small_run burden from count (opened true mark es os) [] small k)) h.sites);
+      path = spawned_path burden tags from count os es t p mark heavier small light h;
+      regions = tags_opened burden tags from true mark os es t.regions tt h.regions;
       counted = k;
       burden_is = h.burden_is;
       spawned_is = refl;
     })
 
 pub half_opened : (t : Tables) (s : SiteTable) (p : BurdenedPath) (count : ℕ) → SpawnsHalf t.sites s count (not t.spawned) → SpawnsWeight t.path p count (not t.spawned) → Opens t (with_tables t s p false) count true None
-half_opened t s p count spawns heavier = λ burden tags os es k small light h.
-    let P : List Event → Type 0 = λ x. sites.Tells 0 nothing_open (opened true None x os) [] s in
-    tables_told burden tags count (opened true None es os) [] (with_tables t s p false) (record {
-      sites = subst P h.all (spawns 0 nothing_open None os h.told h.since tt (sites_since burden tags count os es t h) (told_spawned burden tags count os es t h ∙ sym (not_twice t.spawned)) (told_small burden tags count os es t h small) h.sites);
-      path = spawned_path burden tags count os es t p None heavier small light h;
-      regions = tags_opened burden tags true None os es t.regions tt h.regions;
+half_opened t s p count spawns heavier = λ burden tags from os es k small light h.
+    let P : List Event → Type 0 = λ x. sites.Tells (base_of from) nothing_open (opened true None x os) [] s in
+    tables_told burden tags from count (opened true None es os) [] (with_tables t s p false) (record {
+      sites = subst P h.all (spawns (base_of from) nothing_open None os h.told h.since tt (sites_since burden tags from count os es t h) (told_spawned burden tags from count os es t h ∙ sym (not_twice t.spawned)) (told_small burden tags from count os es t h small) h.sites);
+      path = spawned_path burden tags from count os es t p None heavier small light h;
+      regions = tags_opened burden tags from true None os es t.regions tt h.regions;
       counted = k;
       burden_is = h.burden_is;
       spawned_is = refl;
     })
 
 pub quiet_opened : (t now : Tables) (count : ℕ) → Settles t now count → Opens t (with_tables now now.sites now.path false) count false None
-quiet_opened t now count settles = λ burden tags os es k small light h.
-    let a = settles burden tags os es small light h in
-    tables_told burden tags count (opened false None es os) [] (with_tables now now.sites now.path false) (record {
-      sites = (quiet_parts 0 nothing_open os now.sites).begins None es tt a.sites;
+quiet_opened t now count settles = λ burden tags from os es k small light h.
+    let a = settles burden tags from os es small light h in
+    tables_told burden tags from count (opened false None es os) [] (with_tables now now.sites now.path false) (record {
+      sites = (quiet_parts (base_of from) nothing_open os now.sites).begins None es tt a.sites;
       path = (series_need_no_call burden now.path).begins None os es a.path;
-      regions = tags_opened burden tags false None os es now.regions tt a.regions;
+      regions = tags_opened burden tags from false None os es now.regions tt a.regions;
       counted = k;
       burden_is = a.burden_is;
       spawned_is = refl;
     })
 
 pub region_opened : (t now : Tables) (r : RegionTable) (count tag path heavy : ℕ) → Settles t now count → ReadsPath now.sites path → heavy ≡ now.path.weight → regions.BeginsRegion now.regions r tag count path heavy → OpensRegion t (with_regions now r false) count tag
-region_opened t now r count tag path heavy settles reads weighs begins = λ burden tags os es known k small light h.
-    let a = settles burden tags os es small light h in
+region_opened t now r count tag path heavy settles reads weighs begins = λ burden tags from os es known k small light h.
+    let a = settles burden tags from os es small light h in
     let mark : Option Mark = Some (Execution (tags.name tag)) in
     let along = a.regions.along in
-    tables_told burden tags count (opened false mark es os) [] (with_regions now r false) (record {
-      sites = (quiet_parts 0 nothing_open os now.sites).begins mark es tt a.sites;
+    tables_told burden tags from count (opened false mark es os) [] (with_regions now r false) (record {
+      sites = (quiet_parts (base_of from) nothing_open os now.sites).begins mark es tt a.sites;
       path = (series_need_no_call burden now.path).begins mark os es a.path;
       regions = record {
         along = along;
         path_is = a.regions.path_is;
         burdened_is = a.regions.burdened_is;
         tells =
-            begins burden along tags nothing_open os es known (sym a.counted.work) (reads 0 0 nothing_open os es a.sites ∙ sym (a.regions.path_is os es))
-            (weighs ∙ a.path.shows.now_is ∙ sym (a.regions.burdened_is os es)) (small_tags burden tags count (opened false mark es os) [] small light k) a.regions.tells;
+            begins burden along tags nothing_open os es known (sym a.counted.work) (reads 0 (base_of from) nothing_open os es a.sites ∙ sym (a.regions.path_is os es))
+            (weighs ∙ a.path.shows.now_is ∙ sym (a.regions.burdened_is os es)) (small_tags burden tags from count (opened false mark es os) [] small light k) a.regions.tells;
       };
       counted = k;
       burden_is = a.burden_is;
@@ -239,15 +240,15 @@ region_opened t now r count tag path heavy settles reads weighs begins = λ burd
 
 -- the block that runs joins
 pub tables_joined : (t : Tables) (s : SiteTable) (p : BurdenedPath) (count : ℕ) → Joins t.sites s count → JoinsWeight t.path p count → JoinsSpawned t (with_tables t s p false) count
-tables_joined t s p count joins heavier = λ burden tags os es e small light h.
-    let S : List Event → Type 0 = λ x. sites.Tells 0 nothing_open os (x ++ Join ∷ []) s in
+tables_joined t s p count joins heavier = λ burden tags from os es e small light h.
+    let S : List Event → Type 0 = λ x. sites.Tells (base_of from) nothing_open os (x ++ Join ∷ []) s in
     let P : List Event → Type 0 = λ x. TellsWeight burden os (x ++ Join ∷ []) p in
-    let told = told_spawned burden tags count os es t h ∙ e in
-    tables_told burden tags count os (es ++ Join ∷ []) (with_tables t s p false) (record {
-      sites = subst S h.all (joins 0 nothing_open os h.told h.since (sites_since burden tags count os es t h) told (told_small burden tags count os es t h small) h.sites);
-      path = subst P h.all (heavier burden os h.told h.since (path_since burden tags count os es t h) (told_fits burden tags count os es t h small light) told h.path);
-      regions = tags_joined burden tags os es t.regions h.regions;
-      counted = counted_joined burden count os es h.counted;
+    let told = told_spawned burden tags from count os es t h ∙ e in
+    tables_told burden tags from count os (es ++ Join ∷ []) (with_tables t s p false) (record {
+      sites = subst S h.all (joins (base_of from) nothing_open os h.told h.since (sites_since burden tags from count os es t h) told (told_small burden tags from count os es t h small) h.sites);
+      path = subst P h.all (heavier burden os h.told h.since (path_since burden tags from count os es t h) (told_fits burden tags from count os es t h small light) told h.path);
+      regions = tags_joined burden tags from os es t.regions h.regions;
+      counted = counted_joined burden from count os es h.counted;
       burden_is = h.burden_is;
       spawned_is = sym (spawned_append false es (Join ∷ []));
     })

@@ -1,13 +1,19 @@
 -- Runs so far whose trees differ only in how they are grouped: a part that joined at its end, and one that had nothing to join.
 use Rattle.std.specs.Prelude.{◌≡◌, List, [], ◌∷◌, ◌++◌}
-use Rattle.cw_model.specs.Trees.{Event, tree_of}
+use Rattle.cw_model.specs.Trees.{Event, parts_of}
 use Rattle.cw_model.specs.TreeLaws.{Regrouped}
-use Rattle.cw_measure.specs.OpenParts.{Open, has_spawned}
+use Rattle.cw_measure.specs.OpenParts.{Open, has_spawned, no_joins}
 
--- events of a block: with whatever comes after them, their trees differ only so; both have spawned since their last join, or neither has
+-- what runs up to the first join of these events, and what runs after it, differ only so
+abbrev pub SameParts : List Event → List Event → Type 0
+SameParts es fs = Regrouped (parts_of es).0 (parts_of fs).0 × Regrouped (parts_of es).1 (parts_of fs).1
+
+-- events of a block: with whatever comes after them, the parts of their trees differ only so; both have spawned since their last join, or
+-- neither has, and so both have joined or neither
 pub record AreAlike (es fs : List Event) : Type 0 where
-  pub trees : (more : List Event) → Regrouped (tree_of (es ++ more)) (tree_of (fs ++ more))
+  pub parts : (more : List Event) → SameParts (es ++ more) (fs ++ more)
   pub spawned : has_spawned es ≡ has_spawned fs
+  pub joins : no_joins es ≡ no_joins fs
 
 -- the same parts are open, each in a block of events that are alike
 abbrev pub AreOpenAlike : List Open → List Open → Type 0

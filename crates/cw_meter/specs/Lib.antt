@@ -1,6 +1,7 @@
 pub mod Alike
 pub mod Meters
 pub mod Moves
+pub mod Origins
 pub mod Parts
 pub mod Tables
 pub mod Whole

@@ -7,6 +7,7 @@ use Rattle.cw_sites.specs.declared.table.SiteRow.{SiteRow}
 use Rattle.cw_sites.specs.Tables.{ReadsSite}
 use Rattle.cw_regions.specs.declared.table.RegionRow.{RegionRow}
 use Rattle.cw_regions.specs.Regions.{Tags, ReadsRegion}
+use Rattle.cw_meter.specs.Origins.{Origin}
 use Rattle.cw_meter.specs.declared.meter.Meter.{Meter}
 use Rattle.cw_meter.specs.declared.parts.PartKind.{PartKind}
 use Rattle.cw_meter.specs.declared.parts.Part.{Part}
@@ -27,15 +28,15 @@ pub record Stacks (old new : Meter) (kind : PartKind) : Type 0 where
 -- the block that runs joins
 abbrev pub JoinsBlock : (old new : Meter) → (count : ℕ) → Type 0
 JoinsBlock old new count =
-    (burden : ℕ) (tags : Tags) (os : List Open) (es : List Event) → TellOf old.tables new.tables count burden tags os os es (es ++ Join ∷ [])
+    (burden : ℕ) (tags : Tags) (from : Origin) (os : List Open) (es : List Event) → TellOf old.tables new.tables count burden tags from os os es (es ++ Join ∷ [])
 
 -- the innermost part ends, whose block has joined, and is kept no more
 abbrev pub ClosesPart : (old new : Meter) → (count : ℕ) → Type 0
 ClosesPart old new count =
-    (burden : ℕ) (tags : Tags) (o : Open) (os : List Open) (es : List Event) → old.tables.spawned ≡ false
-    → AreParts tags (o ∷ os) (reverse old.parts.items) → count ≤ MOST_LIMIT → burden ≤ MOST_BURDEN
-    → TablesTell burden tags count (o ∷ os) es old.tables
-    → TablesTell burden tags count os (closed o es) new.tables × AreParts tags os (reverse new.parts.items)
+    (burden : ℕ) (tags : Tags) (from : Origin) (o : Open) (os : List Open) (es : List Event) → old.tables.spawned ≡ false
+    → AreParts from tags (o ∷ os) (reverse old.parts.items) → count ≤ MOST_LIMIT → burden ≤ MOST_BURDEN
+    → TablesTell burden tags from count (o ∷ os) es old.tables
+    → TablesTell burden tags from count os (closed o es) new.tables × AreParts from tags os (reverse new.parts.items)
 
 -- rows of so many sites, by their numbers, as a table reads them
 pub record ListsSites (t : Tables) (count : ℕ) (rows : List SiteRow) : Type 0 where

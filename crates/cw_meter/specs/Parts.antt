@@ -4,6 +4,7 @@ use Rattle.cw_model.specs.Trees.{Mark, Invocation, Execution}
 use Rattle.cw_measure.specs.OpenParts.{Open, has_spawned}
 use Rattle.cw_sites.specs.OpenPaths.{here_in}
 use Rattle.cw_regions.specs.Regions.{Tags}
+use Rattle.cw_meter.specs.Origins.{Origin, base_of}
 use Rattle.cw_meter.specs.declared.parts.PartKind.{PartKind}
 use Rattle.cw_meter.specs.declared.parts.PartKind.TheVariants.{Call, SpawnedCall, Quiet, Half, Region}
 use Rattle.cw_meter.specs.declared.parts.Part.{Part}
@@ -21,14 +22,14 @@ IsOfKind tags o Half = (o.spawned ≡ true) × (o.mark ≡ None)
 IsOfKind tags o (Region tag) = (o.spawned ≡ false) × (tag < tags.count) × (o.mark ≡ Some (Execution (tags.name tag)))
 
 -- what is kept of an open part, inside of these
-pub record IsPart (tags : Tags) (o : Open) (os : List Open) (p : Part) : Type 0 where
+pub record IsPart (from : Origin) (tags : Tags) (o : Open) (os : List Open) (p : Part) : Type 0 where
   pub kind : IsOfKind tags o p.kind
-  pub site : p.site ≡ here_in 0 os
+  pub site : p.site ≡ here_in (base_of from) os
   pub spawned : p.spawned ≡ has_spawned o.outer
 
 -- what is kept of all of them, the innermost first
-abbrev pub AreParts : Tags → List Open → List Part → Type 0
-AreParts tags [] [] = Unit {0}
-AreParts tags [] (p ∷ ps) = ⊥
-AreParts tags (o ∷ os) [] = ⊥
-AreParts tags (o ∷ os) (p ∷ ps) = IsPart tags o os p × AreParts tags os ps
+abbrev pub AreParts : Origin → Tags → List Open → List Part → Type 0
+AreParts from tags [] [] = Unit {0}
+AreParts from tags [] (p ∷ ps) = ⊥
+AreParts from tags (o ∷ os) [] = ⊥
+AreParts from tags (o ∷ os) (p ∷ ps) = IsPart from tags o os p × AreParts from tags os ps

@@ -12,6 +12,7 @@ use Rattle.cw_regions.specs.Regions as regions
 use Rattle.cw_meter.specs.declared.meter.Meter.{Meter}
 use Rattle.cw_meter.specs.declared.meter.Measures.{Measures}
 use Rattle.cw_meter.specs.declared.meter.Readings.{Readings}
+use Rattle.cw_meter.specs.Origins.{Main}
 use Rattle.cw_meter.specs.Meters.{Meters}
 
 -- work, span and burdened span are those of a tree
@@ -45,5 +46,5 @@ pub record AreMeasures (burden count : ℕ) (names : List Name) (t : Tree) (all 
 abbrev pub Reads : Meter → (count sites tags : ℕ) → Measures → Type 0
 Reads m count sites tags all =
     (burden : ℕ) (by_number : Tags) (names : List Name) (es : List Event) → count ≤ MOST_LIMIT → burden ≤ MOST_BURDEN
-    → HasNames by_number names → length names ≡ tags → Meters burden by_number count [] (Series (Marked (Invocation 0) (tree_of es)) ∷ []) m
+    → HasNames by_number names → length names ≡ tags → Meters burden by_number Main count [] (Series (Marked (Invocation 0) (tree_of es)) ∷ []) m
     → AreMeasures burden sites names (normal (Marked (Invocation 0) (tree_of es))) all

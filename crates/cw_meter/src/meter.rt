@@ -2,7 +2,7 @@
 
 ghost use Rattle.std.specs.Prelude.{◌≡◌, Some, None, true, false, IfOk, OnOk};
 ghost use Rattle.cw_model.specs.Trees.{Invocation};
-ghost use Rattle.cw_meter.specs.Meters.{Starts, Begins, BeginsRegion, Ends, Returns, Syncs};
+ghost use Rattle.cw_meter.specs.Meters.{Starts, StartsRest, Begins, BeginsRegion, Ends, IsHere, Rests, Returns, Syncs};
 ghost use Rattle.cw_meter.specs.Moves.{ClosesPart, JoinsBlock, Stacks};
 ghost use Rattle.cw_meter.specs.Whole.{Reads};
 
@@ -56,6 +56,37 @@ impl Meter {
             spawned: false,
         })?;
         Ok(Meter { tables, parts })
+    }
+
+    /// The meter of a rest that was handed out at a spawn, with the site that its spawner was in (`site`) and the run's
+    /// burden; of the parts that are open round it nothing else is known. Takes no memory.
+    pub fn apart(alloc: Global, site: u32, burden: u64) -> Meter
+        ensures { StartsRest burden site result }
+    {
+        Meter {
+            tables: Tables::apart(alloc, site, burden),
+            parts: Vec::new(alloc),
+        }
+    }
+
+    /// The site of the innermost invocation: all that a rest of its block must be told.
+    #[inline(always)]
+    pub fn site(&self) -> u32
+        ensures { IsHere self.now result }
+    {
+        self.tables.sites.here
+    }
+
+    /// Takes in, after `count` instructions, what the meter of the rest of the block that runs has counted in `cost`
+    /// instructions, up to the block's join, while the spawned call beside it ran. The count goes on from that of both.
+    pub fn rest(&mut self, count: u64, rest: Meter, cost: u64) -> Result<(), AllocError>
+        ensures { OnOk result (Rests self.old rest self.new count cost) }
+    {
+        let mut tables = rest.tables;
+        tables.settle(cost)?;
+        self.tables.settle(count)?;
+        self.tables.take_in(tables)?;
+        Ok(())
     }
 
     /// A call in place begins by the instruction after `count` ones, at the site of this number.

@@ -3,7 +3,7 @@
 ghost use Rattle.std.specs.Prelude.{◌≡◌, true, false, IfOk, OnOk, Some, None};
 ghost use Rattle.cw_model.specs.Trees.{Invocation};
 ghost use Rattle.cw_meter.specs.Moves.{ListsRegions, ListsSites};
-ghost use Rattle.cw_meter.specs.Tables.{Closes, JoinsSpawned, Opens, OpensRegion, Settles, StartsTables};
+ghost use Rattle.cw_meter.specs.Tables.{Closes, JoinsSpawned, Opens, OpensRegion, Settles, StartsTables, StartsTablesOfRest, TakesIn};
 ghost use Rattle.cw_meter.specs.declared.parts.PartKind.TheVariants.{Call, Half, Quiet, Region, SpawnedCall};
 
 use crate::parts::{Part, PartKind};
@@ -41,6 +41,32 @@ impl Tables {
             burden,
             spawned: false,
         })
+    }
+
+    /// The tables of a rest that begins in an invocation of this site. Takes no memory.
+    pub fn apart(alloc: Global, site: u32, burden: u64) -> Tables
+        ensures { StartsTablesOfRest burden site result }
+    {
+        Tables {
+            sites: SiteTable::new(alloc, site),
+            path: BurdenedPath::new(alloc),
+            regions: RegionTable::new(alloc),
+            burden,
+            spawned: false,
+        }
+    }
+
+    /// Takes in the tables of the rest of the block that runs, which ran apart up to its join. All is told to both.
+    pub fn take_in(&mut self, rest: Tables) -> Result<(), AllocError>
+        ensures { OnOk result (TakesIn self.old rest self.new) }
+    {
+        let first = !self.spawned;
+        let spawned = self.spawned || rest.spawned;
+        self.sites.join_piece(rest.sites, first)?;
+        self.path.append(&rest.path, first)?;
+        self.regions.join(rest.regions);
+        self.spawned = spawned;
+        Ok(())
     }
 
     /// All that has run up to this count is told.

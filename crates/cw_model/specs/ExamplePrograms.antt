@@ -245,6 +245,13 @@ deep_program = of_functions (
     ∷ main_of (Declare r (number 0) ∷ call_into r 2 f (number 0 ∷ []) ∷ give (Variable r) ∷ [])
     ∷ [])
 
+-- void f() { f(); } int main() { f(); return 0; }
+abbrev pub deepest_program : Program
+deepest_program = of_functions (
+    void_function f [] (block (call 1 f [] ∷ []))
+    ∷ main_of (call 2 f [] ∷ give (number 0) ∷ [])
+    ∷ [])
+
 -- a loop with grain 2 over an array: each element becomes the square of its index
 abbrev pub square_loop : ℕ → ℕ → Stmt
 square_loop from to = For i i i (number from) (number to) 2 (a ∷ []) (block (AssignElement a (Variable i) (Binary Times (Variable i) (Variable i)) ∷ []))

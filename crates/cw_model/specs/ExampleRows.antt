@@ -4,7 +4,7 @@ use Rattle.cw_model.specs.declared.limits.TheConstants.{USUAL_LIMIT, USUAL_BURDE
 use Rattle.cw_model.specs.declared.syntax.Operator.TheVariants.{Less}
 use Rattle.cw_model.specs.Syntax.{Variable, Binary, Declare, If, Region, Print, For, Sync, End, Program}
 use Rattle.cw_model.specs.Answers.{OverLimit}
-use Rattle.cw_model.specs.Report.{Check, Run, Scale, Sites, report_text, tags_of, parallelism}
+use Rattle.cw_model.specs.Report.{Check, Run, Scale, Sites, report_text, csv_field, csv_line, tags_of, parallelism}
 use Rattle.cw_model.specs.Examples.{serial, Scales, Attributes}
 use Rattle.cw_model.specs.ExamplePrograms.{f, i, n, p, r, t, main, number, minus, int_param, int_function, void_function, of_functions, block, give, call, call_into, spawn, main_of, alone, first_program, idle_and, once_in_every_block}
 
@@ -48,6 +48,15 @@ wide_child_program = of_functions (
     ∷ main_of (spawn 4 f [] ∷ Print (number 1) ∷ Print (number 2) ∷ Print (number 3) ∷ Sync ∷ give (number 0) ∷ [])
     ∷ [])
 
+-- a child of seven instructions beside a rest of more work, most of it spawned, and of less span
+abbrev pub wide_rest_program : Program
+wide_rest_program = of_functions (
+    void_function p [] End
+    ∷ void_function f [] (block (Print (number 1) ∷ Print (number 2) ∷ Print (number 3) ∷ []))
+    ∷ main_of (
+    spawn 1 f [] ∷ spawn 2 p [] ∷ spawn 3 p [] ∷ spawn 4 p [] ∷ Print (number 1) ∷ Sync ∷ give (number 0) ∷ [])
+    ∷ [])
+
 -- rows of tags and sites
 pub record RowExamples : Type 0 where
   -- the inner execution is not counted a second time
@@ -74,6 +83,10 @@ pub record RowExamples : Type 0 where
   -- the child has work 3 + 3 + 1 and span 1 + (1 + 2) + 1, the rest 6
   pub wide_child : Attributes wide_child_program [] (codes "0,root,1,main,1,10,10,17,10"
       ∷ codes "1,spawn,1,p,1,1,0,1,1" ∷ codes "2,spawn,1,p,1,1,0,1,1" ∷ codes "3,spawn,1,p,1,1,0,1,1" ∷ codes "4,spawn,1,f,1,4,0,7,5" ∷ [])
+  -- the child has span 7, the rest work 2 + 2 + 2 + 2 and span 1 + 1 + 1 + 2
+  pub wide_rest : Attributes wide_rest_program [] (codes "0,root,1,main,1,9,4,19,11"
+      ∷ codes "1,spawn,1,f,1,7,7,7,7" ∷ codes "2,spawn,1,p,1,1,0,1,1"
+      ∷ codes "3,spawn,1,p,1,1,0,1,1" ∷ codes "4,spawn,1,p,1,1,0,1,1" ∷ [])
   pub never_called :
       Attributes (idle_and (If (number 0) (block (spawn 1 p [] ∷ [])) ∷ give (number 0) ∷ [])) []
       (codes "0,root,1,main,1,4,4,4,4" ∷ codes "1,spawn,1,p,0,0,0,0,0" ∷ [])
@@ -90,6 +103,12 @@ pub record TextExamples : Type 0 where
       ≡ codes "tag,work,span,parallelism,burdened_span,burdened_parallelism" ++ 10 ∷ (codes ",9,9,1.000,9,1.000" ++ 10 ∷ [])
   pub sites : report_text Sites first_program 0 (serial first_program [] USUAL_LIMIT)
       ≡ codes "site,kind,line,callee,calls,own_work,own_span,work,span" ++ 10 ∷ (codes "0,root,1,main,1,7,7,9,9" ++ 10 ∷ (codes "1,spawn,1,f,1,2,2,2,2" ++ 10 ∷ []))
+  pub plain_fields : csv_line (codes "a" ∷ [] ∷ codes "b_1" ∷ []) ≡ codes "a,,b_1" ++ 10 ∷ []
+  -- in quotes, in which a quote stands twice
+  pub comma : csv_field (codes "a,b") ≡ codes "\"a,b\""
+  pub quote : csv_field (codes "a\"b") ≡ codes "\"a\"\"b\""
+  pub ends_of_lines : csv_line ((13 ∷ []) ∷ codes "x" ∷ (97 ∷ 10 ∷ []) ∷ [])
+      ≡ 34 ∷ 13 ∷ 34 ∷ 44 ∷ 120 ∷ 44 ∷ 34 ∷ 97 ∷ 10 ∷ 34 ∷ 10 ∷ []
   pub zeros_after_the_point : parallelism 2010 2000 ≡ codes "1.005"
   pub rounded_down : parallelism 1999999 1000000 ≡ codes "1.999"
   pub tens : parallelism 123 10 ≡ codes "12.300"

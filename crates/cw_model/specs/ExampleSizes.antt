@@ -71,6 +71,9 @@ pub record DeclarationSizeExamples : Type 0 where
   -- tags of all functions are counted together
   pub tags_of_two_functions :
       limit_faults (of_functions (int_function f 1 [] (tagged 64 1 End) ∷ int_function g 1 [] (tagged 1 65 End) ∷ [])) ≡ 65 ∷ []
+  -- a tag counts where it stands first
+  pub first_tag_again :
+      limit_faults (of_functions (int_function f 1 [] (tagged 65 1 (Then 70 (Region (1 ∷ []) End) End)) ∷ [])) ≡ 65 ∷ []
   -- a tag is counted once
   pub tags_again : limit_faults (of_functions (int_function f 1 [] (tagged 64 1 (tagged 64 1 End)) ∷ [])) ≡ []
 

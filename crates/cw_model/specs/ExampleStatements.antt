@@ -1,8 +1,8 @@
 -- Worked examples of statements: what they do, what they cost, and what loops do by halves.
-use Rattle.std.specs.Prelude.{◌≡◌, ℕ, pos, List, [], ◌∷◌, None, codes}
+use Rattle.std.specs.Prelude.{◌≡◌, ℕ, zero, suc, pos, List, [], ◌∷◌, None, codes}
 use Rattle.cw_model.specs.declared.trap.Trap.TheVariants as trap
 use Rattle.cw_model.specs.declared.syntax.CallKind.TheVariants.{Plain, Spawned}
-use Rattle.cw_model.specs.declared.syntax.Operator.TheVariants.{Equal, Less, Times, Divide}
+use Rattle.cw_model.specs.declared.syntax.Operator.TheVariants.{Equal, Less, AtMost, Times, Divide}
 use Rattle.cw_model.specs.Syntax.{Variable, Element, Length, Negative, Not, Binary, Stmt, Declare, DeclareArray, Assign, AssignElement, AddTo, Start, Begin, Sync, If, IfElse, While, For, Scope, Cut, Region, Print, Return, Block, End, Then, Function, Program}
 use Rattle.cw_model.specs.Captured.{captured}
 use Rattle.cw_model.specs.Trees.{Tree, Leaf, Seq, Par}
@@ -12,8 +12,8 @@ use Rattle.cw_model.specs.Outcome.{Trace, Outcome, Done, Trapped}
 use Rattle.cw_model.specs.Meaning.{Returned, Deeper}
 use Rattle.cw_model.specs.Meaning as meaning
 use Rattle.cw_model.specs.Answers.{TrappedAt}
-use Rattle.cw_model.specs.Examples.{serial, Writes, Scales, Attributes, TrapsAt, Costs}
-use Rattle.cw_model.specs.ExamplePrograms.{a, b, f, g, h, i, j, l, n, p, r, s, t, v, x, y, z, main, number, plus, minus, int_param, array_param, int_function, void_function, of_functions, on_line, block, give, call, call_into, spawn, spawn_into, main_of, alone, with_sum, in_every_block}
+use Rattle.cw_model.specs.Examples.{serial, Writes, Scales, Attributes, TrapsAt, IsOver, Costs}
+use Rattle.cw_model.specs.ExamplePrograms.{a, b, f, g, h, i, j, l, n, p, r, s, t, v, x, y, z, main, number, plus, minus, int_param, array_param, int_function, void_function, of_functions, on_line, block, give, call, call_into, spawn, spawn_into, main_of, alone, with_sum, least, in_every_block}
 
 -- a declaration in a line, and its value printed
 abbrev pub declared_and_printed : ℕ → Block
@@ -65,6 +65,12 @@ pub record EffectExamples : Type 0 where
   pub spawned_arguments :
       Costs (with_callees (Declare x (number 0) ∷ spawn_into x 1 f (number 5 ∷ number 3 ∷ []) ∷ Sync ∷ give (Variable x) ∷ []))
       [] 12 (codes "return 2" ∷ [])
+  -- the first argument traps before the second is looked at
+  pub arguments_from_the_left :
+      TrapsAt (with_callees (
+      call 1 f (Binary Divide (number 1) (number 0) ∷ plus (number 9223372036854775807) (number 1) ∷ [])
+      ∷ give (number 0) ∷ []))
+      [] 1000 trap.DivisionByZero 1
   pub dropped_result :
       Costs (with_callees (Declare x (number 7) ∷ call 1 f (number 5 ∷ number 3 ∷ []) ∷ give (Variable x) ∷ [])) [] 11 (codes "return 7" ∷ [])
   pub arrays_by_place :
@@ -88,6 +94,11 @@ pub record EffectExamples : Type 0 where
       ∷ Cut a (number 1) l r (block (Print (Length l) ∷ Print (Length r) ∷ Print (Element l (number 0)) ∷ Print (Element r (number 0)) ∷ AssignElement r (number 1) (number 9) ∷ []))
       ∷ Print (Element a (number 0)) ∷ Print (Element a (number 1)) ∷ give (Element a (number 2)) ∷ [])) [] 1000
       (codes "1" ∷ codes "2" ∷ codes "1" ∷ codes "2" ∷ codes "1" ∷ codes "2" ∷ codes "return 9" ∷ [])
+  pub integers_written_in_a_cut :
+      Writes (alone (
+      Declare x (number 1) ∷ DeclareArray a (number 2)
+      ∷ Cut a (number 1) l r (block (Assign x (number 5) ∷ [])) ∷ give (Variable x) ∷ []))
+      [] 1000 (codes "return 5" ∷ [])
   pub parts_end_with_a_cut :
       Writes (alone (DeclareArray a (number 2) ∷ Cut a (number 1) l r End ∷ Cut a (number 0) l r (block (Print (Length l) ∷ [])) ∷ give (number 0) ∷ [])) [] 1000 (codes "0" ∷ codes "return 0" ∷ [])
   pub new_array_is_zero :
@@ -185,12 +196,40 @@ begun_program = of_functions (
 abbrev pub at_greatest_depth : Stmt → Outcome Returned
 at_greatest_depth st = meaning.call 3 9999 (void_function p [] End ∷ []) Deeper (void_function g [] (on_line 5 (st ∷ []))) no_frame 4 100
 
+-- it traps on line 1 for a range past an array, at this cost and not below it
+abbrev pub TrapsWith : Program → (cost : ℕ) → Type 0
+TrapsWith program zero = ⊥
+TrapsWith program (suc cost) = TrapsAt program [] (suc cost) trap.OutOfBounds 1 × IsOver program [] cost
+
+-- an array of two and an integer, and a loop lowered by hand that captures the one and goes past the other
+abbrev pub captured_by_a_lowered_loop : Program
+captured_by_a_lowered_loop = of_functions (
+    void_function f [] End
+    ∷ main_of (
+    DeclareArray a (number 2) ∷ Declare x (number 7)
+    ∷ Begin f (number 0) (number 3) (x ∷ []) (a ∷ []) ∷ give (number 0) ∷ []) ∷ [])
+
+-- the same of a loop
+abbrev pub captured_by_a_loop : Program
+captured_by_a_loop = alone (
+    DeclareArray a (number 2) ∷ Declare x (number 7)
+    ∷ For i i i (number 0) (number 3) 64 (a ∷ []) (block (Print (Variable x) ∷ [])) ∷ give (number 0) ∷ [])
+
 -- what the statements of lowered loops do
 pub record LoweredExamples : Type 0 where
   -- main 14, the start 5, the function 20, and 12 after it
   pub begun : Costs begun_program [] 51 (codes "1" ∷ codes "3" ∷ codes "3" ∷ codes "5" ∷ codes "2" ∷ codes "5" ∷ codes "8" ∷ codes "6" ∷ codes "return 9" ∷ [])
   pub begun_past_the_end :
       TrapsAt (of_functions (void_function f [] End ∷ main_of (DeclareArray a (number 2) ∷ Begin f (number 0) (number 3) [] (a ∷ []) ∷ give (number 0) ∷ []) ∷ [])) [] 1000 trap.OutOfBounds 1
+  -- without a turn the upper end is the lower one, so that its function's test does not trap: 1 + 4 + 1, then 7 and 2
+  pub begun_on_the_widest_range_without_a_turn :
+      Costs (of_functions (
+      void_function f (int_param i ∷ int_param j ∷ [])
+      (block (If (Binary AtMost (minus (Variable j) (Variable i)) (number 64)) End ∷ []))
+      ∷ main_of (Begin f (number 9223372036854775807) least [] [] ∷ give (number 0) ∷ []) ∷ []))
+      [] 15 (codes "return 0" ∷ [])
+  -- the captured integer is loaded before the instruction that traps: 2 + 2 + 1 + 1 + 1 + 1
+  pub captured_before_the_start : TrapsWith captured_by_a_lowered_loop 8
   pub started_arrays :
       Costs (with_callees (DeclareArray a (number 1) ∷ DeclareArray b (number 1) ∷ Start Plain g (Variable b ∷ Variable a ∷ []) ∷ print_both))
       [] 20 (codes "2" ∷ codes "1" ∷ codes "return 0" ∷ [])
@@ -254,6 +293,12 @@ pub record LoopExamples : Type 0 where
   pub lower_end_above : Costs (alone (DeclareArray a (number 2) ∷ For i i i (number 9) (number 8) 64 (a ∷ []) End ∷ give (number 0) ∷ [])) [] 21 (codes "return 0" ∷ [])
   pub range_past_the_second_array :
       TrapsAt (alone (DeclareArray a (number 2) ∷ DeclareArray b (number 1) ∷ For i i i (number 0) (number 2) 64 (a ∷ b ∷ []) End ∷ give (number 0) ∷ [])) [] 1000 trap.OutOfBounds 1
+  pub range_shifted_past_the_end :
+      TrapsAt (alone (
+      DeclareArray a (number 2) ∷ For i i i (number 1) (number 3) 64 (a ∷ []) End ∷ give (number 0) ∷ []))
+      [] 1000 trap.OutOfBounds 1
+  -- the captured integer is loaded before the instruction that traps: 2 + 2 + 1 + 1 + 1 + 1
+  pub captured_before_the_start : TrapsWith captured_by_a_loop 8
   pub both_halves_are_kept :
       Costs (alone (DeclareArray a (number 2) ∷ For i i i (number 0) (number 2) 1 (a ∷ []) (block (AssignElement a (Variable i) (number 5) ∷ [])) ∷ give (Element a (number 0)) ∷ []))
       [] 94 (codes "return 5" ∷ [])

@@ -48,6 +48,7 @@ pub record ExpressionTypeExamples : Type 0 where
 pub record WriteTypeExamples : Type 0 where
   pub own_initializer : IsMistyped (Declare y (Variable y))
   pub own_length : IsMistyped (DeclareArray b (Variable b))
+  pub length_of_itself : IsMistyped (DeclareArray b (Length b))
   pub known_integer : IsMistyped (Declare x (number 1))
   pub known_array : IsMistyped (DeclareArray a (number 1))
   pub integer_named_as_a_function : IsMistyped (Declare f (number 1))
@@ -105,6 +106,8 @@ pub record HeadTypeExamples : Type 0 where
   pub greatest_grain : IsFine (For i i i (number 0) (number 4) 1000000 [] End)
   pub integer_cut : IsMistyped (Cut x (number 0) l r End)
   pub cut_at_an_array : IsMistyped (Cut a (Variable a) l r End)
+  pub cut_at_its_left_part : IsMistyped (Cut a (Length l) l r End)
+  pub cut_at_its_right_part : IsMistyped (Cut a (Length r) l r End)
   pub known_left_part : IsMistyped (Cut a (number 0) x r End)
   pub known_right_part : IsMistyped (Cut a (number 0) l x End)
   pub one_name_for_both_parts : IsMistyped (Cut a (number 1) l l End)

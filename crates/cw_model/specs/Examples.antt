@@ -169,6 +169,9 @@ pub record DeepExamples : Type 0 where
   pub too_deep : TrapsAt example.deep_program [] USUAL_LIMIT trap.TooDeep 1
   pub too_deep_at_59998 : TrapsAt example.deep_program [] 59998 trap.TooDeep 1
   pub over_at_59997 : IsOver example.deep_program [] 59997
+  -- the cheapest way to the greatest depth: each call costs one, and the next one traps
+  pub too_deep_at_once : TrapsAt example.deepest_program [] 10000 trap.TooDeep 1
+  pub too_deep_at_once_at_9999 : IsOver example.deepest_program [] 9999
   pub chain_too_deep : TrapsAt example.spawn_chain (9999 ∷ []) USUAL_LIMIT trap.TooDeep 1
   pub many_signs : Costs (example.alone (example.give (example.signs 254) ∷ [])) [] 256 (codes "return 1" ∷ [])
 

@@ -1,5 +1,6 @@
 -- The texts that are reported, byte by byte.
-use Rattle.std.specs.Prelude.{ℕ, ◌+◌, ◌*◌, ◌/◌, ◌%◌, zero, suc, ℤ, List, [], ◌∷◌, ◌++◌, flat_map, codes, decimal}
+use Rattle.std.specs.Prelude.{ℕ, ◌+◌, ◌*◌, ◌/◌, ◌%◌, zero, suc, ◌==◌, ◌||◌, Bool, if◌then◌else◌, ℤ, List, [], ◌∷◌, ◌++◌, flat_map, codes, decimal}
+use Rattle.std.specs.List.{list_any}
 use Rattle.std.specs.Fmt.{signed_decimal}
 use Rattle.cw_model.specs.declared.syntax.CallKind.TheVariants.{Plain, Spawned}
 use Rattle.cw_model.specs.Syntax.{Name, Stmt, If, IfElse, While, For, Scope, Cut, Region, Block, End, Then, Reducer, Program}
@@ -20,11 +21,24 @@ pub data Mode : Type 0 where
 abbrev pub end_of_line : List ℕ
 end_of_line = 10 ∷ []
 
+-- whether a byte in a field asks for quotes around it: a comma, a quote, CR or LF
+abbrev pub asks_for_quotes : ℕ → Bool
+asks_for_quotes c = (c == 44) || (c == 34) || (c == 13) || (c == 10)
+
+-- the bytes of a field between its quotes, where each quote stands twice
+abbrev pub between_quotes : List ℕ → List ℕ
+between_quotes [] = []
+between_quotes (c ∷ cs) = if c == 34 then 34 ∷ 34 ∷ between_quotes cs else c ∷ between_quotes cs
+
+-- a field, in quotes where it needs them; no number, name or tag of a source does
+abbrev pub csv_field : List ℕ → List ℕ
+csv_field field = if list_any asks_for_quotes field then codes "\"" ++ (between_quotes field ++ codes "\"") else field
+
 -- fields with commas between them, and the end of the line
 abbrev pub csv_line : List (List ℕ) → List ℕ
 csv_line [] = end_of_line
-csv_line (field ∷ []) = field ++ end_of_line
-csv_line (field ∷ next ∷ fields) = field ++ (codes "," ++ csv_line (next ∷ fields))
+csv_line (field ∷ []) = csv_field field ++ end_of_line
+csv_line (field ∷ next ∷ fields) = csv_field field ++ (codes "," ++ csv_line (next ∷ fields))
 
 -- of a source that is accepted
 abbrev pub check_text : List ℕ

@@ -6,6 +6,7 @@ pub mod Calls
 pub mod Schedules
 pub mod Costing
 pub mod WorldLaws
+pub mod Wants
 pub mod Owners
 pub mod Plays
 pub mod Walks

@@ -7,7 +7,7 @@ use Rattle.cw_strands.specs.Jobs.{Job, root_job, Effect, Memory, JobMeaning, Sho
 use Rattle.cw_strands.specs.Strands.{Strand, Going, Waits, Halted, outs_of}
 use Rattle.cw_strands.specs.Promises.{IsStrandOf}
 use Rattle.cw_strands.specs.Steps.{started, give, skip, take_back, out_of_memory, WaitsFor, AdvanceKeeps}
-use Rattle.cw_strands.specs.Worlds.{Place, Undecided, Kept, Offered, Runs, Made, Settled, Spent, World, IsUnrun, effect_in, HasStopped, HasEnded, IsWaiting, placed, joined_by, Has, Next, Run, Spawn, Offer, Inline, Begin, Skip, Resume, End, Settle, Give, Want, GiveUp, After, Now, Later, world_of, WorldsAreSerial}
+use Rattle.cw_strands.specs.Worlds.{Place, Undecided, Kept, Offered, Runs, Made, Settled, Spent, World, IsUnrun, effect_in, HasStopped, HasEnded, IsWaiting, placed, joined_by, Has, Next, Run, Spawn, Offer, Inline, Begin, Skip, Resume, End, Settle, Give, Want, GiveUp, After, Now, Later, world_of, WorldsAreSerial, EffectsMean}
 use Rattle.cw_strands.proofs.Calls.{calls_keep}
 use Rattle.cw_strands.proofs.Schedules.{root_serial}
 
@@ -259,3 +259,6 @@ worlds_are_serial code f args limit world place e first after at is =
     let root = root_job f args limit in
     let ok = after_ok code root world (omega arith) after in
     root_serial code f args limit e first (effect_means code world.jobs root place e is (ok.0.each 0 root place (record { job_is = ok.1; place_is = at })))
+
+pub effects_mean : EffectsMean
+effects_mean code root world i job place e le after has is = effect_means code world.jobs job place e is ((after_ok code root world le after).0.each i job place has)

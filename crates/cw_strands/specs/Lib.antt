@@ -5,6 +5,7 @@ pub mod Promises
 pub mod Steps
 pub mod RestLaws
 pub mod Worlds
+pub mod Wants
 pub mod Events
 pub mod Costs
 pub mod Walks

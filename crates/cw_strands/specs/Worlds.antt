@@ -1,10 +1,10 @@
 -- Any number of workers that share the jobs of one run: each job has a number, and each number one place.
-use Rattle.std.specs.Prelude.{◌≡◌, ◌≢◌, ◌⊎◌, ℕ, ◌<◌, ℤ, List, [], ◌∷◌, ◌++◌, length, Option, Some, None, slice_get, slice_set}
+use Rattle.std.specs.Prelude.{◌≡◌, ◌≢◌, ◌⊎◌, ℕ, ◌<◌, ◌≤◌, ℤ, List, [], ◌∷◌, ◌++◌, length, Option, Some, None, slice_get, slice_set}
 use Rattle.cw_code.specs.declared.code.Func.{Func}
 use Rattle.cw_code.specs.Code.{Code}
 use Rattle.cw_code.specs.Fits.{Fits}
 use Rattle.cw_code.specs.Run.{On, first_state, first_transition, code_serial}
-use Rattle.cw_strands.specs.Jobs.{Job, root_job, Effect, Memory, answered}
+use Rattle.cw_strands.specs.Jobs.{Job, root_job, Effect, Memory, JobMeaning, answered}
 use Rattle.cw_strands.specs.Strands.{Strand, Going, Waits, Halted}
 use Rattle.cw_strands.specs.Steps.{started, Ran, Handed, Finished, Unfit, advance, give, skip, take_back, out_of_memory}
 
@@ -109,6 +109,11 @@ world_of job = record { jobs = job ∷ []; places = Runs 0 (started job) [] ∷ 
 abbrev pub WorldsAreSerial : Type 0
 WorldsAreSerial = (code : Code) (f : Func) (args : List ℤ) (limit : ℕ) (world : World) (place : Place) (e : Effect) → first_transition (slice_get code.funcs code.main) args ≡ On (first_state f args [])
     → After code (world_of (root_job f args limit)) world → slice_get world.places 0 ≡ Some place → effect_in place ≡ Some e → (e ≡ Memory) ⊎ (answered code e ≡ code_serial code args limit)
+
+-- whatever the events, each effect that was made and not given means its job
+abbrev pub EffectsMean : Type 0
+EffectsMean = (code : Code) (root : Job) (world : World) (i : ℕ) (job : Job) (place : Place) (e : Effect) → root.before ≤ root.limit
+    → After code (world_of root) world → Has world i job place → effect_in place ≡ Some e → JobMeaning code job e
 
 -- in code that fits no strand of any world finds what does not fit
 abbrev pub NoneIsUnfit : Type 0

@@ -6,7 +6,8 @@ ghost use Rattle.cw_strands.specs.Events.{PlaysCome};
 ghost use Rattle.cw_strands.specs.RestLaws.{Cut, Kept, RootsAreSerial, SchedulesAreSerial};
 ghost use Rattle.cw_strands.specs.Steps.{CallsKeep};
 ghost use Rattle.cw_strands.specs.Walks.{FailingWalks, PrintingWalks};
-ghost use Rattle.cw_strands.specs.Worlds.{NoneIsUnfit, OwnersAreSingle, WorldsAreSerial};
+ghost use Rattle.cw_strands.specs.Wants.{MemoryWasWanting};
+ghost use Rattle.cw_strands.specs.Worlds.{EffectsMean, NoneIsUnfit, OwnersAreSingle, WorldsAreSerial};
 
 /// The serial run from a spawn is the child's run, then that of the rest of the block up to its join from the slots
 /// as they stand, and then what waits goes back into its slots and the block goes on.
@@ -43,6 +44,17 @@ pub fn every_schedule_answers_what_the_code_gives()
 #[tactic(auto, using(crate::proofs::WorldLaws::worlds_are_serial))]
 pub fn every_world_answers_what_the_code_gives()
     ensures { WorldsAreSerial }
+{}
+
+/// Whatever the events, each effect that was made and not given means its job.
+#[tactic(auto, using(crate::proofs::WorldLaws::effects_mean))]
+pub fn every_effect_of_a_world_means_its_job()
+    ensures { EffectsMean }
+{}
+
+/// Whatever the events, an effect is for want of memory only after memory was wanting.
+pub fn memory_is_answered_only_where_it_was_wanting()
+    ensures { MemoryWasWanting }
 {}
 
 /// In code that fits no strand of any world finds what does not fit.

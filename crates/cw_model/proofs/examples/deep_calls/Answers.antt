@@ -10,6 +10,8 @@ returns c = record {
   too_deep = refl;
   too_deep_at_59998 = refl;
   over_at_59997 = refl;
+  too_deep_at_once = refl;
+  too_deep_at_once_at_9999 = refl;
   chain_too_deep = refl;
   many_signs = (refl, refl);
 }

@@ -25,6 +25,7 @@ unfolding digits serial_answer call
 returns-clause-writes c = record {
   own_initializer = (refl, refl);
   own_length = (refl, refl);
+  length_of_itself = (refl, refl);
   known_integer = (refl, refl);
   known_array = (refl, refl);
   integer_named_as_a_function = (refl, refl);
@@ -81,6 +82,8 @@ returns-clause-heads c = record {
   greatest_grain = (refl, refl, refl, refl, refl);
   integer_cut = (refl, refl);
   cut_at_an_array = (refl, refl);
+  cut_at_its_left_part = (refl, refl);
+  cut_at_its_right_part = (refl, refl);
   known_left_part = (refl, refl);
   known_right_part = (refl, refl);
   one_name_for_both_parts = (refl, refl);

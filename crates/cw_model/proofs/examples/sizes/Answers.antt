@@ -40,6 +40,7 @@ returns-clause-declarations c = record {
   most_tags = refl;
   tags = refl;
   tags_of_two_functions = refl;
+  first_tag_again = refl;
   tags_again = refl;
 }
 
