@@ -1,0 +1,69 @@
+-- The board: what each worker offered and nobody has taken, and what became of each number.
+use Rattle.std.specs.Prelude.{ℕ, List, [], ◌∷◌, ◌++◌, Option, Some, None, slice_get, slice_set}
+
+-- a deque's list, the oldest first: what is offered goes to its back
+abbrev pub pushed : {A : Type 0} → List A → A → List A
+pushed xs x = xs ++ x ∷ []
+
+-- the newest stands at the back, where its owner takes
+abbrev pub newest : {A : Type 0} → List A → Option A
+newest [] = None
+newest (x ∷ []) = Some x
+newest (x ∷ (y ∷ xs)) = newest (y ∷ xs)
+
+abbrev pub but_newest : {A : Type 0} → List A → List A
+but_newest [] = []
+but_newest (x ∷ []) = []
+but_newest (x ∷ (y ∷ xs)) = x ∷ but_newest (y ∷ xs)
+
+-- the oldest stands at the front, where thieves take
+abbrev pub oldest : {A : Type 0} → List A → Option A
+oldest [] = None
+oldest (x ∷ xs) = Some x
+
+abbrev pub but_oldest : {A : Type 0} → List A → List A
+but_oldest [] = []
+but_oldest (x ∷ xs) = xs
+
+-- what became of a number: it was not offered; it is out, in a deque or with who stole it; it was retaken; its effect is in its cell; its effect was collected
+pub data State : Type 0 where
+  Unoffered : State
+  Out : State
+  Retaken : State
+  Settled : State
+  Collected : State
+
+-- the list of each worker, and the state of each number
+pub record Board : Type 0 where
+  pub lists : List (List ℕ)
+  pub states : List State
+
+abbrev pub or_none : {A : Type 0} → Option (List A) → List A
+or_none None = []
+or_none (Some xs) = xs
+
+-- the list of a worker; a worker that is not there has none
+abbrev pub of_worker : {A : Type 0} → List (List A) → ℕ → List A
+of_worker lists w = or_none (slice_get lists w)
+
+abbrev pub with_list : Board → ℕ → List ℕ → Board
+with_list board w list = record { lists = slice_set board.lists w list; states = board.states }
+
+abbrev pub with_state : Board → ℕ → State → Board
+with_state board n state = record { lists = board.lists; states = slice_set board.states n state }
+
+-- one function for each of the five events that touch the board
+abbrev pub offer : (worker n : ℕ) → Board → Board
+offer w n board = with_state (with_list board w (pushed (of_worker board.lists w) n)) n Out
+
+abbrev pub retake : (worker n : ℕ) → Board → Board
+retake w n board = with_state (with_list board w (but_newest (of_worker board.lists w))) n Retaken
+
+abbrev pub steal : (victim : ℕ) → Board → Board
+steal v board = with_list board v (but_oldest (of_worker board.lists v))
+
+abbrev pub settle : (n : ℕ) → Board → Board
+settle n board = with_state board n Settled
+
+abbrev pub collect : (n : ℕ) → Board → Board
+collect n board = with_state board n Collected

@@ -1,0 +1,2 @@
+-- Lemmas on the board, which the proofs of crates above cite.
+pub mod Ledgers
