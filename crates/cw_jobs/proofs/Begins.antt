@@ -1,0 +1,133 @@
+-- The job of a whole run begins well.
+use Rattle.std.proofs.Common.{◌≡◌, ℕ, zero, suc, ◌+◌, ◌-◌, ◌<◌, ◌≤◌, ℤ, pos, true, Option, Some, None, List, [], ◌∷◌, ◌++◌, length, refl, sym, ap, ◌∙◌, subst, arith}
+use Rattle.std.specs.Prelude.{replicate, slice_get}
+use Rattle.std.proofs.lemmas.List.{length-map, length-replicate}
+use Rattle.std.proofs.lemmas.Option.{slice_get_within}
+use Rattle.std.proofs.lemmas.Bool.Decides.{nat_tests}
+use Rattle.cw_model.specs.declared.limits.TheConstants.{MOST_LIMIT, MOST_BURDEN}
+use Rattle.cw_code.specs.declared.code.Func.{Func}
+use Rattle.cw_code.specs.Code.{code_view}
+use Rattle.cw_code.specs.Run.{full, slots_of, arrays_of, first_state}
+use Rattle.cw_code.specs.Fits.{params_of, array_params_of, gives_value, main_params}
+use Rattle.cw_verify.specs.declared.verified.Verified.{Verified}
+use Rattle.cw_strands.specs.Jobs.{root_job}
+use Rattle.cw_jobs.specs.declared.call.Extent.TheVariants as extent
+use Rattle.cw_jobs.specs.declared.call.Parts.{Parts}
+use Rattle.cw_jobs.specs.declared.call.Rest.{Rest}
+use Rattle.cw_jobs.specs.Calls.{cell, Keeps, HasArrays, HoldsCall}
+use Rattle.cw_jobs.specs.Jobs.{Ok, IsJob, IsSound, is_asked, is_request, IsRoot, IsFirst, code_of}
+
+some_same : {A : Type 0} (x y : A) → Some x ≡ Some y → x ≡ y
+some_same x y e = cc
+
+-- there is a main
+pub record Main (v : Verified) : Type 0 where
+  pub func : Func
+  pub found : slice_get (code_view v.code).funcs v.code.main ≡ Some func
+
+pub main_of : (v : Verified) → Ok v → Main v
+main_of v ok = at (slice_get (code_view v.code).funcs v.code.main) refl
+  where
+    gives_none : gives_value None ≡ true → ⊥
+    gives_none e = cc
+
+    at : (o : Option Func) → slice_get (code_view v.code).funcs v.code.main ≡ o → Main v
+    at None e = absurd (gives_none (ap gives_value (sym e) ∙ ok.fits.main))
+    at (Some f) e = record { func = f; found = e }
+
+pub main_there : (v : Verified) → Ok v → v.code.main < length v.code.funcs.items
+main_there v ok = let main = main_of v ok in slice_get_within (code_view v.code).funcs v.code.main main.func main.found
+
+-- the function that was found is main
+pub main_same : (v : Verified) (f g : Func) → slice_get (code_view v.code).funcs v.code.main ≡ Some f → slice_get (code_view v.code).funcs v.code.main ≡ Some g → f ≡ g
+main_same v f g e h = some_same f g (sym e ∙ h)
+
+pub params_same : (v : Verified) (f : Func) → slice_get (code_view v.code).funcs v.code.main ≡ Some f → main_params (code_view v.code) ≡ f.params
+params_same v f e = ap params_of e
+
+-- what was asked for is in range
+pub record InRange (params count n burden : ℕ) : Type 0 where
+  pub count_is : count ≡ params
+  pub least : 1 ≤ n
+  pub most : n ≤ MOST_LIMIT
+  pub light : burden ≤ MOST_BURDEN
+
+pub in_range : (params count n burden : ℕ) → is_asked params count n burden ≡ true → InRange params count n burden
+in_range params count n burden h = record { count_is = grind (arith, nat_tests, h); least = grind (arith, nat_tests, h); most = grind (arith, nat_tests, h); light = grind (arith, nat_tests, h) }
+
+-- a list holds itself
+keeps_full : (cells : List ℤ) (a : ℕ) (v : ℤ) → slice_get (full cells) a ≡ Some (Some v) → cell cells a ≡ v
+keeps_full [] a v e = cc
+keeps_full (x ∷ cells) zero v e = some_same x v (some_same (Some x) (Some v) e)
+keeps_full (x ∷ cells) (suc a) v e = keeps_full cells a v e
+
+empty_get : (n a : ℕ) (xs : List ℤ) → slice_get (full (replicate n [])) a ≡ Some (Some xs) → (a < n) × ([] ≡ xs)
+empty_get zero a xs e = cc
+empty_get (suc n) zero xs e = (omega arith, some_same [] xs (some_same (Some []) (Some xs) e))
+empty_get (suc n) (suc a) xs e = let r = empty_get n a xs e in (omega (arith, r.0), r.1)
+
+module _ (v : Verified) (f : Func) (args : List ℤ) (r : Rest) (ok : Ok v) (found : slice_get (code_view v.code).funcs v.code.main ≡ Some f) (count : length args ≡ f.params) (first : IsFirst f args r) where
+  none_taken : f.array_params ≡ 0
+  none_taken = sym (ap array_params_of found) ∙ ok.fits.of_integers
+
+  cells_are : r.cells.items ≡ args ++ replicate (f.slots - f.params) (pos 0)
+  cells_are = first.cells ∙ ap (λ n. args ++ replicate (f.slots - n) (pos 0)) count
+
+  keeps : Keeps r.cells.items 0 (slots_of f args)
+  keeps a v e = let same : 0 + a ≡ a = omega arith in ap (λ k. cell r.cells.items k) same ∙ ap (λ l. cell l a) cells_are ∙ keeps_full (args ++ replicate (f.slots - f.params) (pos 0)) a v e
+
+  arrays_are : arrays_of f [] ≡ full (replicate f.arrays [])
+  arrays_are = let n : f.arrays - f.array_params ≡ f.arrays = omega (arith, none_taken) in ap (λ k. full (replicate k [])) n
+
+  has : HasArrays r.slices.items (arrays_of f [])
+  has a xs e =
+      let g = empty_get f.arrays a xs (ap (λ l. slice_get l a) (sym arrays_are) ∙ e) in
+      let at = first.empty a g.0 in
+      (at.0 ∙ g.1, at.1)
+
+  holds : (n : ℕ) → HoldsCall r (root_job f args n)
+  holds n = record {
+    at = first.at;
+    deep = first.deep;
+    enough = (let e = ap length cells_are in let m = length-map (args ++ replicate (f.slots - f.params) (pos 0)) (λ (x : ℤ). Some x) in omega (arith, e, m));
+    keeps = keeps;
+    as_many = first.as_many ∙ sym (ap length arrays_are ∙ length-map (replicate f.arrays []) (λ (x : List ℤ). Some x) ∙ length-replicate f.arrays []);
+    has = has;
+  }
+
+  pub root_is : (p : Parts) (n : ℕ) → p.extent ≡ extent.WholeCall → p.rest ≡ r → p.limit ≡ n → p.before ≡ 0 → IsJob v ok p (root_job f args n)
+  root_is p n whole same limit before = record {
+    extent = sym (ap Rattle.cw_jobs.specs.Jobs.extent_of whole);
+    limit = sym limit;
+    before = sym before;
+    holds = subst (λ (q : Rest). HoldsCall q (root_job f args n)) (sym same) (holds n);
+    base = first_state f args [];
+    begins = refl;
+    blocks = tt;
+    good = ok.begins v.code.main f args [] found count (sym none_taken);
+  }
+
+-- the parts of the job of a whole run
+module _ (p : Parts) (f : Func) (args : List ℤ) (found : slice_get (code_view (code_of p).code).funcs (code_of p).code.main ≡ Some f) (asked : is_asked f.params (length args) p.limit p.burden ≡ true) (first : IsFirst f args p.rest) (whole : p.extent ≡ extent.WholeCall) (none : p.before ≡ 0) where
+  within : InRange f.params (length args) p.limit p.burden
+  within = in_range f.params (length args) p.limit p.burden asked
+
+  pub root_sound : Ok (code_of p) → IsSound p
+  root_sound ok = record {
+    ok = ok;
+    job = root_job f args p.limit;
+    is = root_is (code_of p) f args p.rest ok found within.count_is first p p.limit whole refl refl none;
+    within = omega (arith, none);
+    range = within.most;
+    light = within.light;
+  }
+
+  pub root_made : IsRoot (code_of p) args p.limit p.burden p
+  root_made = record {
+    asked = ap (λ k. is_asked k (length args) p.limit p.burden) (params_same (code_of p) f found) ∙ asked;
+    code = refl;
+    burden = refl;
+    whole = whole;
+    is = λ ok g there. subst (λ (h : Func). IsJob (code_of p) ok p (root_job h args p.limit)) (main_same (code_of p) f g found there)
+        (root_is (code_of p) f args p.rest ok found within.count_is first p p.limit whole refl refl none);
+  }

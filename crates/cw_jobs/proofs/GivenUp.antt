@@ -1,0 +1,12 @@
+-- A job that is given up.
+use Rattle.std.proofs.Common.{refl}
+use Rattle.cw_verify.specs.declared.verified.Verified.{Verified}
+use Rattle.cw_strands.specs.Jobs.{Job, Memory, Short}
+use Rattle.cw_jobs.specs.declared.call.Parts.{Parts}
+use Rattle.cw_jobs.specs.declared.effect.Effect.TheVariants as effect
+use Rattle.cw_jobs.specs.Jobs.{Ok}
+use Rattle.cw_jobs.specs.Means.{MeansIt}
+
+-- want of memory means any job
+pub given_up : (v : Verified) (ok : Ok v) (p : Parts) (j : Job) → MeansIt v ok p (effect.Memory p.rest.slices) j
+given_up v ok p j = record { effect = Memory; means = Short refl; tells = tt; counts = tt; homes = λ a xs fixed is. (refl, refl) }

@@ -1,0 +1,119 @@
+-- Which jobs of the definitions a job is.
+use Rattle.std.specs.Prelude.{◌≡◌, ◌⊎◌, ℕ, ◌-◌, ◌<◌, ◌≤◌, ℤ, pos, Bool, true, false, ◌&&◌, nat_eq, nat_le, List, [], ◌∷◌, ◌++◌, length, replicate, Option, Some, None, slice_get}
+use Rattle.std.specs.Arc.{arc_value}
+use Rattle.cw_slices.specs.Placed.{Placed, IsOwn}
+use Rattle.cw_model.specs.declared.limits.TheConstants.{MOST_LIMIT, MOST_BURDEN}
+use Rattle.cw_model.specs.Outcome.{quiet}
+use Rattle.cw_code.specs.declared.code.Func.{Func}
+use Rattle.cw_code.specs.declared.code.Halves.{Halves}
+use Rattle.cw_code.specs.Code.{Code, code_view}
+use Rattle.cw_code.specs.Run.{Around, Caller, Block, State}
+use Rattle.cw_code.specs.Fits.{Outer, main_params}
+use Rattle.cw_code.specs.Good.{Seat, GoodState}
+use Rattle.cw_verify.specs.declared.verified.Verified.{Verified}
+use Rattle.cw_verify.specs.Resolved.{IsVerified}
+use Rattle.cw_meter.specs.Origins.{Origin, Main, Rest}
+use Rattle.cw_strands.specs.Jobs.{Extent, WholeCall, ToJoin, Job, job_start, root_job}
+use Rattle.cw_strands.specs.Over.{under}
+use Rattle.cw_jobs.specs.declared.call.Extent as declared
+use Rattle.cw_jobs.specs.declared.call.Extent.TheVariants as extent
+use Rattle.cw_jobs.specs.declared.call.Parts.{Parts}
+use Rattle.cw_jobs.specs.declared.call.Rest.{Rest as Frame}
+use Rattle.cw_text.specs.declared.fault.Fault.{Fault}
+use Rattle.cw_text.specs.declared.fault.Fault.TheVariants as fault
+use Rattle.cw_jobs.specs.Calls.{placed, LiesAs, HoldsCall}
+
+-- code that fits, and its instructions stand for it
+abbrev pub Ok : Verified → Type 0
+Ok v = IsVerified (code_view v.code) v.ops.items v.rooms.items
+
+-- how far a job goes
+abbrev pub extent_of : declared.Extent → Extent
+extent_of extent.WholeCall = WholeCall
+extent_of extent.ToJoin = ToJoin
+
+-- what the meter of a job's run begins with
+abbrev pub begins_at : declared.Extent → (site : ℕ) → Origin
+begins_at extent.WholeCall site = Main
+begins_at extent.ToJoin site = Rest site
+
+abbrev pub origin_of : Parts → Origin
+origin_of p = begins_at p.extent p.site
+
+-- the code of a job
+abbrev pub code_of : Parts → Verified
+code_of p = arc_value p.code
+
+-- no call waits, only sync blocks of the same call
+abbrev pub AreBlocks : List Around → Type 0
+AreBlocks [] = Unit {0}
+AreBlocks (Caller w ∷ around) = ⊥
+AreBlocks (Block o ∷ around) = AreBlocks around
+
+-- a job is one of the definitions: its call holds the job's, and over some block in which what waits for the empty slots has come the run of the job begins well
+pub record IsJob (v : Verified) (ok : Ok v) (p : Parts) (j : Job) : Type 0 where
+  pub extent : j.extent ≡ extent_of p.extent
+  pub limit : j.limit ≡ p.limit
+  pub before : j.before ≡ p.before
+  pub holds : HoldsCall p.rest j
+  pub base : State
+  pub begins : base.trace ≡ quiet
+  pub blocks : AreBlocks base.around
+  pub good : GoodState (code_view v.code) ok.fits (under base (job_start j))
+
+-- the slot has a part of the array of this cut
+abbrev pub IsPartOf : ℕ → Option Halves → Type 0
+IsPartOf a None = ⊥
+IsPartOf a (Some h) = (a ≡ h.left) ⊎ (a ≡ h.right)
+
+-- of one of the cuts that are open here
+abbrev pub IsPartIn : ℕ → List Outer → Type 0
+IsPartIn a [] = ⊥
+IsPartIn a (o ∷ outer) = IsPartOf a o.cut ⊎ IsPartIn a outer
+
+-- an array that must come back where it lay: that of a parameter, or a part of an open cut
+abbrev pub IsFixed : (v : Verified) → Ok v → (place slot : ℕ) → Type 0
+IsFixed v ok place a = (seat : Seat (code_view v.code) ok.fits place) × ((a < seat.func.array_params) ⊎ IsPartIn a seat.shape.outer)
+
+-- what comes back of a job's arrays lies where it lay
+abbrev pub KeepsHomes : (v : Verified) → Ok v → Job → (job back : List Placed) → Type 0
+KeepsHomes v ok j slices back = (a : ℕ) (xs : List ℤ) → IsFixed v ok j.place a → slice_get j.arrays a ≡ Some (Some xs) → LiesAs (placed back a) (placed slices a)
+
+-- a job that can be run: it is one of the definitions, and its numbers are in their ranges
+pub record IsSound (p : Parts) : Type 0 where
+  pub ok : Ok (code_of p)
+  pub job : Job
+  pub is : IsJob (code_of p) ok p job
+  pub within : p.before ≤ p.limit
+  pub range : p.limit ≤ MOST_LIMIT
+  pub light : p.burden ≤ MOST_BURDEN
+
+-- as many arguments as there are parameters, and a limit and a burden in their ranges
+abbrev pub is_asked : (params count n burden : ℕ) → Bool
+is_asked params count n burden = nat_eq count params && (nat_le 1 n && (nat_le n MOST_LIMIT && nat_le burden MOST_BURDEN))
+
+-- the code can be asked for this run
+abbrev pub is_request : Code → List ℤ → (n burden : ℕ) → Bool
+is_request code args n burden = is_asked (main_params code) (length args) n burden
+
+-- the job of a whole run: main on these arguments
+pub record IsRoot (v : Verified) (args : List ℤ) (n b : ℕ) (p : Parts) : Type 0 where
+  pub asked : is_request (code_view v.code) args n b ≡ true
+  pub code : code_of p ≡ v
+  pub burden : p.burden ≡ b
+  pub whole : p.extent ≡ extent.WholeCall
+  pub is : (ok : Ok v) (f : Func) → slice_get (code_view v.code).funcs v.code.main ≡ Some f → IsJob v ok p (root_job f args n)
+
+-- why there is no such job: what was asked for is out of range, or memory ran out
+abbrev pub IsRefused : Code → List ℤ → (n burden : ℕ) → Fault → Type 0
+IsRefused code args n burden fault.Arguments = is_request code args n burden ≡ false
+IsRefused code args n burden fault.Memory = is_request code args n burden ≡ true
+IsRefused code args n burden _ = ⊥
+
+-- main begins: its arguments and zeros in its cells, no element in its arrays
+pub record IsFirst (f : Func) (args : List ℤ) (r : Frame) : Type 0 where
+  pub at : r.place ≡ f.start
+  pub deep : r.depth ≡ 1
+  pub cells : r.cells.items ≡ args ++ replicate (f.slots - length args) (pos 0)
+  pub as_many : length r.slices.items ≡ f.arrays
+  pub empty : (k : ℕ) → k < f.arrays → ((placed r.slices.items k).items ≡ []) × IsOwn (placed r.slices.items k)

@@ -1,0 +1,50 @@
+//! What a strand makes of its job.
+
+use crate::call::Rest;
+use cw_meter::Meter;
+use cw_model::trap::Trap;
+use cw_slices::Slice;
+
+/// What a run has shown and counted.
+#[derive(Drop)]
+pub struct Shown {
+    /// The values printed, in order.
+    pub lines: Vec<i64>,
+    /// For each reducer the sum of what was added to it.
+    pub sums: Vec<i128>,
+    /// Work, span, burdened span and all rows, of sites and of tags.
+    pub meter: Meter,
+    /// The instructions that it did.
+    pub cost: u64,
+}
+
+/// What a strand makes of its job. One that stopped gives back the arrays of the job's array slots.
+#[derive(Drop)]
+pub enum Effect {
+    /// The call has ended, with its value if it gives one.
+    Ended {
+        value: Option<i64>,
+        shown: Shown,
+    },
+    /// The run is at the join of the block that it began in.
+    Joined {
+        frame: Rest,
+        shown: Shown,
+    },
+    /// A trap, with its line, what was printed before, and the instructions up to it.
+    Trapped {
+        trap: Trap,
+        line: u32,
+        lines: Vec<i64>,
+        cost: u64,
+        back: Vec<Slice>,
+    },
+    /// The next instruction would have passed the limit of the run.
+    OverLimit {
+        back: Vec<Slice>,
+    },
+    /// Memory was wanting.
+    Memory {
+        back: Vec<Slice>,
+    },
+}

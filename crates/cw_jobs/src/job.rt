@@ -1,0 +1,83 @@
+//! Jobs.
+
+ghost use Rattle.cw_jobs.specs.Jobs.{IsSound};
+
+use crate::call::{Extent, Parts, Rest};
+use crate::effect::Effect;
+use crate::first::{first_rest, is_asked};
+use cw_text::Fault;
+use cw_verify::verified::Verified;
+use std::alloc::Global;
+use std::sync::Arc;
+
+/// A call, or the rest of a sync block of one, to be run once, by any worker. It is a box already.
+#[derive(Drop)]
+pub struct Job {
+    pub parts: Box<Parts>,
+    pub ghost sound: { ∥ IsSound parts.value ∥₁ },
+}
+
+impl Job {
+    ghost use Rattle.std.specs.Prelude.{MatchResult};
+    ghost use Rattle.cw_code.specs.Code.{code_view};
+    ghost use Rattle.cw_jobs.specs.Jobs.{IsRefused, IsRoot};
+    ghost use Rattle.cw_jobs.specs.Means.{IsMeaningOf};
+
+    /// The job of a whole run: `main` on these arguments, within `n` instructions. `burden` is the cost of a spawn in
+    /// instructions, by which the burdened spans alone are told.
+    ///
+    /// The error is `Arguments` exactly where the count of the arguments is not that of `main`'s parameters, or `n` is
+    /// not in 1..=2^62, or `burden` is above 1,000,000,000; otherwise `Memory`, where memory runs out.
+    pub fn root(
+        alloc: Global,
+        code: Arc<Verified>,
+        args: &[i64],
+        n: u64,
+        burden: u64,
+    ) -> Result<Job, Fault>
+        ensures { MatchResult result (λ job. IsRoot code.value args.now n burden job.parts.value) (IsRefused (code_view code.value.code) args.now n burden) }
+    {
+        let verified: &Verified = &code;
+        let f = verified.func(verified.code.main as usize);
+        if !is_asked(f.params, args.len(), n, burden) {
+            return Err(Fault::Arguments);
+        }
+        let rest = first_rest(alloc, f, args)?;
+        let parts = Box::new(
+            alloc,
+            Parts {
+                code,
+                extent: Extent::WholeCall,
+                rest,
+                site: 0,
+                burden,
+                limit: n,
+                before: 0,
+            },
+        )?;
+        Ok(Job { parts })
+    }
+
+    /// It is not run, for want of memory. Takes none itself.
+    pub fn give_up(self) -> Effect
+        ensures { IsMeaningOf self result }
+    {
+        let Job { parts } = self;
+        let Parts {
+            code: _,
+            extent: _,
+            rest,
+            site: _,
+            burden: _,
+            limit: _,
+            before: _,
+        } = Box::into_inner(parts);
+        let Rest {
+            place: _,
+            depth: _,
+            cells: _,
+            slices,
+        } = rest;
+        Effect::Memory { back: slices }
+    }
+}

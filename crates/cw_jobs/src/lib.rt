@@ -1,0 +1,7 @@
+//! Jobs and their effects: what workers hand to each other.
+#![tactic(auto)]
+
+pub mod call;
+pub mod effect;
+mod first;
+pub mod job;
