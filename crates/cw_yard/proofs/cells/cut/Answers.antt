@@ -1,0 +1,6 @@
+use Rattle.std.proofs.Common.{ap, sym, subst, arith}
+use Rattle.cw_yard.proofs.Keeps.{cuts}
+use Rattle.cw_yard.proofs.cells.cut.Goals as goal
+
+pub split_seat-requires : goal.split_seat-requires
+split_seat-requires c = (c.requires.table.0, omega (arith, c.requires.table), rw c.requires.rest (cuts _ _))

@@ -1,0 +1,10 @@
+pub mod Cells
+pub mod Deals
+pub mod Ledger
+pub mod Marks
+pub mod Opened
+pub mod Opens
+pub mod Seats
+pub mod Steps
+pub mod Tickets
+pub mod Words

@@ -1,0 +1,47 @@
+-- What the steps at a cell ask and tell.
+use Rattle.std.specs.Prelude.{◌≡◌, ◌==◌, ◌<◌, ◌+◌, ℕ, Bool, true, false, List, [], ◌∷◌, length, Option, Some, None}
+use Rattle.atomic_table.specs.Table.{Me}
+use Rattle.atomic_table.specs.Seated.{TableId}
+use Rattle.cw_jobs.specs.declared.job.Job.{Job}
+use Rattle.cw_jobs.specs.declared.effect.Effect.{Effect}
+use Rattle.cw_yard.specs.declared.view.Stage.{Stage}
+use Rattle.cw_yard.specs.declared.view.Stage.TheVariants.{Free, Held, Out, Back, Taken}
+use Rattle.cw_yard.specs.declared.view.CellView.{CellView}
+use Rattle.cw_yard.specs.declared.view.CellView.TheVariants.{Idle, Rest, Owner, Duty}
+use Rattle.cw_jobs.specs.Means.{IsMeaningOf}
+
+-- a token of this table, and one of its cells, each of which has a word; there is one word more, the end mark
+abbrev pub Fitting : TableId → TableId → ℕ → Type 0
+Fitting z z' cell = (z' ≡ z) × (cell < z.slots) × (z.words ≡ z.slots + 1)
+
+-- what comes out where a duty was taken back
+abbrev pub GainsStage : Stage → Type 0
+GainsStage Free = Unit {0}
+GainsStage (Held n j) = Unit {0}
+GainsStage (Out n j) = Unit {0}
+GainsStage (Back n j m k) = (m ≡ n) × (k ≡ j)
+GainsStage (Taken n j) = Unit {0}
+
+abbrev pub Gains : CellView → Type 0
+Gains Idle = Unit {0}
+Gains (Rest k) = Unit {0}
+Gains (Owner c k) = GainsStage k
+Gains (Duty c b n j) = Unit {0}
+
+abbrev pub Mine : Type 0
+Mine = Me (Option Effect) CellView
+
+-- the owner reads the mark: at 2 the slot is out with it, and has a meaning of its job
+abbrev pub ReadsStage : ℕ → Stage → ℕ → Mine → Type 0
+ReadsStage c Free r n = Unit {0}
+ReadsStage c (Held m j) r n = Unit {0}
+ReadsStage c (Out m j) r n =
+    (r ≡ 2 → (e : Effect) × (n ≡ (Owner c (Taken m j), (c, Some e) ∷ [])) × IsMeaningOf j e) × (¬ (r ≡ 2) → n ≡ (Owner c (Out m j), []))
+ReadsStage c (Back m j m' j') r n = Unit {0}
+ReadsStage c (Taken m j) r n = Unit {0}
+
+abbrev pub Reads : ℕ → CellView → ℕ → Mine → Type 0
+Reads c Idle r n = Unit {0}
+Reads c (Rest k) r n = Unit {0}
+Reads c (Owner c' k) r n = ReadsStage c' k r n
+Reads c (Duty c' b m j) r n = Unit {0}

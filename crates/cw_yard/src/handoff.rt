@@ -1,0 +1,123 @@
+//! The calls on one deque and one cell.
+ghost use Rattle.std.specs.Prelude.{◌≡◌, ◌<◌, ◌≤◌, ◌+◌, ◌++◌, ◌^◌, ℕ, [], ◌∷◌, false, true, length, IfOk, IfErr, IfSome, IfNone, OnOk, OnErr, Some, None, MatchResult};
+ghost use Rattle.crossbeam_deque.specs.Handles.{view, IsPassOf, SamePass, SameWorker, stealer_deque, worker_view, worker_capacity, worker_index, worker_flavor};
+ghost use Rattle.cw_jobs.specs.declared.job.Job.{Job};
+ghost use Rattle.cw_jobs.specs.Means.{IsMeaningOf};
+ghost use Rattle.cw_yard.specs.declared.view.Stage.TheVariants.{Free, Held, Out};
+ghost use Rattle.cw_yard.specs.declared.view.CellView.TheVariants.{Owner, Duty as OnDuty};
+ghost use Rattle.cw_yard.specs.Deals.{number_of};
+ghost use Rattle.cw_yard.specs.Ledger.{offer, Retakes, Steals};
+ghost use Rattle.cw_yard.specs.declared.task.Item.TheVariants.{Work};
+ghost use Rattle.cw_yard.specs.Words.{offered, stolen, Deal, Rises, Takes, OwnsAt, StealsAt};
+ghost use Rattle.cw_yard.specs.Tickets.{ticket_job, ticket_number, duty_job};
+
+use crate::cells::{Cells, Holding, Token};
+use crate::deque::{OwnDeque, ThiefPass, Victim};
+use crate::task::Task;
+use crate::ticket::{Duty, FreeCell, Ticket};
+use cw_jobs::effect::Effect;
+use cw_jobs::job::Job;
+use std::marker::Brand;
+
+fn offer_held<B: Holding>(
+    table: &Cells,
+    own: &mut OwnDeque,
+    free: FreeCell,
+    job: Job,
+) -> Result<Ticket, (Job, FreeCell)>
+    requires held { B.stage ≡ Held (length (offered (worker_view own.old))) job }
+    requires table { (free.token.table_id ≡ table.now.table_id) × (table.now.table_id.words ≡ table.now.table_id.slots + 1) × OwnsAt table.now.table_id (worker_view own.old) }
+    ensures same { SameWorker own.old own.new × OwnsAt table.now.table_id (worker_view own.new) }
+    ensures ok { IfOk result (λ t. (t.token.table_id ≡ table.now.table_id) × (ticket_job t ≡ Some job) × (ticket_number t ≡ Some (length (offered (worker_view own.old)))) × (offered (worker_view own.new) ≡ offered (worker_view own.old) ++ offer job false ∷ [])) }
+    ensures err { IfErr result (λ e. (e.0 ≡ job) × (e.1.token.table_id ≡ table.now.table_id) × (worker_view own.new ≡ worker_view own.old) × (worker_capacity own.old ≤ worker_index own.old)) }
+{
+    let FreeCell { cell, mut token } = free;
+    crate::cells::open::<B>(table, &mut token, cell);
+    let duty = crate::cells::deal(table, &mut token, cell);
+    match crate::deque::offer(own, Task { job, cell, duty }) {
+        Ok(()) => Ok(Ticket { cell, token }),
+        Err(task) => {
+            let Task { job, cell: _, duty } = task;
+            crate::cells::undo(table, &mut token, duty, cell);
+            Err((job, FreeCell { cell, token }))
+        }
+    }
+}
+
+/// The job is the next number, and the ticket names it.
+pub fn offer(
+    table: &Cells,
+    own: &mut OwnDeque,
+    free: FreeCell,
+    job: Job,
+) -> Result<Ticket, (Job, FreeCell)>
+    requires table { (free.token.table_id ≡ table.now.table_id) × (table.now.table_id.words ≡ table.now.table_id.slots + 1) × OwnsAt table.now.table_id (worker_view own.old) }
+    ensures same { SameWorker own.old own.new × OwnsAt table.now.table_id (worker_view own.new) }
+    ensures ok { IfOk result (λ t. (t.token.table_id ≡ table.now.table_id) × (ticket_job t ≡ Some job) × (ticket_number t ≡ Some (length (offered (worker_view own.old)))) × (offered (worker_view own.new) ≡ offered (worker_view own.old) ++ offer job false ∷ [])) }
+    ensures err { IfErr result (λ e. (e.0 ≡ job) × (e.1.token.table_id ≡ table.now.table_id) × (worker_view own.new ≡ worker_view own.old) × (worker_capacity own.old ≤ worker_index own.old)) }
+{
+    offer_held::<Brand>(table, own, free, job)
+}
+
+// A job that no ticket of this moment is for: its effect is left in its cell, as if it had been stolen.
+fn give_up(table: &Cells, cell: usize, duty: Token, job: Job)
+    requires table { (duty.table_id ≡ table.now.table_id) × (cell < duty.table_id.slots) × (table.now.table_id.words ≡ table.now.table_id.slots + 1) }
+    requires names { duty.me ≡ (OnDuty cell false (number_of duty.me.0) job, []) }
+{
+    let effect = job.give_up();
+    crate::cells::settle(table, duty, cell, effect);
+}
+
+/// The job of the ticket, with its cell, which is free.
+pub fn retake(table: &Cells, own: &mut OwnDeque, ticket: Ticket) -> Result<(Job, FreeCell), Ticket>
+    requires table { (ticket.token.table_id ≡ table.now.table_id) × (table.now.table_id.words ≡ table.now.table_id.slots + 1) }
+    requires own { OwnsAt table.now.table_id (worker_view own.old) × (worker_flavor own.old ≡ 1) }
+    ensures same { SameWorker own.old own.new × OwnsAt table.now.table_id (worker_view own.new) }
+    ensures mine { IfOk result (λ r. (ticket_job ticket ≡ Some r.0) × Takes (offered (worker_view own.old)) (ticket_number ticket) r.0 (offered (worker_view own.new)) × (r.1.token.table_id ≡ table.now.table_id)) }
+    ensures later { IfErr result (λ t. t ≡ ticket) }
+{
+    let Some(task) = crate::deque::retake(own) else {
+        return Err(ticket);
+    };
+    let Task { job, cell, duty } = task;
+    if cell != ticket.cell {
+        give_up(table, cell, duty, job);
+        return Err(ticket);
+    }
+    let Ticket { cell: _, mut token } = ticket;
+    crate::cells::undo(table, &mut token, duty, cell);
+    Ok((job, FreeCell { cell, token }))
+}
+
+/// A job that a pass at another's deque got, with the duty to settle it.
+pub fn steal(table: &Cells, other: &Victim, pass: &mut ThiefPass) -> Option<(Job, Duty)>
+    requires thief { IsPassOf (stealer_deque other.now) pass.old × StealsAt table.now.table_id (view pass.old) }
+    ensures same { SamePass pass.old pass.new × StealsAt table.now.table_id (view pass.new) }
+    ensures some { IfSome result (λ r. (r.1.token.table_id ≡ table.now.table_id) × (duty_job r.1 ≡ Some r.0) × Rises (stolen (view pass.old)) r.0 (stolen (view pass.new))) }
+    ensures none { IfNone result (view pass.new ≡ view pass.old) }
+{
+    let Task { job, cell, duty } = crate::deque::steal(other, pass)?;
+    Some((job, Duty { cell, token: duty }))
+}
+
+/// Leaves the effect of a stolen job in its cell.
+pub fn settle(table: &Cells, duty: Duty, effect: Effect)
+    requires table { (duty.token.table_id ≡ table.now.table_id) × (table.now.table_id.words ≡ table.now.table_id.slots + 1) }
+    requires means { (j : Job) × (duty_job duty ≡ Some j) × IsMeaningOf j effect }
+{
+    let Duty { cell, token } = duty;
+    crate::cells::settle(table, token, cell, effect);
+}
+
+/// A meaning of the ticket's job, with its cell, which is free.
+pub fn collect(table: &Cells, ticket: Ticket) -> Result<(Effect, FreeCell), Ticket>
+    requires table { (ticket.token.table_id ≡ table.now.table_id) × (table.now.table_id.words ≡ table.now.table_id.slots + 1) }
+    ensures done { IfOk result (λ r. ((j : Job) → ticket_job ticket ≡ Some j → IsMeaningOf j r.0) × (r.1.token.table_id ≡ table.now.table_id)) }
+    ensures later { IfErr result (λ t. (t.cell ≡ ticket.cell) × (t.token.table_id ≡ ticket.token.table_id) × (t.token.me ≡ ticket.token.me)) }
+{
+    let Ticket { cell, mut token } = ticket;
+    match crate::cells::collect(table, &mut token, cell) {
+        Some(effect) => Ok((effect, FreeCell { cell, token })),
+        None => Err(Ticket { cell, token }),
+    }
+}

@@ -1,0 +1,13 @@
+//! The yard: where workers hand jobs to each other, each at a deque of its own, and effects back, each in a cell.
+#![tactic(auto)]
+
+pub(crate) mod cells;
+pub(crate) mod deque;
+pub(crate) mod handoff;
+pub(crate) mod mark;
+pub mod open;
+pub mod seat;
+pub(crate) mod task;
+pub mod ticket;
+pub(crate) mod view;
+pub mod yard;

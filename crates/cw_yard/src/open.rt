@@ -1,0 +1,255 @@
+//! The opening of a yard.
+ghost use Rattle.std.specs.Prelude.{◌≡◌, ◌≤◌, ◌<◌, ◌+◌, ◌*◌, ◌^◌, ℕ, [], ◌∷◌, length, slice_get, IfOk, Some, MatchResult};
+ghost use Rattle.crossbeam_deque.specs.Handles.{stealer_deque, worker_deque};
+ghost use Rattle.crossbeam_utils.specs.Padded.{padded_value};
+ghost use Rattle.cw_yard.specs.declared.view.CellView.TheVariants.{Rest};
+ghost use Rattle.cw_yard.specs.Marks.{IsWatchOf};
+ghost use Rattle.cw_yard.specs.Ledger.{Each};
+ghost use Rattle.cw_yard.specs.Seats.{table_of, workers_of};
+ghost use Rattle.cw_yard.specs.Opened as opened;
+ghost use Rattle.cw_yard.specs.Opened.{AreSeats, IsOpened, IsRefused};
+ghost use Rattle.cw_yard.specs.Opens.{IsFresh, AllRest, ServesDeques, IsPart, ArePasses, AreStealersOf};
+
+use crate::cells::{Cells, Token};
+use crate::deque::{OwnDeque, ThiefPass, Victim};
+use crate::mark::Watch;
+use crate::seat::{Seat, Yard};
+use crate::ticket::FreeCell;
+use crate::{deque, mark};
+use crossbeam_utils::CachePadded;
+use cw_text::Fault;
+use std::alloc::{AllocError, Global};
+
+/// Workers of a yard.
+pub const MOST_WORKERS: usize = 64;
+
+/// Cells of each worker.
+pub const MOST_CELLS: usize = 4_096;
+
+/// These cells are never opened. The first ones mark the deques; and each split and each join of a token loads
+/// word 0, so the line that it lies on is written by nobody.
+const RESERVED: usize = 64;
+
+/// What a seat has beside its deque.
+#[derive(Drop)]
+pub struct Part {
+    free: Vec<FreeCell>,
+    passes: Vec<ThiefPass>,
+    watch: Watch,
+}
+
+// A deque whose mark is the next cell's token.
+fn marked_deque(
+    alloc: Global,
+    table: &Cells,
+    all: &mut Token,
+    next: usize,
+    room: usize,
+) -> Result<OwnDeque, AllocError>
+    requires { AllRest table.now.table_id all.old next × (next < table.now.table_id.slots) }
+    ensures rest { AllRest table.now.table_id all.new (next + 1) }
+    ensures fresh { IfOk result (λ w. IsFresh table.now.table_id w) }
+{
+    let mark = crate::cells::cut(table, all, next);
+    deque::new(alloc, room, mark)
+}
+
+// So many deques.
+fn deques(
+    alloc: Global,
+    table: &Cells,
+    all: &mut Token,
+    workers: usize,
+    room: usize,
+) -> Result<Vec<OwnDeque>, AllocError>
+    requires { AllRest table.now.table_id all.old 0 × (workers ≤ table.now.table_id.slots) }
+    ensures { IfOk result (λ v. AllRest table.now.table_id all.new workers × (length v.items ≡ workers) × Each (IsFresh table.now.table_id) v.items) }
+{
+    let mut owns = Vec::with_capacity(alloc, workers)?;
+    let mut k = 0;
+    while k < workers {
+        owns.push(marked_deque(alloc, table, all, k, room)?)?;
+        k += 1;
+    }
+    Ok(owns)
+}
+
+// The cells that mark nothing are let go.
+fn pass_by(table: &Cells, all: &mut Token, from: usize, to: usize)
+    requires { AllRest table.now.table_id all.old from × (to ≤ table.now.table_id.slots) × (from ≤ to) }
+    ensures { AllRest table.now.table_id all.new to }
+{
+    let mut k = from;
+    while k < to {
+        drop(crate::cells::cut(table, all, k));
+        k += 1;
+    }
+}
+
+// A stealer of each deque.
+fn stealers(alloc: Global, owns: &Vec<OwnDeque>) -> Result<Vec<CachePadded<Victim>>, AllocError>
+    ensures { IfOk result (λ v. AreStealersOf owns.now.items v.items) }
+{
+    let mut made = Vec::with_capacity(alloc, owns.len())?;
+    let mut k = 0;
+    while k < owns.len() {
+        let stealer = owns[k].stealer()?;
+        made.push(CachePadded::new(stealer))?;
+        k += 1;
+    }
+    Ok(made)
+}
+
+// So many free cells.
+fn free_cells(
+    alloc: Global,
+    table: &Cells,
+    all: &mut Token,
+    from: usize,
+    count: usize,
+) -> Result<Vec<FreeCell>, AllocError>
+    requires { AllRest table.now.table_id all.old from × (from + count ≤ table.now.table_id.slots) × (from + count < 2 ^ 60) }
+    ensures { IfOk result (λ v. AllRest table.now.table_id all.new (from + count) × (length v.items ≡ count) × Each (λ f. f.token.table_id ≡ table.now.table_id) v.items) }
+{
+    let mut cells = Vec::with_capacity(alloc, count)?;
+    let mut k = 0;
+    while k < count {
+        let cell = from + k;
+        let token = crate::cells::cut(table, all, cell);
+        cells.push(FreeCell { cell, token })?;
+        k += 1;
+    }
+    Ok(cells)
+}
+
+// A pass at each deque.
+fn passes(
+    alloc: Global,
+    yard: &Yard,
+    owns: &mut Vec<OwnDeque>,
+) -> Result<Vec<ThiefPass>, AllocError>
+    requires { ServesDeques yard.now owns.old.items }
+    ensures deques { ServesDeques yard.now owns.new.items }
+    ensures passes { IfOk result (λ v. ArePasses yard.now v.items) }
+{
+    let mut made = Vec::with_capacity(alloc, owns.len())?;
+    let mut k = 0;
+    while k < owns.len() {
+        let own = &mut owns[k];
+        made.push(deque::guest(own))?;
+        k += 1;
+    }
+    Ok(made)
+}
+
+#[tactic(auto, using(crate::proofs::Openings::room, crate::proofs::Openings::next_room))]
+// The parts of each seat.
+fn parts(
+    alloc: Global,
+    yard: &Yard,
+    all: &mut Token,
+    owns: &mut Vec<OwnDeque>,
+    watch: &mut Watch,
+    cells: usize,
+) -> Result<Vec<Part>, AllocError>
+    requires { ServesDeques yard.now owns.old.items × AllRest (table_of yard.now) all.old 64 × (64 + workers_of yard.now * cells ≤ (table_of yard.now).slots) × (64 + workers_of yard.now * cells < 2 ^ 60) × IsWatchOf yard.now.mark.shared.table_id watch.old }
+    ensures deques { ServesDeques yard.now owns.new.items }
+    ensures parts { IfOk result (λ v. (length v.items ≡ workers_of yard.now) × Each (IsPart yard.now cells) v.items) }
+{
+    let workers = owns.len();
+    let mut made = Vec::with_capacity(alloc, workers)?;
+    let mut k = 0;
+    let mut from = RESERVED;
+    while k < workers {
+        let free = free_cells(alloc, &yard.table.shared, all, from, cells)?;
+        let passes = passes(alloc, yard, owns)?;
+        let watch = mark::another(&yard.mark.shared, watch);
+        made.push(Part {
+            free,
+            passes,
+            watch,
+        })?;
+        from += cells;
+        k += 1;
+    }
+    Ok(made)
+}
+
+// Each deque with its parts, the last one first.
+fn seats(
+    alloc: Global,
+    yard: &Yard,
+    mut owns: Vec<OwnDeque>,
+    mut parts: Vec<Part>,
+    _cells: usize,
+) -> Result<Vec<Seat>, AllocError>
+    requires deques { ServesDeques yard.now owns.items }
+    requires parts { (length parts.items ≡ workers_of yard.now) × Each (IsPart yard.now _cells) parts.items }
+    ensures { IfOk result (λ v. AreSeats yard.now _cells v.items) }
+{
+    let mut made = Vec::with_capacity(alloc, owns.len())?;
+    while let Some(own) = owns.pop() {
+        let Some(
+            Part {
+                free,
+                passes,
+                watch,
+            },
+        ) = parts.pop()
+        else {
+            unreachable!()
+        };
+        made.push(Seat {
+            own,
+            free,
+            passes,
+            watch,
+        })?;
+    }
+    Ok(made)
+}
+
+fn open_all(alloc: Global, workers: usize, cells: usize) -> Result<(Yard, Vec<Seat>), AllocError>
+    requires { (workers ≤ 64) × (cells ≤ 4096) }
+    ensures { IfOk result (λ r. (workers_of r.0 ≡ workers) × AreSeats r.0 cells r.1.items) }
+{
+    let (table, mut all) = crate::cells::new(alloc, RESERVED + workers * cells)?;
+    let mut owns = deques(alloc, &table.shared, &mut all, workers, cells)?;
+    pass_by(&table.shared, &mut all, workers, RESERVED);
+    let (mark, mut watch) = mark::unmarked(alloc)?;
+    let stealers = stealers(alloc, &owns)?;
+    let yard = Yard {
+        table,
+        mark,
+        stealers,
+    };
+    let parts = parts(alloc, &yard, &mut all, &mut owns, &mut watch, cells)?;
+    let seats = seats(alloc, &yard, owns, parts, cells)?;
+    Ok((yard, seats))
+}
+
+// Whether a yard may have so many workers, and so many cells for each.
+fn is_asked(workers: usize, cells: usize) -> bool
+    ensures { result ≡ opened.is_asked workers cells }
+{
+    1 <= workers && workers <= MOST_WORKERS && 1 <= cells && cells <= MOST_CELLS
+}
+
+impl Yard {
+    /// A yard for so many workers, 1 to 64, each with so many cells, 1 to 4,096: so many jobs of each worker can be
+    /// offered and not yet taken back or collected at a time. With it the workers' seats, worker 0's the last.
+    ///
+    /// The error is `Arguments` exactly where one of the numbers is out of its range; otherwise `Memory`, where memory
+    /// runs out.
+    pub fn open(alloc: Global, workers: usize, cells: usize) -> Result<(Yard, Vec<Seat>), Fault>
+        ensures { MatchResult result (λ r. IsOpened workers cells r.0 r.1.items) (IsRefused workers cells) }
+    {
+        if !is_asked(workers, cells) {
+            return Err(Fault::Arguments);
+        }
+        match open_all(alloc, workers, cells) {
+            Ok(opened) => Ok(opened),
+            Err(_) => Err(Fault::Memory),
+        }
+    }
+}

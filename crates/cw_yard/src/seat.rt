@@ -1,0 +1,28 @@
+//! What a yard has, and what a seat has.
+ghost use Rattle.std.specs.Prelude.{◌≡◌, ◌+◌};
+
+use crate::cells::CellTable;
+use crate::deque::{OwnDeque, ThiefPass, Victim};
+use crate::mark::{MarkTable, Watch};
+use crate::ticket::FreeCell;
+use crossbeam_utils::CachePadded;
+
+/// Where workers hand jobs and effects to each other, shared by all of them: the cells, the end mark, and a stealer of
+/// each worker's deque.
+#[derive(Drop)]
+pub struct Yard {
+    pub(crate) table: CellTable,
+    pub(crate) mark: MarkTable,
+    pub(crate) stealers: Vec<CachePadded<Victim>>,
+    ghost words: { table.shared.table_id.words ≡ table.shared.table_id.slots + 1 },
+}
+
+/// What one worker has of a yard, and nobody else: its deque, its free cells, a pass at each worker's deque, and its
+/// token of the end mark.
+#[derive(Drop)]
+pub struct Seat {
+    pub(crate) own: OwnDeque,
+    pub(crate) free: Vec<FreeCell>,
+    pub(crate) passes: Vec<ThiefPass>,
+    pub(crate) watch: Watch,
+}

@@ -1,0 +1,34 @@
+//! Tickets and duties.
+ghost use Rattle.std.specs.Prelude.{◌≡◌, ◌<◌, [], true};
+ghost use Rattle.cw_yard.specs.declared.view.Stage.TheVariants.{Free};
+ghost use Rattle.cw_yard.specs.declared.view.CellView.TheVariants.{Owner};
+ghost use Rattle.cw_yard.specs.Words.{is_out, is_duty};
+
+use crate::cells::Token;
+
+/// A job that was offered, to be taken back or its effect collected. It must be spent.
+pub struct Ticket {
+    pub(crate) cell: usize,
+    pub(crate) token: Token,
+    ghost inside: { cell < token.table_id.slots },
+    ghost out: { is_out cell token.me.0 ≡ true },
+    ghost empty: { token.me.1 ≡ [] },
+}
+
+/// The duty to settle a stolen job. It must be spent.
+pub struct Duty {
+    pub(crate) cell: usize,
+    pub(crate) token: Token,
+    ghost inside: { cell < token.table_id.slots },
+    ghost open: { is_duty cell token.me.0 ≡ true },
+    ghost empty: { token.me.1 ≡ [] },
+}
+
+/// A cell that no job has.
+#[derive(Drop)]
+pub struct FreeCell {
+    pub cell: usize,
+    pub token: Token,
+    pub ghost inside: { cell < token.table_id.slots },
+    pub ghost free: { token.me ≡ (Owner cell Free, []) },
+}

@@ -1,0 +1,149 @@
+//! The calls of the yard, each with the seat of its caller.
+ghost use Rattle.std.specs.Prelude.{◌≡◌, ◌<◌, ◌+◌, ◌++◌, ◌⊎◌, ℕ, [], ◌∷◌, true, false, length, IfOk, IfErr, IfSome, IfNone, Some, None};
+ghost use Rattle.cw_jobs.specs.declared.job.Job.{Job};
+ghost use Rattle.cw_jobs.specs.Means.{IsMeaningOf};
+ghost use Rattle.cw_yard.specs.Ledger.{offer as offered_job};
+ghost use Rattle.cw_yard.specs.Words.{Rises};
+ghost use Rattle.cw_yard.specs.Tickets.{ticket_job, ticket_number, duty_job};
+ghost use Rattle.cw_yard.specs.Seats.{IsSeatOf, IsTicketOf, IsDutyOf, offered_by, stolen_from, workers_of, HasNoCell, HasFullDeque, RetakesFor, CollectsFor, HasSeenEnd};
+
+use crate::seat::{Seat, Yard};
+use crate::ticket::{Duty, Ticket};
+use crate::{handoff, mark};
+use cw_jobs::effect::Effect;
+use cw_jobs::job::Job;
+
+/// What became of a ticket whose job was asked back.
+pub enum Retaken {
+    /// The job of the ticket, whole. Its cell is free again.
+    Mine(Job),
+    /// The ticket: its job was stolen.
+    Later(Ticket),
+}
+
+/// What became of a ticket whose effect was asked for.
+pub enum Collected {
+    /// An effect that means the job of the ticket. Its cell is free again.
+    Done(Effect),
+    /// A ticket of the same job: no effect has come yet.
+    Later(Ticket),
+}
+
+impl Yard {
+    /// Offers a job, which is then the newest in the seat's deque: it is the next number of the seat, and the ticket
+    /// names it. Waits for nobody.
+    ///
+    /// The error is the same job, whole, with nothing offered: where the seat has no free cell, or its deque has no
+    /// slot left and could not grow.
+    pub fn offer(&self, seat: &mut Seat, job: Job) -> Result<Ticket, Job>
+        requires seat { IsSeatOf self.now seat.old }
+        ensures seat { IsSeatOf self.now seat.new }
+        ensures ok { IfOk result (λ t. IsTicketOf self.now t × (ticket_job t ≡ Some job) × (ticket_number t ≡ Some (length (offered_by seat.old))) × (offered_by seat.new ≡ offered_by seat.old ++ offered_job job false ∷ [])) }
+        ensures err { IfErr result (λ j. (j ≡ job) × (offered_by seat.new ≡ offered_by seat.old) × (HasNoCell seat.old ⊎ HasFullDeque seat.old)) }
+    {
+        let Some(free) = seat.free.pop() else {
+            return Err(job);
+        };
+        match handoff::offer(&self.table.shared, &mut seat.own, free, job) {
+            Ok(ticket) => Ok(ticket),
+            Err((job, free)) => {
+                match seat.free.push(free) {
+                    Ok(()) => {}
+                    Err(lost) => drop(lost),
+                }
+                Err(job)
+            }
+        }
+    }
+
+    /// Takes back the job of the newest ticket that was not spent, unless it was stolen: from the end of the deque at
+    /// which it was offered. Takes no memory and waits for nobody.
+    pub fn retake(&self, seat: &mut Seat, ticket: Ticket) -> Retaken
+        requires seat { IsSeatOf self.now seat.old }
+        requires ticket { IsTicketOf self.now ticket }
+        ensures seat { IsSeatOf self.now seat.new }
+        ensures ticket { RetakesFor ticket (offered_by seat.old) (offered_by seat.new) result }
+    {
+        match handoff::retake(&self.table.shared, &mut seat.own, ticket) {
+            Ok((job, free)) => {
+                match seat.free.push(free) {
+                    Ok(()) => {}
+                    Err(lost) => drop(lost),
+                }
+                Retaken::Mine(job)
+            }
+            Err(ticket) => Retaken::Later(ticket),
+        }
+    }
+
+    /// Steals a job of a worker, with the duty to settle it: the oldest that lies in its deque, at the end away from
+    /// its owner (Blumofe and Leiserson 1999). None where the deque is empty or another took that job at the same
+    /// time. The numbers of what one seat steals of one victim rise. Takes no memory and waits for nobody.
+    pub fn steal(&self, seat: &mut Seat, victim: usize) -> Option<(Job, Duty)>
+        requires seat { IsSeatOf self.now seat.old }
+        requires victim { victim < workers_of self.now }
+        ensures seat { IsSeatOf self.now seat.new }
+        ensures some { IfSome result (λ r. IsDutyOf self.now r.1 × (duty_job r.1 ≡ Some r.0) × Rises (stolen_from seat.old victim) r.0 (stolen_from seat.new victim)) }
+        ensures none { IfNone result (stolen_from seat.new victim ≡ stolen_from seat.old victim) }
+    {
+        let stealer = &self.stealers[victim];
+        let pass = &mut seat.passes[victim];
+        handoff::steal(&self.table.shared, stealer, pass)
+    }
+
+    /// Leaves the effect of a stolen job in its cell, for who offered it. Takes no memory and waits for nobody.
+    pub fn settle(&self, _seat: &mut Seat, duty: Duty, effect: Effect)
+        requires duty { IsDutyOf self.now duty }
+        requires means { (j : Job) × (duty_job duty ≡ Some j) × IsMeaningOf j effect }
+        ensures { _seat.new ≡ _seat.old }
+    {
+        handoff::settle(&self.table.shared, duty, effect);
+    }
+
+    /// Collects the effect of a job that was stolen, where it has come. Takes no memory and waits for nobody.
+    pub fn collect(&self, seat: &mut Seat, ticket: Ticket) -> Collected
+        requires seat { IsSeatOf self.now seat.old }
+        requires ticket { IsTicketOf self.now ticket }
+        ensures seat { IsSeatOf self.now seat.new }
+        ensures ticket { CollectsFor self.now ticket result }
+        ensures same { offered_by seat.new ≡ offered_by seat.old }
+    {
+        match handoff::collect(&self.table.shared, ticket) {
+            Ok((effect, free)) => {
+                match seat.free.push(free) {
+                    Ok(()) => {}
+                    Err(lost) => drop(lost),
+                }
+                Collected::Done(effect)
+            }
+            Err(ticket) => Collected::Later(ticket),
+        }
+    }
+
+    /// Marks the end, for all seats. Takes no memory and waits for nobody.
+    pub fn end(&self, seat: &mut Seat)
+        requires { IsSeatOf self.now seat.old }
+        ensures seat { IsSeatOf self.now seat.new }
+        ensures seen { HasSeenEnd seat.new }
+    {
+        mark::end(&self.mark.shared, &mut seat.watch);
+    }
+
+    /// Whether the end is marked: so for ever at a seat that marked it or once saw it marked, and never before some
+    /// seat has marked it. Takes no memory and waits for nobody.
+    pub fn ended(&self, seat: &mut Seat) -> bool
+        requires { IsSeatOf self.now seat.old }
+        ensures seat { IsSeatOf self.now seat.new }
+        ensures seen { HasSeenEnd seat.old → result ≡ true }
+        ensures told { result ≡ true → HasSeenEnd seat.new }
+    {
+        mark::ended(&self.mark.shared, &mut seat.watch)
+    }
+
+    /// How many workers it has, 1 to 64.
+    pub fn workers(&self) -> usize
+        ensures { result ≡ workers_of self.now }
+    {
+        self.stealers.len()
+    }
+}

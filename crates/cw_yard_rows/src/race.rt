@@ -1,0 +1,156 @@
+//! What two threads do with a thousand jobs, and what two seats do on one thread.
+ghost use Rattle.std.specs.Prelude.{◌≡◌, ◌<◌, IfOk};
+ghost use Rattle.cw_yard.specs.Seats.{IsSeatOf, workers_of};
+
+use crate::jobs::{argument, job, same};
+use crate::walk::{offer_once, rob, spend};
+use cw_text::Fault;
+use cw_verify::verified::Verified;
+use cw_yard::seat::{Seat, Yard};
+use std::alloc::Global;
+use std::sync::{Arc, Wait};
+use std::test::Fail;
+use std::thread;
+use std::thread::Threads;
+
+// Offers the jobs of so many arguments, from 1 on, and marks the end: the sum of those that came back.
+fn own<R: Wait>(
+    rt: &R,
+    alloc: Global,
+    yard: &Yard,
+    seat: &mut Seat,
+    code: &Arc<Verified>,
+    count: u64,
+) -> Result<i64, Fault>
+    requires { IsSeatOf yard.now seat.old }
+{
+    let mut sum = 0i64;
+    let mut arg = 0i64;
+    let mut left = count;
+    while left > 0 {
+        left -= 1;
+        arg = arg.wrapping_add(1);
+        match job(alloc, code, arg) {
+            Ok(job) => sum = sum.wrapping_add(offer_once(rt, yard, seat, job)),
+            Err(fault) => {
+                yard.end(seat);
+                return Err(fault);
+            }
+        }
+    }
+    yard.end(seat);
+    Ok(sum)
+}
+
+// Steals until the end is marked: the sum of the arguments of what was stolen.
+fn steal_all<R: Wait>(rt: &R, yard: &Yard, seat: &mut Seat) -> i64
+    requires { IsSeatOf yard.now seat.old × (0 < workers_of yard.now) }
+{
+    let mut sum = 0i64;
+    for _ in rt.forever() {
+        if yard.ended(seat) {
+            return sum;
+        }
+        sum = sum.wrapping_add(rob(yard, seat, 0));
+    }
+    sum
+}
+
+// Both at once: what came back, and what was stolen.
+fn race<R: Wait + Threads + Sync>(
+    rt: &R,
+    alloc: Global,
+    yard: &Yard,
+    mut one: Seat,
+    mut other: Seat,
+    code: Arc<Verified>,
+    count: u64,
+) -> (Result<i64, Fault>, i64)
+    requires { IsSeatOf yard.now one × IsSeatOf yard.now other × (0 < workers_of yard.now) }
+{
+    let (first, second, share) = (&mut one, &mut other, &code);
+    thread::join(
+        rt,
+        move || -> Result<i64, Fault>
+            requires { IsSeatOf yard.now first.now }
+        { own(rt, alloc, yard, first, share, count) },
+        move || -> i64
+            requires { IsSeatOf yard.now second.now × (0 < workers_of yard.now) }
+        { steal_all(rt, yard, second) },
+    )
+}
+
+// The two seats of a yard for two workers, each with so many cells: worker 0's, and worker 1's.
+fn two(alloc: Global, cells: usize) -> Result<(Yard, Seat, Seat), Fault>
+    ensures { IfOk result (λ r. IsSeatOf r.0 r.1 × IsSeatOf r.0 r.2 × (workers_of r.0 ≡ 2)) }
+{
+    let (yard, mut seats) = Yard::open(alloc, 2, cells)?;
+    let Some(one) = seats.pop() else {
+        return Err(Fault::Memory);
+    };
+    let Some(other) = seats.pop() else {
+        return Err(Fault::Memory);
+    };
+    Ok((yard, one, other))
+}
+
+// Each job came back or was stolen, and none did both.
+#[test]
+fn each_job_is_done_once(rt: HostRuntime) -> Result<(), Fail> {
+    let code = same(rt.alloc())?;
+    let (yard, one, other) = two(rt.alloc(), 4)?;
+    let (kept, stolen) = race(&rt, rt.alloc(), &yard, one, other, code, 1000);
+    assert_eq!(rt; kept?.wrapping_add(stolen), 500_500);
+    Ok(())
+}
+
+// With one cell the first job is taken, the second given back whole, and after a retake the next is taken.
+#[test]
+fn one_cell_takes_one_job(rt: HostRuntime) -> Result<(), Fail> {
+    let code = same(rt.alloc())?;
+    let (yard, mut one, _other) = two(rt.alloc(), 1)?;
+    let (first, second, third) = (
+        job(rt.alloc(), &code, 7)?,
+        job(rt.alloc(), &code, 8)?,
+        job(rt.alloc(), &code, 9)?,
+    );
+    let Ok(ticket) = yard.offer(&mut one, first) else {
+        panic!(rt; "the first job was given back")
+    };
+    match yard.offer(&mut one, second) {
+        Ok(_) => panic!(rt; "one cell took two jobs"),
+        Err(back) => assert_eq!(rt; argument(&back), 8),
+    }
+    let back = spend(&rt, &yard, &mut one, ticket);
+    assert_eq!(rt; back.map(|job| argument(&job)), Some(7));
+    let Ok(ticket) = yard.offer(&mut one, third) else {
+        panic!(rt; "the third job was given back")
+    };
+    let back = spend(&rt, &yard, &mut one, ticket);
+    assert_eq!(rt; back.map(|job| argument(&job)), Some(9));
+    Ok(())
+}
+
+// Worker 1 steals the oldest of two jobs, its effect comes to worker 0, and the end is seen at both.
+#[test]
+fn the_oldest_is_stolen(rt: HostRuntime) -> Result<(), Fail> {
+    let code = same(rt.alloc())?;
+    let (yard, mut one, mut other) = two(rt.alloc(), 2)?;
+    let (first, second) = (job(rt.alloc(), &code, 7)?, job(rt.alloc(), &code, 8)?);
+    let Ok(older) = yard.offer(&mut one, first) else {
+        panic!(rt; "the first job was given back")
+    };
+    let Ok(newer) = yard.offer(&mut one, second) else {
+        panic!(rt; "the second job was given back")
+    };
+    assert_eq!(rt; rob(&yard, &mut other, 0), 7);
+    let back = spend(&rt, &yard, &mut one, newer);
+    assert_eq!(rt; back.map(|job| argument(&job)), Some(8));
+    let back = spend(&rt, &yard, &mut one, older);
+    assert!(rt; back.is_none());
+    assert_eq!(rt; rob(&yard, &mut other, 0), 0);
+    assert!(rt; !yard.ended(&mut other));
+    yard.end(&mut one);
+    assert!(rt; yard.ended(&mut one) && yard.ended(&mut other));
+    Ok(())
+}
