@@ -104,6 +104,73 @@ fn a_nest_of_spawns(rt: HostRuntime) -> Result<(), AllocError> {
     Ok(())
 }
 
+// The same, with the rest beside each spawned call run apart, by a meter that knows its site and the burden alone.
+#[test]
+fn rests_that_ran_apart(rt: HostRuntime) -> Result<(), AllocError> {
+    let mut meter = Meter::new(rt.alloc(), 100)?;
+    meter.call(0, 1)?;
+    let mut outer = Meter::apart(rt.alloc(), meter.site(), 100);
+    meter.spawn(1, 2)?;
+    let mut inner = Meter::apart(rt.alloc(), meter.site(), 100);
+    meter.spawn(2, 2)?;
+    meter.give_back(3)?;
+    inner.call(0, 3)?;
+    inner.give_back(1)?;
+    meter.rest(4, inner, 2)?;
+    meter.sync(6)?;
+    meter.give_back(7)?;
+    outer.call(0, 3)?;
+    outer.give_back(1)?;
+    meter.rest(8, outer, 2)?;
+    meter.sync(10)?;
+    meter.give_back(11)?;
+    meter.give_back(12)?;
+    let all = meter.finish(rt.alloc(), 13, 4, 0)?;
+    assert_eq!(rt; all.measure, readings(13, 10, 110));
+    assert_eq!(rt; site_of(&all, 0), Some(site(1, 2, 2, 13, 10)));
+    assert_eq!(rt; site_of(&all, 1), Some(site(1, 4, 3, 11, 8)));
+    assert_eq!(rt; site_of(&all, 2), Some(site(2, 5, 4, 6, 5)));
+    assert_eq!(rt; site_of(&all, 3), Some(site(2, 2, 1, 2, 2)));
+    Ok(())
+}
+
+// Site 1 spawns a call of 4 instructions; the rest of its block, of 8, calls site 1 again, and in it executes a region of
+// the tag that is open round all of it. Work and span of both are those of the outer ones, whoever ran the rest.
+#[test]
+fn a_rest_inside_its_own_site_and_tag(rt: HostRuntime) -> Result<(), AllocError> {
+    for apart in [false, true] {
+        let mut meter = Meter::new(rt.alloc(), 10)?;
+        meter.begin_region(0, 0)?;
+        meter.call(1, 1)?;
+        let mut rest = Meter::apart(rt.alloc(), meter.site(), 10);
+        meter.spawn(2, 2)?;
+        meter.give_back(6)?;
+        if apart {
+            rest.call(2, 1)?;
+            rest.begin_region(3, 0)?;
+            rest.end(6)?;
+            rest.give_back(7)?;
+            meter.rest(7, rest, 8)?;
+        } else {
+            meter.call(9, 1)?;
+            meter.begin_region(10, 0)?;
+            meter.end(13)?;
+            meter.give_back(14)?;
+        }
+        meter.sync(15)?;
+        meter.give_back(16)?;
+        meter.end(17)?;
+        meter.give_back(18)?;
+        let all = meter.finish(rt.alloc(), 19, 3, 1)?;
+        assert_eq!(rt; all.measure, readings(19, 15, 25));
+        assert_eq!(rt; site_of(&all, 0), Some(site(1, 4, 4, 19, 15)));
+        assert_eq!(rt; site_of(&all, 1), Some(site(2, 11, 11, 15, 11)));
+        assert_eq!(rt; site_of(&all, 2), Some(site(1, 4, 0, 4, 4)));
+        assert_eq!(rt; region_of(&all, 0), Some(region(16, 12, 22)));
+    }
+    Ok(())
+}
+
 // A scope ends with a child of 5 instructions unjoined, beside which one more ran.
 #[test]
 fn a_scope_joins_at_its_end(rt: HostRuntime) -> Result<(), AllocError> {

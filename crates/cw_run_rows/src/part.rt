@@ -4,7 +4,7 @@ use cw_measure::Measure;
 use cw_model::limits::MOST_LIMIT;
 use cw_model::monoid::Monoid;
 use cw_model::trap::Trap;
-use cw_part::{Outcome, Part, Piece, Read, Tables};
+use cw_part::{Outcome, Part, Read};
 use cw_reduce::Views;
 use std::alloc::{AllocError, Global};
 
@@ -100,22 +100,10 @@ fn a_call_and_what_follows(rt: HostRuntime) -> Result<(), AllocError> {
 #[test]
 fn a_child_beside_its_rest(rt: HostRuntime) -> Result<(), AllocError> {
     let alloc = rt.alloc();
-    let child = Piece {
-        part: ran(alloc, 50, 5, 1, 0)?,
-        tables: Tables::new(alloc, 1),
-    };
-    let rest = Piece {
-        part: ran(alloc, 50, 4, 2, 0)?,
-        tables: Tables::new(alloc, 0),
-    };
-    let before = Piece {
-        part: Part::unit(alloc),
-        tables: Tables::new(alloc, 0),
-    };
-    let whole = before
-        .join_child(child, 100, true)?
-        .join_piece(rest, false)?;
-    match whole.part.into_outcome() {
+    let child = ran(alloc, 50, 5, 1, 0)?.into_child(100);
+    let rest = ran(alloc, 50, 4, 2, 0)?;
+    let whole = Part::unit(alloc).join(child)?.join(rest)?;
+    match whole.into_outcome() {
         Outcome::Completed(read) => {
             assert_eq!(rt; read.measure.work(), 9);
             assert_eq!(rt; read.measure.span(), 5);

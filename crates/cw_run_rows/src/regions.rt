@@ -60,7 +60,6 @@ fn a_piece_inside_an_execution(rt: HostRuntime) -> Result<(), AllocError> {
     table.end(1, 3, 3, 3)?;
     table.begin(0, 4, 4, 4)?;
     let mut piece = RegionTable::new(alloc);
-    piece.stand_in(0)?;
     piece.begin(0, 2, 2, 2)?;
     piece.begin(1, 3, 3, 3)?;
     piece.end(1, 8, 6, 7)?;

@@ -144,7 +144,6 @@ fn a_rest_that_ran_apart(rt: HostRuntime) -> Result<(), AllocError> {
     table.spawn(1, 1, true)?;
     table.end_child(3, 0)?;
     let mut rest = SiteTable::new(alloc, 0);
-    rest.stand_in(0)?;
     rest.spawn(1, 2, true)?;
     rest.end_child(5, 0)?;
     rest.spawn(6, 1, false)?;
@@ -168,7 +167,6 @@ fn a_tie_with_a_rest_that_ran_apart(rt: HostRuntime) -> Result<(), AllocError> {
     table.spawn(1, 1, true)?;
     table.end_child(6, 0)?;
     let mut rest = SiteTable::new(alloc, 0);
-    rest.stand_in(0)?;
     rest.spawn(1, 2, true)?;
     rest.end_child(5, 0)?;
     table.join_piece(rest, false)?;
@@ -180,54 +178,118 @@ fn a_tie_with_a_rest_that_ran_apart(rt: HostRuntime) -> Result<(), AllocError> {
     Ok(())
 }
 
-// A child that ran apart inside of an invocation of its own site, whose work is not summed a second time, and a rest of 2.
-#[test]
-fn a_child_that_ran_apart(rt: HostRuntime) -> Result<(), AllocError> {
-    let alloc = rt.alloc();
-    let mut table = SiteTable::new(alloc, 0);
-    table.enter(0, 0)?;
-    table.enter(1, 1)?;
-    table.note(3)?;
-    let mut child = SiteTable::new(alloc, 1);
-    child.stand_in(0)?;
-    child.stand_in(1)?;
-    child.enter(0, 1)?;
-    child.leave(5, 1)?;
-    table.join_child(child, true)?;
-    table.join(10)?;
-    table.leave(11, 0)?;
-    table.leave(12, 0)?;
-    assert_eq!(rt; table.site(0), row(1, 2, 2, 12, 10));
-    assert_eq!(rt; table.site(1), row(2, 10, 8, 10, 8));
-    Ok(())
-}
-
-// A piece that has joined: before its join a child of 3 beside a rest of 1, which with the 1 before the piece is no longer
-// than the child of 6 before it; after it a child of 2 beside a rest of 1.
+// A piece with a join of its own, after one instruction of a block that has spawned nothing: before its join a child of 3
+// beside a rest of 1, after it a child of 2 beside a rest of 1.
 #[test]
 fn a_piece_that_has_joined(rt: HostRuntime) -> Result<(), AllocError> {
     let alloc = rt.alloc();
     let mut table = SiteTable::new(alloc, 0);
     table.enter(0, 0)?;
+    table.note(1)?;
+    let mut piece = SiteTable::new(alloc, 0);
+    piece.spawn(0, 2, true)?;
+    piece.end_child(3, 0)?;
+    piece.join(4)?;
+    piece.spawn(4, 2, true)?;
+    piece.end_child(6, 0)?;
+    piece.note(7)?;
+    table.join_piece(piece, true)?;
+    table.join(8)?;
+    table.leave(9, 0)?;
+    assert_eq!(rt; table.site(0), row(1, 4, 2, 9, 7));
+    assert_eq!(rt; table.site(2), row(2, 5, 5, 5, 5));
+    Ok(())
+}
+
+// A piece that ran apart inside of an invocation of its own site, whose work is not summed a second time.
+#[test]
+fn a_piece_inside_its_own_site(rt: HostRuntime) -> Result<(), AllocError> {
+    let alloc = rt.alloc();
+    let mut table = SiteTable::new(alloc, 0);
+    table.enter(0, 0)?;
+    table.enter(1, 1)?;
+    table.note(3)?;
+    let mut piece = SiteTable::new(alloc, 1);
+    piece.enter(0, 1)?;
+    piece.leave(5, 1)?;
+    table.join_piece(piece, true)?;
+    table.leave(9, 0)?;
+    table.leave(10, 0)?;
+    assert_eq!(rt; table.site(0), row(1, 2, 2, 10, 10));
+    assert_eq!(rt; table.site(1), row(2, 8, 8, 8, 8));
+    Ok(())
+}
+
+// 300 spawns without a join, 9 instructions before each and 2 in its child: the last child is chosen, with all that lies
+// before it, and the steps of that are added up before there are many.
+#[test]
+fn many_spawns_without_a_join(rt: HostRuntime) -> Result<(), AllocError> {
+    let mut table = SiteTable::new(rt.alloc(), 0);
+    table.enter(0, 0)?;
+    for turn in 0..300u64 {
+        table.spawn(11 * turn + 9, 1, turn == 0)?;
+        table.end_child(11 * turn + 11, 0)?;
+    }
+    assert!(rt; table.paths.steps.len() < 100);
+    table.join(3300)?;
+    table.leave(3300, 0)?;
+    assert_eq!(rt; table.site(0), row(1, 2700, 2700, 3300, 2702));
+    assert_eq!(rt; table.site(1), row(300, 600, 2, 600, 600));
+    Ok(())
+}
+
+// A child of 6 with calls of its own, a rest of 5 with a call, and a child of 4 with a call: with the rest the later child
+// is longer, and the steps of the earlier one are dropped from between.
+fn a_long_child_replaced(alloc: Global) -> Result<SiteTable, AllocError> {
+    let mut table = SiteTable::new(alloc, 0);
+    table.enter(0, 0)?;
     table.spawn(1, 1, true)?;
+    table.enter(2, 2)?;
+    table.leave(3, 1)?;
+    table.enter(4, 3)?;
+    table.leave(6, 1)?;
     table.end_child(7, 0)?;
-    table.note(8)?;
-    let mut before = SiteTable::new(alloc, 0);
-    before.stand_in(0)?;
-    before.spawn(0, 2, true)?;
-    before.end_child(3, 0)?;
-    before.note(4)?;
-    let mut after = SiteTable::new(alloc, 0);
-    after.stand_in(0)?;
-    after.spawn(0, 2, true)?;
-    after.end_child(2, 0)?;
-    after.note(3)?;
-    table.join_across(before, after, false)?;
-    table.join(15)?;
-    table.leave(15, 0)?;
-    assert_eq!(rt; table.site(0), row(1, 4, 1, 15, 9));
-    assert_eq!(rt; table.site(1), row(1, 6, 6, 6, 6));
-    assert_eq!(rt; table.site(2), row(2, 5, 2, 5, 5));
+    table.enter(8, 4)?;
+    table.leave(11, 0)?;
+    table.spawn(12, 5, false)?;
+    table.enter(13, 6)?;
+    table.leave(15, 5)?;
+    table.end_child(16, 0)?;
+    Ok(table)
+}
+
+// A rest of 3 follows: the later child is chosen.
+#[test]
+fn a_long_child_replaced_and_chosen(rt: HostRuntime) -> Result<(), AllocError> {
+    let mut table = a_long_child_replaced(rt.alloc())?;
+    table.enter(18, 7)?;
+    table.leave(19, 0)?;
+    table.join(19)?;
+    table.leave(20, 0)?;
+    assert_eq!(rt; table.site(0), row(1, 6, 4, 20, 11));
+    assert_eq!(rt; table.site(1), row(1, 3, 0, 6, 6));
+    assert_eq!(rt; table.site(2), row(1, 1, 0, 1, 1));
+    assert_eq!(rt; table.site(3), row(1, 2, 0, 2, 2));
+    assert_eq!(rt; table.site(4), row(1, 3, 3, 3, 3));
+    assert_eq!(rt; table.site(5), row(1, 2, 2, 4, 4));
+    assert_eq!(rt; table.site(6), row(1, 2, 2, 2, 2));
+    assert_eq!(rt; table.site(7), row(1, 1, 0, 1, 1));
+    Ok(())
+}
+
+// A rest of 8 follows: it is chosen, and the steps of the later child are dropped from between.
+#[test]
+fn a_long_rest_chosen(rt: HostRuntime) -> Result<(), AllocError> {
+    let mut table = a_long_child_replaced(rt.alloc())?;
+    table.enter(18, 7)?;
+    table.leave(24, 0)?;
+    table.join(24)?;
+    table.leave(25, 0)?;
+    assert_eq!(rt; table.site(0), row(1, 6, 6, 25, 15));
+    assert_eq!(rt; table.site(4), row(1, 3, 3, 3, 3));
+    assert_eq!(rt; table.site(5), row(1, 2, 0, 4, 4));
+    assert_eq!(rt; table.site(6), row(1, 2, 0, 2, 2));
+    assert_eq!(rt; table.site(7), row(1, 6, 6, 6, 6));
     Ok(())
 }
 

@@ -56,12 +56,6 @@ drop_all [] (suc k) le = refl
 drop_all (x ∷ xs) zero le = absurd (omega (arith, le))
 drop_all (x ∷ xs) (suc k) le = drop_all xs k (omega (arith, le))
 
--- one more from the front
-pub take_more : {A : Type 0} (xs : List A) (k : ℕ) (x : A) → slice_get xs k ≡ Some x → take (suc k) xs ≡ take k xs ++ x ∷ []
-take_more [] k x e = cc
-take_more (y ∷ xs) zero x e = let same : y ≡ x = cc in ap (λ z. z ∷ []) same
-take_more (y ∷ xs) (suc k) x e = ap (λ l. y ∷ l) (take_more xs k x e)
-
 pub take_all : {A : Type 0} (xs : List A) (n : ℕ) → length xs ≤ n → take n xs ≡ xs
 take_all [] zero le = refl
 take_all [] (suc n) le = refl
@@ -83,9 +77,11 @@ pub or_false : (a b : Bool) → (a || b) ≡ false → (a ≡ false) × (b ≡ f
 or_false false b h = (refl, h)
 or_false true b h = cc
 
--- two changes one after the other
-pub fewer_or : (a b : Bool) (x y z : ℕ) → (a ≡ false → y ≡ x) → (a ≡ true → y < x) → (b ≡ false → z ≡ y) → (b ≡ true → z < y) → (a || b) ≡ true → z < x
-fewer_or true true x y z p q r s h = omega (arith, q refl, s refl)
-fewer_or true false x y z p q r s h = omega (arith, q refl, r refl)
-fewer_or false true x y z p q r s h = omega (arith, p refl, s refl)
-fewer_or false false x y z p q r s h = cc
+pub or_none : (b : Bool) → (b || false) ≡ b
+or_none true = refl
+or_none false = refl
+
+-- three tests, of which one is taken with the next
+pub or_again : (a b c : Bool) → ((a || b) || c) ≡ (a || (b || c))
+or_again true b c = refl
+or_again false b c = refl

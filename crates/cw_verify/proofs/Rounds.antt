@@ -1,125 +1,84 @@
 -- Blocks that meet, and what each of them has.
-use Rattle.std.proofs.Common.{◌≡◌, ℕ, zero, suc, ◌+◌, ◌<◌, Bool, true, false, ◌&&◌, nat_eq, Some, List, [], ◌∷◌, ◌++◌, length, get_or, refl, sym, ap, ◌∙◌, arith}
-use Rattle.std.specs.Prelude.{option_map, take, drop, slice_get, slice_set}
-use Rattle.std.proofs.lemmas.List.{length-map, map-append}
-use Rattle.std.proofs.lemmas.Option.{slice_get-map, slice_get-get_or}
-use Rattle.cw_code.specs.Fits.{Outer, Shape, is_full_in, full_in_all, empty_rows, gone_rows, is_no_half, is_no_part}
-use Rattle.cw_verify.specs.declared.round.Round.{Round}
-use Rattle.cw_verify.specs.Table.{round_view, rounds_of, blocks_of, can_meet, either_round, either_each, is_alike, are_alike, unmarked_round, unmarked_each}
-use Rattle.cw_verify.proofs.Lists.{map_set, set_same, drop_at, take_more}
-use Rattle.cw_verify.proofs.Decided.{second_true, first_false}
+use Rattle.std.proofs.Common.{◌≡◌, ◌<◌, ◌≤◌, Bool, true, false, ◌||◌, nat_eq, List, [], ◌∷◌, refl, sym, ap, ◌∙◌, arith}
+use Rattle.cw_code.specs.Fits.{Outer, Shape}
+use Rattle.cw_verify.specs.Table.{blocks_of, can_meet, either_empty, either_round, either_each, brings, round_brings, each_brings, is_alike, are_alike, unmarked_round, unmarked_each, IsEach}
+use Rattle.cw_verify.proofs.Lists.{or_false}
+use Rattle.cw_verify.proofs.Decided.{first_true, second_true}
+use Rattle.cw_verify.proofs.Rows.{either_stays, either_within, either_fewer, either_comes}
+use Rattle.cw_verify.proofs.Tables.{alike}
 
-pub each_none : (xs : List Outer) → either_each xs [] ≡ xs
-each_none [] = refl
-each_none (x ∷ xs) = refl
+-- a block that is brought nothing stays
+round_stays : (x y : Outer) → round_brings x y ≡ false → either_round x y ≡ x
+round_stays x y h =
+    let both = or_false (brings x.empty y.empty) (brings x.gone y.gone) h in
+    ap (λ r. record { empty = r; gone = either_empty x.gone y.gone; cut = x.cut }) (either_stays x.empty y.empty both.0)
+    ∙ ap (λ r. record { empty = x.empty; gone = r; cut = x.cut }) (either_stays x.gone y.gone both.1)
 
--- one block more
-pub each_more : (xs ys : List Outer) (j : ℕ) (x y : Outer) → slice_get xs j ≡ Some x → slice_get ys j ≡ Some y → either_each xs (take (suc j) ys) ≡ slice_set (either_each xs (take j ys)) j (either_round x y)
-each_more [] ys j x y e f = cc
-each_more (a ∷ xs) [] j x y e f = cc
-each_more (a ∷ xs) (b ∷ ys) zero x y e f =
-    let p : a ≡ x = cc in
-    let q : b ≡ y = cc in
-    ap (λ l. either_round a b ∷ l) (each_none xs) ∙ ap (λ r. either_round r b ∷ xs) p ∙ ap (λ r. either_round x r ∷ xs) q
-each_more (a ∷ xs) (b ∷ ys) (suc j) x y e f = ap (λ l. either_round a b ∷ l) (each_more xs ys j x y e f)
+pub each_stays : (xs ys : List Outer) → each_brings xs ys ≡ false → either_each xs ys ≡ xs
+each_stays [] ys h = refl
+each_stays (x ∷ xs) [] h = refl
+each_stays (x ∷ xs) (y ∷ ys) h =
+    let both = or_false (round_brings x y) (each_brings xs ys) h in
+    ap (λ l. either_round x y ∷ l) (each_stays xs ys both.1) ∙ ap (λ r. r ∷ xs) (round_stays x y both.0)
 
--- a block that is still to come
-pub each_there : (xs ys : List Outer) (j : ℕ) → slice_get (either_each xs (take j ys)) j ≡ slice_get xs j
-each_there [] ys j = refl
-each_there (a ∷ xs) [] zero = refl
-each_there (a ∷ xs) [] (suc j) = refl
-each_there (a ∷ xs) (b ∷ ys) zero = refl
-each_there (a ∷ xs) (b ∷ ys) (suc j) = each_there xs ys j
+-- what is brought leaves fewer slots full
+round_within : (x y : Outer) → unmarked_round (either_round x y) ≤ unmarked_round x
+round_within x y = omega (arith, either_within x.empty y.empty, either_within x.gone y.gone)
 
-pub each_fewer : (xs : List Outer) (j : ℕ) (x r : Outer) → slice_get xs j ≡ Some x → unmarked_round r < unmarked_round x → unmarked_each (slice_set xs j r) < unmarked_each xs
-each_fewer [] j x r e lt = cc
-each_fewer (a ∷ xs) zero x r e lt = let p : a ≡ x = cc in omega (arith, lt, ap unmarked_round p)
-each_fewer (a ∷ xs) (suc j) x r e lt = omega (arith, each_fewer xs j x r e lt)
-
-pub alike_length : (xs ys : List Outer) → are_alike xs ys ≡ true → length xs ≡ length ys
-alike_length [] [] h = refl
-alike_length [] (y ∷ ys) h = cc
-alike_length (x ∷ xs) [] h = cc
-alike_length (x ∷ xs) (y ∷ ys) h = omega (arith, alike_length xs ys (second_true (is_alike x y) (are_alike xs ys) h))
-
-pub not_alike : (xs ys : List Outer) → (length xs ≡ length ys → ⊥) → are_alike xs ys ≡ false
-not_alike xs ys n = cases (are_alike xs ys) refl
+round_fewer : (x y : Outer) → round_brings x y ≡ true → unmarked_round (either_round x y) < unmarked_round x
+round_fewer x y = cases (brings x.empty y.empty) refl
   where
-    cases : (b : Bool) → are_alike xs ys ≡ b → b ≡ false
-    cases false e = refl
-    cases true e = absurd (n (alike_length xs ys e))
+    cases : (b : Bool) → brings x.empty y.empty ≡ b → (b || brings x.gone y.gone) ≡ true → unmarked_round (either_round x y) < unmarked_round x
+    cases true e h = omega (arith, either_fewer x.empty y.empty e, either_within x.gone y.gone)
+    cases false e h = omega (arith, either_within x.empty y.empty, either_fewer x.gone y.gone h)
 
--- blocks of vectors
-pub rounds_length : (rounds : List Round) → length (rounds_of rounds) ≡ length rounds
-rounds_length rounds = length-map rounds round_view
+each_within : (xs ys : List Outer) → unmarked_each (either_each xs ys) ≤ unmarked_each xs
+each_within [] ys = omega arith
+each_within (x ∷ xs) [] = omega arith
+each_within (x ∷ xs) (y ∷ ys) = omega (arith, round_within x y, each_within xs ys)
 
-pub round_at : (rounds : List Round) (j : ℕ) (round d : Round) → j < length rounds → round ≡ get_or rounds j d → slice_get (rounds_of rounds) j ≡ Some (round_view round)
-round_at rounds j round d lt e = slice_get-map round_view rounds j ∙ ap (option_map round_view) (slice_get-get_or rounds j d lt ∙ ap Some (sym e))
+one_fewer : (x y : Outer) (xs ys : List Outer) (b : Bool) → round_brings x y ≡ b → (b || each_brings xs ys) ≡ true → (each_brings xs ys ≡ true → unmarked_each (either_each xs ys) < unmarked_each xs) →
+    unmarked_each (either_each (x ∷ xs) (y ∷ ys)) < unmarked_each (x ∷ xs)
+one_fewer x y xs ys true e h rest = omega (arith, round_fewer x y e, each_within xs ys)
+one_fewer x y xs ys false e h rest = omega (arith, round_within x y, rest h)
 
--- one block more is copied
-pub copies_more : (rounds copies : List Round) (k : ℕ) (round copy : Round) → k < length rounds → round ≡ get_or rounds k round → round_view copy ≡ round_view round → rounds_of copies ≡ take k (rounds_of rounds) → rounds_of (copies ++ copy ∷ []) ≡ take (k + 1) (rounds_of rounds)
-copies_more rounds copies k round copy lt e is h =
-    let n : suc k ≡ k + 1 = omega arith in
-    map-append round_view copies (copy ∷ [])
-    ∙ ap (λ l. l ++ round_view copy ∷ []) h
-    ∙ ap (λ x. take k (rounds_of rounds) ++ x ∷ []) is
-    ∙ sym (take_more (rounds_of rounds) k (round_view round) (round_at rounds k round round lt e))
-    ∙ ap (λ j. take j (rounds_of rounds)) n
+pub each_fewer : (xs ys : List Outer) → each_brings xs ys ≡ true → unmarked_each (either_each xs ys) < unmarked_each xs
+each_fewer [] ys h = cc
+each_fewer (x ∷ xs) [] h = cc
+each_fewer (x ∷ xs) (y ∷ ys) h = one_fewer x y xs ys (round_brings x y) refl h (each_fewer xs ys)
 
-module _ (now : List Round) (j : ℕ) (round new : Round) (lt : j < length now) (e : round ≡ get_or now j round) where
-  -- one block more has met the other
-  pub each_step : (initial more : List Round) (other : Round) → j < length more → other ≡ get_or more j other → round_view new ≡ either_round (round_view round) (round_view other) → rounds_of now ≡ either_each (rounds_of initial) (take j (rounds_of more)) →
-      rounds_of (slice_set now j new) ≡ either_each (rounds_of initial) (take (j + 1) (rounds_of more))
-  each_step initial more other lt' f is h =
-      let xs = rounds_of initial in
-      let ys = rounds_of more in
-      let n : suc j ≡ j + 1 = omega arith in
-      map_set round_view now j new
-      ∙ ap (λ l. slice_set l j (round_view new)) h
-      ∙ ap (λ r. slice_set (either_each xs (take j ys)) j r) is
-      ∙ sym (each_more xs ys j (round_view round) (round_view other) (sym (each_there xs ys j) ∙ ap (λ l. slice_get l j) (sym h) ∙ round_at now j round round lt e) (round_at more j other other lt' f))
-      ∙ ap (λ k. either_each xs (take k ys)) n
+-- what brings all that is there is what both come to
+round_comes : (x y : Outer) → is_alike x y ≡ true → round_brings y x ≡ false → either_round x y ≡ y
+round_comes x y e h =
+    let a = alike x y e in
+    let both = or_false (brings y.empty x.empty) (brings y.gone x.gone) h in
+    ap (λ r. record { empty = r; gone = either_empty x.gone y.gone; cut = x.cut }) (either_comes x.empty y.empty a.as_wide both.0)
+    ∙ ap (λ r. record { empty = y.empty; gone = r; cut = x.cut }) (either_comes x.gone y.gone a.as_wide_gone both.1)
+    ∙ ap (λ c. record { empty = y.empty; gone = y.gone; cut = c }) a.same
 
-  pub each_kept : round_view new ≡ round_view round → rounds_of (slice_set now j new) ≡ rounds_of now
-  each_kept is = map_set round_view now j new ∙ ap (slice_set (rounds_of now) j) is ∙ set_same (rounds_of now) j (round_view round) (round_at now j round round lt e)
+pub each_comes : (xs ys : List Outer) → are_alike xs ys ≡ true → each_brings ys xs ≡ false → either_each xs ys ≡ ys
+each_comes [] [] e h = refl
+each_comes [] (y ∷ ys) e h = cc
+each_comes (x ∷ xs) [] e h = cc
+each_comes (x ∷ xs) (y ∷ ys) e h =
+    let both = or_false (round_brings y x) (each_brings ys xs) h in
+    ap (λ l. either_round x y ∷ l) (each_comes xs ys (second_true (is_alike x y) (are_alike xs ys) e) both.1)
+    ∙ ap (λ r. r ∷ ys) (round_comes x y (first_true (is_alike x y) (are_alike xs ys) e) both.0)
 
-  pub each_less : unmarked_round (round_view new) < unmarked_round (round_view round) → unmarked_each (rounds_of (slice_set now j new)) < unmarked_each (rounds_of now)
-  each_less less = omega (arith, ap unmarked_each (map_set round_view now j new), each_fewer (rounds_of now) j (round_view round) (round_view new) (round_at now j round round lt e) less)
+-- blocks that have met others, by what was found out
+pub are_there : (xs ys : List Outer) → each_brings xs ys ≡ false → IsEach xs ys xs false
+are_there xs ys h = record { items = sym (each_stays xs ys h); same = λ e. refl; fewer = λ e. cc }
 
--- blocks from a place on
-pub alike_not : (xs ys : List Outer) (j : ℕ) (x y : Outer) → slice_get xs j ≡ Some x → slice_get ys j ≡ Some y → is_alike x y ≡ false → are_alike (drop j xs) (drop j ys) ≡ false
-alike_not xs ys j x y e f n =
-    ap (λ l. are_alike l (drop j ys)) (drop_at xs j x e) ∙ ap (are_alike (x ∷ drop (suc j) xs)) (drop_at ys j y f) ∙ first_false (is_alike x y) (are_alike (drop (suc j) xs) (drop (suc j) ys)) n
+pub are_come : (xs ys zs : List Outer) → each_brings xs ys ≡ true → are_alike xs ys ≡ true → each_brings ys xs ≡ false → zs ≡ ys → IsEach xs ys zs true
+are_come xs ys zs h alike none e =
+    let is : zs ≡ either_each xs ys = e ∙ sym (each_comes xs ys alike none) in
+    record { items = is; same = λ f. cc; fewer = λ f. omega (arith, ap unmarked_each is, each_fewer xs ys h) }
 
-pub alike_on : (xs ys : List Outer) (j : ℕ) (x y : Outer) → slice_get xs j ≡ Some x → slice_get ys j ≡ Some y → is_alike x y ≡ true → are_alike (drop j xs) (drop j ys) ≡ are_alike (drop (j + 1) xs) (drop (j + 1) ys)
-alike_on xs ys j x y e f same =
-    let n : suc j ≡ j + 1 = omega arith in
-    ap (λ l. are_alike l (drop j ys)) (drop_at xs j x e) ∙ ap (are_alike (x ∷ drop (suc j) xs)) (drop_at ys j y f) ∙ ap (λ b. b && are_alike (drop (suc j) xs) (drop (suc j) ys)) same ∙ ap (λ k. are_alike (drop k xs) (drop k ys)) n
+pub are_both : (xs ys zs : List Outer) → each_brings xs ys ≡ true → zs ≡ either_each xs ys → IsEach xs ys zs true
+are_both xs ys zs h e = record { items = e; same = λ f. cc; fewer = λ f. omega (arith, ap unmarked_each e, each_fewer xs ys h) }
 
-pub full_not : (xs : List Outer) (j a : ℕ) (x : Outer) → slice_get xs j ≡ Some x → is_full_in (slice_get x.empty a) ≡ false → full_in_all (empty_rows (drop j xs)) a ≡ false
-full_not xs j a x e f = ap (λ l. full_in_all (empty_rows l) a) (drop_at xs j x e) ∙ first_false (is_full_in (slice_get x.empty a)) (full_in_all (empty_rows (drop (suc j) xs)) a) f
-
-pub full_on : (xs : List Outer) (j a : ℕ) (x : Outer) → slice_get xs j ≡ Some x → is_full_in (slice_get x.empty a) ≡ true → full_in_all (empty_rows (drop j xs)) a ≡ full_in_all (empty_rows (drop (j + 1) xs)) a
-full_on xs j a x e f =
-    let n : suc j ≡ j + 1 = omega arith in
-    ap (λ l. full_in_all (empty_rows l) a) (drop_at xs j x e) ∙ ap (λ b. b && full_in_all (empty_rows (drop (suc j) xs)) a) f ∙ ap (λ k. full_in_all (empty_rows (drop k xs)) a) n
-
-pub there_not : (xs : List Outer) (j a : ℕ) (x : Outer) → slice_get xs j ≡ Some x → is_full_in (slice_get x.gone a) ≡ false → full_in_all (gone_rows (drop j xs)) a ≡ false
-there_not xs j a x e f = ap (λ l. full_in_all (gone_rows l) a) (drop_at xs j x e) ∙ first_false (is_full_in (slice_get x.gone a)) (full_in_all (gone_rows (drop (suc j) xs)) a) f
-
-pub there_on : (xs : List Outer) (j a : ℕ) (x : Outer) → slice_get xs j ≡ Some x → is_full_in (slice_get x.gone a) ≡ true → full_in_all (gone_rows (drop j xs)) a ≡ full_in_all (gone_rows (drop (j + 1) xs)) a
-there_on xs j a x e f =
-    let n : suc j ≡ j + 1 = omega arith in
-    ap (λ l. full_in_all (gone_rows l) a) (drop_at xs j x e) ∙ ap (λ b. b && full_in_all (gone_rows (drop (suc j) xs)) a) f ∙ ap (λ k. full_in_all (gone_rows (drop k xs)) a) n
-
-pub no_part_not : (xs : List Outer) (j a : ℕ) (x : Outer) → slice_get xs j ≡ Some x → is_no_half a x.cut ≡ false → is_no_part a (drop j xs) ≡ false
-no_part_not xs j a x e f = ap (is_no_part a) (drop_at xs j x e) ∙ first_false (is_no_half a x.cut) (is_no_part a (drop (suc j) xs)) f
-
-pub no_part_on : (xs : List Outer) (j a : ℕ) (x : Outer) → slice_get xs j ≡ Some x → is_no_half a x.cut ≡ true → is_no_part a (drop j xs) ≡ is_no_part a (drop (j + 1) xs)
-no_part_on xs j a x e f =
-    let n : suc j ≡ j + 1 = omega arith in
-    ap (is_no_part a) (drop_at xs j x e) ∙ ap (λ b. b && is_no_part a (drop (suc j) xs)) f ∙ ap (λ k. is_no_part a (drop k xs)) n
-
--- shapes that can meet have as many blocks
-pub meet_length : (t s : Shape) → can_meet t s ≡ true → length t.outer ≡ length s.outer
-meet_length t s h = omega (arith, alike_length (blocks_of t) (blocks_of s) (second_true (nat_eq t.operands s.operands) (are_alike (blocks_of t) (blocks_of s)) h))
+-- of shapes that can meet the blocks round the innermost one are alike
+pub meet_alike : (t s : Shape) → can_meet t s ≡ true → are_alike t.outer s.outer ≡ true
+meet_alike t s h =
+    let blocks = second_true (nat_eq t.operands s.operands) (are_alike (blocks_of t) (blocks_of s)) h in
+    second_true _ (are_alike t.outer s.outer) blocks

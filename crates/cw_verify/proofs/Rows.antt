@@ -1,19 +1,100 @@
 -- Rows of slots: rows that meet, and slots that are marked one after another.
-use Rattle.std.proofs.Common.{◌≡◌, ℕ, zero, suc, ◌+◌, ◌<◌, Bool, true, false, not, ◌||◌, ◌&&◌, if◌then◌else◌, nat_eq, nat_lt, List, [], ◌∷◌, Some, length, get_or, refl, sym, ap, ◌∙◌, ⊎_elim, arith}
+use Rattle.std.proofs.Common.{◌≡◌, ℕ, zero, suc, ◌+◌, ◌<◌, ◌≤◌, Bool, true, false, not, ◌||◌, ◌&&◌, if◌then◌else◌, nat_eq, nat_lt, List, [], ◌∷◌, Some, length, get_or, refl, sym, ap, ◌∙◌, ⊎_elim, arith}
 use Rattle.std.specs.Prelude.{take, drop, slice_get, slice_set}
 use Rattle.std.proofs.lemmas.List.{length-set, length-replicate}
 use Rattle.std.proofs.lemmas.Bool.{cases_eq}
 use Rattle.cw_code.specs.Fits.{Row, Shape, is_full_in, has_array, has_arrays, is_none_of, names_arrays, with_gone, none_empty}
-use Rattle.cw_verify.specs.Table.{either_empty, are_unmarked, unmarked}
-use Rattle.cw_verify.proofs.Lists.{drop_at, get_set, set_other}
-use Rattle.cw_verify.proofs.Decided.{below, equal, not_equal, lt_of, first_false, second_false, both_true, first_true, second_true}
+use Rattle.cw_verify.specs.Table.{either_empty, brings, has_all, any_empty, are_unmarked, unmarked, IsEither}
+use Rattle.cw_verify.proofs.Lists.{drop_at, get_set, set_other, or_false, or_again}
+use Rattle.cw_verify.proofs.Decided.{below, eq_of, equal, not_equal, lt_of, first_false, second_false, both_true, first_true, second_true}
 
-pub unmarked_set : (xs : Row) (a : ℕ) (d : Bool) → a < length xs → get_or xs a d ≡ false → unmarked (slice_set xs a true) < unmarked xs
-unmarked_set [] a d lt e = absurd (omega (arith, lt))
-unmarked_set (true ∷ xs) zero d lt e = cc
-unmarked_set (false ∷ xs) zero d lt e = omega arith
-unmarked_set (true ∷ xs) (suc a) d lt e = unmarked_set xs a d (omega (arith, lt)) e
-unmarked_set (false ∷ xs) (suc a) d lt e = omega (arith, unmarked_set xs a d (omega (arith, lt)) e)
+-- a row that is brought nothing stays
+pub either_stays : (xs ys : Row) → brings xs ys ≡ false → either_empty xs ys ≡ xs
+either_stays [] ys h = refl
+either_stays (x ∷ xs) [] h = refl
+either_stays (x ∷ xs) (y ∷ ys) h =
+    let both = or_false (not x && y) (brings xs ys) h in
+    ap (λ l. (x || y) ∷ l) (either_stays xs ys both.1) ∙ ap (λ b. b ∷ xs) (stays x y both.0)
+  where
+    stays : (x y : Bool) → (not x && y) ≡ false → (x || y) ≡ x
+    stays true y h = refl
+    stays false true h = cc
+    stays false false h = refl
+
+-- what is brought leaves fewer slots full
+pub either_within : (xs ys : Row) → unmarked (either_empty xs ys) ≤ unmarked xs
+either_within [] ys = omega arith
+either_within (x ∷ xs) [] = omega arith
+either_within (true ∷ xs) (y ∷ ys) = either_within xs ys
+either_within (false ∷ xs) (true ∷ ys) = omega (arith, either_within xs ys)
+either_within (false ∷ xs) (false ∷ ys) = omega (arith, either_within xs ys)
+
+pub either_fewer : (xs ys : Row) → brings xs ys ≡ true → unmarked (either_empty xs ys) < unmarked xs
+either_fewer [] ys h = cc
+either_fewer (x ∷ xs) [] h = cc
+either_fewer (true ∷ xs) (y ∷ ys) h = either_fewer xs ys h
+either_fewer (false ∷ xs) (true ∷ ys) h = omega (arith, either_within xs ys)
+either_fewer (false ∷ xs) (false ∷ ys) h = omega (arith, either_fewer xs ys h)
+
+-- what brings all that is there is what both come to
+pub either_comes : (xs ys : Row) → length xs ≡ length ys → brings ys xs ≡ false → either_empty xs ys ≡ ys
+either_comes [] [] e h = refl
+either_comes [] (y ∷ ys) e h = absurd (omega (arith, e))
+either_comes (x ∷ xs) [] e h = absurd (omega (arith, e))
+either_comes (x ∷ xs) (y ∷ ys) e h =
+    let both = or_false (not y && x) (brings ys xs) h in
+    ap (λ l. (x || y) ∷ l) (either_comes xs ys (omega (arith, e)) both.1) ∙ ap (λ b. b ∷ ys) (comes x y both.0)
+  where
+    comes : (x y : Bool) → (not y && x) ≡ false → (x || y) ≡ y
+    comes true true h = refl
+    comes true false h = cc
+    comes false y h = refl
+
+-- a row that has met another one, by what was found out
+pub is_there : (xs ys : Row) → brings xs ys ≡ false → IsEither xs ys xs false
+is_there xs ys h = record { items = sym (either_stays xs ys h); same = λ e. refl; fewer = λ e. cc }
+
+pub is_come : (xs ys zs : Row) → brings xs ys ≡ true → has_all ys xs ≡ true → zs ≡ ys → IsEither xs ys zs true
+is_come xs ys zs h all e =
+    let wide = eq_of (length ys) (length xs) (first_true (nat_eq (length ys) (length xs)) (not (brings ys xs)) all) in
+    let none = none_of (brings ys xs) (second_true (nat_eq (length ys) (length xs)) (not (brings ys xs)) all) in
+    let is : zs ≡ either_empty xs ys = e ∙ sym (either_comes xs ys (sym wide) none) in
+    record { items = is; same = λ f. cc; fewer = λ f. omega (arith, ap unmarked is, either_fewer xs ys h) }
+  where
+    none_of : (b : Bool) → not b ≡ true → b ≡ false
+    none_of true h = cc
+    none_of false h = refl
+
+pub is_both : (xs ys zs : Row) → brings xs ys ≡ true → zs ≡ either_empty xs ys → IsEither xs ys zs true
+is_both xs ys zs h e = record { items = e; same = λ f. cc; fewer = λ f. omega (arith, ap unmarked e, either_fewer xs ys h) }
+
+-- what a row is brought from a slot on
+pub brings_on : (xs ys : Row) (a : ℕ) (x y found : Bool) → slice_get xs a ≡ Some x → slice_get ys a ≡ Some y → ((found || (not x && y)) || brings (drop (suc a) xs) (drop (suc a) ys)) ≡ (found || brings (drop a xs) (drop a ys))
+brings_on xs ys a x y found e f =
+    or_again found (not x && y) (brings (drop (suc a) xs) (drop (suc a) ys))
+    ∙ sym (ap (λ l. found || brings l (drop a ys)) (drop_at xs a x e) ∙ ap (λ l. found || brings (x ∷ drop (suc a) xs) l) (drop_at ys a y f))
+
+none_brought : (row : Row) → brings row [] ≡ false
+none_brought [] = refl
+none_brought (x ∷ row) = refl
+
+pub brings_done : (xs ys : Row) (a : ℕ) → (a < length xs → a < length ys → ⊥) → brings (drop a xs) (drop a ys) ≡ false
+brings_done [] ys zero n = refl
+brings_done [] ys (suc a) n = refl
+brings_done (x ∷ xs) [] zero n = refl
+brings_done (x ∷ xs) [] (suc a) n = none_brought (drop a xs)
+brings_done (x ∷ xs) (y ∷ ys) zero n = absurd (n (omega arith) (omega arith))
+brings_done (x ∷ xs) (y ∷ ys) (suc a) n = brings_done xs ys a (λ p q. n (omega (arith, p)) (omega (arith, q)))
+
+-- a row with no empty slot
+pub none_marked : (row : Row) → any_empty row ≡ false → row ≡ none_empty (length row)
+none_marked [] h = refl
+none_marked (x ∷ row) h =
+    let both = or_false x (any_empty row) h in
+    ap (λ b. b ∷ row) both.0 ∙ ap (λ l. false ∷ l) (none_marked row both.1)
+
+pub empty_on : (row : Row) (a : ℕ) (x found : Bool) → slice_get row a ≡ Some x → ((found || x) || any_empty (drop (suc a) row)) ≡ (found || any_empty (drop a row))
+empty_on row a x found e = or_again found x (any_empty (drop (suc a) row)) ∙ sym (ap (λ l. found || any_empty l) (drop_at row a x e))
 
 pub either_none : (xs : Row) → either_empty xs [] ≡ xs
 either_none [] = refl

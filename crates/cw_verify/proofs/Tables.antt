@@ -148,12 +148,12 @@ each_first (y ∷ ys) [] = each_refl (y ∷ ys)
 each_first (y ∷ ys) (z ∷ zs) = (either_first y.empty z.empty, either_first y.gone z.gone, refl, each_first ys zs)
 
 -- what it is for two blocks to be alike
-record Alike (y z : Outer) : Type 0 where
+pub record Alike (y z : Outer) : Type 0 where
   pub as_wide : length y.empty ≡ length z.empty
   pub as_wide_gone : length y.gone ≡ length z.gone
   pub same : y.cut ≡ z.cut
 
-alike : (y z : Outer) → is_alike y z ≡ true → Alike y z
+pub alike : (y z : Outer) → is_alike y z ≡ true → Alike y z
 alike y z h =
     let a = nat_eq (length y.empty) (length z.empty) in
     let b = nat_eq (length y.gone) (length z.gone) in

@@ -7,8 +7,8 @@ ghost use Rattle.cw_verify.specs.Table as table;
 ghost use Rattle.cw_verify.specs.Views as views;
 
 use crate::named::{params_of, passed_of};
-use crate::round::{self, Round};
-use crate::row;
+use crate::round::{self, Rounds};
+use crate::row::{self, Row};
 use cw_code::code::{Callee, Code, Func, Halves, Inner, Instr};
 use cw_model::syntax::CallKind;
 use cw_text::Fault;
@@ -21,11 +21,11 @@ pub struct Found {
     /// How many operands lie there.
     pub operands: usize,
     /// For each slot of integers whether it may be empty up to the next join of the innermost sync block.
-    pub empty: Rc<Vec<bool>>,
+    pub empty: Rc<Row>,
     /// The same for each array slot.
-    pub gone: Rc<Vec<bool>>,
-    /// The sync blocks round that one in the same call, the nearest first.
-    pub outer: Rc<Vec<Round>>,
+    pub gone: Rc<Row>,
+    /// The sync blocks round that one in the same call.
+    pub outer: Rc<Rounds>,
 }
 
 // Whether a slot is there and not empty.
@@ -83,24 +83,27 @@ fn has_call(code: &Code, found: &Found, kind: CallKind, c: &Callee) -> bool
 }
 
 // Whether no sync block is open inside the call.
-fn none_open(rounds: &[Round]) -> bool
+fn none_open(rounds: &Rounds) -> bool
     ensures { result ≡ fits.none_open (table.rounds_of rounds.now) }
 {
-    rounds.is_empty()
+    match rounds {
+        Rounds::Outermost => true,
+        Rounds::Within(_, _) => false,
+    }
 }
 
 // Whether a sync block is open inside the call, and no cut began it.
-fn can_close(rounds: &[Round]) -> bool
+fn can_close(rounds: &Rounds) -> bool
     ensures { result ≡ fits.can_close (table.rounds_of rounds.now) }
 {
-    match rounds.first() {
-        None => false,
-        Some(round) => round.cut.is_none(),
+    match rounds {
+        Rounds::Outermost => false,
+        Rounds::Within(round, _) => round.cut.is_none(),
     }
 }
 
 // Whether no sync block has the parts of a cut as empty.
-fn has_parts(rounds: &[Round], cut: Option<Halves>) -> bool
+fn has_parts(rounds: &Rounds, cut: Option<Halves>) -> bool
     ensures { result ≡ fits.has_parts (fits.gone_rows (table.rounds_of rounds.now)) cut }
 {
     match cut {
@@ -113,12 +116,12 @@ fn has_parts(rounds: &[Round], cut: Option<Halves>) -> bool
 }
 
 // Whether a cut began the innermost sync block, and no block round it has its parts as empty.
-fn can_uncut(rounds: &[Round]) -> bool
+fn can_uncut(rounds: &Rounds) -> bool
     ensures { result ≡ fits.can_uncut (table.rounds_of rounds.now) }
 {
-    match rounds.first() {
-        None => false,
-        Some(round) => has_parts(rounds, round.cut),
+    match rounds {
+        Rounds::Outermost => false,
+        Rounds::Within(round, _) => has_parts(rounds, round.cut),
     }
 }
 
@@ -194,7 +197,7 @@ pub fn first(alloc: Global, f: &Func) -> Result<Found, Fault>
 {
     let empty = row::shared_none(alloc, f.slots)?;
     let gone = row::shared_none(alloc, f.arrays)?;
-    let outer = Rc::new(alloc, Vec::new(alloc))?;
+    let outer = Rc::new(alloc, Rounds::Outermost)?;
     Ok(Found {
         operands: 0,
         empty,

@@ -10,8 +10,8 @@ ghost use Rattle.cw_verify.specs.Steps.{OrMemory};
 
 use crate::found::Found;
 use crate::named::{params_of, passed_of};
-use crate::round::{Round, copies};
-use crate::row;
+use crate::round::{Round, Rounds};
+use crate::row::{self, Row, cleared};
 use cw_code::code::{Callee, Code, Halves, Inner, Instr};
 use cw_model::syntax::CallKind;
 use cw_text::Fault;
@@ -38,32 +38,31 @@ fn less(found: Found, count: usize) -> Found
 }
 
 // The row after a spawn took the slot of its result, if there is one.
-fn with_target(alloc: Global, row: &[bool], target: Option<u32>) -> Result<Rc<Vec<bool>>, Fault>
-    ensures { OrMemory result (λ r. r.value.items ≡ fits.with_target Spawned target row.now) }
+fn with_target(alloc: Global, row: Rc<Row>, target: Option<u32>) -> Result<Rc<Row>, Fault>
+    ensures { OrMemory result (λ r. r.value.items ≡ fits.with_target Spawned target row.value.items) }
 {
-    let mut row = Vec::from_slice(alloc, row)?;
-    take_target(&mut row, target);
-    let row = Rc::new(alloc, row)?;
-    Ok(row)
-}
-
-// The slot of a result, if there is one, may be empty.
-fn take_target(row: &mut Vec<bool>, target: Option<u32>)
-    ensures { row.new.items ≡ fits.with_target Spawned target row.old.items }
-{
-    if let Some(a) = target {
-        row::set(row, a, true);
+    match target {
+        None => Ok(row),
+        Some(a) => {
+            let mut taken = Vec::from_slice(alloc, &row)?;
+            row::set(&mut taken, a as usize, true);
+            let taken = Rc::new(alloc, taken)?;
+            Ok(taken)
+        }
     }
 }
 
 // The row after arrays were taken out of these slots.
-fn with_gone(alloc: Global, row: &[bool], passed: &[u32]) -> Result<Rc<Vec<bool>>, Fault>
-    ensures { OrMemory result (λ r. r.value.items ≡ fits.with_gone passed.now row.now) }
+fn with_gone(alloc: Global, row: Rc<Row>, passed: &[u32]) -> Result<Rc<Row>, Fault>
+    ensures { OrMemory result (λ r. r.value.items ≡ fits.with_gone passed.now row.value.items) }
 {
-    let mut row = Vec::from_slice(alloc, row)?;
-    row::set_all(&mut row, passed);
-    let row = Rc::new(alloc, row)?;
-    Ok(row)
+    if passed.is_empty() {
+        return Ok(row);
+    }
+    let mut taken = Vec::from_slice(alloc, &row)?;
+    row::set_all(&mut taken, passed);
+    let taken = Rc::new(alloc, taken)?;
+    Ok(taken)
 }
 
 // A call has taken its arguments, and a spawn the slot of its result, if there is one, and its arrays.
@@ -81,12 +80,13 @@ fn called(
     match kind {
         CallKind::Plain => Ok(left),
         CallKind::Spawned => {
-            let empty = with_target(alloc, &left.empty, c.target)?;
-            let gone = with_gone(alloc, &left.gone, passed_of(code, c.passed))?;
+            let empty = with_target(alloc, left.empty, c.target)?;
+            let gone = with_gone(alloc, left.gone, passed_of(code, c.passed))?;
             Ok(Found {
+                operands: left.operands,
                 empty,
                 gone,
-                ..left
+                outer: left.outer,
             })
         }
     }
@@ -107,8 +107,13 @@ fn recurred(
     match kind {
         CallKind::Plain => Ok(left),
         CallKind::Spawned => {
-            let gone = with_gone(alloc, &left.gone, passed_of(code, c.passed))?;
-            Ok(Found { gone, ..left })
+            let gone = with_gone(alloc, left.gone, passed_of(code, c.passed))?;
+            Ok(Found {
+                operands: left.operands,
+                empty: left.empty,
+                gone,
+                outer: left.outer,
+            })
         }
     }
 }
@@ -117,29 +122,28 @@ fn recurred(
 fn synced(alloc: Global, found: Found) -> Result<Found, Fault>
     ensures { table.FindsShape result (table.synced_shape (table.shape_view found)) }
 {
-    let empty = row::shared_none(alloc, found.empty.len())?;
-    let gone = row::shared_none(alloc, found.gone.len())?;
+    let empty = cleared(alloc, found.empty)?;
+    let gone = cleared(alloc, found.gone)?;
     Ok(Found {
+        operands: found.operands,
         empty,
         gone,
-        ..found
+        outer: found.outer,
     })
 }
 
-// A sync block begins, by this cut, if any.
+// A sync block begins, by this cut, if any: the rows go on with the blocks round it.
 fn opened(alloc: Global, found: Found, cut: Option<Halves>) -> Result<Found, Fault>
     ensures { table.FindsShape result (table.opened_by cut (table.shape_view found)) }
 {
-    let empty = row::shared_none(alloc, found.empty.len())?;
-    let gone = row::shared_none(alloc, found.gone.len())?;
+    let empty = cleared(alloc, found.empty.clone()?)?;
+    let gone = cleared(alloc, found.gone.clone()?)?;
     let round = Round {
-        empty: Vec::from_slice(alloc, &found.empty)?,
-        gone: Vec::from_slice(alloc, &found.gone)?,
+        empty: found.empty,
+        gone: found.gone,
         cut,
     };
-    let mut outer = copies(alloc, &found.outer)?;
-    outer.insert(0, round)?;
-    let outer = Rc::new(alloc, outer)?;
+    let outer = Rc::new(alloc, Rounds::Within(round, found.outer))?;
     Ok(Found {
         operands: found.operands,
         empty,
@@ -155,22 +159,22 @@ fn cut(alloc: Global, found: Found, h: Halves) -> Result<Found, Fault>
 {
     let left = less(found, 1);
     let mut gone = Vec::from_slice(alloc, &left.gone)?;
-    row::set(&mut gone, h.array, true);
+    row::set(&mut gone, h.array as usize, true);
     let gone = Rc::new(alloc, gone)?;
     let begun = opened(alloc, Found { gone, ..left }, Some(h))?;
     Ok(begun)
 }
 
 // A sync block ends: the one round it goes on.
-fn closed(alloc: Global, found: Found) -> Result<Found, Fault>
-    requires { fits.can_close (table.rounds_of found.outer.value.items) ≡ true }
+fn closed(found: Found) -> Result<Found, Fault>
     ensures { table.FindsShape result (views.closed found) }
 {
-    let mut outer = copies(alloc, &found.outer)?;
-    let round = outer.remove(0);
-    let empty = Rc::new(alloc, round.empty)?;
-    let gone = Rc::new(alloc, round.gone)?;
-    let outer = Rc::new(alloc, outer)?;
+    let (empty, gone, outer) = match found.outer.as_ref() {
+        Rounds::Outermost => return Ok(found),
+        Rounds::Within(round, outer) => {
+            (round.empty.clone()?, round.gone.clone()?, outer.clone()?)
+        }
+    };
     Ok(Found {
         operands: found.operands,
         empty,
@@ -179,27 +183,32 @@ fn closed(alloc: Global, found: Found) -> Result<Found, Fault>
     })
 }
 
-// The array of a cut is back.
-fn put_back(row: &mut Vec<bool>, cut: Option<Halves>)
-    ensures { row.new.items ≡ fits.with_uncut cut row.old.items }
+// The row where the array of a cut is back.
+fn put_back(alloc: Global, row: &Rc<Row>, cut: Option<Halves>) -> Result<Rc<Row>, Fault>
+    ensures { OrMemory result (λ r. r.value.items ≡ fits.with_uncut cut row.now.value.items) }
 {
-    if let Some(h) = cut {
-        row::set(row, h.array, false);
+    match cut {
+        None => Ok(row.clone()?),
+        Some(h) => {
+            let mut back = Vec::from_slice(alloc, row)?;
+            row::set(&mut back, h.array as usize, false);
+            let back = Rc::new(alloc, back)?;
+            Ok(back)
+        }
     }
 }
 
 // A cut ends: the sync block round it goes on, with the array.
 fn close_cut(alloc: Global, found: Found) -> Result<Found, Fault>
-    requires { fits.can_uncut (table.rounds_of found.outer.value.items) ≡ true }
     ensures { table.FindsShape result (views.cut_closed found) }
 {
-    let mut outer = copies(alloc, &found.outer)?;
-    let round = outer.remove(0);
-    let mut gone = round.gone;
-    put_back(&mut gone, round.cut);
-    let empty = Rc::new(alloc, round.empty)?;
-    let gone = Rc::new(alloc, gone)?;
-    let outer = Rc::new(alloc, outer)?;
+    let (empty, gone, outer) = match found.outer.as_ref() {
+        Rounds::Outermost => return Ok(found),
+        Rounds::Within(round, outer) => {
+            let gone = put_back(alloc, &round.gone, round.cut)?;
+            (round.empty.clone()?, gone, outer.clone()?)
+        }
+    };
     Ok(Found {
         operands: found.operands,
         empty,
@@ -233,7 +242,7 @@ pub fn leave(alloc: Global, code: &Code, found: Found, i: &Instr) -> Result<Foun
         Instr::EndCut => close_cut(alloc, found),
         Instr::Sync => synced(alloc, found),
         Instr::Open(_) => opened(alloc, found, None),
-        Instr::Close => closed(alloc, found),
+        Instr::Close => closed(found),
         Instr::Print => Ok(less(found, 1)),
         Instr::AddTo(_) => Ok(less(found, 1)),
         Instr::ReturnValue => Ok(found),

@@ -8,7 +8,7 @@ ghost use Rattle.cw_model.specs.Sites.{Of};
 ghost use Rattle.cw_verify.specs.Table as table;
 ghost use Rattle.cw_verify.specs.Views as views;
 
-use crate::row::{is_full_in, none_empty, set};
+use crate::row::{Row, is_full_in, none_empty, set};
 use cw_code::code::{BlockKind, Callee, Code, Func, Halves, Inner, Instr, Site};
 use cw_model::syntax::{CallKind, Name};
 use cw_text::Fault;
@@ -96,7 +96,7 @@ fn names_target(code: &Code, f: &Func, c: &Callee) -> bool
 }
 
 // Whether these slots are there and not empty in a row, and none of them twice.
-fn are_unmarked(row: Vec<bool>, slots: &[u32]) -> bool
+fn are_unmarked(row: Row, slots: &[u32]) -> bool
     ensures { result ≡ table.are_unmarked row.items slots.now }
 {
     let mut row = row;
@@ -104,7 +104,7 @@ fn are_unmarked(row: Vec<bool>, slots: &[u32]) -> bool
         if !is_full_in(&row, *a as usize) {
             return false;
         }
-        set(&mut row, *a, true);
+        set(&mut row, *a as usize, true);
     }
     true
 }

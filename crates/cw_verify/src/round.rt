@@ -1,50 +1,55 @@
 //! The sync blocks round a place, in the same call.
 
-ghost use Rattle.std.specs.Prelude.{◌≡◌, ◌<◌, true, false, length};
+ghost use Rattle.std.specs.Prelude.{◌≡◌, ◌∷◌, true};
 ghost use Rattle.cw_code.specs.Fits as fits;
 ghost use Rattle.cw_verify.specs.Table as table;
 ghost use Rattle.cw_verify.specs.Views as views;
 ghost use Rattle.cw_verify.specs.Steps.{OrMemory};
 
-use crate::row::{either_empty, is_full_in};
+use crate::row::{Row, brings, is_full_in, shared_either};
 use cw_code::code::Halves;
 use cw_text::Fault;
 use std::alloc::Global;
 use std::rc::Rc;
 
-/// A sync block round another one.
-#[derive(Debug, Drop)]
+/// A sync block round another one. Its rows are those of the place where the inner one began.
+#[derive(Drop)]
 pub struct Round {
     /// For each slot of integers whether it may be empty up to the next join of the block.
-    pub empty: Vec<bool>,
+    pub empty: Rc<Row>,
     /// The same for each array slot.
-    pub gone: Vec<bool>,
+    pub gone: Rc<Row>,
     /// The cut that began the inner block, if a cut did.
     pub cut: Option<Halves>,
 }
 
+/// The sync blocks round a place, the innermost first. What the blocks round a block are is shared by all places in it.
+#[derive(Drop)]
+pub enum Rounds {
+    /// There is none.
+    Outermost,
+    /// A block, and those round it.
+    Within(Round, Rc<Rounds>),
+}
+
 /// Whether each of these blocks has the slot of integers, and not as empty.
-pub fn full_in_all(rounds: &[Round], a: usize) -> bool
+pub fn full_in_all(rounds: &Rounds, a: usize) -> bool
     ensures { result ≡ fits.full_in_all (fits.empty_rows (table.rounds_of rounds.now)) a }
 {
-    for round in rounds {
-        if !is_full_in(&round.empty, a) {
-            return false;
-        }
+    match rounds {
+        Rounds::Outermost => true,
+        Rounds::Within(round, outer) => is_full_in(&round.empty, a) && full_in_all(outer, a),
     }
-    true
 }
 
 /// Whether each of these blocks has the array slot, and not as empty.
-pub fn there_in_all(rounds: &[Round], a: usize) -> bool
+pub fn there_in_all(rounds: &Rounds, a: usize) -> bool
     ensures { result ≡ fits.full_in_all (fits.gone_rows (table.rounds_of rounds.now)) a }
 {
-    for round in rounds {
-        if !is_full_in(&round.gone, a) {
-            return false;
-        }
+    match rounds {
+        Rounds::Outermost => true,
+        Rounds::Within(round, outer) => is_full_in(&round.gone, a) && there_in_all(outer, a),
     }
-    true
 }
 
 // Whether the slot is no half of this cut.
@@ -58,23 +63,21 @@ fn is_no_half(a: u32, cut: Option<Halves>) -> bool
 }
 
 /// Whether the slot holds no part of an array that is cut.
-pub fn is_no_part(a: u32, rounds: &[Round]) -> bool
+pub fn is_no_part(a: u32, rounds: &Rounds) -> bool
     ensures { result ≡ fits.is_no_part a (table.rounds_of rounds.now) }
 {
-    for round in rounds {
-        if !is_no_half(a, round.cut) {
-            return false;
-        }
+    match rounds {
+        Rounds::Outermost => true,
+        Rounds::Within(round, outer) => is_no_half(a, round.cut) && is_no_part(a, outer),
     }
-    true
 }
 
 // A block like this one.
-fn copy(alloc: Global, round: &Round) -> Result<Round, Fault>
+fn copy(round: &Round) -> Result<Round, Fault>
     ensures { OrMemory result (λ r. table.round_view r ≡ table.round_view round.now) }
 {
-    let empty = Vec::from_slice(alloc, &round.empty)?;
-    let gone = Vec::from_slice(alloc, &round.gone)?;
+    let empty = round.empty.clone()?;
+    let gone = round.gone.clone()?;
     Ok(Round {
         empty,
         gone,
@@ -82,58 +85,95 @@ fn copy(alloc: Global, round: &Round) -> Result<Round, Fault>
     })
 }
 
-/// Blocks like these.
-pub fn copies(alloc: Global, rounds: &[Round]) -> Result<Vec<Round>, Fault>
-    ensures { OrMemory result (λ copies. views.rounds_in copies ≡ table.rounds_of rounds.now) }
+// Whether a block brings more than another one has.
+fn round_brings(round: &Round, more: &Round) -> bool
+    ensures { result ≡ table.round_brings (table.round_view round.now) (table.round_view more.now) }
 {
-    let mut copies = Vec::new(alloc);
-    for round in rounds {
-        copies.push(copy(alloc, round)?)?;
+    brings(&round.empty, &more.empty) || brings(&round.gone, &more.gone)
+}
+
+// Whether blocks bring more than others have.
+fn each_brings(rounds: &Rounds, more: &Rounds) -> bool
+    ensures { result ≡ table.each_brings (table.rounds_of rounds.now) (table.rounds_of more.now) }
+{
+    match (rounds, more) {
+        (Rounds::Outermost, _) => false,
+        (Rounds::Within(_, _), Rounds::Outermost) => false,
+        (Rounds::Within(round, outer), Rounds::Within(other, around)) => {
+            round_brings(round, other) || each_brings(outer, around)
+        }
     }
-    Ok(copies)
 }
 
-// What may be empty in one block or the other; whether that is more than in the first.
-fn either_round(round: &mut Round, more: &Round) -> bool
-    ensures items { table.round_view round.new ≡ views.either_round round.old more.now }
-    ensures same { result ≡ false → table.round_view round.new ≡ table.round_view round.old }
-    ensures fewer { result ≡ true → views.unmarked round.new < views.unmarked round.old }
+// What may be empty in one block or the other.
+fn either_round(alloc: Global, round: &Round, more: &Round) -> Result<Round, Fault>
+    ensures { OrMemory result (λ r. table.round_view r ≡ views.either_round round.now more.now) }
 {
-    let empty = either_empty(&mut round.empty, &more.empty);
-    let gone = either_empty(&mut round.gone, &more.gone);
-    empty | gone
+    let (empty, _) = shared_either(alloc, round.empty.clone()?, &more.empty)?;
+    let (gone, _) = shared_either(alloc, round.gone.clone()?, &more.gone)?;
+    Ok(Round {
+        empty,
+        gone,
+        cut: round.cut,
+    })
 }
 
-/// The same, block by block.
-pub fn either_each(rounds: &mut Vec<Round>, more: &[Round]) -> bool
-    requires { length rounds.old.items ≡ length more.now }
-    ensures items { views.rounds_in rounds.new ≡ views.either_each rounds.old more.now }
-    ensures same { result ≡ false → views.rounds_in rounds.new ≡ views.rounds_in rounds.old }
-    ensures fewer { result ≡ true → views.unmarked_in rounds.new < views.unmarked_in rounds.old }
+// A block and those round it.
+fn within(alloc: Global, round: Round, outer: Rc<Rounds>) -> Result<Rc<Rounds>, Fault>
+    ensures { OrMemory result (λ r. table.rounds_of r.value ≡ table.round_view round ∷ table.rounds_of outer.value) }
 {
-    let mut changed = false;
-    for j in 0..more.len() {
-        let marked = either_round(&mut rounds[j], &more[j]);
-        changed = changed | marked;
+    let rounds = Rc::new(alloc, Rounds::Within(round, outer))?;
+    Ok(rounds)
+}
+
+// The same blocks.
+fn share(rounds: &Rc<Rounds>) -> Result<Rc<Rounds>, Fault>
+    ensures { OrMemory result (λ r. table.rounds_of r.value ≡ table.rounds_of rounds.now.value) }
+{
+    let rounds = rounds.clone()?;
+    Ok(rounds)
+}
+
+// What may be empty in the blocks here or there, block by block.
+fn either_each(alloc: Global, rounds: &Rounds, more: &Rounds) -> Result<Rc<Rounds>, Fault>
+    ensures { OrMemory result (λ r. table.rounds_of r.value ≡ views.either_each rounds.now more.now) }
+{
+    match (rounds, more) {
+        (Rounds::Outermost, _) => {
+            let none = Rc::new(alloc, Rounds::Outermost)?;
+            Ok(none)
+        }
+        (Rounds::Within(round, outer), Rounds::Outermost) => {
+            let round = copy(round)?;
+            let outer = share(outer)?;
+            within(alloc, round, outer)
+        }
+        (Rounds::Within(round, outer), Rounds::Within(other, around)) => {
+            let both = either_round(alloc, round, other)?;
+            let outer = either_each(alloc, outer, around)?;
+            within(alloc, both, outer)
+        }
     }
-    changed
 }
 
-/// The same, to be shared; the first ones stay where there is no more.
+/// What may be empty in one block or the other, block by block, to be shared; whether that is more than in the first
+/// ones, which stay where it is not. What brings all that was there comes in its place.
 pub fn shared_each(
     alloc: Global,
-    rounds: Rc<Vec<Round>>,
-    more: &[Round],
-) -> Result<(Rc<Vec<Round>>, bool), Fault>
-    requires { length rounds.value.items ≡ length more.now }
-    ensures { OrMemory result (λ r. views.IsEach rounds.value more.now r.0.value r.1) }
+    rounds: Rc<Rounds>,
+    more: &Rc<Rounds>,
+) -> Result<(Rc<Rounds>, bool), Fault>
+    requires { table.are_alike (table.rounds_of rounds.value) (table.rounds_of more.now.value) ≡ true }
+    ensures { OrMemory result (λ r. views.IsEach rounds.value more.now.value r.0.value r.1) }
 {
-    let mut both = copies(alloc, &rounds)?;
-    let changed = either_each(&mut both, more);
-    if !changed {
+    if !each_brings(&rounds, more) {
         return Ok((rounds, false));
     }
-    let both = Rc::new(alloc, both)?;
+    if !each_brings(more, &rounds) {
+        let more = share(more)?;
+        return Ok((more, true));
+    }
+    let both = either_each(alloc, &rounds, more)?;
     Ok((both, true))
 }
 
@@ -165,16 +205,15 @@ fn is_alike(round: &Round, other: &Round) -> bool
 }
 
 /// Whether there are as many blocks, begun by the same cuts, and each row is as long.
-pub fn are_alike(rounds: &[Round], others: &[Round]) -> bool
+pub fn are_alike(rounds: &Rounds, others: &Rounds) -> bool
     ensures { result ≡ table.are_alike (table.rounds_of rounds.now) (table.rounds_of others.now) }
 {
-    if rounds.len() != others.len() {
-        return false;
-    }
-    for j in 0..rounds.len() {
-        if !is_alike(&rounds[j], &others[j]) {
-            return false;
+    match (rounds, others) {
+        (Rounds::Outermost, Rounds::Outermost) => true,
+        (Rounds::Outermost, Rounds::Within(_, _)) => false,
+        (Rounds::Within(_, _), Rounds::Outermost) => false,
+        (Rounds::Within(round, outer), Rounds::Within(other, around)) => {
+            is_alike(round, other) && are_alike(outer, around)
         }
     }
-    true
 }

@@ -1,6 +1,6 @@
 //! A row of slots: which of them may be empty.
 
-ghost use Rattle.std.specs.Prelude.{◌≡◌, ◌<◌, true, false, slice_get, slice_set};
+ghost use Rattle.std.specs.Prelude.{◌≡◌, length, slice_get, slice_set};
 ghost use Rattle.cw_code.specs.Fits as fits;
 ghost use Rattle.cw_verify.specs.Table as table;
 ghost use Rattle.cw_verify.specs.Views as views;
@@ -10,8 +10,11 @@ use cw_text::Fault;
 use std::alloc::Global;
 use std::rc::Rc;
 
+/// For each slot whether it may be empty.
+pub type Row = Vec<bool>;
+
 /// So many slots, none of them empty.
-pub fn none_empty(alloc: Global, slots: usize) -> Result<Vec<bool>, Fault>
+pub fn none_empty(alloc: Global, slots: usize) -> Result<Row, Fault>
     ensures { OrMemory result (λ row. row.items ≡ fits.none_empty slots) }
 {
     let mut row = Vec::new(alloc);
@@ -22,12 +25,33 @@ pub fn none_empty(alloc: Global, slots: usize) -> Result<Vec<bool>, Fault>
 }
 
 /// The same, to be shared.
-pub fn shared_none(alloc: Global, slots: usize) -> Result<Rc<Vec<bool>>, Fault>
+pub fn shared_none(alloc: Global, slots: usize) -> Result<Rc<Row>, Fault>
     ensures { OrMemory result (λ row. row.value.items ≡ fits.none_empty slots) }
 {
     let row = none_empty(alloc, slots)?;
     let row = Rc::new(alloc, row)?;
     Ok(row)
+}
+
+// Whether a row has a slot as empty.
+fn has_empty(row: &[bool]) -> bool
+    ensures { result ≡ table.any_empty row.now }
+{
+    let mut found = false;
+    for a in 0..row.len() {
+        found = found | row[a];
+    }
+    found
+}
+
+/// As many slots, none of them empty: the same row, if it has none.
+pub fn cleared(alloc: Global, row: Rc<Row>) -> Result<Rc<Row>, Fault>
+    ensures { OrMemory result (λ r. r.value.items ≡ fits.none_empty (length row.value.items)) }
+{
+    if !has_empty(&row) {
+        return Ok(row);
+    }
+    shared_none(alloc, row.len())
 }
 
 /// Whether a row has the slot, and not as empty.
@@ -41,65 +65,83 @@ pub fn is_full_in(row: &[bool], a: usize) -> bool
 }
 
 /// A slot, if it is there, may be empty, or may not.
-pub fn set(row: &mut Vec<bool>, a: u32, empty: bool)
+pub fn set(row: &mut Row, a: usize, empty: bool)
     ensures { row.new.items ≡ slice_set row.old.items a empty }
 {
-    let a = a as usize;
     if a < row.len() {
         row[a] = empty;
     }
 }
 
 /// Each of these slots may be empty.
-pub fn set_all(row: &mut Vec<bool>, slots: &[u32])
+pub fn set_all(row: &mut Row, slots: &[u32])
     ensures { row.new.items ≡ fits.with_gone slots.now row.old.items }
 {
     for a in slots {
-        set(row, *a, true);
+        set(row, *a as usize, true);
     }
 }
 
-// A slot may be empty too; whether it was not yet.
-fn mark(row: &mut Vec<bool>, a: usize, more: bool) -> bool
-    ensures items { row.new.items ≡ views.marked more a row.old.items }
-    ensures same { result ≡ false → row.new.items ≡ row.old.items }
-    ensures fewer { result ≡ true → table.unmarked row.new.items < table.unmarked row.old.items }
+/// Whether the second row has a slot as empty that the first one has as full. No turn is left out where one is found: so
+/// the compiler takes many slots at once.
+pub fn brings(row: &[bool], more: &[bool]) -> bool
+    ensures { result ≡ table.brings row.now more.now }
 {
-    if !more || a >= row.len() || row[a] {
-        return false;
+    let mut found = false;
+    for a in 0..row.len().min(more.len()) {
+        found = found | (!row[a] & more[a]);
     }
-    row[a] = true;
-    true
+    found
 }
 
-/// What may be empty in one row or the other; whether that is more than in the first.
-pub fn either_empty(row: &mut Vec<bool>, more: &[bool]) -> bool
-    ensures items { row.new.items ≡ table.either_empty row.old.items more.now }
-    ensures same { result ≡ false → row.new.items ≡ row.old.items }
-    ensures fewer { result ≡ true → table.unmarked row.new.items < table.unmarked row.old.items }
+// Whether a row is as long as another one and has each slot as empty that the other one has.
+fn has_all(row: &[bool], other: &[bool]) -> bool
+    ensures { result ≡ table.has_all row.now other.now }
 {
-    let mut changed = false;
+    row.len() == other.len() && !brings(row, other)
+}
+
+// A slot may be empty too, if this says so.
+fn mark(row: &mut Row, a: usize, empty: bool)
+    ensures { row.new.items ≡ views.marked empty a row.old.items }
+{
+    if empty {
+        set(row, a, true);
+    }
+}
+
+// What may be empty in one row or the other.
+fn either_empty(alloc: Global, row: &[bool], more: &[bool]) -> Result<Row, Fault>
+    ensures { OrMemory result (λ r. r.items ≡ table.either_empty row.now more.now) }
+{
+    let mut both = Vec::from_slice(alloc, row)?;
     for a in 0..more.len() {
-        let marked = mark(row, a, more[a]);
-        changed = changed | marked;
+        mark(&mut both, a, more[a]);
     }
-    changed
+    Ok(both)
+}
+
+// The same row.
+fn share(row: &Rc<Row>) -> Result<Rc<Row>, Fault>
+    ensures { OrMemory result (λ r. r.value.items ≡ row.now.value.items) }
+{
+    let row = row.clone()?;
+    Ok(row)
 }
 
 /// What may be empty in one row or the other, to be shared; whether that is more than in the first, which stays where
-/// it is not.
-pub fn shared_either(
-    alloc: Global,
-    row: Rc<Vec<bool>>,
-    more: &[bool],
-) -> Result<(Rc<Vec<bool>>, bool), Fault>
-    ensures { OrMemory result (λ r. table.IsEither row.value.items more.now r.0.value.items r.1) }
+/// it is not. A row that has all that was there comes in its place.
+pub fn shared_either(alloc: Global, row: Rc<Row>, more: &Rc<Row>) -> Result<(Rc<Row>, bool), Fault>
+    ensures { OrMemory result (λ r. table.IsEither row.value.items more.now.value.items r.0.value.items r.1) }
 {
-    let mut both = Vec::from_slice(alloc, &row)?;
-    let changed = either_empty(&mut both, more);
-    if !changed {
+    if !brings(&row, more) {
         return Ok((row, false));
     }
+    if has_all(more, &row) {
+        let more = share(more)?;
+        return Ok((more, true));
+    }
+    let both = either_empty(alloc, &row, more)?;
     let both = Rc::new(alloc, both)?;
     Ok((both, true))
 }

@@ -28,19 +28,20 @@ struct Search {
 }
 
 impl Search {
-    // A place is noted, if more came to it.
-    fn note(&mut self, k: usize, more: bool) -> Result<(), Fault>
+    // A place is noted, if more came to it; by a branch, or not.
+    fn note(&mut self, k: usize, branch: bool, more: bool) -> Result<(), Fault>
         ensures found { self.new.found.items ≡ self.old.found.items }
         ensures work { steps.NotesIf more k self.old self.new result }
     {
         if more {
-            self.work.push(k)?;
+            self.work.push(k, branch)?;
         }
         Ok(())
     }
 
-    // A shape comes to a place, if it is there; whether that reaches the place. A place to which more comes is noted.
-    fn come(&mut self, alloc: Global, k: usize, shape: Found) -> Result<bool, Fault>
+    // A shape comes to a place, if it is there, by a branch or not; whether that reaches the place. A place to which more
+    // comes is noted.
+    fn come(&mut self, alloc: Global, k: usize, branch: bool, shape: Found) -> Result<bool, Fault>
         ensures { steps.Comes k shape self.old self.new result }
     {
         if k >= self.found.len() {
@@ -50,13 +51,13 @@ impl Search {
         match there {
             None => {
                 self.found[k] = Some(shape);
-                self.note(k, true)?;
+                self.note(k, branch, true)?;
                 Ok(true)
             }
             Some(there) => {
                 let (joined, more) = join(alloc, there, &shape)?;
                 self.found[k] = Some(joined);
-                self.note(k, more)?;
+                self.note(k, branch, more)?;
                 Ok(false)
             }
         }
@@ -73,9 +74,9 @@ impl Search {
         ensures { steps.ComesToAll (k ∷ other ∷ []) shape self.old self.new result }
     {
         let copy = found::copy(&shape)?;
-        match self.come(alloc, k, shape) {
+        match self.come(alloc, k, true, shape) {
             Err(e) => Err(e),
-            Ok(reached) => match self.come(alloc, other, copy) {
+            Ok(reached) => match self.come(alloc, other, true, copy) {
                 Err(e) => Err(e),
                 Ok(more) => Ok(reached | more),
             },
@@ -101,33 +102,33 @@ impl Search {
         let start = f.start;
         let next = place + 1 - start;
         match i {
-            Instr::Push(_) => self.come(alloc, next, left),
-            Instr::Load(_) => self.come(alloc, next, left),
-            Instr::Store(_) => self.come(alloc, next, left),
-            Instr::Unary(_, _) => self.come(alloc, next, left),
-            Instr::Binary(_, _) => self.come(alloc, next, left),
-            Instr::Skip(n) => self.come(alloc, past(place, *n, f.end) - start, left),
+            Instr::Push(_) => self.come(alloc, next, false, left),
+            Instr::Load(_) => self.come(alloc, next, false, left),
+            Instr::Store(_) => self.come(alloc, next, false, left),
+            Instr::Unary(_, _) => self.come(alloc, next, false, left),
+            Instr::Binary(_, _) => self.come(alloc, next, false, left),
+            Instr::Skip(n) => self.come(alloc, past(place, *n, f.end) - start, false, left),
             Instr::SkipIfZero(n) => self.come_both(
                 alloc,
                 next,
                 past(place, *n, f.end) - start,
                 left,
             ),
-            Instr::GoBack(n) => self.come(alloc, place - *n as usize - start, left),
-            Instr::Call(_, _) => self.come(alloc, next, left),
-            Instr::Recur(_, _) => self.come(alloc, next, left),
-            Instr::Start(_, _) => self.come(alloc, next, left),
-            Instr::NewArray(_, _) => self.come(alloc, next, left),
-            Instr::Length(_) => self.come(alloc, next, left),
-            Instr::Element(_, _) => self.come(alloc, next, left),
-            Instr::SetElement(_, _) => self.come(alloc, next, left),
-            Instr::Cut(_, _) => self.come(alloc, next, left),
-            Instr::EndCut => self.come(alloc, next, left),
-            Instr::Sync => self.come(alloc, next, left),
-            Instr::Open(_) => self.come(alloc, next, left),
-            Instr::Close => self.come(alloc, next, left),
-            Instr::Print => self.come(alloc, next, left),
-            Instr::AddTo(_) => self.come(alloc, next, left),
+            Instr::GoBack(n) => self.come(alloc, place - *n as usize - start, false, left),
+            Instr::Call(_, _) => self.come(alloc, next, false, left),
+            Instr::Recur(_, _) => self.come(alloc, next, false, left),
+            Instr::Start(_, _) => self.come(alloc, next, false, left),
+            Instr::NewArray(_, _) => self.come(alloc, next, false, left),
+            Instr::Length(_) => self.come(alloc, next, false, left),
+            Instr::Element(_, _) => self.come(alloc, next, false, left),
+            Instr::SetElement(_, _) => self.come(alloc, next, false, left),
+            Instr::Cut(_, _) => self.come(alloc, next, false, left),
+            Instr::EndCut => self.come(alloc, next, false, left),
+            Instr::Sync => self.come(alloc, next, false, left),
+            Instr::Open(_) => self.come(alloc, next, false, left),
+            Instr::Close => self.come(alloc, next, false, left),
+            Instr::Print => self.come(alloc, next, false, left),
+            Instr::AddTo(_) => self.come(alloc, next, false, left),
             Instr::ReturnValue => Ok(false),
             Instr::Return => Ok(false),
         }
@@ -187,8 +188,8 @@ fn begin(alloc: Global, f: &Func) -> Result<Search, Fault>
     for _i in 0..f.end - f.start - 1 {
         found.push(None)?;
     }
-    let mut work = WorkList::new(alloc);
-    work.push(0)?;
+    let mut work = WorkList::new(alloc, f.end - f.start)?;
+    work.push(0, false)?;
     Ok(Search { found, work })
 }
 

@@ -184,6 +184,21 @@ fn code_with_no_tag_has_one_line(rt: HostRuntime) -> Result<(), Fail> {
     Ok(())
 }
 
+const QUOTED_TEXT: &[u8] =
+    b"tag,work,span,parallelism,burdened_span,burdened_parallelism\n,10,4,2.500,7,1.428\n\"a,b\",0,0,0.000,0,0.000\n\"a\"\"b\",0,0,0.000,0,0.000\n\"a\nb\",0,0,0.000,0,0.000\n\"a\rb\",0,0,0.000,0,0.000\na b,0,0,0.000,0,0.000\n";
+
+// No source has such tags, but code may.
+#[test]
+fn fields_that_need_quotes_get_them(rt: HostRuntime) -> Result<(), Fail> {
+    let alloc = rt.alloc();
+    let tags: [&[u8]; 5] = [b"a,b", b"a\"b", b"a\nb", b"a\rb", b"a b"];
+    let code = code_with(alloc, &[], &tags)?;
+    let ended = ended_with(alloc, SMALL, &[NEVER, NEVER, NEVER, NEVER, NEVER])?;
+    let taken = report_to_room(alloc, Asked::Scale, &code, &ended, ROOM)?;
+    assert_eq!(rt; taken.bytes.as_slice(), QUOTED_TEXT);
+    Ok(())
+}
+
 #[test]
 fn a_run_that_did_not_end_has_no_table(rt: HostRuntime) -> Result<(), Fail> {
     let alloc = rt.alloc();

@@ -16,5 +16,5 @@ returns c =
     let is : c.loop-i.found.items ≡ Some first ∷ none = c.loop-i.invariant ∙ ap (λ l. l ++ none) (c.in_ok-push.ensures.items ∙ ap (λ l. l ++ Some first ∷ []) c.new-found.ensures.items) in
     record {
       shapes = begun c.loop-i.found.items first n f is c.in_ok-first.ensures ∙ ap (λ k. Some (first_shape f) ∷ replicate k None) many;
-      work = subst (λ l. IsNoted 0 l (places_of c.push-2.new.self)) c.new-work.ensures c.in_ok-push-3.ensures;
+      work = subst (λ l. IsNoted 0 l (places_of c.push-2.new.self)) c.in_ok-work.ensures c.in_ok-push-3.ensures;
     }
