@@ -1,0 +1,3 @@
+pub mod Jumps
+pub mod Slots
+pub mod Halves

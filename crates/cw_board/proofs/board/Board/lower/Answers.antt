@@ -1,0 +1,37 @@
+use Rattle.std.proofs.Common.{◌++◌, ap, sym, ◌∙◌, subst}
+use Rattle.cw_board.specs.Boards.{lowered}
+use Rattle.cw_board.specs.contracts.board.Board.{the_invariant, the_view}
+use Rattle.cw_board.proofs.Halves.{opened_right, opened_shows, room_shown, owed_tells, owed_shows}
+use Rattle.cw_board.proofs.board.Board.lower.Goals as goal
+use Rattle.cw_board.proofs.board.Board.lower.Goals.{in-Free, in-Ready, in-Halves}
+
+pub owe-requires-clause-room : goal.owe-requires-clause-room
+owe-requires-clause-room c =
+    room_shown c.in-Halves.field-0.value c.in-Halves.field-1.value c.in-Halves.told c.args.by c.args.self.now
+    (opened_right c.self.invariant c.in-Halves.is) (opened_shows c.self.view_is c.in-Halves.is) c.requires
+
+pub invariant_of-self : goal.invariant_of-self
+invariant_of-self c =
+    elim c.match-self.branch [
+      | in-Free w ↦ subst the_invariant (sym w.self-inside-is) c.self.invariant
+      | in-Ready w ↦ subst the_invariant (sym w.self-inside-is) tt
+      | in-Halves w ↦
+          let tells = opened_right c.self.invariant w.in-Halves.is in
+          subst the_invariant (sym w.self-inside-is)
+          (owed_tells w.in-Halves.field-0.value w.in-Halves.field-1.value w.in-Halves.told w.owe.new.self c.args.by w.owe.ensures tells
+          (room_shown w.in-Halves.field-0.value w.in-Halves.field-1.value w.in-Halves.told c.args.by c.args.self.now
+          tells (opened_shows c.self.view_is w.in-Halves.is) c.requires))
+    ]
+
+pub returns : goal.returns
+returns c =
+    elim c.match-self.branch [
+      | in-Free w ↦
+          let shows = opened_shows c.self.view_is w.in-Free.is in
+          ap the_view w.self-inside-is ∙ c.self.view_is ∙ sym shows ∙ ap (lowered c.args.by) shows
+      | in-Ready w ↦ ap the_view w.self-inside-is ∙ ap (lowered c.args.by) (opened_shows c.self.view_is w.in-Ready.is)
+      | in-Halves w ↦
+          ap the_view w.self-inside-is
+          ∙ owed_shows w.in-Halves.field-0.value w.in-Halves.field-1.value w.in-Halves.told w.owe.new.self c.args.by c.args.self.now w.owe.ensures
+          (opened_right c.self.invariant w.in-Halves.is) (opened_shows c.self.view_is w.in-Halves.is)
+    ]

@@ -1,0 +1,4 @@
+//! The ready strands of a schedule in serial order, with what is left of each.
+#![tactic(auto)]
+
+pub mod board;

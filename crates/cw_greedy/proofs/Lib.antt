@@ -1,0 +1,10 @@
+mod Steps
+mod Bounds
+mod Jumps
+mod Like
+mod Jumping
+mod Edges
+mod Blocks
+mod Slots
+mod Progress
+mod Rounds

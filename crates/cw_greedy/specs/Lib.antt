@@ -1,0 +1,12 @@
+pub mod Greedy
+pub mod Bounds
+pub mod Jumps
+pub mod Jumping
+pub mod Examples
+pub mod Recorded
+pub mod RecordLaws
+pub mod Records
+pub mod Edges
+pub mod Blocks
+pub mod Slots
+pub mod Rounds

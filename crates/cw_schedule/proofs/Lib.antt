@@ -1,0 +1,4 @@
+pub mod Plans
+pub mod Reading
+pub mod Releasing
+pub mod State

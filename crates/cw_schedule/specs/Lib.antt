@@ -1,0 +1,4 @@
+pub mod Planned
+pub mod Reading
+pub mod Shown
+pub mod State

@@ -1,0 +1,181 @@
+//! The strands of a record, each with what waits for it.
+
+ghost use Rattle.std.specs.Prelude.{◌≡◌, ℕ, ◌+◌, ◌-◌, ◌<◌, ◌≤◌, ◌^◌, ◌++◌, ◌∷◌, [], Bool, Some, List, length, IfOk, OnOk};
+ghost use Rattle.cw_greedy.specs.declared.code.Code.{Code};
+ghost use Rattle.cw_greedy.specs.declared.code.Code.TheVariants.{Ended, Joined};
+ghost use Rattle.cw_greedy.specs.Jumping.{Block, Last};
+ghost use Rattle.cw_model.specs.declared.limits.TheConstants.{MOST_LIMIT};
+ghost use Rattle.cw_schedule.specs.declared.plan.Begins.TheVariants.{Child, Continuation, Start, Sync};
+ghost use Rattle.cw_schedule.specs.declared.plan.Open.{Open};
+ghost use Rattle.cw_schedule.specs.Planned.{instructions_of, open_at, patched, strand, strands_of, Continues, HasSpawn, Joins, Makes, Plans};
+ghost use Rattle.cw_schedule.specs.Reading.{instructions, read, Frame};
+
+use cw_greedy::code::Code;
+use std::alloc::{AllocError, Global};
+
+/// How a strand begins.
+#[derive(Debug, Clone, Copy, Drop)]
+pub enum Begins {
+    /// With the run.
+    Start,
+    /// As a spawned child, whose continuation begins so many strands later.
+    Child(usize),
+    /// As the continuation of a spawn, whose join begins so many strands later.
+    Continuation(usize),
+    /// At the join of a child and its continuation.
+    Sync,
+}
+
+/// A strand of so many instructions.
+#[derive(Debug, Clone, Copy, Drop)]
+pub struct Strand {
+    pub weight: u64,
+    pub begins: Begins,
+}
+
+// A spawn whose join has not come: where its child begins, or, once that has ended, its continuation; and whether it is
+// the first one of its sync block.
+#[derive(Debug, Clone, Copy, Drop)]
+struct Open {
+    at: usize,
+    first: bool,
+}
+
+// The strands so far, the last of them apart, and the open spawns.
+#[derive(Debug, Drop)]
+struct Planning {
+    strands: Vec<Strand>,
+    last: Strand,
+    spawns: Vec<Open>,
+}
+
+impl Planning {
+    // Another strand begins.
+    fn begin(&mut self, begins: Begins) -> Result<(), AllocError>
+        ensures strands { OnOk result (self.new.strands.items ≡ self.old.strands.items ++ self.old.last ∷ []) }
+        ensures last { OnOk result (self.new.last ≡ strand 0 begins) }
+        ensures spawns { OnOk result (self.new.spawns.items ≡ self.old.spawns.items) }
+    {
+        self.strands.push(self.last)?;
+        self.last = Strand { weight: 0, begins };
+        Ok(())
+    }
+
+    // So many instructions of the strand that has begun.
+    fn worked(&mut self, count: u64)
+        requires { self.old.last.weight + count < 2 ^ 64 }
+        ensures strands { self.new.strands.items ≡ self.old.strands.items }
+        ensures last { self.new.last ≡ strand (self.old.last.weight + count) self.old.last.begins }
+        ensures spawns { self.new.spawns.items ≡ self.old.spawns.items }
+    {
+        self.last.weight += count;
+    }
+
+    // A spawned child begins.
+    fn spawned(&mut self, first: bool) -> Result<(), AllocError>
+        ensures strands { OnOk result (self.new.strands.items ≡ self.old.strands.items ++ self.old.last ∷ []) }
+        ensures last { OnOk result (self.new.last ≡ strand 0 (Child 0)) }
+        ensures spawns { OnOk result (self.new.spawns.items ≡ self.old.spawns.items ++ open_at (length self.old.strands.items + 1) first ∷ []) }
+    {
+        self.begin(Begins::Child(0))?;
+        let at = self.strands.len();
+        self.spawns.push(Open { at, first })?;
+        Ok(())
+    }
+
+    // A child ends, and its continuation begins.
+    fn ended(&mut self) -> Result<(), AllocError>
+        requires { HasSpawn self.old }
+        ensures { (spawns : List Open) (at : ℕ) (first : Bool) → self.old.spawns.items ≡ spawns ++ open_at at first ∷ [] → OnOk result (Continues self.old self.new spawns at first) }
+    {
+        let Some(top) = self.spawns.pop() else {
+            unreachable!()
+        };
+        self.begin(Begins::Continuation(0))?;
+        let at = self.strands.len();
+        self.strands[top.at].begins = Begins::Child(at - top.at);
+        self.spawns.push(Open {
+            at,
+            first: top.first,
+        })?;
+        Ok(())
+    }
+
+    // The last open spawn is joined.
+    fn join_last(&mut self, top: Open) -> Result<(), AllocError>
+        requires { top.at ≤ length self.old.strands.items }
+        ensures strands { OnOk result (self.new.strands.items ≡ patched (self.old.strands.items ++ self.old.last ∷ []) top.at (Continuation (length self.old.strands.items + 1 - top.at))) }
+        ensures last { OnOk result (self.new.last ≡ strand 0 Sync) }
+        ensures spawns { OnOk result (self.new.spawns.items ≡ self.old.spawns.items) }
+    {
+        self.begin(Begins::Sync)?;
+        let join = self.strands.len();
+        self.strands[top.at].begins = Begins::Continuation(join - top.at);
+        Ok(())
+    }
+
+    // The spawns of a sync block are joined, from the last one back to the first.
+    fn joined(&mut self) -> Result<(), AllocError>
+        requires { (end : List Frame × Block) × Joins end self.old }
+        ensures joined { (end : List Frame × Block) → Joins end self.old → OnOk result (Plans end.0 end.1 self.new) }
+        ensures weight { OnOk result (self.new.last.weight ≡ 0) }
+    {
+        while let Some(top) = self.spawns.pop() {
+            self.join_last(top)?;
+            if top.first {
+                return Ok(());
+            }
+        }
+        Ok(())
+    }
+
+    // One code more.
+    fn follow(&mut self, code: Code) -> Result<(), AllocError>
+        requires fits { self.old.last.weight + instructions_of code < 2 ^ 64 }
+        requires makes { (block : Block) × ((later : List Code) × Makes block (code ∷ later) self.old) }
+        ensures makes { (block : Block) (later : List Code) → Makes block (code ∷ later) self.old → OnOk result (Makes block later self.new) }
+        ensures weight { OnOk result (self.new.last.weight ≤ self.old.last.weight + instructions_of code) }
+    {
+        match code {
+            Code::Instructions(count) => {
+                self.worked(count);
+                Ok(())
+            }
+            Code::Spawned(first) => {
+                self.spawned(first)?;
+                Ok(())
+            }
+            Code::Ended => {
+                self.ended()?;
+                Ok(())
+            }
+            Code::Joined => {
+                self.joined()?;
+                Ok(())
+            }
+            Code::Called => Ok(()),
+        }
+    }
+}
+
+/// The strands of the block that codes are read as, in serial order.
+pub fn plan(alloc: Global, codes: &[Code]) -> Result<Vec<Strand>, AllocError>
+    requires fits { instructions codes.now ≤ MOST_LIMIT }
+    requires block { (block : Block) × (read codes.now [] (Last 0) ≡ Some block) }
+    ensures { (block : Block) → read codes.now [] (Last 0) ≡ Some block → IfOk result (λ strands. strands.items ≡ strands_of Start block) }
+{
+    let mut plan = Planning {
+        strands: Vec::new(alloc),
+        last: Strand {
+            weight: 0,
+            begins: Begins::Start,
+        },
+        spawns: Vec::new(alloc),
+    };
+    for code in codes {
+        plan.follow(*code)?;
+    }
+    let mut strands = plan.strands;
+    strands.push(plan.last)?;
+    Ok(strands)
+}

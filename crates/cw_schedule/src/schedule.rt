@@ -1,0 +1,119 @@
+//! The length of a greedy schedule, by jumps from one end of a strand to the next.
+
+ghost use Rattle.std.specs.Prelude.{◌≡◌, ◌+◌, ◌<◌, ◌≤◌, true, false, length, Some, IfOk, replicate, slice_set};
+ghost use Rattle.cw_model.specs.Trees.{Tree, work};
+ghost use Rattle.cw_model.specs.declared.limits.TheConstants.{MOST_LIMIT};
+ghost use Rattle.cw_greedy.specs.Greedy.{greedy_length};
+ghost use Rattle.cw_greedy.specs.Blocks.{block_of};
+ghost use Rattle.cw_greedy.specs.Jumping.{Block, Going, start, to_do};
+ghost use Rattle.cw_greedy.specs.Slots.{nones};
+ghost use Rattle.cw_schedule.specs.declared.plan.Begins.TheVariants.{Start};
+ghost use Rattle.cw_schedule.specs.Planned.{strands_of};
+ghost use Rattle.cw_greedy.specs.Records.{IsRecordOf};
+ghost use Rattle.cw_board.specs.Boards.{least_slot};
+ghost use Rattle.cw_schedule.specs.State.{flag_at, strand_at, Begun, IsWithin, Puts, Reaches, Stands, Takes};
+
+use crate::plan::{Begins, Strand, plan};
+use cw_board::board::Board;
+use cw_greedy::laws::{greedy_is_bounded, lists_show_boards, rounds_keep_the_length};
+use cw_greedy::strands::Strands;
+use std::alloc::{AllocError, Global};
+
+// One of the two sides before a join is done.
+fn arrive(strands: &[Strand], flags: &mut [bool], board: &mut Board, join: usize)
+    requires join { join < length strands.now }
+    requires flags { length flags.old ≡ length strands.now }
+    requires board { length board.old ≡ length strands.now }
+    ensures first { flag_at flags.old join ≡ false → (board.new ≡ board.old) × (flags.new ≡ slice_set flags.old join true) }
+    ensures second { flag_at flags.old join ≡ true → (board.new ≡ slice_set board.old join (Some (strand_at strands.now join).weight)) × (flags.new ≡ slice_set flags.old join false) }
+{
+    if flags[join] {
+        flags[join] = false;
+        board.put(join, strands[join].weight);
+    } else {
+        flags[join] = true;
+    }
+}
+
+// The strand before this one is done: what waited for it alone gets ready.
+fn release(strands: &[Strand], flags: &mut [bool], board: &mut Board, next: usize)
+    requires next { next < length strands.now }
+    requires reaches { Reaches (strand_at strands.now next).begins next (length strands.now) }
+    requires flags { length flags.old ≡ length strands.now }
+    requires board { length board.old ≡ length strands.now }
+    ensures { Puts strands.now next flags.old board.old flags.new board.new }
+{
+    match strands[next].begins {
+        Begins::Start => unreachable!(),
+        Begins::Child(later) => {
+            board.put(next, strands[next].weight);
+            board.put(next + later, strands[next + later].weight);
+        }
+        Begins::Continuation(later) => arrive(strands, flags, board, next + later),
+        Begins::Sync => arrive(strands, flags, board, next),
+    }
+}
+
+// Takes off a strand of which nothing is left.
+fn take(strands: &[Strand], flags: &mut [bool], board: &mut Board)
+    requires state { (block : Block) × ((g : Going) × Stands block g strands.now flags.old board.old) }
+    requires done { least_slot board.old ≡ Some 0 }
+    ensures { (block : Block) (g : Going) → Stands block g strands.now flags.old board.old → Takes block g strands.now flags.new board.new }
+{
+    let count = strands.len();
+    let next = board.take() + 1;
+    if next < count {
+        release(strands, flags, board, next);
+    }
+}
+
+// The number of steps in which so many processors run the strands of a block, whose first one is on the board.
+fn count_steps(strands: &[Strand], flags: &mut [bool], board: &mut Board, processors: u64) -> u64
+    requires processors { 1 ≤ processors }
+    requires begun { (block : Block) × Begun processors block strands.now flags.old board.old }
+    ensures { (block : Block) → Begun processors block strands.now flags.old board.old → result ≡ greedy_length processors (to_do (start block)) }
+{
+    lists_show_boards();
+    rounds_keep_the_length();
+    let mut steps: u64 = 0;
+    for _taken in 0..strands.len() {
+        steps += board.advance(processors);
+        take(strands, flags, board);
+    }
+    steps
+}
+
+// The number of steps in which so many processors run the strands of a tree.
+fn count_all(strands: &[Strand], flags: &mut [bool], board: &mut Board, processors: u64) -> u64
+    requires processors { 1 ≤ processors }
+    requires tree { (t : Tree) × ((strands.now ≡ strands_of Start (block_of t)) × (work t ≤ MOST_LIMIT)) }
+    requires flags { flags.old ≡ replicate (length strands.now) false }
+    requires board { board.old ≡ nones (length strands.now) }
+    ensures { (t : Tree) → strands.now ≡ strands_of Start (block_of t) → work t ≤ MOST_LIMIT → result ≡ greedy_length processors t }
+{
+    rounds_keep_the_length();
+    board.put(0, strands[0].weight);
+    let steps = count_steps(strands, flags, board, processors);
+    steps
+}
+
+/// The number of steps in which so many processors run the strands of a record: in each step the first ready strands in
+/// serial order, at most one for each processor, do one instruction each. That is the length of the greedy schedule of
+/// every strand tree with this record, so it is no shorter than the work for each processor and than the span, and no
+/// longer than both together (Blumofe and Leiserson 1999).
+///
+/// Takes time in proportion to the strands, times the logarithm of how many there are, whatever their instructions are.
+/// Fails for want of memory alone; the record is as it was.
+pub fn greedy(alloc: Global, kept: &Strands, processors: u64) -> Result<u64, AllocError>
+    requires processors { 1 ≤ processors }
+    requires kept { (t : Tree) × (IsRecordOf t kept.now × (work t ≤ MOST_LIMIT)) }
+    ensures length { (t : Tree) → IsRecordOf t kept.now → IfOk result (λ steps. steps ≡ greedy_length processors t) }
+    ensures bounds { (t : Tree) → IsRecordOf t kept.now → IfOk result (λ steps. IsWithin processors steps t) }
+{
+    greedy_is_bounded();
+    let strands = plan(alloc, kept.codes())?;
+    let mut flags = vec![in alloc; false; strands.len()]?;
+    let mut board = Board::new(alloc, strands.len())?;
+    let steps = count_all(&strands, &mut flags, &mut board, processors);
+    Ok(steps)
+}
