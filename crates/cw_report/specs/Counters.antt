@@ -1,6 +1,10 @@
 -- What a counted reader or writer holds, and how its calls count.
-use Rattle.std.specs.Prelude.{◌≡◌, ℕ, ◌+◌, ◌-◌, ◌^◌, ◌<◌, ◌==◌, List, Option, Result, MatchResult, if◌then◌else◌}
+use Rattle.std.specs.Prelude.{◌≡◌, ◌≢◌, ℕ, ◌+◌, ◌-◌, ◌^◌, ◌<◌, ◌==◌, List, Option, Result, MatchResult, if◌then◌else◌}
 use Rattle.std.specs.Io.KnownBytes.{ReadConsumes, WriteAppends}
+use Rattle.std.specs.IoError.{error_kind}
+use Rattle.std.specs.declared.io.Error.{Error}
+use Rattle.std.specs.declared.io.ErrorKind.{ErrorKind}
+use Rattle.std.specs.declared.io.ErrorKind.TheVariants as kind
 use Rattle.cw_report.specs.declared.counted.Counted.{Counted}
 
 -- the reader or writer behind the count
@@ -15,16 +19,21 @@ failures_of c = c.failures
 abbrev pub CountsWrite : {E : Type 0} → ℕ → ℕ → Result ℕ E → Type 0
 CountsWrite old new r = MatchResult r (λ n. new ≡ (if n == 0 then old + 1 else old)) (λ _. new ≡ old + 1)
 
--- a read that fails adds one to the count
-abbrev pub CountsRead : {E : Type 0} → ℕ → ℕ → Result ℕ E → Type 0
-CountsRead old new r = MatchResult r (λ _. new ≡ old) (λ _. new ≡ old + 1)
+-- a read that failed for this reason adds one to the count, but for want of memory
+pub record CountsFailure (old new : ℕ) (reason : ErrorKind) : Type 0 where
+  pub memory : reason ≡ kind.OutOfMemory → new ≡ old
+  pub others : reason ≢ kind.OutOfMemory → new ≡ old + 1
+
+-- a read is counted so
+abbrev pub CountsRead : ℕ → ℕ → Result ℕ Error → Type 0
+CountsRead old new r = MatchResult r (λ _. new ≡ old) (λ e. CountsFailure old new (error_kind e))
 
 -- a write is counted so, where the count has room for one more
 abbrev pub CountsWrites : {T E : Type 0} → (old new : Counted T) → Result ℕ E → Type 0
 CountsWrites old new r = failures_of old < 2 ^ 64 - 1 → CountsWrite (failures_of old) (failures_of new) r
 
 -- and a read
-abbrev pub CountsReads : {T E : Type 0} → (old new : Counted T) → Result ℕ E → Type 0
+abbrev pub CountsReads : {T : Type 0} → (old new : Counted T) → Result ℕ Error → Type 0
 CountsReads old new r = failures_of old < 2 ^ 64 - 1 → CountsRead (failures_of old) (failures_of new) r
 
 -- the writer behind the count appended what it says it took of the bytes

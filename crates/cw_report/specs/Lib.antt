@@ -1,5 +1,6 @@
 pub mod Seen
 pub mod Counters
 pub mod Sinks
+pub mod Tables
 pub mod Texts
 pub mod Answers

@@ -69,17 +69,17 @@ abbrev pub scale_of : Code → Result Ended Fault → List ℕ
 scale_of code (Ok ended) = scale_text code ended
 scale_of code (Err e) = []
 
--- what the line of a site tells of the source
-abbrev pub told_text : (number : ℕ) (kind : List ℕ) (line : ℕ) (callee : Name) → List ℕ
-told_text number kind line callee = decimal number ++ (codes "," ++ (kind ++ (codes "," ++ (decimal line ++ (codes "," ++ callee)))))
-
 -- what is counted of a site, as the last fields of its line
 abbrev pub counts_of : SiteRow → List (List ℕ)
 counts_of row = decimal row.calls ∷ decimal row.own_work ∷ decimal row.own_span ∷ decimal row.work ∷ decimal row.span ∷ []
 
--- the line of a site
+-- the line of a site: what it tells of the source, and what is counted of it
+abbrev pub told_line : (number : ℕ) (kind : List ℕ) (line : ℕ) (callee : Name) → SiteRow → List ℕ
+told_line number kind line callee row = csv_line (decimal number ∷ kind ∷ decimal line ∷ callee ∷ counts_of row)
+
+-- the same, by what is known of the site
 abbrev pub row_line : CallSite → SiteRow → List ℕ
-row_line site row = csv_line (decimal site.number ∷ site_kind_text site.kind ∷ decimal site.line ∷ site.callee ∷ counts_of row)
+row_line site row = told_line site.number (site_kind_text site.kind) site.line site.callee row
 
 -- the line of each site; where a row is missing nothing more is written
 abbrev pub row_lines : List CallSite → List SiteRow → List ℕ
@@ -95,9 +95,13 @@ site_lines sites rows = row_lines (map (λ s. s.told) (map site_view sites)) row
 abbrev pub root_at : ℕ → CallSite
 root_at line = record { number = 0; kind = Root; line = line; callee = main_name }
 
+-- the lines of the call of main by the run itself and of each call site of code
+abbrev pub told_rows : Code → List SiteRow → List ℕ
+told_rows code rows = row_lines (root_at code.main_line ∷ told_sites code) rows
+
 -- what is counted of each call site over a run that ended
 abbrev pub sites_text : Code → Ended → List ℕ
-sites_text code ended = sites_header ++ row_lines (root_at code.main_line ∷ told_sites code) ended.sites.items
+sites_text code ended = sites_header ++ told_rows code ended.sites.items
 
 -- the same, of a run as it is handed on; of one that did not end there is none
 abbrev pub sites_of : Code → Result Ended Fault → List ℕ

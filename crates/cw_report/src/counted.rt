@@ -8,10 +8,11 @@ ghost use Rattle.cw_report.specs.Counters.{AppendsBehind, ConsumesBehind, Counts
 use crate::input::Input;
 use crate::sink::Sink;
 use std::io;
-use std::io::{Read, Write};
+use std::io::{ErrorKind, Read, Write};
 
 /// A reader or a writer with the number of its calls that failed: an input of a reader, and a sink of
-/// a writer, with one call of it for each of theirs. A flush that fails is not counted.
+/// a writer, with one call of it for each of theirs. A flush that fails is not counted, nor a read that fails for want
+/// of memory.
 #[derive(Drop)]
 pub struct Counted<T> {
     inner: T,
@@ -83,8 +84,11 @@ impl<R: Read> Read for Counted<R> {
         ensures count { CountsReads self.old self.new result }
     {
         let result = self.inner.read(bytes);
-        if result.is_err() {
-            self.failures = self.failures.saturating_add(1);
+        match &result {
+            Err(error) if error.kind() != ErrorKind::OutOfMemory => {
+                self.failures = self.failures.saturating_add(1);
+            }
+            _ => {}
         }
         result
     }

@@ -1,39 +1,21 @@
-//! Fields of a line, each with a comma before it.
+//! The field of a parallelism.
 
-ghost use Rattle.std.specs.Prelude.{◌≡◌, ◌<◌, ◌++◌, codes};
+ghost use Rattle.std.specs.Prelude.{◌≡◌, ◌<◌, IfOk};
 ghost use Rattle.cw_model.specs.Report.{parallelism, thousandths, three_digits};
-ghost use Rattle.cw_report.specs.Texts.{Grows};
 
-use itoa::{Buffer, Integer};
-use std::alloc::AllocError;
+use itoa::Buffer;
+use std::alloc::{AllocError, Global};
 
-/// Adds a word; an error where memory runs out.
-pub fn push_word(text: &mut Vec<u8>, word: &[u8]) -> Result<(), AllocError>
-    ensures { Grows text.old text.new (codes "," ++ word.now) result }
-{
-    text.extend_from_slice(b",")?;
-    text.extend_from_slice(word)?;
-    Ok(())
-}
-
-/// Adds a number, in decimal; an error where memory runs out.
-pub fn push_number<I: Integer>(text: &mut Vec<u8>, number: I) -> Result<(), AllocError>
-    ensures { Grows text.old text.new (codes "," ++ I.text number) result }
-{
-    let mut buffer = Buffer::new();
-    push_word(text, buffer.format(number).as_bytes())?;
-    Ok(())
-}
-
-/// Adds work by span to three digits, rounded down, 0 where there is no span; an error where memory runs out.
-pub fn push_parallelism(text: &mut Vec<u8>, work: u64, span: u128) -> Result<(), AllocError>
-    ensures { Grows text.old text.new (codes "," ++ parallelism work span) result }
+/// Work by span to three digits, rounded down, 0 where there is no span; an error where memory runs out.
+pub fn parallelism_text(alloc: Global, work: u64, span: u128) -> Result<Vec<u8>, AllocError>
+    ensures { IfOk result (λ text. text.items ≡ parallelism work span) }
 {
     let ratio = ratio(work, span);
-    push_number(text, ratio / 1000)?;
+    let mut buffer = Buffer::new();
+    let mut text = Vec::from_slice(alloc, buffer.format(ratio / 1000).as_bytes())?;
     text.extend_from_slice(b".")?;
     text.extend_from_slice(&digits_of(ratio % 1000))?;
-    Ok(())
+    Ok(text)
 }
 
 // Work by span in thousandths, rounded down, and 0 where there is no span.

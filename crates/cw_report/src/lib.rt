@@ -7,6 +7,7 @@ mod counted;
 mod fields;
 mod input;
 mod sink;
+mod table;
 mod tables;
 mod text;
 mod writing;

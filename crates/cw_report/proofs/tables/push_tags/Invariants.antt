@@ -1,7 +1,8 @@
 -- The lines so far, and those of the tags that are left.
-use Rattle.std.proofs.Common.{◌≡◌, ◌++◌}
 use Rattle.cw_report.specs.Texts.{tag_lines}
+use Rattle.cw_report.proofs.Lines.{Towards}
 use Rattle.cw_report.proofs.tables.push_tags.Given as goal
 
 abbrev pub invariant-loop-tag : goal.invariant-loop-tag
-invariant-loop-tag l = l.text.items ++ tag_lines l.tag-iterator.a.rest.now l.tag-iterator.b.rest.now ≡ l.fn.text.items ++ tag_lines l.tags l.rows
+invariant-loop-tag l =
+    Towards l.fn.table l.table (tag_lines l.tag-iterator.a.rest.now l.tag-iterator.b.rest.now) (tag_lines l.tags l.rows)

@@ -1,0 +1,47 @@
+//! A table as CSV in memory, row by row, as the crate `csv` writes it.
+
+ghost use Rattle.std.specs.Prelude.{◌≡◌, ◌≤◌, ℕ, List, [], IfOk, length, map};
+ghost use Rattle.cw_model.specs.Report.{csv_line};
+ghost use Rattle.cw_report.specs.Tables.{Adds, Holds};
+
+use csv::Writer;
+use std::alloc::{AllocError, Global};
+
+/// A table in the making.
+#[derive(Drop)]
+pub struct Table {
+    writer: Writer<Vec<u8>>,
+}
+
+impl Table {
+    /// A table without rows.
+    pub fn new(alloc: Global) -> Self
+        ensures { Holds result [] }
+    {
+        Table {
+            writer: Writer::from_writer(Vec::new(alloc)),
+        }
+    }
+
+    /// Adds a row of two fields or more, each in quotes where it needs them; an error where memory runs out.
+    pub fn push(&mut self, fields: &[&[u8]]) -> Result<(), AllocError>
+        requires { 2 ≤ length fields.now }
+        ensures { Adds self.old self.new (csv_line (map (λ f. f.now) fields.now)) result }
+    {
+        if self.writer.write_fields(fields).is_err() {
+            return Err(AllocError);
+        }
+        Ok(())
+    }
+
+    /// The text of all rows; an error where memory runs out.
+    pub fn into_text(self) -> Result<Vec<u8>, AllocError>
+        ensures { IfOk result (λ text. (all : List ℕ) → Holds self all → text.items ≡ all) }
+    {
+        let Table { writer } = self;
+        match writer.into_inner() {
+            Ok(text) => Ok(text),
+            Err(_) => Err(AllocError),
+        }
+    }
+}
