@@ -5,7 +5,7 @@ ghost use Rattle.std.specs.Prelude.{◌≡◌};
 ghost use Rattle.std.specs.IoError.{error_kind};
 ghost use Rattle.cilkwork.specs.Words.{unread_fault};
 
-use cw_cli::{Request, refuse, request, say, tool, unread};
+use cw_cli::{Request, is_version, refuse, request, say, take_explain, tool, unread, version};
 use cw_report::Counted;
 use cw_text::Fault;
 use std::alloc::Global;
@@ -21,21 +21,31 @@ fn main(rt: HostRuntime) -> ExitCode {
     let mut err = Counted::new(rt.stderr());
     let status = match words_of(&rt, alloc) {
         Err(fault) => refuse(&fault, &mut err),
-        Ok(words) if words.is_empty() => {
-            let asked = Request::of_standard_input(alloc);
-            let mut source = Counted::new(rt.reader());
-            tool(alloc, &asked, &mut source, &mut out, &mut err)
-        }
-        Ok(words) => match request(alloc, words.as_slice()) {
-            Err(said) => say(&said, &mut out, &mut err),
-            Ok(asked) => match File::open(&rt, asked.file.as_str()) {
-                Err(error) => unread(&error, &mut err),
-                Ok(file) => {
-                    let mut source = Counted::new(file);
-                    tool(alloc, &asked, &mut source, &mut out, &mut err)
+        Ok(words) => {
+            let mut words = words;
+            let explain = take_explain(&mut words);
+            if words.is_empty() {
+                let mut asked = Request::of_standard_input(alloc);
+                asked.explain = explain;
+                let mut source = Counted::new(rt.reader());
+                tool(alloc, &asked, &mut source, &mut out, &mut err)
+            } else if is_version(words.as_slice()) {
+                say(&version(alloc), &mut out, &mut err)
+            } else {
+                match request(alloc, words.as_slice()) {
+                    Err(said) => say(&said, &mut out, &mut err),
+                    Ok(asked) => match File::open(&rt, asked.file.as_str()) {
+                        Err(error) => unread(&error, &mut err),
+                        Ok(file) => {
+                            let mut asked = asked;
+                            asked.explain = explain;
+                            let mut source = Counted::new(file);
+                            tool(alloc, &asked, &mut source, &mut out, &mut err)
+                        }
+                    },
                 }
-            },
-        },
+            }
+        }
     };
     ExitCode::from(status)
 }

@@ -32,6 +32,10 @@ idle seen w = inl (record { bytes = nothing (seen w).bytes; failed = refl })
     nothing None = tt
     nothing (Some xs) = sym (append-nil xs)
 
+-- a text with nothing behind it
+pub alone : {W : Type 0} (seen : W → Seen) (old new : W) (explain : Bool) (text : List ℕ) → tools.TriesText seen old new text → tools.IsTold seen old new explain text
+alone seen old new explain text p = record { between = new; line = p; behind = []; explanation = idle seen new; plain = λ _. refl }
+
 -- one byte more than a source may have
 abbrev most_read : ℕ
 most_read = MOST_SOURCE_BYTES + 1
@@ -149,7 +153,7 @@ module _ {W E : Type 0} (seen : W → Seen) (seen' : E → Seen) (old new : W) (
   unread_for_memory known status same told =
       of_any known (λ bytes. tools.IsToolAnswer seen old new seen' old' new' asked reads_before reads_after bytes status)
       (λ bytes. subst (λ n. tools.IsToolAnswer seen old new seen' old' new' asked reads_before reads_after bytes n) (sym told.status_is)
-      (tools.analysed (Err fault.Memory) (untouched bytes asked.options.mode) told.line))
+      (tools.analysed (Err fault.Memory) (untouched bytes asked.options.mode) (alone seen' old' new' asked.explain _ told.line)))
     where
       untouched : (bytes : List ℕ) (m : Mode) → analyses.IsAnalysedIn seen old new bytes asked.args.items asked.options m (Err fault.Memory)
       untouched bytes mode.Check = same
@@ -161,7 +165,7 @@ module _ {W E : Type 0} (seen : W → Seen) (seen' : E → Seen) (old new : W) (
     -- what the bytes that were read come to is the answer on the source
     pub answered : limit ≡ most_read → inner ≡ source → before ≡ [] → slice ≡ read → args ≡ asked.args.items →
         IfSome (option_map (take limit) (remaining inner)) (λ xs. read ≡ before ++ xs) →
-        (r : Result (Unit {0}) Fault) (status : ℕ) → status ≡ tools.status_of r → IsAnalysed seen old new slice args asked.options r → tools.TriesText seen' old' new' (tools.line_of r) →
+        (r : Result (Unit {0}) Fault) (status : ℕ) → status ≡ tools.status_of r → IsAnalysed seen old new slice args asked.options r → tools.IsTold seen' old' new' asked.explain (tools.line_of r) →
         tools.OnItsBytes (remaining source) (λ bytes. tools.IsToolAnswer seen old new seen' old' new' asked reads_before reads_after bytes status)
     answered l i b s a h r status st analysis told =
         let h1 = subst (λ d. IfSome (option_map (take limit) (remaining d)) (λ xs. read ≡ before ++ xs)) i h in

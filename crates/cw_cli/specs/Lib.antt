@@ -9,3 +9,4 @@ pub mod Told
 pub mod Tools
 pub mod Laws
 pub mod WordLaws
+pub mod Explaining

@@ -1,5 +1,5 @@
 -- What the program answers on a source: an exit status, a line on standard error, and what standard output took.
-use Rattle.std.specs.Prelude.{◌≡◌, ◌≢◌, ◌<◌, ℕ, List, [], ◌++◌, ◌⊎◌, codes, string_bytes, Option, Some, None, Result, Ok, Err}
+use Rattle.std.specs.Prelude.{◌≡◌, ◌≢◌, ◌<◌, ℕ, Bool, false, List, [], ◌++◌, ◌⊎◌, codes, string_bytes, Option, Some, None, Result, Ok, Err}
 use Rattle.std.specs.declared.io.ErrorKind.{ErrorKind}
 use Rattle.std.specs.declared.io.ErrorKind.TheVariants as kind
 use Rattle.cw_text.specs.declared.fault.Fault.{Fault}
@@ -24,6 +24,14 @@ line_of (Err f) = fault_text f ++ codes "\n"
 -- a sink took a text, or a beginning of it where a write failed
 abbrev pub TriesText : {W : Type 0} → (W → Seen) → (old new : W) → List ℕ → Type 0
 TriesText seen old new text = WritesAll (seen old) (seen new) text ⊎ WritesPart (seen old) (seen new) text
+
+-- a sink took a text, and behind it, where that is asked for, a further one
+pub record IsTold {E : Type 0} (seen : E → Seen) (old new : E) (explain : Bool) (text : List ℕ) : Type 0 where
+  pub between : E
+  pub line : TriesText seen old between text
+  pub behind : List ℕ
+  pub explanation : TriesText seen between new behind
+  pub plain : explain ≡ false → new ≡ between
 
 -- standard error was given the line of a fault, whose status this is
 pub record IsRefusal {E : Type 0} (seen : E → Seen) (old new : E) (f : Fault) (status : ℕ) : Type 0 where
@@ -53,10 +61,10 @@ OnItsBytes known P = (bytes : List ℕ) × IsReadOf known bytes × P bytes
 module _ {W E : Type 0} (seen : W → Seen) (old new : W) (seen' : E → Seen) (old' new' : E) where
   module _ (asked : Request) (reads_failed_before reads_failed_after : ℕ) (bytes : List ℕ) where
     -- a read of the source failed, and nothing was written to standard output; or the bytes were analysed, and standard error got the
-    -- fault's line
+    -- fault's line, and behind it an explanation where one is asked for
     pub data IsToolAnswer : ℕ → Type 0 where
       unread : {status : ℕ} → reads_failed_before < reads_failed_after → new ≡ old → IsFileAnswer seen' old' new' status → IsToolAnswer status
-      analysed : (r : Result (Unit {0}) Fault) → IsAnalysed seen old new bytes asked.args.items asked.options r → TriesText seen' old' new' (line_of r) →
+      analysed : (r : Result (Unit {0}) Fault) → IsAnalysed seen old new bytes asked.args.items asked.options r → IsTold seen' old' new' asked.explain (line_of r) →
           IsToolAnswer (status_of r)
 
   -- standard output took the help, or a beginning of it and standard error the line of the failed write

@@ -1,6 +1,6 @@
 //! What is asked for.
 
-ghost use Rattle.std.specs.Prelude.{◌≡◌, [], string_bytes};
+ghost use Rattle.std.specs.Prelude.{◌≡◌, [], false, string_bytes};
 ghost use Rattle.cw_cli.specs.declared.asked.Said.TheVariants.{Fault};
 
 use cw_model::limits::{USUAL_BURDEN, USUAL_LIMIT};
@@ -40,6 +40,8 @@ pub struct Request {
     /// The arguments of `main`, each from 0 on; none of a check.
     pub args: Vec<i64>,
     pub options: Options,
+    /// Whether standard error explains a refusal or a trap behind its line.
+    pub explain: bool,
 }
 
 /// What the program says in place of running.
@@ -65,11 +67,12 @@ impl Request {
     ghost use Rattle.cw_cli.specs.Requests.{usual_options};
 
     /// A run of the source on standard input, which has no path, without arguments: the limit is
-    /// `USUAL_LIMIT` and the burden `USUAL_BURDEN`.
+    /// `USUAL_LIMIT` and the burden `USUAL_BURDEN`, and nothing is explained.
     pub fn of_standard_input(alloc: Global) -> Self
         ensures file { string_bytes result.file ≡ [] }
         ensures args { result.args.items ≡ [] }
         ensures options { result.options ≡ usual_options }
+        ensures explain { result.explain ≡ false }
     {
         Request {
             file: String::new(alloc),
@@ -79,6 +82,7 @@ impl Request {
                 limit: USUAL_LIMIT,
                 burden: USUAL_BURDEN,
             },
+            explain: false,
         }
     }
 }

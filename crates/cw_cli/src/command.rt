@@ -32,18 +32,18 @@ pub fn command<'a>(alloc: Global) -> Result<Command<'a>, AllocError>
     let scale = running_command(
         alloc,
         "scale",
-        "Runs a program and writes its work and span",
+        "Runs a program and writes its work and span by region",
         OF_SCALE,
     )?;
     let sites = running_command(
         alloc,
         "sites",
-        "Runs a program and writes work and span by call",
+        "Runs a program and writes its work and span by call",
         OF_SITES,
     )?;
     let command = Command::new(alloc, "cilkwork")
         .bin_name("cilkwork")?
-        .about("Checks and runs fork-join programs and tells their work and span")
+        .about("Tells how much parallelism a Cilk program has, and where it is lost")
         .after_help(OF_PROGRAM)
         .no_binary_name(true)
         .subcommand_required(true)

@@ -2,8 +2,12 @@
 
 /// Of the program, below its commands.
 pub const OF_PROGRAM: &str = "\
-Without any word the program runs the source on standard input, on no arguments
-and with the usual numbers. 'cilkwork COMMAND --help' tells of one command.
+A program is written in a small profile of Cilk: cilk_spawn, cilk_sync, cilk_for
+and cilk_scope over integers and arrays. 'region NAME { .. }' in it gives a part
+of the run, under its tag NAME, a row of its own in the report of scale.
+The language stands in docs/LANGUAGE.md, how to read a report in docs/GUIDE.md,
+and programs to begin with in examples/. 'cilkwork COMMAND --help' tells of one
+command. Without a command the source on standard input is run, without ARGS.
 
 What is written to standard output:
   check  'ok', where the source compiles
@@ -13,12 +17,18 @@ What is written to standard output:
 In a table commas stand between fields, and the first line names the columns.
 Work, span, limit and burden are counted in instructions.
 
+Every command takes these words too, anywhere among the others:
+  --explain  where the source is refused or the run traps, the line on standard
+             error is followed by the reason in words and the lines that matter
+  --help     this text
+As the only word: --version writes the name and the version of the program.
+
 A number is one or more decimal digits; zeros in front are allowed:
   ARGS      from 0 to 9223372036854775807, as many as main has parameters
-  --limit   from 1 to 4611686018427387904; a run that needs all of the usual
-            limit may take some seconds
+  --limit   from 1 to 4611686018427387904; a run that needs all of the default
+            may take some seconds
   --burden  from 0 to 1000000000; what a path is charged at each spawn where it
-            goes on behind it
+            goes on behind it, as if another processor had stolen that
 
 Exit status and standard error (L is a line of the source):
   0                     the report is on standard output
@@ -42,41 +52,17 @@ Exit status and standard error (L is a line of the source):
 /// Of `check`, below its options.
 pub const OF_CHECK: &str = "\
 Writes 'ok' where the source compiles. It takes no arguments of main and runs
-nothing. The limits on programs and what a refusal says: 'cilkwork --help'.
-Without any word cilkwork does not check but runs the source on standard input.
-
-Exit status and standard error:
-  0                     'ok' is on standard output
-  2  refused N line L   the source is refused for reason N at its line L
-  5  file               the source cannot be opened or read
-  5  error: ..          other words than a check takes
-  6  memory             no memory is left
-  7  write failed       standard output does not take the whole report";
+nothing. --explain tells why a source is refused. The exit statuses, and what a
+refusal says: 'cilkwork --help'.";
 
 /// Of `run`, below its options.
 pub const OF_RUN: &str = "\
 Writes each printed value on a line, then 'sum NAME = V' for each reducer of the
-source, and 'return V' with the value V of main. Without any word cilkwork runs
-the source on standard input, on no arguments and with the usual numbers.
+source, and 'return V' with the value V of main. Where the run traps, standard
+output has what was printed before. --burden changes nothing here.
 
-ARGS are as many as main has parameters, each from 0 to 9223372036854775807.
---limit is counted in instructions, from 1 to 4611686018427387904; a run that
-needs all of the usual limit may take some seconds. --burden is counted in
-instructions too, from 0 to 1000000000; run takes it and does not use it.
-A number is one or more decimal digits; zeros in front are allowed.
-
-Exit status and standard error:
-  0                     the report is on standard output
-  2  refused N line L   the source is refused for reason N at its line L
-  3  trap C line L      the run stopped at line L; standard output has what was
-                        printed before
-  4  over limit         the run costs more than its limit
-  5  arguments          not as many arguments as main takes, or a number that is
-                        none or out of range
-  5  file               the source cannot be opened or read
-  5  error: ..          other words than a run takes
-  6  memory             no memory is left
-  7  write failed       standard output does not take the whole report";
+--explain tells why a source is refused or a run traps. What ARGS and numbers
+may be, and the exit statuses: 'cilkwork --help'.";
 
 /// Of `scale`, below its options.
 pub const OF_SCALE: &str = "\
@@ -92,25 +78,10 @@ never ran; what is counted of it are its executions that lie in no other of it.
   burdened_span         span where each path is charged the burden at each spawn
                         behind which it goes on
   burdened_parallelism  work by burdened span, in the same way
-Without any word cilkwork runs the source on standard input as 'run' does.
+How to read them: docs/GUIDE.md.
 
-ARGS are as many as main has parameters, each from 0 to 9223372036854775807.
---limit is counted in instructions, from 1 to 4611686018427387904; a run that
-needs all of the usual limit may take some seconds. --burden is counted in
-instructions too, from 0 to 1000000000.
-A number is one or more decimal digits; zeros in front are allowed.
-
-Exit status and standard error:
-  0                     the table is on standard output
-  2  refused N line L   the source is refused for reason N at its line L
-  3  trap C line L      the run stopped at line L; no table is written
-  4  over limit         the run costs more than its limit
-  5  arguments          not as many arguments as main takes, or a number that is
-                        none or out of range
-  5  file               the source cannot be opened or read
-  5  error: ..          other words than scale takes
-  6  memory             no memory is left
-  7  write failed       standard output does not take the whole table";
+--explain tells why a source is refused or a run traps. What ARGS and numbers
+may be, and the exit statuses: 'cilkwork --help'.";
 
 /// Of `sites`, below its options.
 pub const OF_SITES: &str = "\
@@ -128,23 +99,8 @@ each call in the source has a line, by its place, also where it never ran.
   span      instructions on longest paths of these calls, added up
 In work and span a call inside another one of the same site is not counted
 again. The own work of all sites adds up to the work of the run, and their own
-span to its span.
-Without any word cilkwork runs the source on standard input as 'run' does.
+span to its span. --burden changes nothing here.
+How to read them: docs/GUIDE.md.
 
-ARGS are as many as main has parameters, each from 0 to 9223372036854775807.
---limit is counted in instructions, from 1 to 4611686018427387904; a run that
-needs all of the usual limit may take some seconds. --burden is counted in
-instructions too, from 0 to 1000000000; sites takes it and does not use it.
-A number is one or more decimal digits; zeros in front are allowed.
-
-Exit status and standard error:
-  0                     the table is on standard output
-  2  refused N line L   the source is refused for reason N at its line L
-  3  trap C line L      the run stopped at line L; no table is written
-  4  over limit         the run costs more than its limit
-  5  arguments          not as many arguments as main takes, or a number that is
-                        none or out of range
-  5  file               the source cannot be opened or read
-  5  error: ..          other words than sites takes
-  6  memory             no memory is left
-  7  write failed       standard output does not take the whole table";
+--explain tells why a source is refused or a run traps. What ARGS and numbers
+may be, and the exit statuses: 'cilkwork --help'.";

@@ -5,14 +5,18 @@ mod analysis;
 mod asked;
 mod command;
 mod compiling;
+mod explaining;
 mod help;
 pub mod laws;
 mod number;
+mod release;
 mod telling;
 mod words;
 
 pub use analysis::analyse_alone;
 pub use asked::{Mode, Options, Request, Said};
 pub use compiling::compile;
+pub use explaining::take_explain;
+pub use release::{is_version, version};
 pub use telling::{refuse, say, tool, unread};
 pub use words::request;

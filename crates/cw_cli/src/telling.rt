@@ -1,11 +1,13 @@
 //! What the program answers on a source, and what it says in place of a run.
 
-ghost use Rattle.std.specs.Prelude.{◌<◌, ◌-◌, ◌^◌};
+ghost use Rattle.std.specs.Prelude.{◌≡◌, ◌<◌, ◌-◌, ◌^◌, ◌++◌, codes};
 ghost use Rattle.std.specs.IoError.{error_kind};
+ghost use Rattle.cw_text.specs.Faults.{fault_status, fault_text};
 ghost use Rattle.cw_cli.specs.Tools.{
   IsFileAnswer,
   IsRefusal,
   IsSaidAnswer,
+  IsTold,
   IsToolAnswer,
   IsUnreadAnswer,
   OnItsBytes,
@@ -16,6 +18,7 @@ use crate::asked::{Request, Said};
 use cw_model::limits::MOST_SOURCE_BYTES;
 use cw_report::{Input, Sink, write_fault, write_text};
 use cw_text::Fault;
+use cw_told::explain;
 use std::alloc::Global;
 use std::io;
 use std::io::Read;
@@ -26,12 +29,14 @@ const MOST_READ: u64 = MOST_SOURCE_BYTES as u64 + 1;
 /// Reads the source, analyses it as asked, and writes the report to `out`; gives the exit status.
 ///
 /// The status is 0 where the report was written, else that of the fault, whose line is written to
-/// `err`. No more than one byte past the greatest size of a source is read. Whether the write to
-/// `err` fails changes nothing. Fewer than 2^64 - 1 writes to each sink failed before.
+/// `err`, and behind it, where the request explains, why the source has the fault (`cw_told`). No
+/// more than one byte past the greatest size of a source is read. Whether the write to `err` fails
+/// changes nothing. Fewer than 2^64 - 1 writes to each sink failed before.
 ///
-/// Where a read of the source failed, and so it cannot be read, the line is `file` and the status 5,
-/// for whatever reason it failed, and nothing is written to `out`. It is `memory` and 6 where memory
-/// ran out for the bytes. Of a reader that does not tell its bytes, as a file, some bytes are meant.
+/// Where a read of the source failed for another reason than want of memory, and so it cannot be
+/// read, the line is `file` and the status 5, and nothing is written to `out`. It is `memory` and 6
+/// where memory ran out for the bytes or in a read. Of a reader that does not tell its bytes, as a
+/// file, some bytes are meant.
 pub fn tool<D: Input, W: Sink, E: Sink>(
     alloc: Global,
     asked: &Request,
@@ -59,8 +64,29 @@ pub fn tool<D: Input, W: Sink, E: Sink>(
     let args = asked.args.as_slice();
     match analyse_alone(alloc, bytes.as_slice(), args, asked.options, out) {
         Ok(()) => 0,
-        Err(fault) => refuse(&fault, err),
+        Err(fault) => tell(alloc, asked.explain, bytes.as_slice(), &fault, err),
     }
+}
+
+// Writes the line of a fault to `err` and, where it is asked for, why these bytes have the fault; gives the exit status.
+// Of an explanation that there is no memory for nothing is written, and none behind a line that was not.
+fn tell<E: Sink>(alloc: Global, explained: bool, bytes: &[u8], fault: &Fault, err: &mut E) -> u8
+    requires { (E.seen err.old).failures < 2 ^ 64 - 1 }
+    ensures told { IsTold E.seen err.old err.new explained (fault_text fault.now ++ codes "\n") }
+    ensures status { result ≡ fault_status fault.now }
+{
+    if !explained {
+        return refuse(fault, err);
+    }
+    let status = fault.status();
+    if write_fault(err, fault).is_err() {
+        return status;
+    }
+    let Ok(text) = explain(alloc, bytes, fault) else {
+        return status;
+    };
+    let _ = write_text(err, text.as_bytes());
+    status
 }
 
 /// Says that a source cannot be opened; gives the exit status: `file` and 5, or, where that is for

@@ -41,7 +41,8 @@ use cw_model::limits::MOST_NUMBER;
 use cw_text::Fault;
 use std::alloc::Global;
 
-/// Reads the program's words, without the program's own name.
+/// Reads the program's words, without the program's own name and without `--explain`, which `take_explain` takes away:
+/// the request explains nothing.
 ///
 /// The error is what to say in place of a run: the help, what is wrong with the words, `Arguments`
 /// where the limit, the burden or an argument of `main` is no number or out of range, or `Memory`.
@@ -114,6 +115,7 @@ fn asked_by(alloc: Global, mode: Mode, given: &ArgMatches<'_>) -> Result<Request
         file,
         args,
         options,
+        explain: false,
     })
 }
 

@@ -14,10 +14,12 @@ mod prefix;
 mod primes;
 mod primes_each;
 mod primes_loop;
+mod quarters;
 mod queens;
 mod roots;
 mod roots_mended;
 mod spawned;
+mod stencil;
 
 use crate::program::answer;
 use std::alloc::Global;
@@ -33,7 +35,7 @@ pub struct Example {
     pub sites: &'static str,
 }
 
-const EXAMPLES: [Example; 10] = [
+const EXAMPLES: [Example; 11] = [
     collatz::EXAMPLE,
     fib::EXAMPLE,
     fib_cutoff::EXAMPLE,
@@ -42,18 +44,20 @@ const EXAMPLES: [Example; 10] = [
     prefix::EXAMPLE,
     primes::EXAMPLE,
     primes_each::EXAMPLE,
+    quarters::EXAMPLE,
     queens::EXAMPLE,
     spawned::EXAMPLE,
 ];
 
 // Those with a parallel loop.
-const WITH_LOOPS: [Example; 6] = [
+const WITH_LOOPS: [Example; 7] = [
     histogram::EXAMPLE,
     matrix::EXAMPLE,
     mergesort_parallel::EXAMPLE,
     primes_loop::EXAMPLE,
     roots::EXAMPLE,
     roots_mended::EXAMPLE,
+    stencil::EXAMPLE,
 ];
 
 // The exit status, standard output and standard error of the program in this mode.

@@ -8,6 +8,8 @@ mod codes;
 #[cfg(test)]
 mod examples;
 #[cfg(test)]
+mod explained;
+#[cfg(test)]
 mod generated;
 #[cfg(test)]
 mod integers;

@@ -1,6 +1,6 @@
 //! The program as a whole, over memory.
 
-use cw_cli::{Request, request, say, tool};
+use cw_cli::{Request, is_version, request, say, take_explain, tool, version};
 use cw_report::Counted;
 use std::alloc::{AllocError, Global};
 use std::test::Fail;
@@ -23,11 +23,18 @@ pub fn asked(alloc: Global, line: &str) -> Result<Request, Fail> {
 /// The exit status, standard output and standard error of the program on these words, where the file
 /// that they name is this source.
 pub fn answer(alloc: Global, words: &str, source: &[u8]) -> Result<(u8, Vec<u8>, Vec<u8>), Fail> {
-    let words = words_of(alloc, words)?;
+    let mut words = words_of(alloc, words)?;
+    let explain = take_explain(&mut words);
     let mut out = Counted::new(Vec::new(alloc));
     let mut err = Counted::new(Vec::new(alloc));
+    if is_version(words.as_slice()) {
+        let status = say(&version(alloc), &mut out, &mut err);
+        return Ok((status, out.into_inner(), err.into_inner()));
+    }
     let status = match request(alloc, words.as_slice()) {
         Ok(asked) => {
+            let mut asked = asked;
+            asked.explain = explain;
             let mut source = Counted::new(source);
             tool(alloc, &asked, &mut source, &mut out, &mut err)
         }

@@ -103,15 +103,20 @@ fn reports_to_narrow_sinks(rt: HostRuntime) -> Result<(), Fail> {
 fn tells_of_unread_sources(rt: HostRuntime) -> Result<(), Fail> {
     let alloc = rt.alloc();
     let asked = asked(alloc, "run f")?;
-    // a read that fails is told in one way, whatever its reason
-    for kind in [io::ErrorKind::PermissionDenied, io::ErrorKind::OutOfMemory] {
+    let refused = (
+        io::ErrorKind::PermissionDenied,
+        (5, 1),
+        b"file\n".as_slice(),
+    );
+    let wanting = (io::ErrorKind::OutOfMemory, (6, 0), b"memory\n".as_slice());
+    for (kind, answered, line) in [refused, wanting] {
         let mut out = Counted::new(Vec::new(alloc));
         let mut err = Counted::new(Vec::new(alloc));
         let mut source = Counted::new(Broken { kind });
         let got = tool(alloc, &asked, &mut source, &mut out, &mut err);
-        assert_eq!(rt; (got, source.failed_reads()), (5, 1));
+        assert_eq!(rt; (got, source.failed_reads()), answered);
         assert_eq!(rt; out.into_inner().as_slice(), b"".as_slice());
-        assert_eq!(rt; err.into_inner().as_slice(), b"file\n".as_slice());
+        assert_eq!(rt; err.into_inner().as_slice(), line);
     }
     Ok(())
 }

@@ -158,28 +158,97 @@ const REFUSED: &[(&str, &str)] = &[
     ("scales f", "error: unrecognized subcommand 'scales'\n"),
     ("walk f", "error: unrecognized subcommand 'walk'\n"),
     ("f", "error: unrecognized subcommand 'f'\n"),
+    // the version is told of no command
+    (
+        "run f --version",
+        "error: unexpected argument '--version' found\n",
+    ),
+    // behind '--' the word is an argument of main
+    ("run f -- --explain", "arguments\n"),
 ];
 
 // Words that ask for help, its beginning, and something that it says.
 const HELPED: &[(&str, &str, &str)] = &[
-    ("--help", "Checks and runs", "standard input"),
-    ("--help", "Checks and runs", "  4  over limit "),
-    ("--help", "Checks and runs", "  sites  "),
-    ("--help", "Checks and runs", "may take some seconds"),
-    ("check --help", "Compiles a program", "  6  memory "),
-    ("check --help", "Compiles a program", "standard input"),
-    ("run --help", "Runs a program", "4611686018427387904"),
+    (
+        "--help",
+        "Tells how much parallelism a Cilk program",
+        "standard input",
+    ),
+    (
+        "--help",
+        "Tells how much parallelism a Cilk program",
+        "'region NAME { .. }'",
+    ),
+    (
+        "--help",
+        "Tells how much parallelism a Cilk program",
+        "under its tag NAME",
+    ),
+    (
+        "--help",
+        "Tells how much parallelism a Cilk program",
+        "docs/GUIDE.md",
+    ),
+    (
+        "--help",
+        "Tells how much parallelism a Cilk program",
+        "  4  over limit ",
+    ),
+    (
+        "--help",
+        "Tells how much parallelism a Cilk program",
+        "  sites  ",
+    ),
+    (
+        "--help",
+        "Tells how much parallelism a Cilk program",
+        "may take some seconds",
+    ),
+    (
+        "--help",
+        "Tells how much parallelism a Cilk program",
+        "  --explain  ",
+    ),
+    (
+        "--help",
+        "Tells how much parallelism a Cilk program",
+        "--version",
+    ),
+    (
+        "--help",
+        "Tells how much parallelism a Cilk program",
+        "4611686018427387904",
+    ),
+    ("check --help", "Compiles a program", "'cilkwork --help'"),
+    ("check --help", "Compiles a program", "--explain tells why"),
     ("run --help", "Runs a program", "'sum NAME = V'"),
-    ("run --help", "Runs a program", "standard input"),
-    ("help run", "Runs a program", "1000000000"),
+    ("run --help", "Runs a program", "[default: 1000000000]"),
+    ("help run", "Runs a program", "--explain tells why"),
     ("scale --help", "Runs a program", "  burdened_parallelism  "),
-    ("scale --help", "Runs a program", "from 0 to 1000000000."),
-    ("scale --help", "Runs a program", "15000"),
-    ("scale --help", "Runs a program", "standard input"),
+    ("scale --help", "Runs a program", "[default: 15000]"),
+    ("scale --help", "Runs a program", "'cilkwork --help'"),
     ("sites --help", "Runs a program", "  own_span  "),
-    ("sites --help", "Runs a program", "may take some seconds"),
-    ("help sites", "Runs a program", "standard input"),
+    ("help sites", "Runs a program", "docs/GUIDE.md"),
 ];
+
+// The one table of exit statuses stands in the help of the program, and 'default' is said of numbers alone.
+#[test]
+fn tells_each_thing_once(rt: HostRuntime) -> Result<(), Fail> {
+    for line in ["check --help", "run --help", "scale --help", "sites --help"] {
+        let (_, out, _) = answer(rt.alloc(), line, b"")?;
+        let help = String::from_utf8(out).map_err(|_| Fail::from("no text"))?;
+        assert!(rt; !help.as_str().contains("write failed"), "{line}");
+    }
+    Ok(())
+}
+
+#[test]
+fn tells_its_version(rt: HostRuntime) -> Result<(), Fail> {
+    let (status, out, err) = answer(rt.alloc(), "--version", b"")?;
+    assert_eq!(rt; (status, err.len()), (0, 0));
+    assert_eq!(rt; out.as_slice(), b"cilkwork 0.1.0\n".as_slice());
+    Ok(())
+}
 
 #[test]
 fn refuses_words(rt: HostRuntime) -> Result<(), Fail> {

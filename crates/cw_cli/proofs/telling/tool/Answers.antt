@@ -1,6 +1,6 @@
-use Rattle.std.proofs.Common.{rules, refl, ap, Ok, Err}
+use Rattle.std.proofs.Common.{rules, refl, ap, Ok, Err, []}
 use Rattle.cw_cli.specs.Tools.{unread}
-use Rattle.cw_cli.proofs.Tools.{idle, grew, of_any, on_ok, unread_for_memory, answered}
+use Rattle.cw_cli.proofs.Tools.{alone, idle, grew, of_any, on_ok, unread_for_memory, answered}
 use Rattle.cw_cli.proofs.telling.tool.Goals as goal
 
 pub returns-then-failed_reads-failures : goal.returns-then-failed_reads-failures
@@ -15,11 +15,11 @@ returns-in-Ok g c =
     answered g.W.Sink.seen g.E.Sink.seen c.args.out.now c.analyse_alone.new.out c.args.err.now c.args.err.now c.args.asked.now _ _
     g.D.Read.remaining c.args.source.now c.take.result.inner.now c.take.result.limit c.new-bytes.result.items c.read_to_end.new.buf.items c.as_slice.result.now c.as_slice-args.result.now
     c.take.ensures.limit (ap (λ s. s.now) c.take.ensures.inner) c.new-bytes.ensures.items c.as_slice.ensures.value c.as_slice-args.ensures.value (on_ok c.read_to_end.result _ (search rules) c.read_to_end.ensures.bytes)
-    (Ok tt) 0 refl c.in-Ok.ensures (idle g.E.Sink.seen c.args.err.now)
+    (Ok tt) 0 refl c.in-Ok.ensures (alone g.E.Sink.seen c.args.err.now c.args.err.now c.args.asked.now.explain [] (idle g.E.Sink.seen c.args.err.now))
 
 pub returns : goal.returns
 returns g c =
-    answered g.W.Sink.seen g.E.Sink.seen c.args.out.now c.analyse_alone.new.out c.args.err.now c.refuse-in-Err.new.err c.args.asked.now _ _
+    answered g.W.Sink.seen g.E.Sink.seen c.args.out.now c.analyse_alone.new.out c.args.err.now c.tell.new.err c.args.asked.now _ _
     g.D.Read.remaining c.args.source.now c.take.result.inner.now c.take.result.limit c.new-bytes.result.items c.read_to_end.new.buf.items c.as_slice.result.now c.as_slice-args.result.now
     c.take.ensures.limit (ap (λ s. s.now) c.take.ensures.inner) c.new-bytes.ensures.items c.as_slice.ensures.value c.as_slice-args.ensures.value (on_ok c.read_to_end.result _ (search rules) c.read_to_end.ensures.bytes)
-    (Err c.in-Err.fault) c.refuse-in-Err.result c.refuse-in-Err.ensures.status_is c.in-Err.ensures c.refuse-in-Err.ensures.line
+    (Err c.in-Err.fault) c.tell.result c.tell.ensures.status c.in-Err.ensures c.tell.ensures.told

@@ -1,0 +1,14 @@
+use Rattle.std.proofs.Common.{◌≡◌, map, string_bytes, ◌-◌, ◌≤◌, ◌++◌, ◌||◌, take, drop, length}
+use Rattle.cw_cli.specs.Explaining.{asks_explain, without_explain}
+use Rattle.cw_cli.proofs.explaining.take_explain.Given as goal
+
+abbrev pub invariant-loop-place : goal.invariant-loop-place
+invariant-loop-place l = record {
+  within : l.place ≤ length l.words.items;
+  asked : asks_explain (map string_bytes l.fn.words.items) ≡ (l.asked || asks_explain (map string_bytes (drop l.place l.words.items)));
+  left : without_explain (map string_bytes l.fn.words.items)
+      ≡ map string_bytes (take l.place l.words.items) ++ without_explain (map string_bytes (drop l.place l.words.items));
+}
+
+abbrev pub decreases-loop-place : goal.decreases-loop-place
+decreases-loop-place l = length l.words.items - l.place

@@ -1,0 +1,104 @@
+//! Lines of a source with their numbers.
+
+ghost use Rattle.std.specs.Prelude.{◌≡◌};
+ghost use Rattle.cw_explain.specs.Lines.{after_line, first_line};
+
+use crate::word::Word;
+use std::alloc::AllocError;
+
+/// The most bytes of a line that are shown.
+const MOST_SHOWN: usize = 160;
+
+/// The text of a line of a source, counted from 1, without its line feed; empty where there is no such line.
+pub fn line_of(source: &[u8], line: u32) -> &[u8] {
+    let mut rest = source;
+    for _ in 1..line {
+        rest = after_line(rest);
+    }
+    first_line(rest)
+}
+
+// The first line of a text, without its line feed.
+fn first_line(text: &[u8]) -> &[u8]
+    ensures { result.now ≡ first_line text.now }
+{
+    for i in 0..text.len() {
+        if text[i] == b'\n' {
+            return &text[..i];
+        }
+    }
+    text
+}
+
+// What follows the first line feed of a text.
+fn after_line(text: &[u8]) -> &[u8]
+    ensures { result.now ≡ after_line text.now }
+{
+    for i in 0..text.len() {
+        if text[i] == b'\n' {
+            return &text[i + 1..];
+        }
+    }
+    &[]
+}
+
+// The text without white space at its end, and no more of it than is shown.
+fn trimmed(text: &[u8]) -> &[u8] {
+    let mut kept: &[u8] = &[];
+    for i in 0..text.len() {
+        if i < MOST_SHOWN && text[i] > b' ' {
+            kept = &text[..i + 1];
+        }
+    }
+    kept
+}
+
+// How many digits a number has.
+fn digits(number: u32) -> usize {
+    match number {
+        0..=9 => 1,
+        10..=99 => 2,
+        100..=999 => 3,
+        1_000..=9_999 => 4,
+        10_000..=99_999 => 5,
+        100_000..=999_999 => 6,
+        1_000_000..=9_999_999 => 7,
+        _ => 8,
+    }
+}
+
+/// Adds these lines of the source, each once, the least first, with their numbers before them.
+pub fn add_lines(
+    out: &mut String,
+    source: &[u8],
+    one: u32,
+    other: Option<u32>,
+) -> Result<(), AllocError> {
+    let other = other.unwrap_or(one);
+    let first = one.min(other);
+    let last = one.max(other);
+    add_line(out, source, first, digits(last))?;
+    if first < last {
+        add_line(out, source, last, digits(last))?;
+    }
+    Ok(())
+}
+
+// Adds a line of the source, its number in so many columns.
+fn add_line(out: &mut String, source: &[u8], line: u32, columns: usize) -> Result<(), AllocError> {
+    let text = trimmed(line_of(source, line));
+    if text.is_empty() {
+        return Ok(());
+    }
+    for _ in digits(line)..columns {
+        out.push(' ')?;
+    }
+    let cut = text.len() == MOST_SHOWN;
+    let text = Word { text };
+    write!(out, "  {line} | {text}")?;
+    if cut {
+        out.push_str(" ..")?;
+    }
+    out.push('\n')?;
+    Ok(())
+}

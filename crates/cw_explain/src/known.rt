@@ -1,0 +1,172 @@
+//! The local names that are known at a place, and where each is declared.
+
+ghost use Rattle.std.specs.Prelude.{◌≡◌, ◌∷◌, MatchOption, None, OnOk, Some, is_some, map};
+ghost use Rattle.cw_explain.specs.Names.{IsUnknown, known_as, name_view, names_of};
+ghost use Rattle.cw_model.specs.Names.{is_among};
+ghost use Rattle.cw_model.specs.Typing.{called, is_reducer};
+ghost use Rattle.cw_tree.specs.SyntaxView.{function_of, program_of, reducer_of};
+
+use crate::word::Word;
+use cw_tree::syntax::{Ast, Function, Line, Name, Reducer, Stmt};
+use std::alloc::{AllocError, Global};
+
+/// A local name, whether it is an array, and the line of its declaration.
+#[derive(Clone, Copy, Debug)]
+pub struct Local<'a> {
+    pub name: Word<'a>,
+    pub is_array: bool,
+    pub line: u32,
+}
+
+/// The local names that are known, the newest first.
+#[derive(Drop)]
+pub struct Known<'a> {
+    locals: Vec<Local<'a>>,
+}
+
+impl<'a> Known<'a> {
+    /// The parameters of a function, at the line of its head.
+    pub fn of_params(alloc: Global, function: &'a Function) -> Result<Known<'a>, AllocError> {
+        let mut known = Known {
+            locals: Vec::new(alloc),
+        };
+        for param in function.params.as_slice() {
+            known.add(&param.name, param.is_array, function.line)?;
+        }
+        Ok(known)
+    }
+
+    /// How many names are known.
+    pub fn len(&self) -> usize {
+        self.locals.len()
+    }
+
+    /// Leaves this many, the oldest.
+    pub fn leave(&mut self, count: usize) {
+        let newer = self.locals.len().saturating_sub(count);
+        for _ in 0..newer {
+            if !self.locals.is_empty() {
+                self.locals.remove(0);
+            }
+        }
+    }
+
+    /// One name more.
+    pub fn add(&mut self, name: &'a Name, is_array: bool, line: u32) -> Result<(), AllocError>
+        ensures { OnOk result (names_of self.new ≡ (name.now, is_array) ∷ names_of self.old) }
+    {
+        self.locals.insert(
+            0,
+            Local {
+                name: Word::of(name),
+                is_array,
+                line,
+            },
+        )?;
+        Ok(())
+    }
+
+    /// With what a statement of a line declares.
+    pub fn declare(&mut self, line: &'a Line) -> Result<(), AllocError> {
+        match &line.stmt {
+            Stmt::Declare(x, _) => self.add(x, false, line.line),
+            Stmt::DeclareArray(a, _) => self.add(a, true, line.line),
+            _ => Ok(()),
+        }
+    }
+
+    /// The newest of this spelling.
+    pub fn newest(&self, name: &[u8]) -> Option<Local<'a>>
+        ensures { MatchOption result (IsUnknown name.now (names_of self.now))
+            (λ local. known_as name.now local.is_array (names_of self.now)) }
+    {
+        newest_of(self.locals.as_slice(), name)
+    }
+
+    /// Whether one of the oldest names, this many, is spelled so.
+    pub fn is_among_first(&self, count: usize, name: &[u8]) -> bool {
+        let newer = self.locals.len().saturating_sub(count);
+        for i in newer..self.locals.len() {
+            if self.locals[i].name.is(name) {
+                return true;
+            }
+        }
+        false
+    }
+}
+
+// The first of these names that is spelled so.
+fn newest_of<'a>(locals: &[Local<'a>], name: &[u8]) -> Option<Local<'a>>
+    ensures { MatchOption result (IsUnknown name.now (map name_view locals.now))
+        (λ local. known_as name.now local.is_array (map name_view locals.now)) }
+{
+    for local in locals {
+        if name == local.name.text {
+            return Some(*local);
+        }
+    }
+    None
+}
+
+/// The first function of a name.
+pub fn function_named<'a>(ast: &'a Ast, name: &[u8]) -> Option<&'a Function>
+    ensures { MatchOption result (called name.now (program_of ast.now).functions ≡ None)
+        (λ function. called name.now (program_of ast.now).functions ≡ Some (function_of function.now)) }
+{
+    function_among(ast.functions.as_slice(), name)
+}
+
+// The first of these functions that has the name.
+fn function_among<'a>(functions: &'a [Function], name: &[u8]) -> Option<&'a Function>
+    ensures { MatchOption result (called name.now (map function_of functions.now) ≡ None)
+        (λ function. called name.now (map function_of functions.now) ≡ Some (function_of function.now)) }
+{
+    for function in functions {
+        if name == function.name.as_bytes() {
+            return Some(function);
+        }
+    }
+    None
+}
+
+/// The first reducer of a name.
+pub fn reducer_named<'a>(ast: &'a Ast, name: &[u8]) -> Option<&'a Reducer>
+    ensures { is_some result ≡ is_reducer (program_of ast.now) name.now }
+{
+    reducer_among(ast.reducers.as_slice(), name)
+}
+
+// The first of these reducers that has the name.
+fn reducer_among<'a>(reducers: &'a [Reducer], name: &[u8]) -> Option<&'a Reducer>
+    ensures { is_some result ≡ is_among name.now (map (λ r. r.name) (map reducer_of reducers.now)) }
+{
+    for reducer in reducers {
+        if name == reducer.name.as_bytes() {
+            return Some(reducer);
+        }
+    }
+    None
+}
+
+/// Whether a statement is a return, or an if with two branches that surely return.
+#[cycle(returning)]
+pub fn surely_returns(stmt: &Stmt) -> bool {
+    match stmt {
+        Stmt::Return(_) => true,
+        Stmt::IfElse(_, b, c) => {
+            let first = block_returns(b);
+            let second = block_returns(c);
+            first && second
+        }
+        _ => false,
+    }
+}
+
+/// Whether the last statement of a block is such.
+#[cycle(returning)]
+pub fn block_returns(lines: &[Line]) -> bool {
+    if lines.is_empty() {
+        return false;
+    }
+    surely_returns(&lines[lines.len() - 1].stmt)
+}

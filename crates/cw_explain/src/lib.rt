@@ -1,0 +1,24 @@
+//! Which rule a line of a source breaks, for which names, in plain words: over its text, its tokens and its tree.
+#![tactic(auto)]
+
+mod excerpt;
+mod known;
+mod lexical;
+mod limits;
+mod owning;
+mod reading;
+mod rules;
+mod taken;
+mod traps;
+mod typing;
+mod word;
+
+pub use excerpt::{add_lines, line_of};
+pub use lexical::{Unreadable, no_token, not_ascii};
+pub use limits::{TooLarge, passed_by_code, passed_by_parts, passed_by_tokens};
+pub use owning::{At, Disowned};
+pub use reading::broken_ownership;
+pub use rules::broken_rule;
+pub use traps::Trapped;
+pub use typing::IllTyped;
+pub use word::Word;

@@ -1,0 +1,97 @@
+//! Rows for bytes, tokens and the grammar.
+
+use crate::told::all_told;
+use std::test::Fail;
+
+const TOKENS: &[(&str, &str)] = &[
+    (
+        "int main() {\n  return @;\n}",
+        "refused 1 line 2\nthe byte 64 ('@') starts no token\n  2 |   return @;\n",
+    ),
+    (
+        "int main(int n) {\n  if (n && 1) { } // & and @\n  return 0;\n}",
+        "refused 1 line 2\nthe byte 38 ('&') starts no token: there is no && and no ||; an if inside an if, or * and + of values that are 0 or 1\n  2 |   if (n && 1) { } // & and @\n",
+    ),
+    (
+        "#include <cilk/cilk.h>\nint main() { return 0; }",
+        "refused 1 line 1\nthe byte 35 ('#') starts no token: there are no directives\n  1 | #include <cilk/cilk.h>\n",
+    ),
+    (
+        "int main() {\n  print(\"x\");\n  return 0;\n}",
+        "refused 1 line 2\nthe byte 34 ('\"') starts no token: there is no text, only integers\n  2 |   print(\"x\");\n",
+    ),
+    (
+        "int main() {\n  return 9223372036854775808;\n}",
+        "refused 1 line 2\nthe number 9223372036854775808 is above 9223372036854775807\n  2 |   return 9223372036854775808;\n",
+    ),
+    (
+        "int main() {\n  return n0123456789012345678901234567890123456789012345678901234567890123;\n}",
+        "refused 5 line 2\nthe name n0123456789012345678901234567890123456789012345678901234567890123 has 65 bytes: at most 64\n  2 |   return n0123456789012345678901234567890123456789012345678901234567890123;\n",
+    ),
+    // a byte above 127 is shown as a question mark
+    (
+        "int main() {\n  // caf\u{80}\n  return 0;\n}",
+        "refused 1 line 2\nthe byte 194 is above 127: a source is ASCII, its comments too\n  2 |   // caf??\n",
+    ),
+];
+
+const GRAMMAR: &[(&str, &str)] = &[
+    // a call inside an expression
+    (
+        "int f() { return 1; }\nint main() {\n  int x = 1 + f();\n  return x;\n}",
+        "refused 2 line 3\n( cannot stand here: f(..) is a call, and a call is a statement of its own; give its result to an integer before, r = f(..); and write r here\n  3 |   int x = 1 + f();\n",
+    ),
+    // words of the language as names
+    (
+        "int main() {\n  int at = 1;\n  return at;\n}",
+        "refused 2 line 2\nat cannot stand here: at is a word of the language, and no name; here can stand a name\n  2 |   int at = 1;\n",
+    ),
+    (
+        "int main(int over) { return 0; }",
+        "refused 2 line 1\nover cannot stand here: over is a word of the language, and no name; here can stand a name\n  1 | int main(int over) { return 0; }\n",
+    ),
+    // loops and increments of C
+    (
+        "int main() {\n  for (int i = 0; i < 9; i++) { }\n  return 0;\n}",
+        "refused 2 line 2\nint cannot stand here: int is a word of the language, and no name; here can stand a name, a number, len, (, ) or a sign (- or !)\n  2 |   for (int i = 0; i < 9; i++) { }\n",
+    ),
+    (
+        "int main(int n) {\n  n++;\n  return n;\n}",
+        "refused 2 line 2\n++ cannot stand here: ++ stands in the head of a cilk_for alone; write x = x + 1; here can stand (, [, = or +=\n  2 |   n++;\n",
+    ),
+    // a declaration without a value
+    (
+        "int main() {\n  int x;\n  return 0;\n}",
+        "refused 2 line 2\n; cannot stand here; here can stand [ or =\n  2 |   int x;\n",
+    ),
+    // an else before an if
+    (
+        "int main(int n) {\n  if (n) { } else if (n) { }\n  return 0;\n}",
+        "refused 2 line 2\nif cannot stand here; here can stand {\n  2 |   if (n) { } else if (n) { }\n",
+    ),
+    // what can stand behind an operand
+    (
+        "int main() {\n  return 1 2;\n}",
+        "refused 2 line 2\n2 cannot stand here; here can stand ; or an operator\n  2 |   return 1 2;\n",
+    ),
+    // outside of functions
+    (
+        "x = 1;",
+        "refused 2 line 1\nx cannot stand here; here can stand int, void or reducer\n  1 | x = 1;\n",
+    ),
+    // the source ends too early: the block may go on or end
+    (
+        "int main() {\n  return 0;",
+        "refused 2 line 2\nthe source ends here, and something must follow; here can stand a name, int, if, while, return, print, cut, region, cilk_spawn, cilk_sync, cilk_scope, cilk_for or }\n  2 |   return 0;\n",
+    ),
+    (
+        "",
+        "refused 2 line 1\nthe source ends here, and something must follow; here can stand int, void or reducer\n",
+    ),
+];
+
+#[test]
+fn tokens_and_grammar(rt: HostRuntime) {
+    all_told(&rt, rt.alloc(), TOKENS);
+    all_told(&rt, rt.alloc(), GRAMMAR);
+}

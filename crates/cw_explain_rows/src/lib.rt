@@ -1,0 +1,15 @@
+//! Tables of tests of explanations: a source, the fault of its first refusal, and what is told of it.
+#![tactic(auto)]
+
+#[cfg(test)]
+mod grammar;
+#[cfg(test)]
+mod limits;
+#[cfg(test)]
+mod owning;
+#[cfg(test)]
+mod programs;
+#[cfg(test)]
+mod told;
+#[cfg(test)]
+mod typing;

@@ -1,0 +1,88 @@
+//! A row for each rule of ownership.
+
+use crate::told::all_told;
+use std::test::Fail;
+
+// What a name is touched by while it is taken.
+const TAKEN: &[(&str, &str)] = &[
+    // the sample
+    (
+        "int fib(int n) {\n  if (n < 2) {\n    return n;\n  }\n  int x = 0;\n  int y = 0;\n  y = fib(n - 2);\n\n\n  x = cilk_spawn fib(n - 1);\n\n  print(x);\n  cilk_sync;\n  return x + y;\n}\nint main() { return 0; }",
+        "refused 4 line 12\nx is read in line 12, and the call spawned in line 10 gives its result at the next cilk_sync\n  10 |   x = cilk_spawn fib(n - 1);\n  12 |   print(x);\n",
+    ),
+    (
+        "int f() { return 1; }\nint main() {\n  int x = 0;\n  x = cilk_spawn f();\n  x = 2;\n  cilk_sync;\n  return x;\n}",
+        "refused 4 line 5\nx is written in line 5, and the call spawned in line 4 gives its result at the next cilk_sync\n  4 |   x = cilk_spawn f();\n  5 |   x = 2;\n",
+    ),
+    (
+        "void f(int a[]) { }\nint main() {\n  int a[4];\n  cilk_spawn f(a);\n  print(len(a));\n  cilk_sync;\n  return 0;\n}",
+        "refused 4 line 5\na is read in line 5, and the call spawned in line 4 has it until the next cilk_sync\n  4 |   cilk_spawn f(a);\n  5 |   print(len(a));\n",
+    ),
+    (
+        "void f(int a[]) { }\nint main() {\n  int a[4];\n  cilk_spawn f(a);\n  f(a);\n  cilk_sync;\n  return 0;\n}",
+        "refused 4 line 5\na is passed in line 5, and the call spawned in line 4 has it until the next cilk_sync; calls that run side by side share no array: cut a and pass its parts, or let one wait for the other\n  4 |   cilk_spawn f(a);\n  5 |   f(a);\n",
+    ),
+    (
+        "void f(int a[]) { }\nint main() {\n  int a[4];\n  cilk_spawn f(a);\n  cut a at 2 as l, r { }\n  cilk_sync;\n  return 0;\n}",
+        "refused 4 line 5\na is cut in line 5, and the call spawned in line 4 has it until the next cilk_sync\n  4 |   cilk_spawn f(a);\n  5 |   cut a at 2 as l, r { }\n",
+    ),
+    (
+        "void f(int a[]) { }\nint main() {\n  int a[4];\n  cilk_spawn f(a);\n  cilk_for (int i = 0; i < 4; i++) over (a) { }\n  cilk_sync;\n  return 0;\n}",
+        "refused 4 line 5\na is named in over in line 5, and the call spawned in line 4 has it until the next cilk_sync\n  4 |   cilk_spawn f(a);\n  5 |   cilk_for (int i = 0; i < 4; i++) over (a) { }\n",
+    ),
+    (
+        "int main() {\n  int a[4];\n  cut a at 2 as l, r {\n    a[0] = 1;\n  }\n  return 0;\n}",
+        "refused 4 line 4\na is written in line 4, and the cut in line 3 has it until its block ends: name its parts there\n  3 |   cut a at 2 as l, r {\n  4 |     a[0] = 1;\n",
+    ),
+    (
+        "int f() { return 1; }\nint main(int n) {\n  int x = 0;\n  while (n > 0) {\n    print(x);\n    x = cilk_spawn f();\n    n = n - 1;\n  }\n  cilk_sync;\n  return x;\n}",
+        "refused 4 line 5\nx is read in line 5, and the call spawned in line 6 gives its result at the next cilk_sync; a turn of the while before spawned it\n  5 |     print(x);\n  6 |     x = cilk_spawn f();\n",
+    ),
+    (
+        "int f() { return 1; }\nint main(int n) {\n  if (n) {\n    int x = 0;\n    x = cilk_spawn f();\n  }\n  return 0;\n}",
+        "refused 4 line 4\nthe block of x, declared in line 4, ends, and the call spawned in line 5 gives its result at the next cilk_sync; put a cilk_sync before the end of the block; turns that run side by side are those of a cilk_for\n  4 |     int x = 0;\n  5 |     x = cilk_spawn f();\n",
+    ),
+    // in one line nothing is said of turns
+    (
+        "int f() { return 1; }\nint main() {\n  int x = 0;\n  x = cilk_spawn f(); print(x);\n  cilk_sync;\n  return x;\n}",
+        "refused 4 line 4\nx is read in line 4, and the call spawned in line 4 gives its result at the next cilk_sync\n  4 |   x = cilk_spawn f(); print(x);\n",
+    ),
+];
+
+const TWICE: &[(&str, &str)] = &[
+    (
+        "void f(int a[], int b[]) { }\nint main() {\n  int a[4];\n  f(a, a);\n  return 0;\n}",
+        "refused 4 line 4\nf is given a twice: the arrays of a call differ; cut a and pass its parts\n  4 |   f(a, a);\n",
+    ),
+    (
+        "int main() {\n  int a[4];\n  cilk_for (int i = 0; i < 4; i++) over (a, a) { }\n  return 0;\n}",
+        "refused 4 line 3\na is named twice in over: a loop takes an array once\n  3 |   cilk_for (int i = 0; i < 4; i++) over (a, a) { }\n",
+    ),
+];
+
+// What the body of a loop may touch.
+const LOOPS: &[(&str, &str)] = &[
+    (
+        "int main() {\n  int x = 0;\n  cilk_for (int i = 0; i < 4; i++) {\n    x = x + i;\n  }\n  return x;\n}",
+        "refused 4 line 4\nx is written in line 4, and the body of the cilk_for in line 3 may only read it: its turns run side by side; add to a reducer, or write to an element of an array in over(..)\n  3 |   cilk_for (int i = 0; i < 4; i++) {\n  4 |     x = x + i;\n",
+    ),
+    (
+        "int main() {\n  int a[4];\n  cilk_for (int i = 0; i < 4; i++) {\n    a[i] = i;\n  }\n  return 0;\n}",
+        "refused 4 line 4\na is from outside of the cilk_for in line 3: its body touches such an array only where over(a) names it, and then only the element of its own turn\n  3 |   cilk_for (int i = 0; i < 4; i++) {\n  4 |     a[i] = i;\n",
+    ),
+    (
+        "int main() {\n  int a[4];\n  cilk_for (int i = 0; i < 4; i++) over (a) {\n    a[0] = i;\n  }\n  return 0;\n}",
+        "refused 4 line 4\na is an array of the cilk_for in line 3: its body names it only as a[i], the element of its own turn, and not in a further cilk_for; copy what other turns need before the loop\n  3 |   cilk_for (int i = 0; i < 4; i++) over (a) {\n  4 |     a[0] = i;\n",
+    ),
+    (
+        "int main() {\n  int a[4];\n  cilk_for (int i = 0; i < 4; i++) over (a) {\n    cilk_for (int j = 0; j < a[i]; j++) { }\n  }\n  return 0;\n}",
+        "refused 4 line 4\na is an array of the cilk_for in line 3: its body names it only as a[i], the element of its own turn, and not in a further cilk_for; copy what other turns need before the loop\n  3 |   cilk_for (int i = 0; i < 4; i++) over (a) {\n  4 |     cilk_for (int j = 0; j < a[i]; j++) { }\n",
+    ),
+];
+
+#[test]
+fn rules_of_ownership(rt: HostRuntime) {
+    all_told(&rt, rt.alloc(), TAKEN);
+    all_told(&rt, rt.alloc(), TWICE);
+    all_told(&rt, rt.alloc(), LOOPS);
+}

@@ -1,0 +1,159 @@
+//! Programs as one writes them at first, coming from Cilk in C: each is refused, and told what to change.
+
+use crate::told::all_told;
+use std::test::Fail;
+
+// Queens, with a call in a test.
+const QUEENS: &str = "\
+int is_safe(int rows[], int row, int column) {
+  int i = 0;
+  while (i < column) {
+    if (rows[i] == row) {
+      return 0;
+    }
+    i = i + 1;
+  }
+  return 1;
+}
+
+int queens(int rows[], int column) {
+  int count = 0;
+  int row = 0;
+  while (row < len(rows)) {
+    if (is_safe(rows, row, column)) {
+      rows[column] = row;
+      count = count + 1;
+    }
+    row = row + 1;
+  }
+  return count;
+}
+
+int main(int n) {
+  int rows[n];
+  int count = 0;
+  count = queens(rows, 0);
+  return count;
+}
+";
+
+// A stencil that reads the next element in a loop over the array.
+const STENCIL: &str = "\
+void smooth(int a[], int b[]) {
+  cilk_for (int i = 0; i < len(b) - 1; i++) grain 100 over (a, b) {
+    b[i] = (a[i] + a[i + 1]) / 2;
+  }
+}
+
+int main(int n) {
+  int a[n];
+  int b[n];
+  smooth(a, b);
+  return b[0];
+}
+";
+
+// A product by quarters that gives one array to two spawned calls.
+const QUARTERS: &str = "\
+void multiply(int a[], int b[], int c[]) {
+  c[0] = c[0] + a[0] * b[0];
+}
+
+void quarters(int a0[], int a1[], int b[], int c0[], int c1[]) {
+  cilk_spawn multiply(a0, b, c0);
+  cilk_spawn multiply(a1, b, c1);
+  cilk_sync;
+}
+
+int main(int n) {
+  int a[n];
+  int b[n];
+  int c[n];
+  cut a at n / 2 as a0, a1 {
+    cut c at n / 2 as c0, c1 {
+      quarters(a0, a1, b, c0, c1);
+    }
+  }
+  return c[0];
+}
+";
+
+// A histogram whose spawns stand in a loop, each with a result of its own.
+const HISTOGRAM: &str = "\
+int count(int from, int to) {
+  return to - from;
+}
+
+int main(int n) {
+  int total = 0;
+  int i = 0;
+  while (i < n) {
+    int part = 0;
+    part = cilk_spawn count(i, i + 10);
+    i = i + 10;
+  }
+  cilk_sync;
+  return total;
+}
+";
+
+// A pipeline that reads a result before its sync.
+const PIPELINE: &str = "\
+int stage(int x) {
+  return x * x;
+}
+
+int main(int n) {
+  int first = 0;
+  int second = 0;
+  first = cilk_spawn stage(n);
+  second = stage(first);
+  cilk_sync;
+  return second;
+}
+";
+
+// A function that is called as a word of the language.
+const SUM: &str = "\
+int sum(int n) {
+  return n * (n + 1) / 2;
+}
+
+int main(int n) {
+  int s = 0;
+  s = sum(n);
+  return s;
+}
+";
+
+const PROGRAMS: &[(&str, &str)] = &[
+    (
+        QUEENS,
+        "refused 2 line 16\n( cannot stand here: is_safe(..) is a call, and a call is a statement of its own; give its result to an integer before, r = is_safe(..); and write r here\n  16 |     if (is_safe(rows, row, column)) {\n",
+    ),
+    (
+        STENCIL,
+        "refused 4 line 3\na is an array of the cilk_for in line 2: its body names it only as a[i], the element of its own turn, and not in a further cilk_for; copy what other turns need before the loop\n  2 |   cilk_for (int i = 0; i < len(b) - 1; i++) grain 100 over (a, b) {\n  3 |     b[i] = (a[i] + a[i + 1]) / 2;\n",
+    ),
+    (
+        QUARTERS,
+        "refused 4 line 7\nb is passed in line 7, and the call spawned in line 6 has it until the next cilk_sync; calls that run side by side share no array: cut b and pass its parts, or let one wait for the other\n  6 |   cilk_spawn multiply(a0, b, c0);\n  7 |   cilk_spawn multiply(a1, b, c1);\n",
+    ),
+    (
+        HISTOGRAM,
+        "refused 4 line 9\nthe block of part, declared in line 9, ends, and the call spawned in line 10 gives its result at the next cilk_sync; put a cilk_sync before the end of the block; turns that run side by side are those of a cilk_for\n   9 |     int part = 0;\n  10 |     part = cilk_spawn count(i, i + 10);\n",
+    ),
+    (
+        PIPELINE,
+        "refused 4 line 9\nfirst is read in line 9, and the call spawned in line 8 gives its result at the next cilk_sync\n  8 |   first = cilk_spawn stage(n);\n  9 |   second = stage(first);\n",
+    ),
+    (
+        SUM,
+        "refused 2 line 1\nsum cannot stand here: sum is a word of the language, and no name; here can stand a name\n  1 | int sum(int n) {\n",
+    ),
+];
+
+#[test]
+fn first_versions_say_what_to_change(rt: HostRuntime) {
+    all_told(&rt, rt.alloc(), PROGRAMS);
+}

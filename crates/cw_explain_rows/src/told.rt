@@ -1,0 +1,46 @@
+//! What the tables of tests stand on: a source from its text to what is told of its refusal.
+
+use cw_lex::lex;
+use cw_loops::lower;
+use cw_own::own;
+use cw_parse::parse;
+use cw_text::{Fault, Source};
+use cw_told::explain;
+use cw_types::check;
+use std::alloc::{AllocError, Global};
+use std::process::Abort;
+
+// The first fault of a text, from its bytes to its loops.
+fn fault_of(alloc: Global, bytes: &[u8]) -> Result<(), Fault> {
+    let source = Source::read(alloc, bytes)?;
+    let tokens = lex(alloc, &source)?;
+    let ast = parse(alloc, &source, tokens.as_slice())?;
+    let typed = check(alloc, ast)?;
+    let owned = own(alloc, typed)?;
+    lower(alloc, owned)?;
+    Ok(())
+}
+
+/// What standard error has of a text: the line of its first fault, and what is told of it.
+pub fn told(alloc: Global, bytes: &[u8]) -> Result<String, AllocError> {
+    match fault_of(alloc, bytes) {
+        Ok(()) => String::from_str(alloc, "ok\n"),
+        Err(fault) => match explain(alloc, bytes, &fault) {
+            Ok(text) => {
+                let text = text.as_str();
+                format!(in alloc; "{fault}\n{text}")
+            }
+            Err(_) => String::from_str(alloc, "no memory\n"),
+        },
+    }
+}
+
+/// Asserts that this is told of each of these texts.
+pub fn all_told(rt: &impl Abort, alloc: Global, rows: &[(&str, &str)]) {
+    for (text, wanted) in rows {
+        match told(alloc, text.as_bytes()) {
+            Ok(told) => assert_eq!(rt; told.as_str(), *wanted, "{text}"),
+            Err(_) => assert!(rt; false, "no memory"),
+        }
+    }
+}

@@ -1,0 +1,114 @@
+//! The program examples/quarters.cilk, and the files beside it.
+
+use crate::examples::Example;
+
+pub const EXAMPLE: Example = Example {
+    words: "quarters.cilk 32",
+    source: "// The product of two matrices of n * n numbers, n a power of two from 2 on, each stored by its quarters: the upper left
+// one, the upper right one, the lower left one, the lower right one, each of them by its quarters in turn. Each quarter of
+// a and b is wanted by two products. In two phases each phase uses each quarter once, so that no two calls share one.
+// cilkwork run quarters.cilk 32
+// All numbers of a are 1, so those of c are sums of columns of b, whose numbers are their places: the places of the first
+// column have bits 1, 3, 5, 7 and 9 alone, and each of 2, 8, 32, 128 and 512 is in 16 of the 32. So c begins with
+// 16 * 682 = 10912, and all of it adds up to 32 * (1023 * 1024 / 2) = 16760832.
+
+reducer sum all;
+
+// c = c + a * b, one product after another
+void add_serially(int a[], int b[], int c[]) {
+  int q = len(a) / 4;
+  if (q == 1) {
+    c[0] = c[0] + a[0] * b[0] + a[1] * b[2];
+    c[1] = c[1] + a[0] * b[1] + a[1] * b[3];
+    c[2] = c[2] + a[2] * b[0] + a[3] * b[2];
+    c[3] = c[3] + a[2] * b[1] + a[3] * b[3];
+    return;
+  }
+  cut a at 2 * q as a0, a1 { cut a0 at q as a00, a01 { cut a1 at q as a10, a11 {
+  cut b at 2 * q as b0, b1 { cut b0 at q as b00, b01 { cut b1 at q as b10, b11 {
+  cut c at 2 * q as c0, c1 { cut c0 at q as c00, c01 { cut c1 at q as c10, c11 {
+    add_serially(a00, b00, c00);
+    add_serially(a01, b11, c01);
+    add_serially(a11, b10, c10);
+    add_serially(a10, b01, c11);
+    add_serially(a01, b10, c00);
+    add_serially(a00, b01, c01);
+    add_serially(a10, b00, c10);
+    add_serially(a11, b11, c11);
+  } } } } } } } } }
+}
+
+// c = c + a * b, four products side by side, and then the other four
+void add_product(int a[], int b[], int c[]) {
+  if (len(a) <= 64) {
+    add_serially(a, b, c);
+    return;
+  }
+  int q = len(a) / 4;
+  cut a at 2 * q as a0, a1 { cut a0 at q as a00, a01 { cut a1 at q as a10, a11 {
+  cut b at 2 * q as b0, b1 { cut b0 at q as b00, b01 { cut b1 at q as b10, b11 {
+  cut c at 2 * q as c0, c1 { cut c0 at q as c00, c01 { cut c1 at q as c10, c11 {
+    cilk_spawn add_product(a00, b00, c00);
+    cilk_spawn add_product(a01, b11, c01);
+    cilk_spawn add_product(a11, b10, c10);
+    add_product(a10, b01, c11);
+    cilk_sync;
+    cilk_spawn add_product(a01, b10, c00);
+    cilk_spawn add_product(a00, b01, c01);
+    cilk_spawn add_product(a10, b00, c10);
+    add_product(a11, b11, c11);
+  } } } } } } } } }
+}
+
+int main(int n) {
+  int a[n * n];
+  int b[n * n];
+  int c[n * n];
+  int i = 0;
+  while (i < n * n) {
+    a[i] = 1;
+    b[i] = i;
+    i = i + 1;
+  }
+  region product {
+    add_product(a, b, c);
+  }
+  print(c[0]);
+  i = 0;
+  while (i < n * n) {
+    all += c[i];
+    i = i + 1;
+  }
+  return 0;
+}
+",
+    run: "10912
+sum all = 16760832
+return 0
+",
+    scale: "tag,work,span,parallelism,burdened_span,burdened_parallelism
+,360431,52445,6.872,322445,1.117
+product,328652,20666,15.903,290666,1.130
+",
+    sites: "site,kind,line,callee,calls,own_work,own_span,work,span
+0,root,57,main,1,31780,31780,360431,52445
+1,call,24,add_serially,576,40576,2536,73280,73280
+2,call,25,add_serially,576,40576,2536,73280,73280
+3,call,26,add_serially,576,40576,2536,73280,73280
+4,call,27,add_serially,576,40576,2536,73280,73280
+5,call,28,add_serially,576,40576,2536,73280,73280
+6,call,29,add_serially,576,40576,2536,73280,73280
+7,call,30,add_serially,576,40576,2536,73280,73280
+8,call,31,add_serially,576,40576,2536,73280,73280
+9,call,38,add_serially,64,3200,200,327808,327808
+10,spawn,45,add_product,9,99,0,76971,46203
+11,spawn,46,add_product,9,99,0,76971,46203
+12,spawn,47,add_product,9,99,0,76971,46203
+13,call,48,add_product,9,99,63,76971,46203
+14,spawn,50,add_product,9,99,0,76971,46203
+15,spawn,51,add_product,9,99,0,76971,46203
+16,spawn,52,add_product,9,99,0,76971,46203
+17,call,53,add_product,9,99,63,76971,46203
+18,call,68,add_product,1,51,51,328651,20665
+",
+};

@@ -1,0 +1,69 @@
+//! The program examples/stencil.cilk, and the files beside it.
+
+use crate::examples::Example;
+
+pub const EXAMPLE: Example = Example {
+    words: "stencil.cilk 2000 20",
+    source: "// Each of n numbers becomes the sum of its two neighbours, k times, with 0 beyond both ends. Halves of more than 500
+// numbers are done side by side: each part is handed the old numbers at its edges, since no other part can be read.
+// cilkwork run stencil.cilk 2000 20
+// One 1 among zeros becomes the binomial coefficients of k, spread over every other place: for k = 20 the middle one is
+// 184756, and all add up to 2 to the power of 20, which is 1048576.
+
+reducer sum all;
+
+// one step of a part, between these old numbers
+void step(int a[], int left, int right) {
+  if (len(a) <= 500) {
+    int before = left;
+    int i = 0;
+    while (i < len(a)) {
+      int here = a[i];
+      int next = right;
+      if (i + 1 < len(a)) {
+        next = a[i + 1];
+      }
+      a[i] = before + next;
+      before = here;
+      i = i + 1;
+    }
+    return;
+  }
+  int middle = len(a) / 2;
+  int last = a[middle - 1];
+  int first = a[middle];
+  cut a at middle as l, r {
+    cilk_spawn step(l, left, first);
+    step(r, last, right);
+  }
+}
+
+int main(int n, int k) {
+  int a[n];
+  a[n / 2] = 1;
+  int t = 0;
+  while (t < k) {
+    step(a, 0, 0);
+    t = t + 1;
+  }
+  print(a[n / 2]);
+  cilk_for (int i = 0; i < n; i++) grain 250 over (a) {
+    all += a[i];
+  }
+  return 0;
+}
+",
+    run: "184756
+sum all = 1048576
+return 0
+",
+    scale: "tag,work,span,parallelism,burdened_span,burdened_parallelism
+,1314757,325555,4.038,970555,1.354
+",
+    sites: "site,kind,line,callee,calls,own_work,own_span,work,span
+0,root,35,main,1,32557,4355,1314757,325555
+1,spawn,30,step,60,640840,0,961000,640840
+2,call,31,step,60,640840,320680,961000,640840
+3,call,40,step,20,520,520,1282200,321200
+",
+};

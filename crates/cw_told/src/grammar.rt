@@ -1,0 +1,184 @@
+//! The tokens that can stand somewhere, each with a word that spells it.
+
+use cw_model::token::Kind;
+
+/// A token that can stand somewhere.
+#[derive(Clone, Copy, Debug)]
+pub struct Choice {
+    /// A word that spells it.
+    pub word: &'static str,
+    /// What it is called.
+    pub shown: &'static str,
+}
+
+/// All of them: names, numbers, the words of the language, and its symbols, where `*` stands for the operators between
+/// two operands; a `-` stands where a `!` or one of them does.
+pub const ALL: &[Choice] = &[
+    Choice {
+        word: "x",
+        shown: "a name",
+    },
+    Choice {
+        word: "1",
+        shown: "a number",
+    },
+    Choice {
+        word: "int",
+        shown: "int",
+    },
+    Choice {
+        word: "void",
+        shown: "void",
+    },
+    Choice {
+        word: "if",
+        shown: "if",
+    },
+    Choice {
+        word: "else",
+        shown: "else",
+    },
+    Choice {
+        word: "while",
+        shown: "while",
+    },
+    Choice {
+        word: "return",
+        shown: "return",
+    },
+    Choice {
+        word: "print",
+        shown: "print",
+    },
+    Choice {
+        word: "len",
+        shown: "len",
+    },
+    Choice {
+        word: "cut",
+        shown: "cut",
+    },
+    Choice {
+        word: "at",
+        shown: "at",
+    },
+    Choice {
+        word: "as",
+        shown: "as",
+    },
+    Choice {
+        word: "region",
+        shown: "region",
+    },
+    Choice {
+        word: "reducer",
+        shown: "reducer",
+    },
+    Choice {
+        word: "sum",
+        shown: "sum",
+    },
+    Choice {
+        word: "grain",
+        shown: "grain",
+    },
+    Choice {
+        word: "over",
+        shown: "over",
+    },
+    Choice {
+        word: "cilk_spawn",
+        shown: "cilk_spawn",
+    },
+    Choice {
+        word: "cilk_sync",
+        shown: "cilk_sync",
+    },
+    Choice {
+        word: "cilk_scope",
+        shown: "cilk_scope",
+    },
+    Choice {
+        word: "cilk_for",
+        shown: "cilk_for",
+    },
+    Choice {
+        word: "(",
+        shown: "(",
+    },
+    Choice {
+        word: ")",
+        shown: ")",
+    },
+    Choice {
+        word: "{",
+        shown: "{",
+    },
+    Choice {
+        word: "}",
+        shown: "}",
+    },
+    Choice {
+        word: "[",
+        shown: "[",
+    },
+    Choice {
+        word: "]",
+        shown: "]",
+    },
+    Choice {
+        word: ",",
+        shown: ",",
+    },
+    Choice {
+        word: ";",
+        shown: ";",
+    },
+    Choice {
+        word: "=",
+        shown: "=",
+    },
+    Choice {
+        word: "+=",
+        shown: "+=",
+    },
+    Choice {
+        word: "++",
+        shown: "++",
+    },
+    Choice {
+        word: "*",
+        shown: "an operator",
+    },
+    Choice {
+        word: "!",
+        shown: "a sign (- or !)",
+    },
+];
+
+/// Whether a token is a word of the language.
+pub fn spelled(kind: Kind) -> bool {
+    match kind {
+        Kind::Int
+        | Kind::Void
+        | Kind::If
+        | Kind::Else
+        | Kind::While
+        | Kind::Return
+        | Kind::Print
+        | Kind::Len
+        | Kind::Cut
+        | Kind::At
+        | Kind::As
+        | Kind::Region
+        | Kind::Reducer
+        | Kind::Sum
+        | Kind::Grain
+        | Kind::Over
+        | Kind::Spawn
+        | Kind::Sync
+        | Kind::Scope
+        | Kind::For => true,
+        _ => false,
+    }
+}

@@ -1,0 +1,44 @@
+//! How the library is called: the report of a program that stands in memory, on standard output.
+#![tactic(auto)]
+
+use cw_cli::{Mode, Options, analyse_alone, refuse};
+use cw_report::Counted;
+use std::io;
+use std::process::ExitCode;
+
+// The program of examples/fib.cilk.
+const SOURCE: &[u8] = b"\
+int fib(int n) {
+  if (n < 2) {
+    return n;
+  }
+  int x = 0;
+  int y = 0;
+  x = cilk_spawn fib(n - 1);
+  y = fib(n - 2);
+  cilk_sync;
+  return x + y;
+}
+
+int main(int n) {
+  int r = 0;
+  r = fib(n);
+  return r;
+}
+";
+
+fn main(rt: HostRuntime) -> ExitCode {
+    let options = Options {
+        mode: Mode::Scale,
+        limit: 1_000_000,
+        burden: 15_000,
+    };
+    // a sink counts the writes that fail; `Counted` makes one of any writer, a `Vec` too
+    let mut out = Counted::new(io::writer(&rt));
+    let mut err = Counted::new(rt.stderr());
+    let status = match analyse_alone(rt.alloc(), SOURCE, &[20], options, &mut out) {
+        Ok(()) => 0,
+        Err(fault) => refuse(&fault, &mut err),
+    };
+    ExitCode::from(status)
+}
