@@ -3,7 +3,9 @@
     python3 bench/hostile.py PROGRAM rows      rows of hostile sources, each with its answer, on 1 MiB of stack
     python3 bench/hostile.py PROGRAM limits    every limit from 1 to 400 on five programs that use every instruction
     python3 bench/hostile.py PROGRAM sources   the worst source of about 1 MiB of each kind: time and memory of a check
+    python3 bench/hostile.py PROGRAM verifier  sources of 1 MiB on which the verifier has most to do: time and memory of a check
     python3 bench/hostile.py PROGRAM cuts      100,000 cuts and passes of an array of 16,777,216 elements
+    python3 bench/hostile.py PROGRAM paths     runs whose paths would be long: spawns without a join, long paths under many joins
     python3 bench/hostile.py PROGRAM memory    the same programs with less and less memory: an answer, or `memory`
     python3 bench/hostile.py PROGRAM refusals  the same programs and more with each single allocation refused in turn: the answer,
                                                or `memory` with nothing written; wants gcc, which compiles bench/refuse.c
@@ -22,6 +24,9 @@ import time
 STACK = 1 << 20
 MOST_SECONDS = 2.0
 MOST_BYTES = 600 << 20
+# of processor time of the program itself, and of memory, for each source of bench/verify_sources.py
+VERIFIER_SECONDS = 1.5
+VERIFIER_BYTES = 300 << 20
 
 
 def answer(program, words, source, memory=None):
@@ -166,16 +171,34 @@ def sources(program):
         for path in sorted(pathlib.Path(folder).glob("*.cilk")):
             if path.stem.endswith(("_half", "_tree")):
                 continue
-            timed = subprocess.run(
-                ["/usr/bin/env", "bash", "-c", f"ulimit -s {STACK >> 10}; exec /usr/bin/time -f '%e %M' {program} check {path}"],
-                capture_output=True,
-                text=True,
-            )
-            last = timed.stderr.strip().splitlines()[-1].split()
-            seconds, peak = float(last[0]), int(last[1]) << 10
-            fine = timed.returncode in (0, 2) and seconds <= MOST_SECONDS and peak <= MOST_BYTES
+            status, said, seconds, _, peak = checked(program, path)
+            fine = status in (0, 2) and seconds <= MOST_SECONDS and peak <= MOST_BYTES
             wrong += not fine
-            said = (timed.stdout + timed.stderr).splitlines()[0]
+            print(f"{'ok ' if fine else 'BAD'} {path.stem}: {path.stat().st_size} bytes, {seconds:.2f} s, {peak >> 20} MiB, {said}")
+    return wrong
+
+
+def checked(program, path):
+    """The status of a check, the first line that it wrote, its seconds, those of the processor, and its memory in bytes."""
+    timed = subprocess.run(
+        ["/usr/bin/env", "bash", "-c", f"ulimit -s {STACK >> 10}; exec /usr/bin/time -f '%e %U %M' {program} check {path}"],
+        capture_output=True,
+        text=True,
+    )
+    last = timed.stderr.strip().splitlines()[-1].split()
+    said = (timed.stdout + timed.stderr).splitlines()[0]
+    return timed.returncode, said, float(last[0]), float(last[1]), int(last[2]) << 10
+
+
+def verifier(program):
+    script = pathlib.Path(__file__).parent / "verify_sources.py"
+    wrong = 0
+    with tempfile.TemporaryDirectory() as folder:
+        subprocess.run([sys.executable, str(script), folder], check=True)
+        for path in sorted(pathlib.Path(folder).glob("*.cilk")):
+            status, said, _, seconds, peak = checked(program, path)
+            fine = (status, said) == (0, "ok") and seconds <= VERIFIER_SECONDS and peak <= VERIFIER_BYTES
+            wrong += not fine
             print(f"{'ok ' if fine else 'BAD'} {path.stem}: {path.stat().st_size} bytes, {seconds:.2f} s, {peak >> 20} MiB, {said}")
     return wrong
 
@@ -191,6 +214,55 @@ def cuts(program):
     fine = got[:3] == gives(100000) and got[3] < 1.0
     print(f"{'ok ' if fine else 'BAD'} 100,000 cuts and passes of 16,777,216 elements: {got[3]:.2f} s, {got[:3]}")
     return not fine
+
+
+# 11 instructions a turn, of which 10 are on the path, and a burden each; 6 beside them
+SPAWNS = "void f() { } int main(int n) { while (n > 0) { cilk_spawn f(); n = n - 1; } return 0; }"
+SCALE = "tag,work,span,parallelism,burdened_span,burdened_parallelism\n"
+# 65,000 sites on one path, and 220,000 joins of a short child beside it
+DEEP = (
+    "void e() { }\nvoid l() { " + "e(); " * 65000 + "}\nvoid g(int n) { if (n < 1) { l(); return; } "
+    + "cilk_scope { cilk_spawn e(); " * 55 + "g(n - 1); " + "} " * 55 + "}\nint main(int n) { g(n); return 0; }\n"
+)
+SITES = "site,kind,line,callee,calls,own_work,own_span,work,span\n"
+# name, source, words, how the answer begins, most seconds, most bytes: the least memory first
+PATHS = [
+    (
+        "10,000,000 spawns without a join",
+        SPAWNS,
+        ["scale", "10000000", "--limit", "2000000000"],
+        SCALE + ",110000006,100000006,1.099,150100000006,0.000\n",
+        3.0,
+        16 << 20,
+    ),
+    (
+        "100,000,000 spawns without a join",
+        SPAWNS,
+        ["scale", "100000000", "--limit", "2000000000"],
+        SCALE + ",1100000006,1000000006,1.099,1501000000006,0.000\n",
+        30.0,
+        16 << 20,
+    ),
+    (
+        "65,000 sites on a path under 220,000 joins",
+        DEEP,
+        ["sites", "4000"],
+        SITES + "0,root,4,main,1,4,4,1046011,826011\n",
+        1.5,
+        300 << 20,
+    ),
+]
+
+
+def paths(program):
+    wrong = 0
+    for name, source, words, begins, seconds, most in PATHS:
+        status, out, err, taken, peak = answer(program, words, source)
+        fine = (status, err) == (0, "") and out.startswith(begins) and taken <= seconds and peak <= most
+        wrong += not fine
+        said = "" if fine else f", got {status}, {out[:200]!r}, {err!r}"
+        print(f"{'ok ' if fine else 'BAD'} {name}: {taken:.2f} s, {peak >> 20} MiB{said}")
+    return wrong
 
 
 def memory(program):
@@ -270,7 +342,7 @@ def refusals(program):
 
 
 if __name__ == "__main__":
-    parts = {"rows": rows, "limits": limits, "sources": sources, "cuts": cuts, "memory": memory, "refusals": refusals}
+    parts = {"rows": rows, "limits": limits, "sources": sources, "verifier": verifier, "cuts": cuts, "paths": paths, "memory": memory, "refusals": refusals}
     if len(sys.argv) != 3 or sys.argv[2] not in parts:
         sys.exit(__doc__)
     bad = parts[sys.argv[2]](str(pathlib.Path(sys.argv[1]).resolve()))

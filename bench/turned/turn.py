@@ -27,7 +27,7 @@ TABLE = os.path.join(HERE, "clauses.csv")
 CRATE = os.path.join(HERE, "..", "..", "crates", "cw_model")
 COLUMNS = ["file", "stands", "turned", "shows", "refused_by"]
 NAMED = 3
-LATEST = 120
+LATEST = 300
 # bytes of addresses, of which a check uses a tenth
 MOST_MEMORY = 16 << 30
 # the theorem that is likely to refuse a turn of a file, which is tried before all the others; elsewhere `statements`
