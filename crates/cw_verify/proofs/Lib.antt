@@ -5,5 +5,6 @@ pub mod Rounds
 pub mod Rows
 pub mod Tables
 pub mod Noting
+pub mod Numbering
 pub mod Spreading
 pub mod Verifying

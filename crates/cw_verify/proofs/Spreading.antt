@@ -1,6 +1,6 @@
 -- What a step of a search changes, and what it keeps.
 use Rattle.std.proofs.Common.{◌≡◌, ◌⊎◌, inl, inr, ⊎_elim, ℕ, zero, suc, ◌+◌, ◌-◌, ◌<◌, ◌≤◌, Bool, true, false, ◌||◌, Option, Some, None, List, [], ◌∷◌, length, get_or, refl, sym, ap, ◌∙◌, subst, arith}
-use Rattle.std.specs.Prelude.{replicate, slice_get, slice_set, option_map, Err}
+use Rattle.std.specs.Prelude.{replicate, slice_get, slice_set, option_map, Result, Ok, Err}
 use Rattle.std.proofs.lemmas.List.{length-map, length-replicate}
 use Rattle.std.proofs.lemmas.Option.{slice_get_within, slice_get-map, slice_get-get_or}
 use Rattle.std.proofs.lemmas.Bool.{cases_eq}
@@ -11,6 +11,7 @@ use Rattle.cw_code.specs.declared.code.Instr.{Instr}
 use Rattle.cw_code.specs.Code.{Code}
 use Rattle.cw_code.specs.Fits.{Shape, Table, FlowsInto, FlowsIntoEach, IsTable, first_shape, is_ready, leaves, nexts, names_well}
 use Rattle.cw_verify.specs.declared.found.Found.{Found}
+use Rattle.cw_verify.specs.declared.numbers.Numbers.{Numbers}
 use Rattle.cw_verify.specs.declared.search.Search.{Search}
 use Rattle.cw_verify.specs.Table.{Shapes, shape_view, shapes_of, joined, come_at, come, visited, unmarked_at, unmarked_in, unreached, IsIn, IsNoted, Notes, left_to_do, Spread, Tells, table_of, IsDone, IsSearch, Fails, AllNamed, blocks_of}
 use Rattle.cw_verify.proofs.Lists.{same_some, set_other, set_set, set_same, map_set}
@@ -193,6 +194,13 @@ pub fails_from : (e : Fault) (found : Option Shapes) (old new : Search) (none : 
 fails_from fault.Code found old new none h go = go h
 fails_from fault.Memory found old new none h go = tt
 fails_from _ found old new none h go = absurd h
+
+-- the numbers of blocks are no part of what a step tells
+pub tells_from : (result : Result Bool Fault) (found : Option Shapes) (old new : Search) (n : Numbers) → Tells result found (record old { numbers = n }) new → Tells result found old new
+tells_from (Ok reached) found old new n h = h
+tells_from (Err fault.Code) found old new n h = h
+tells_from (Err fault.Memory) found old new n h = h
+tells_from (Err _) found old new n h = h
 
 pub fails_as : (e : Fault) (P Q : Type 0) → (P → Q) → Fails P e → Fails Q e
 fails_as fault.Code P Q go h = go h

@@ -1,4 +1,6 @@
 pub mod Table
+pub mod Meetings
+pub mod Numbers
 pub mod Resolved
 pub mod Verifies
 pub mod Views

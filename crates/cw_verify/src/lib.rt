@@ -4,7 +4,9 @@
 mod found;
 mod leave;
 mod meet;
+mod meeting;
 mod named;
+mod numbers;
 pub mod op;
 mod resolve;
 mod round;

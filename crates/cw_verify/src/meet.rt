@@ -1,34 +1,44 @@
 //! What comes to a place that has something already.
 
 ghost use Rattle.std.specs.Prelude.{◌≡◌};
+ghost use Rattle.cw_verify.specs.Meetings.{meeting_of};
 ghost use Rattle.cw_verify.specs.Table as table;
 ghost use Rattle.cw_verify.specs.Steps as steps;
 
 use crate::found::Found;
-use crate::round::{are_alike, shared_each};
+use crate::meeting::{Meeting, meets};
+use crate::round::shared_each;
 use crate::row::shared_either;
 use cw_text::Fault;
 use std::alloc::Global;
 
-// Whether two shapes can come to one place.
-fn can_meet(there: &Found, found: &Found) -> bool
+// Whether two shapes can come to one place, whose blocks meet so.
+fn can_meet(there: &Found, found: &Found, meeting: Meeting) -> bool
+    requires { meeting ≡ meeting_of (table.rounds_of there.now.outer.value) (table.rounds_of found.now.outer.value) }
     ensures { result ≡ table.can_meet (table.shape_view there.now) (table.shape_view found.now) }
 {
     let empty = there.empty.len() == found.empty.len();
     let gone = there.gone.len() == found.gone.len();
-    there.operands == found.operands && ((empty && gone) && are_alike(&there.outer, &found.outer))
+    there.operands == found.operands && ((empty && gone) && meets(meeting))
 }
 
-/// A shape comes to a place that has one already; whether it brings more. The error is `Code` where the two can't meet.
-pub fn join(alloc: Global, there: Found, found: &Found) -> Result<(Found, bool), Fault>
+/// A shape comes to a place that has one already; whether it brings more. How their blocks meet is known. The error is
+/// `Code` where the two can't meet.
+pub fn join(
+    alloc: Global,
+    there: Found,
+    found: &Found,
+    meeting: Meeting,
+) -> Result<(Found, bool), Fault>
+    requires { meeting ≡ meeting_of (table.rounds_of there.outer.value) (table.rounds_of found.now.outer.value) }
     ensures { steps.Meets there found.now result }
 {
-    if !can_meet(&there, found) {
+    if !can_meet(&there, found, meeting) {
         return Err(Fault::Code);
     }
     let (empty, more_empty) = shared_either(alloc, there.empty, &found.empty)?;
     let (gone, more_gone) = shared_either(alloc, there.gone, &found.gone)?;
-    let (outer, more_outer) = shared_each(alloc, there.outer, &found.outer)?;
+    let (outer, more_outer) = shared_each(alloc, there.outer, &found.outer, meeting)?;
     let joined = Found {
         operands: there.operands,
         empty,

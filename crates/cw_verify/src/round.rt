@@ -2,10 +2,12 @@
 
 ghost use Rattle.std.specs.Prelude.{◌≡◌, ◌∷◌, true};
 ghost use Rattle.cw_code.specs.Fits as fits;
+ghost use Rattle.cw_verify.specs.Meetings.{meeting_of};
 ghost use Rattle.cw_verify.specs.Table as table;
 ghost use Rattle.cw_verify.specs.Views as views;
 ghost use Rattle.cw_verify.specs.Steps.{OrMemory};
 
+use crate::meeting::Meeting;
 use crate::row::{Row, brings, is_full_in, shared_either};
 use cw_code::code::Halves;
 use cw_text::Fault;
@@ -157,24 +159,29 @@ fn either_each(alloc: Global, rounds: &Rounds, more: &Rounds) -> Result<Rc<Round
 }
 
 /// What may be empty in one block or the other, block by block, to be shared; whether that is more than in the first
-/// ones, which stay where it is not. What brings all that was there comes in its place.
+/// ones, which stay where it is not. What brings all that was there comes in its place. How they meet is known.
 pub fn shared_each(
     alloc: Global,
     rounds: Rc<Rounds>,
     more: &Rc<Rounds>,
+    meeting: Meeting,
 ) -> Result<(Rc<Rounds>, bool), Fault>
-    requires { table.are_alike (table.rounds_of rounds.value) (table.rounds_of more.now.value) ≡ true }
+    requires alike { table.are_alike (table.rounds_of rounds.value) (table.rounds_of more.now.value) ≡ true }
+    requires is { meeting ≡ meeting_of (table.rounds_of rounds.value) (table.rounds_of more.now.value) }
     ensures { OrMemory result (λ r. views.IsEach rounds.value more.now.value r.0.value r.1) }
 {
-    if !each_brings(&rounds, more) {
-        return Ok((rounds, false));
+    match meeting {
+        Meeting::Apart => Ok((rounds, false)),
+        Meeting::Stays => Ok((rounds, false)),
+        Meeting::Comes => {
+            let more = share(more)?;
+            Ok((more, true))
+        }
+        Meeting::Both => {
+            let both = either_each(alloc, &rounds, more)?;
+            Ok((both, true))
+        }
     }
-    if !each_brings(more, &rounds) {
-        let more = share(more)?;
-        return Ok((more, true));
-    }
-    let both = either_each(alloc, &rounds, more)?;
-    Ok((both, true))
 }
 
 // Whether these are the same slots of a cut.
@@ -204,8 +211,8 @@ fn is_alike(round: &Round, other: &Round) -> bool
     round.empty.len() == other.empty.len() && (gone && same_cut(round.cut, other.cut))
 }
 
-/// Whether there are as many blocks, begun by the same cuts, and each row is as long.
-pub fn are_alike(rounds: &Rounds, others: &Rounds) -> bool
+// Whether there are as many blocks, begun by the same cuts, and each row is as long.
+fn are_alike(rounds: &Rounds, others: &Rounds) -> bool
     ensures { result ≡ table.are_alike (table.rounds_of rounds.now) (table.rounds_of others.now) }
 {
     match (rounds, others) {
@@ -216,4 +223,20 @@ pub fn are_alike(rounds: &Rounds, others: &Rounds) -> bool
             is_alike(round, other) && are_alike(outer, around)
         }
     }
+}
+
+/// How blocks meet others that come to their place.
+pub fn compare(rounds: &Rounds, more: &Rounds) -> Meeting
+    ensures { result ≡ meeting_of (table.rounds_of rounds.now) (table.rounds_of more.now) }
+{
+    if !are_alike(rounds, more) {
+        return Meeting::Apart;
+    }
+    if !each_brings(rounds, more) {
+        return Meeting::Stays;
+    }
+    if !each_brings(more, rounds) {
+        return Meeting::Comes;
+    }
+    Meeting::Both
 }

@@ -1,9 +1,10 @@
 //! The search for the table of a function: from its first place on, each instruction is visited, and again each time
 //! that more comes to its place.
 
-ghost use Rattle.std.specs.Prelude.{◌≡◌, ◌+◌, ◌<◌, ◌≤◌, true, length, [], ◌∷◌};
+ghost use Rattle.std.specs.Prelude.{◌≡◌, ◌+◌, ◌<◌, ◌≤◌, true, length, [], ◌∷◌, IfOk};
 ghost use Rattle.cw_code.specs.Code.{code_view};
 ghost use Rattle.cw_code.specs.Fits as fits;
+ghost use Rattle.cw_verify.specs.Numbers as numbers;
 ghost use Rattle.cw_verify.specs.Table as table;
 ghost use Rattle.cw_verify.specs.Steps as steps;
 ghost use Rattle.cw_verify.specs.Steps.{OrMemory};
@@ -12,6 +13,7 @@ use crate::found::{self, Found};
 use crate::leave::leave;
 use crate::meet::join;
 use crate::named::past;
+use crate::numbers::Numbers;
 use crate::work::WorkList;
 use cw_code::code::{Code, Func, Instr};
 use cw_text::Fault;
@@ -25,12 +27,15 @@ struct Search {
     found: Vec<Option<Found>>,
     /// The places to visit, by their distance from the first one.
     work: WorkList,
+    /// Numbers for the blocks round the places.
+    numbers: Numbers,
 }
 
 impl Search {
     // A place is noted, if more came to it; by a branch, or not.
     fn note(&mut self, k: usize, branch: bool, more: bool) -> Result<(), Fault>
         ensures found { self.new.found.items ≡ self.old.found.items }
+        ensures numbers { self.new.numbers ≡ self.old.numbers }
         ensures work { steps.NotesIf more k self.old self.new result }
     {
         if more {
@@ -39,10 +44,19 @@ impl Search {
         Ok(())
     }
 
-    // A shape comes to a place, if it is there, by a branch or not; whether that reaches the place. A place to which more
-    // comes is noted.
-    fn come(&mut self, alloc: Global, k: usize, branch: bool, shape: Found) -> Result<bool, Fault>
-        ensures { steps.Comes k shape self.old self.new result }
+    // A shape comes to a place, if it is there, by a branch or not; whether that reaches the place. The blocks round the
+    // shape have a number. A place to which more comes is noted.
+    fn come(
+        &mut self,
+        alloc: Global,
+        k: usize,
+        branch: bool,
+        shape: Found,
+        number: u32,
+    ) -> Result<bool, Fault>
+        requires { numbers.IsKnownWith number shape self.old }
+        ensures comes { steps.Comes k shape self.old self.new result }
+        ensures known { numbers.KeepsKnown number shape self.old self.new result }
     {
         if k >= self.found.len() {
             return Err(Fault::Code);
@@ -51,11 +65,13 @@ impl Search {
         match there {
             None => {
                 self.found[k] = Some(shape);
+                self.numbers.set(k, number);
                 self.note(k, branch, true)?;
                 Ok(true)
             }
             Some(there) => {
-                let (joined, more) = join(alloc, there, &shape)?;
+                let meeting = self.numbers.meet(k, number, &there.outer, &shape.outer);
+                let (joined, more) = join(alloc, there, &shape, meeting)?;
                 self.found[k] = Some(joined);
                 self.note(k, branch, more)?;
                 Ok(false)
@@ -70,13 +86,16 @@ impl Search {
         k: usize,
         other: usize,
         shape: Found,
+        number: u32,
     ) -> Result<bool, Fault>
-        ensures { steps.ComesToAll (k ∷ other ∷ []) shape self.old self.new result }
+        requires { numbers.IsKnownWith number shape self.old }
+        ensures comes { steps.ComesToAll (k ∷ other ∷ []) shape self.old self.new result }
+        ensures known { numbers.KeepsKnown number shape self.old self.new result }
     {
         let copy = found::copy(&shape)?;
-        match self.come(alloc, k, true, shape) {
+        match self.come(alloc, k, true, shape, number) {
             Err(e) => Err(e),
-            Ok(reached) => match self.come(alloc, other, true, copy) {
+            Ok(reached) => match self.come(alloc, other, true, copy, number) {
                 Err(e) => Err(e),
                 Ok(more) => Ok(reached | more),
             },
@@ -92,43 +111,47 @@ impl Search {
         place: usize,
         i: &Instr,
         left: Found,
+        number: u32,
     ) -> Result<bool, Fault>
+        requires known { numbers.IsKnownWith number left self.old }
         requires from { f.now.start ≤ place }
         requires there { place < length code.now.instrs.items }
         requires named { fits.names_well (code_view code.now) f.now place i.now ≡ true }
-        ensures { steps.Spreads f.now place i.now left self.old self.new result }
+        ensures spreads { steps.Spreads f.now place i.now left self.old self.new result }
+        ensures known { numbers.KeepsKnown number left self.old self.new result }
     {
         let _code = code;
         let start = f.start;
         let next = place + 1 - start;
         match i {
-            Instr::Push(_) => self.come(alloc, next, false, left),
-            Instr::Load(_) => self.come(alloc, next, false, left),
-            Instr::Store(_) => self.come(alloc, next, false, left),
-            Instr::Unary(_, _) => self.come(alloc, next, false, left),
-            Instr::Binary(_, _) => self.come(alloc, next, false, left),
-            Instr::Skip(n) => self.come(alloc, past(place, *n, f.end) - start, false, left),
+            Instr::Push(_) => self.come(alloc, next, false, left, number),
+            Instr::Load(_) => self.come(alloc, next, false, left, number),
+            Instr::Store(_) => self.come(alloc, next, false, left, number),
+            Instr::Unary(_, _) => self.come(alloc, next, false, left, number),
+            Instr::Binary(_, _) => self.come(alloc, next, false, left, number),
+            Instr::Skip(n) => self.come(alloc, past(place, *n, f.end) - start, false, left, number),
             Instr::SkipIfZero(n) => self.come_both(
                 alloc,
                 next,
                 past(place, *n, f.end) - start,
                 left,
+                number,
             ),
-            Instr::GoBack(n) => self.come(alloc, place - *n as usize - start, false, left),
-            Instr::Call(_, _) => self.come(alloc, next, false, left),
-            Instr::Recur(_, _) => self.come(alloc, next, false, left),
-            Instr::Start(_, _) => self.come(alloc, next, false, left),
-            Instr::NewArray(_, _) => self.come(alloc, next, false, left),
-            Instr::Length(_) => self.come(alloc, next, false, left),
-            Instr::Element(_, _) => self.come(alloc, next, false, left),
-            Instr::SetElement(_, _) => self.come(alloc, next, false, left),
-            Instr::Cut(_, _) => self.come(alloc, next, false, left),
-            Instr::EndCut => self.come(alloc, next, false, left),
-            Instr::Sync => self.come(alloc, next, false, left),
-            Instr::Open(_) => self.come(alloc, next, false, left),
-            Instr::Close => self.come(alloc, next, false, left),
-            Instr::Print => self.come(alloc, next, false, left),
-            Instr::AddTo(_) => self.come(alloc, next, false, left),
+            Instr::GoBack(n) => self.come(alloc, place - *n as usize - start, false, left, number),
+            Instr::Call(_, _) => self.come(alloc, next, false, left, number),
+            Instr::Recur(_, _) => self.come(alloc, next, false, left, number),
+            Instr::Start(_, _) => self.come(alloc, next, false, left, number),
+            Instr::NewArray(_, _) => self.come(alloc, next, false, left, number),
+            Instr::Length(_) => self.come(alloc, next, false, left, number),
+            Instr::Element(_, _) => self.come(alloc, next, false, left, number),
+            Instr::SetElement(_, _) => self.come(alloc, next, false, left, number),
+            Instr::Cut(_, _) => self.come(alloc, next, false, left, number),
+            Instr::EndCut => self.come(alloc, next, false, left, number),
+            Instr::Sync => self.come(alloc, next, false, left, number),
+            Instr::Open(_) => self.come(alloc, next, false, left, number),
+            Instr::Close => self.come(alloc, next, false, left, number),
+            Instr::Print => self.come(alloc, next, false, left, number),
+            Instr::AddTo(_) => self.come(alloc, next, false, left, number),
             Instr::ReturnValue => Ok(false),
             Instr::Return => Ok(false),
         }
@@ -139,7 +162,9 @@ impl Search {
         requires row { k < length self.old.found.items }
         requires there { f.now.start + k < length code.now.instrs.items }
         requires named { table.IsNamed (code_view code.now) f.now (f.now.start + k) }
-        ensures { steps.Visits code.now f.now k self.old self.new result }
+        requires known { numbers.IsKnown self.old }
+        ensures visits { steps.Visits code.now f.now k self.old self.new result }
+        ensures known { IfOk result (λ _. numbers.IsKnown self.new) }
     {
         let place = f.start + k;
         let i = code.instrs[place];
@@ -153,7 +178,8 @@ impl Search {
             }
         };
         let left = leave(alloc, code, shape, &i)?;
-        self.spread(alloc, code, f, place, &i, left)
+        let number = self.numbers.next(k, &i);
+        self.spread(alloc, code, f, place, &i, left, number)
     }
 
     // Noted places are visited, up to the first visit that reaches a place; whether there was one.
@@ -161,7 +187,9 @@ impl Search {
         requires there { f.now.end ≤ length code.now.instrs.items }
         requires named { table.AllNamed (code_view code.now) f.now }
         requires search { table.Searches (code_view code.now) f.now self.old }
-        ensures { steps.Settles code.now f.now self.old self.new result }
+        requires known { numbers.IsKnown self.old }
+        ensures settles { steps.Settles code.now f.now self.old self.new result }
+        ensures known { IfOk result (λ _. numbers.IsKnown self.new) }
     {
         while let Some(k) = self.work.pop() {
             match self.visit(alloc, code, f, k) {
@@ -180,7 +208,8 @@ impl Search {
 // A search at its begin: the first place is reached, and noted.
 fn begin(alloc: Global, f: &Func) -> Result<Search, Fault>
     requires { f.now.start < f.now.end }
-    ensures { OrMemory result (λ s. table.Begins f.now s) }
+    ensures begins { OrMemory result (λ s. table.Begins f.now s) }
+    ensures known { OrMemory result (λ s. numbers.IsKnown s) }
 {
     let first = found::first(alloc, f)?;
     let mut found = Vec::new(alloc);
@@ -190,7 +219,12 @@ fn begin(alloc: Global, f: &Func) -> Result<Search, Fault>
     }
     let mut work = WorkList::new(alloc, f.end - f.start)?;
     work.push(0, false)?;
-    Ok(Search { found, work })
+    let numbers = Numbers::new(alloc, f.end - f.start)?;
+    Ok(Search {
+        found,
+        work,
+        numbers,
+    })
 }
 
 /// The table of a function whose instructions name what is there.

@@ -1,28 +1,25 @@
 use Rattle.std.proofs.Common.{sym, ap, ◌∙◌}
-use Rattle.cw_verify.specs.Table.{rounds_of, each_brings, either_each}
+use Rattle.cw_verify.specs.Table.{rounds_of, either_each}
+use Rattle.cw_verify.proofs.Numbering.{tells_stays, tells_comes, tells_both}
 use Rattle.cw_verify.proofs.Rounds.{are_there, are_come, are_both}
 use Rattle.cw_verify.proofs.round.shared_each.Goals as goal
 
-pub returns-then-not-each_brings : goal.returns-then-not-each_brings
-returns-then-not-each_brings c =
+pub returns-in-Stays : goal.returns-in-Stays
+returns-in-Stays c =
     let xs = rounds_of c.args.rounds.value in
     let ys = rounds_of c.args.more.now.value in
-    are_there xs ys (ap (λ r. each_brings (rounds_of r) ys) (sym c.deref.ensures) ∙ ap (λ r. each_brings (rounds_of c.deref.result.now) (rounds_of r)) (sym c.deref-2.ensures) ∙ sym c.each_brings.ensures ∙ c.if-not-each_brings.true)
+    are_there xs ys (tells_stays xs ys (sym c.in-Stays.is ∙ c.requires.is)).1
 
-pub returns-then-not-each_brings-2 : goal.returns-then-not-each_brings-2
-returns-then-not-each_brings-2 c =
+pub returns-in_ok-more-in-Comes : goal.returns-in_ok-more-in-Comes
+returns-in_ok-more-in-Comes c =
     let xs = rounds_of c.args.rounds.value in
     let ys = rounds_of c.args.more.now.value in
-    are_come xs ys (rounds_of c.in_ok-more.more.value)
-    (ap (λ r. each_brings (rounds_of r) ys) (sym c.deref.ensures) ∙ ap (λ r. each_brings (rounds_of c.deref.result.now) (rounds_of r)) (sym c.deref-2.ensures) ∙ sym c.each_brings.ensures ∙ c.if-not-each_brings.false)
-    c.requires
-    (ap (λ r. each_brings (rounds_of r) xs) (sym c.deref-3.ensures) ∙ ap (λ r. each_brings (rounds_of c.deref-3.result.now) (rounds_of r)) (sym c.deref-4.ensures) ∙ sym c.each_brings-2.ensures ∙ c.if-not-each_brings-2.true)
-    c.in_ok-more.ensures
+    let told = tells_comes xs ys (sym c.in-Comes.is ∙ c.requires.is) in
+    are_come xs ys (rounds_of c.in_ok-more-in-Comes.more.value) told.1 told.0 told.2 c.in_ok-more-in-Comes.ensures
 
-pub returns : goal.returns
-returns c =
+pub returns-in_ok-both-in-Both : goal.returns-in_ok-both-in-Both
+returns-in_ok-both-in-Both c =
     let xs = rounds_of c.args.rounds.value in
     let ys = rounds_of c.args.more.now.value in
-    are_both xs ys (rounds_of c.in_ok-both.both.value)
-    (ap (λ r. each_brings (rounds_of r) ys) (sym c.deref.ensures) ∙ ap (λ r. each_brings (rounds_of c.deref.result.now) (rounds_of r)) (sym c.deref-2.ensures) ∙ sym c.each_brings.ensures ∙ c.if-not-each_brings.false)
-    (c.in_ok-both.ensures ∙ ap (λ r. either_each (rounds_of r) (rounds_of c.deref-6.result.now)) c.deref-5.ensures ∙ ap (λ r. either_each xs (rounds_of r)) c.deref-6.ensures)
+    are_both xs ys (rounds_of c.in_ok-both-in-Both.both.value) (tells_both xs ys (sym c.in-Both.is ∙ c.requires.is))
+    (c.in_ok-both-in-Both.ensures ∙ ap (λ r. either_each (rounds_of r) (rounds_of c.deref-in-Both.result.now)) c.deref.ensures ∙ ap (λ r. either_each xs (rounds_of r)) c.deref-in-Both.ensures)

@@ -24,8 +24,8 @@ visit-requires-clause-named c = λ i is.
     let small = search.small k c.in-Some.ensures.here in
     c.requires.named (c.args.f.now.start + k) i (omega arith) (omega (arith, small, search.whole)) is
 
-pub returns-in-Err : goal.returns-in-Err
-returns-in-Err c =
+pub returns-in-Err-clause-settles : goal.returns-in-Err-clause-settles
+returns-in-Err-clause-settles c =
     let code = code_view c.args.code.now in
     let f = c.args.f.now in
     let k = c.in-Some.k in
@@ -34,11 +34,11 @@ returns-in-Err c =
     let small = search.small k c.in-Some.ensures.here in
     let t = there code.instrs (f.start + k) (omega (arith, small, search.whole, c.requires.there)) in
     let named = c.requires.named (f.start + k) t.0 (omega arith) (omega (arith, small, search.whole)) t.1 in
-    fails_from c.in-Err.e (visited code f.start (so_far old) k t.0) _ c.visit.new.self (HasNone code f) (c.in-Err.ensures t.0 t.1)
+    fails_from c.in-Err.e (visited code f.start (so_far old) k t.0) _ c.visit.new.self (HasNone code f) (c.in-Err.ensures.visits t.0 t.1)
     (λ none t' table. visit_goes code f (so_far old) k t.0 t.1 named t' table (search.below t' table) search.whole none)
 
-pub returns-then-reached : goal.returns-then-reached
-returns-then-reached c =
+pub returns-then-reached-clause-settles : goal.returns-then-reached-clause-settles
+returns-then-reached-clause-settles c =
     let code = code_view c.args.code.now in
     let f = c.args.f.now in
     let k = c.in-Some.k in
@@ -47,7 +47,7 @@ returns-then-reached c =
     let search = c.loop-k.invariant.search in
     let small = search.small k c.in-Some.ensures.here in
     let t = there code.instrs (f.start + k) (omega (arith, small, search.whole, c.requires.there)) in
-    let tells = c.in-Ok.ensures t.0 t.1 in
+    let tells = c.in-Ok.ensures.visits t.0 t.1 in
     record {
       search = visit_search code f (so_far old) (so_far new) (work_of old) (places_of c.pop.new.self) (work_of new) k t.0 c.in-Ok.reached c.requires.there c.requires.named search c.in-Some.ensures t.1 tells.0 tells.1;
       reaches = λ e. omega (arith, tells.1.reaches c.if-reached.true, c.loop-k.invariant.fewer);
@@ -64,7 +64,7 @@ loop-k-smaller c =
     let search = c.loop-k.invariant.search in
     let small = search.small k c.in-Some.ensures.here in
     let t = there code.instrs (f.start + k) (omega (arith, small, search.whole, c.requires.there)) in
-    let tells = c.in-Ok.ensures t.0 t.1 in
+    let tells = c.in-Ok.ensures.visits t.0 t.1 in
     let less : left_to_do (so_far new) (work_of new) < left_to_do (so_far old) (work_of old) = omega (arith, tells.1.shrinks c.if-reached.false, c.in-Some.ensures.longer) in
     less
 
@@ -78,14 +78,15 @@ loop-k-preserved c =
     let search = c.loop-k.invariant.search in
     let small = search.small k c.in-Some.ensures.here in
     let t = there code.instrs (f.start + k) (omega (arith, small, search.whole, c.requires.there)) in
-    let tells = c.in-Ok.ensures t.0 t.1 in
+    let tells = c.in-Ok.ensures.visits t.0 t.1 in
     record {
       search = visit_search code f (so_far old) (so_far new) (work_of old) (places_of c.pop.new.self) (work_of new) k t.0 c.in-Ok.reached c.requires.there c.requires.named search c.in-Some.ensures t.1 tells.0 tells.1;
       fewer = omega (arith, tells.1.fewer, c.loop-k.invariant.fewer);
+      known = c.in-Ok.ensures.known;
     }
 
-pub returns : goal.returns
-returns c =
+pub returns-clause-settles : goal.returns-clause-settles
+returns-clause-settles c =
     let code = code_view c.args.code.now in
     let old = c.loop-k.self in
     let none = c.in_default.ensures in
