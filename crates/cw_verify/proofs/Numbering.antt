@@ -54,10 +54,7 @@ are_alike_self [] = refl
 are_alike_self (x ∷ xs) = both_true (is_alike x x) (are_alike xs xs) (is_alike_self x) (are_alike_self xs)
 
 -- how blocks meet, by what was found out
-pub meets_apart : (xs ys : List Outer) → are_alike xs ys ≡ false → meeting_of xs ys ≡ meeting.Apart
-meets_apart xs ys a = ap (λ b. if b then (if each_brings xs ys then (if each_brings ys xs then meeting.Both else meeting.Comes) else meeting.Stays) else meeting.Apart) a
-
-pub meets_alike : (xs ys : List Outer) → are_alike xs ys ≡ true → meeting_of xs ys ≡ (if each_brings xs ys then (if each_brings ys xs then meeting.Both else meeting.Comes) else meeting.Stays)
+meets_alike : (xs ys : List Outer) → are_alike xs ys ≡ true → meeting_of xs ys ≡ (if each_brings xs ys then (if each_brings ys xs then meeting.Both else meeting.Comes) else meeting.Stays)
 meets_alike xs ys a = ap (λ b. if b then (if each_brings xs ys then (if each_brings ys xs then meeting.Both else meeting.Comes) else meeting.Stays) else meeting.Apart) a
 
 -- blocks of one number
@@ -103,9 +100,6 @@ tells_both xs ys e = at (are_alike xs ys) (each_brings xs ys) (each_brings ys xs
     at true true false e = cc
     at true true true e = refl
 
-pub tells_apart : (xs ys : List Outer) → meeting.Apart ≡ meeting_of xs ys → are_alike xs ys ≡ false
-tells_apart xs ys e = sym (tells_alike xs ys) ∙ ap meets (sym e)
-
 -- the number of what blocks come to
 none : (names : Names) (last : ℕ) (blocks : List Outer) → HasNumber names last 0 blocks
 none names last blocks = (omega arith, λ lt. absurd (omega (arith, lt)))
@@ -117,10 +111,6 @@ after_meeting names last a b xs ys meeting.Comes e h k =
     let told = tells_comes xs ys e in
     subst (HasNumber names last b) (sym (each_comes xs ys told.0 told.2)) k
 after_meeting names last a b xs ys meeting.Both e h k = none names last (either_each xs ys)
-
--- the last pair, where two numbers met
-pub pair_met : (names : Names) (last a b : ℕ) (xs ys : List Outer) (m : Meeting) → m ≡ meeting_of xs ys → 0 < a → 0 < b → HasNumber names last a xs → HasNumber names last b ys → IsPair names last (Some (record { there = a; found = b; meeting = m }))
-pair_met names last a b xs ys m e p q h k = (h.0, k.0, e ∙ ap (λ l. meeting_of l ys) (h.1 p) ∙ ap (meeting_of (names a)) (k.1 q))
 
 -- a number that a place was given
 set_number : (numbers : List ℕ) (k n : ℕ) → (number_of (slice_set numbers k n) k ≡ n) ⊎ (number_of (slice_set numbers k n) k ≡ 0)

@@ -1,8 +1,8 @@
 //! What comes to a place that has something already.
 
 ghost use Rattle.std.specs.Prelude.{◌≡◌};
-ghost use Rattle.cw_verify.specs.Meetings.{meeting_of};
 ghost use Rattle.cw_verify.specs.Table as table;
+ghost use Rattle.cw_verify.specs.Views as views;
 ghost use Rattle.cw_verify.specs.Steps as steps;
 
 use crate::found::Found;
@@ -14,7 +14,7 @@ use std::alloc::Global;
 
 // Whether two shapes can come to one place, whose blocks meet so.
 fn can_meet(there: &Found, found: &Found, meeting: Meeting) -> bool
-    requires { meeting ≡ meeting_of (table.rounds_of there.now.outer.value) (table.rounds_of found.now.outer.value) }
+    requires { meeting ≡ views.meeting_of there.now.outer.value found.now.outer.value }
     ensures { result ≡ table.can_meet (table.shape_view there.now) (table.shape_view found.now) }
 {
     let empty = there.empty.len() == found.empty.len();
@@ -30,7 +30,7 @@ pub fn join(
     found: &Found,
     meeting: Meeting,
 ) -> Result<(Found, bool), Fault>
-    requires { meeting ≡ meeting_of (table.rounds_of there.outer.value) (table.rounds_of found.now.outer.value) }
+    requires { meeting ≡ views.meeting_of there.outer.value found.now.outer.value }
     ensures { steps.Meets there found.now result }
 {
     if !can_meet(&there, found, meeting) {

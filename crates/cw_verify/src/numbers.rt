@@ -1,9 +1,8 @@
 //! Numbers for the blocks round the places of a function.
 
 ghost use Rattle.std.specs.Prelude.{◌≡◌, replicate, slice_get};
-ghost use Rattle.cw_verify.specs.Meetings.{meeting_of};
 ghost use Rattle.cw_verify.specs.Numbers as numbers;
-ghost use Rattle.cw_verify.specs.Table.{rounds_of};
+ghost use Rattle.cw_verify.specs.Views as views;
 ghost use Rattle.cw_verify.specs.Steps.{OrMemory};
 
 use crate::meeting::Meeting;
@@ -71,7 +70,7 @@ impl Numbers {
     // How blocks meet others, by their numbers if they tell.
     fn meeting(&self, there: u32, found: u32, rounds: &Rounds, more: &Rounds) -> Meeting
         requires { numbers.KnowsBoth there found rounds.now more.now self.now }
-        ensures { result ≡ meeting_of (rounds_of rounds.now) (rounds_of more.now) }
+        ensures { result ≡ views.meeting_of rounds.now more.now }
     {
         if there == 0 || found == 0 {
             return compare(rounds, more);
@@ -100,7 +99,7 @@ impl Numbers {
 
     /// How the blocks round a place meet others, which have a number. The place has the number of what they come to.
     pub fn meet(&mut self, k: usize, number: u32, rounds: &Rounds, more: &Rounds) -> Meeting
-        requires { numbers.KnowsBoth (numbers.number_of self.old.places.items k) number rounds.now more.now self.old }
+        requires { numbers.KnowsAt k number rounds.now more.now self.old }
         ensures { numbers.HasMet k number result rounds.now more.now self.old self.new }
     {
         let here = self.at(k);

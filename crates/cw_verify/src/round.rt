@@ -2,7 +2,7 @@
 
 ghost use Rattle.std.specs.Prelude.{◌≡◌, ◌∷◌, true};
 ghost use Rattle.cw_code.specs.Fits as fits;
-ghost use Rattle.cw_verify.specs.Meetings.{meeting_of};
+ghost use Rattle.cw_verify.specs.Meetings as meetings;
 ghost use Rattle.cw_verify.specs.Table as table;
 ghost use Rattle.cw_verify.specs.Views as views;
 ghost use Rattle.cw_verify.specs.Steps.{OrMemory};
@@ -166,8 +166,8 @@ pub fn shared_each(
     more: &Rc<Rounds>,
     meeting: Meeting,
 ) -> Result<(Rc<Rounds>, bool), Fault>
-    requires alike { table.are_alike (table.rounds_of rounds.value) (table.rounds_of more.now.value) ≡ true }
-    requires is { meeting ≡ meeting_of (table.rounds_of rounds.value) (table.rounds_of more.now.value) }
+    requires alike { meetings.meets meeting ≡ true }
+    requires is { meeting ≡ views.meeting_of rounds.value more.now.value }
     ensures { OrMemory result (λ r. views.IsEach rounds.value more.now.value r.0.value r.1) }
 {
     match meeting {
@@ -227,7 +227,7 @@ fn are_alike(rounds: &Rounds, others: &Rounds) -> bool
 
 /// How blocks meet others that come to their place.
 pub fn compare(rounds: &Rounds, more: &Rounds) -> Meeting
-    ensures { result ≡ meeting_of (table.rounds_of rounds.now) (table.rounds_of more.now) }
+    ensures { result ≡ views.meeting_of rounds.now more.now }
 {
     if !are_alike(rounds, more) {
         return Meeting::Apart;

@@ -62,7 +62,7 @@ returns-in_ok-note-in-None-clause-known c =
       last = last;
       all = λ names knows has. (
         known_set names old.found.items new.found.items old.numbers.places.items new.numbers.places.items old.numbers.last new.numbers.last c.args.k c.args.number c.replace-there.new.dest c.args.shape c.note.ensures.found (ap (λ n. n.places.items) same ∙ set.places)
-        last knows.0 has,
+            last knows.0 has,
         pair_same names old.numbers.last new.numbers.last old.numbers.pair new.numbers.pair last (ap (λ n. n.pair) same ∙ set.pair) knows.1,
       );
     }
@@ -84,17 +84,17 @@ returns-in_ok-note-in-Some-clause-known c =
     let last : new.numbers.last ≡ numbers.last = ap (λ n. n.last) same ∙ met.last in
     let is : m ≡ meeting_of (rounds_of there.outer.value) (rounds_of shape.outer.value) = met.is ∙ ap (λ r. meeting_of (rounds_of r) (rounds_of c.deref-in-Some.result.now)) c.deref.ensures ∙ ap (λ r. meeting_of (rounds_of there.outer.value) (rounds_of r)) c.deref-in-Some.ensures in
     let here : (names : Names) → AreNumbered names (shapes_of items) numbers.places.items numbers.last → HasNumber names numbers.last (number_of numbers.places.items k) (rounds_of there.outer.value) =
-      λ names h. there_numbered names items numbers.places.items numbers.last k c.replace-there.result c.index_mut.result.now there lt (c.replace-there.ensures.value ∙ c.index_mut.ensures.value) c.in-Some.is h in
+    λ names h. there_numbered names items numbers.places.items numbers.last k c.replace-there.result c.index_mut.result.now there lt (c.replace-there.ensures.value ∙ c.index_mut.ensures.value) c.in-Some.is h in
     let outer = joined_outer (shape_view there) (shape_view shape) (shape_view joined) c.in_ok-joined-in-Some.ensures.joins in
     record {
       last = last;
       all = λ names knows has. (
         known_set names items new.found.items numbers.places.items new.numbers.places.items numbers.last new.numbers.last k (number_after m (number_of numbers.places.items k) c.args.number) c.replace-there.new.dest joined c.note-in-Some.ensures.found
-        (ap (λ n. n.places.items) same ∙ met.places) last knows.0
-        (subst (HasNumber names numbers.last (number_after m (number_of numbers.places.items k) c.args.number)) (sym outer)
-        (after_meeting names numbers.last (number_of numbers.places.items k) c.args.number (rounds_of there.outer.value) (rounds_of shape.outer.value) m is (here names knows.0) has)),
+            (ap (λ n. n.places.items) same ∙ met.places) last knows.0
+            (subst (HasNumber names numbers.last (number_after m (number_of numbers.places.items k) c.args.number)) (sym outer)
+            (after_meeting names numbers.last (number_of numbers.places.items k) c.args.number (rounds_of there.outer.value) (rounds_of shape.outer.value) m is (here names knows.0) has)),
         subst (λ n. IsPair names n.last n.pair) (sym same)
-        (met.pair names (subst (λ r. HasNumber names numbers.last (number_of numbers.places.items k) (rounds_of r)) (sym c.deref.ensures) (here names knows.0))
-        (subst (λ r. HasNumber names numbers.last c.args.number (rounds_of r)) (sym c.deref-in-Some.ensures) has) knows.1),
+            (met.pair names (subst (λ r. HasNumber names numbers.last (number_of numbers.places.items k) (rounds_of r)) (sym c.deref.ensures) (here names knows.0))
+            (subst (λ r. HasNumber names numbers.last c.args.number (rounds_of r)) (sym c.deref-in-Some.ensures) has) knows.1),
       );
     }

@@ -39,6 +39,6 @@ returns-in-Ok-come-clause-known c =
     record {
       last = second.last ∙ first.last;
       all = λ names knows has.
-        second.all names (first.all names knows has)
-        (copied names c.args.self.now.numbers.last c.come.new.self.numbers.last c.args.number c.args.shape c.in_ok-copy.copy first.last c.in_ok-copy.ensures has);
+          second.all names (first.all names knows has)
+          (copied names c.args.self.now.numbers.last c.come.new.self.numbers.last c.args.number c.args.shape c.in_ok-copy.copy first.last c.in_ok-copy.ensures has);
     }
