@@ -1,15 +1,16 @@
 //! What instructions on arrays do.
 
-ghost use Rattle.std.specs.Prelude.{◌≡◌, ◌+◌, ◌<◌, ◌^◌, [], length, Some, slice_set, slice_index_or};
+ghost use Rattle.std.specs.Prelude.{◌≡◌, ◌+◌, ◌<◌, ◌^◌, [], length, Some, OnOk, slice_set, slice_index_or};
 ghost use Rattle.cw_verify.specs.declared.op.Op.TheVariants as op;
 ghost use Rattle.cw_machine.specs.Arrays as arrays;
-ghost use Rattle.cw_machine.specs.Shows.{blocks_of, HasReviewed, StaysBut, IsAt, Does};
+ghost use Rattle.cw_machine.specs.Shows.{blocks_of, HasRenewed, HasReviewed, StaysBut, IsAt, Does};
 
 use crate::machine::{Machine, Moved, View};
 use cw_code::code::Halves;
 use cw_model::limits::MOST_ELEMENTS;
 use cw_model::trap::Trap;
 use cw_verify::verified::Verified;
+use std::alloc::AllocError;
 
 // The greatest length of an array, as an operand.
 const GREATEST_LENGTH: i64 = MOST_ELEMENTS as i64;
@@ -104,6 +105,20 @@ impl Machine {
         self.blocks[cell] = block;
     }
 
+    // A block of so many zeros for a cell. The one that it had is let go first, so that there are never two.
+    fn renew_block(&mut self, cell: usize, len: usize) -> Result<(), AllocError>
+        requires { cell < length self.old.blocks.items }
+        ensures blocks { OnOk result (HasRenewed self.old cell len self.new) }
+        ensures views { self.new.views.items ≡ self.old.views.items }
+        ensures rest { StaysBut self.old self.new }
+    {
+        let alloc = *self.blocks.allocator();
+        self.set_block(cell, Vec::new(alloc));
+        let zeros = Vec::from_elem(alloc, 0i64, len)?;
+        self.set_block(cell, zeros);
+        Ok(())
+    }
+
     // An array of zeros, into a slot.
     #[inline(always)]
     pub(crate) fn new_array(&mut self, code: &Verified, d: usize, a: u32, line: u32) -> Moved
@@ -115,11 +130,9 @@ impl Machine {
             Ok(len) => len,
             Err(trap) => return Moved::Trapped(trap, line),
         };
-        let alloc = *self.blocks.allocator();
-        match Vec::from_elem(alloc, 0i64, len) {
-            Ok(zeros) => {
-                let at = self.first_array + a as usize;
-                self.set_block(at, zeros);
+        let at = self.first_array + a as usize;
+        match self.renew_block(at, len) {
+            Ok(()) => {
                 self.set_view(at, at, 0, len);
                 self.place += 1;
                 Moved::On
