@@ -1,5 +1,5 @@
 -- Which jobs of the definitions a job is.
-use Rattle.std.specs.Prelude.{◌≡◌, ◌⊎◌, ℕ, ◌-◌, ◌<◌, ◌≤◌, ℤ, pos, Bool, true, false, ◌&&◌, nat_eq, nat_le, List, [], ◌∷◌, ◌++◌, length, replicate, Option, Some, None, slice_get}
+use Rattle.std.specs.Prelude.{◌≡◌, ◌≢◌, ◌⊎◌, ℕ, ◌-◌, ◌<◌, ◌≤◌, ℤ, pos, Bool, true, false, ◌&&◌, nat_eq, nat_le, List, [], ◌∷◌, ◌++◌, length, replicate, Option, Some, None, slice_get}
 use Rattle.std.specs.Arc.{arc_value}
 use Rattle.cw_slices.specs.Placed.{Placed, IsOwn}
 use Rattle.cw_model.specs.declared.limits.TheConstants.{MOST_LIMIT, MOST_BURDEN}
@@ -75,9 +75,26 @@ IsPartIn a (o ∷ outer) = IsPartOf a o.cut ⊎ IsPartIn a outer
 abbrev pub IsFixed : (v : Verified) → Ok v → (place slot : ℕ) → Type 0
 IsFixed v ok place a = (seat : Seat (code_view v.code) ok.fits place) × ((a < seat.func.array_params) ⊎ IsPartIn a seat.shape.outer)
 
+-- the array of a slot that comes home: the job's own, where a new one was made in the slot
+abbrev pub own_or : Option (Option Placed) → Placed → Placed
+own_or (Some (Some own)) p = own
+own_or (Some None) p = p
+own_or None p = p
+
+abbrev pub home_of : (back : List Placed) → (replaced : List (Option Placed)) → (slot : ℕ) → Placed
+home_of back replaced a = own_or (slice_get replaced a) (placed back a)
+
 -- what comes back of a job's arrays lies where it lay
-abbrev pub KeepsHomes : (v : Verified) → Ok v → Job → (job back : List Placed) → Type 0
-KeepsHomes v ok j slices back = (a : ℕ) (xs : List ℤ) → IsFixed v ok j.place a → slice_get j.arrays a ≡ Some (Some xs) → LiesAs (placed back a) (placed slices a)
+abbrev pub KeepsHomes : (slices back : List Placed) → (replaced : List (Option Placed)) → Type 0
+KeepsHomes slices back replaced = (length back ≡ length slices) × ((a : ℕ) → LiesAs (home_of back replaced a) (placed slices a))
+
+-- no new array is made in a slot
+abbrev pub IsOwnIn : List (Option Placed) → (slot : ℕ) → Type 0
+IsOwnIn replaced a = (p : Placed) → slice_get replaced a ≢ Some (Some p)
+
+-- no new array is made in a slot whose array must come back where it lay
+abbrev pub KeepsFixed : (v : Verified) → Ok v → (place : ℕ) → (replaced : List (Option Placed)) → Type 0
+KeepsFixed v ok place replaced = (a : ℕ) → IsFixed v ok place a → IsOwnIn replaced a
 
 -- a job that can be run: it is one of the definitions, and its numbers are in their ranges
 pub record IsSound (p : Parts) : Type 0 where

@@ -18,7 +18,8 @@ pub struct Shown {
     pub cost: u64,
 }
 
-/// What a strand makes of its job. One that stopped gives back the arrays of the job's array slots.
+/// What a strand makes of its job. The arrays of the job's array slots come back, each in the memory in which it was given;
+/// of a call that ended none was.
 #[derive(Drop)]
 pub enum Effect {
     /// The call has ended, with its value if it gives one.
@@ -26,9 +27,11 @@ pub enum Effect {
         value: Option<i64>,
         shown: Shown,
     },
-    /// The run is at the join of the block that it began in.
+    /// The run is at the join of the block that it began in. Where a new array was made in a slot of the job, the job's own
+    /// is in `replaced`.
     Joined {
         frame: Rest,
+        replaced: Vec<Option<Slice>>,
         shown: Shown,
     },
     /// A trap, with its line, what was printed before, and the instructions up to it.
