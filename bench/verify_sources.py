@@ -22,6 +22,7 @@ STATEMENTS = {
     "regions": ("region t{}", 2),
     "signs": ("x0=" + "-" * 250 + "1;", 252),
     "sums": ("x0=x1" + "+x1" * 125 + ";", 252),
+    "inside": ("if(1){region t{}}", 4),
     "branches": ("if(1){}", 2),
     "either": ("if(1){}else{}", 3),
     "loops": ("while(0){}", 3),
