@@ -1,15 +1,15 @@
 -- Steps that are moved down in a list: what each part of it says then.
-use Rattle.std.specs.Prelude.{◌≡◌, ℕ, suc, ◌+◌, ◌-◌, ◌≤◌, min, List, [], ◌∷◌, ◌++◌, length, take, drop}
-use Rattle.std.proofs.Common.{sym, ◌∙◌, ap, subst, inl, inr, length-append, length-drop, arith, get_or}
+use Rattle.std.specs.Prelude.{◌≡◌, ℕ, suc, ◌+◌, ◌-◌, ◌≤◌, ◌<◌, min, List, [], ◌∷◌, ◌++◌, length, take, drop}
+use Rattle.std.proofs.Common.{sym, ◌∙◌, ap, subst, inl, inr, length-append, length-drop, arith, get_or, set, swap_remove}
 use Rattle.std.specs.List.{SameBelow, SameFrom}
 use Rattle.std.proofs.Math.Seq.{paste}
 use Rattle.std.proofs.lemmas.Bool.{cases_lt}
-use Rattle.std.proofs.lemmas.List.{length-take-le, get_or-take}
+use Rattle.std.proofs.lemmas.List.{length-set, length-take-le, get_or-take}
 use Rattle.std.proofs.lemmas.List.Edits.{length-paste}
 use Rattle.cw_sites.specs.declared.steps.Steps.{Steps}
 use Rattle.cw_sites.specs.StepSums.{upto, whole, AllBelow, IsMovedDown, IsCutOut, IsClosedUp, WritesWithin, WritesTwice}
-use Rattle.cw_sites.proofs.StepSumLaws.{upto-append, upto-take, upto-drop}
-use Rattle.cw_sites.proofs.CompactingLaws.{all_below-append, all_below-take, all_below-drop}
+use Rattle.cw_sites.proofs.StepSumLaws.{upto-append, upto-take, upto-drop, upto-set, upto-last, upto-next, upto_past-set}
+use Rattle.cw_sites.proofs.CompactingLaws.{all_below_at, all_below-append, all_below-take, all_below-drop, all_below-set}
 
 -- the steps of two lists, one behind the other
 upto_behind : (q : ℕ) (xs ys : List Steps) (n : ℕ) → upto q (xs ++ ys) (length xs + n) ≡ whole q xs + upto q ys n
@@ -151,6 +151,41 @@ cut_out from to end old moved new z order within h e =
           let g = ap (upto q old) z in
           omega arith;
     }
+
+-- a part of one step is taken out, and the last step comes to lie there
+pub swapped_out : (from to : ℕ) (old new : List Steps) (gone : Steps) → from + 1 ≡ to → to ≤ length old → new ≡ swap_remove old from gone → IsCutOut from to old new
+swapped_out from to old new gone one within e =
+    let last = get_or old (length old - 1) gone in
+    let k = length-set old from last in
+    let l : length new ≡ length old - 1 = ap length e ∙ length-take-le (length old - 1) (set old from last) (omega arith) in
+    record {
+      count_is = omega arith;
+      below = λ q m b. ap (λ (xs : List Steps). upto q xs m) e ∙ upto-take q (set old from last) (length old - 1) m (omega arith) ∙ upto-set q old from m last b;
+      all = λ q.
+          let a = ap (whole q) e in
+          let b = whole_take q (set old from last) (length old - 1) (omega arith) in
+          let d = upto-last q old (length old - 1) gone (omega arith) in
+          let f = ap (upto q old) one in
+          elim (cases_lt from (length old - 1)) [
+            | inl less ↦
+                let g = upto_past-set q old from (length old - 1) last gone (omega arith) less in
+                let h = upto-next q old from gone (omega arith) in
+                omega arith
+            | inr end ↦
+                let z : length old ≡ to = omega arith in
+                let g = ap (upto q old) z in
+                let y : length old - 1 ≡ from = omega arith in
+                let h = upto-set q old from (length old - 1) last (omega arith) in
+                let i = ap (upto q old) y in
+                omega arith
+          ];
+    }
+
+pub all_below-swapped : (most : ℕ) (old new : List Steps) (from : ℕ) (gone : Steps) → from < length old → new ≡ swap_remove old from gone → AllBelow most old → AllBelow most new
+all_below-swapped most old new from gone within e a =
+    let P : List Steps → Type 0 = AllBelow most in
+    let last = get_or old (length old - 1) gone in
+    subst P (sym e) (all_below-take most (set old from last) (length old - 1) (all_below-set most old from last (all_below_at most old (length old - 1) gone (omega arith) a) a))
 
 -- a part is taken out in front of a path, and then what the path left behind it
 pub closed_up : (from to end mid : ℕ) (old moved new : List Steps) → from ≤ to → to ≤ end → end ≤ length old → mid ≡ from + (end - to) → IsMovedDown from to end old moved → IsCutOut mid end moved new → IsClosedUp from to end old new mid

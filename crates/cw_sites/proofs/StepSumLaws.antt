@@ -55,7 +55,7 @@ abbrev steps_if : Bool → ℕ → ℕ
 steps_if b k = if b then k else 0
 
 -- the last steps, and those before them
-upto-last : (q : ℕ) (xs : List Steps) (i : ℕ) (d : Steps) → suc i ≡ length xs → upto q xs i + if_site q (get_or xs i d).site (get_or xs i d).count ≡ whole q xs
+pub upto-last : (q : ℕ) (xs : List Steps) (i : ℕ) (d : Steps) → suc i ≡ length xs → upto q xs i + if_site q (get_or xs i d).site (get_or xs i d).count ≡ whole q xs
 upto-last q [] i d h = absurd (omega arith)
 upto-last q (x ∷ []) zero d h = omega arith
 upto-last q (x ∷ []) (suc i) d h = absurd (omega arith)

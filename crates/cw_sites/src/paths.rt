@@ -8,6 +8,7 @@
 //! of the paths that are joined.
 
 ghost use Rattle.std.specs.Prelude.{◌≡◌, ℕ, ◌+◌, ◌-◌, ◌^◌, ◌<◌, ◌==◌, ◌≤◌, length, min, if◌then◌else◌, IfOk, OnOk};
+ghost use Rattle.std.specs.Vec.{vec_len, vec_capacity};
 ghost use Rattle.cw_sites.specs.Compacting.{AddsUpWithin, CountsOn};
 ghost use Rattle.cw_sites.specs.PathBounds.{ComesToFit, FitsAt, FitsBeside, GrowsAt, IsTight, JoinsTight, JoinsTightWith, KeepsLimit};
 ghost use Rattle.cw_sites.specs.PathBounds.{StaysShort, StaysTight, StaysTightBeside, StaysTightWith};
@@ -128,6 +129,7 @@ impl Paths {
         ensures kept { OnOk result (StaysBelow self.old.steps.items self.new.steps.items) }
         ensures limit { OnOk result (KeepsLimit self.old self.new) }
         ensures rest { OnOk result (KeepsBlocks self.old self.new) }
+        ensures room { OnOk result (self.new.blocks ≡ self.old.blocks) }
     {
         let end = add_up(&mut self.steps, from, to, &mut self.sums)?;
         let twice = self.sums.len().saturating_mul(2);
@@ -175,7 +177,7 @@ impl Paths {
                 // Nothing, where the child before has ended.
                 take_out(&mut self.steps, f.end, f.child);
                 let len = self.steps.len();
-                self.blocks.push(Block {
+                self.blocks.push_reserved(Block {
                     base: f.base,
                     longest: f.longest,
                     rest: self.weight,
@@ -183,7 +185,7 @@ impl Paths {
                     mid: f.mid,
                     end: f.end,
                     child: len,
-                })?;
+                });
                 self.weight = 0;
                 self.start = len;
                 Ok(())
@@ -221,7 +223,7 @@ impl Paths {
                     self.take(f)?;
                     Ok(())
                 } else {
-                    self.let_go(f)?;
+                    self.let_go(f);
                     Ok(())
                 }
             }
@@ -231,13 +233,14 @@ impl Paths {
     // The child that ran is the longest of this block: what was the longest is taken out.
     #[inline(always)]
     fn take(&mut self, f: Block) -> Result<(), AllocError>
+        requires room { vec_len self.old.blocks < vec_capacity self.old.blocks }
         ensures laid { OnOk result (LaidWith self.old f → Laid self.new) }
         ensures bounded { OnOk result (StaysTightWith self.old f self.new) }
         ensures strand_path { OnOk result (TakesChild self.old self.new f) }
     {
         let mid = self.gather(f)?;
         let len = self.steps.len();
-        self.blocks.push(Block {
+        self.blocks.push_reserved(Block {
             base: f.base.saturating_add(f.rest),
             longest: Some(self.weight),
             rest: 0,
@@ -245,7 +248,7 @@ impl Paths {
             mid,
             end: len,
             child: len,
-        })?;
+        });
         self.weight = 0;
         self.start = len;
         Ok(())
@@ -257,12 +260,23 @@ impl Paths {
         ensures all { IfOk result (λ mid. GathersBase self.old self.new f mid) }
         ensures short { IfOk result (λ mid. StaysShort self.old self.new f mid) }
         ensures rest { OnOk result (KeepsBlocks self.old self.new) }
+        ensures room { OnOk result (self.new.blocks ≡ self.old.blocks) }
     {
         // The block's first child, at whose spawn the base ended.
         if f.mid == f.child {
             return Ok(f.mid);
         }
-        let mid = self.gather_steps(f)?;
+        // In memory of its own, so that the block of a first child is not put there.
+        let later = Block {
+            base: f.base,
+            longest: f.longest,
+            rest: f.rest,
+            from: f.from,
+            mid: f.mid,
+            end: f.end,
+            child: f.child,
+        };
+        let mid = self.gather_steps(later)?;
         Ok(mid)
     }
 
@@ -272,6 +286,7 @@ impl Paths {
         ensures all { IfOk result (λ mid. GathersBase self.old self.new f mid) }
         ensures short { IfOk result (λ mid. StaysShort self.old self.new f mid) }
         ensures rest { OnOk result (KeepsBlocks self.old self.new) }
+        ensures room { OnOk result (self.new.blocks ≡ self.old.blocks) }
     {
         let mid = close_up(&mut self.steps, f.mid, f.end, f.child);
         if mid > f.from.wrapping_add(self.limit) {
@@ -283,13 +298,14 @@ impl Paths {
 
     // The child that ran is not the longest of this block: its steps are dropped.
     #[inline(always)]
-    fn let_go(&mut self, f: Block) -> Result<(), AllocError>
-        ensures laid { OnOk result (LaidWith self.old f → Laid self.new) }
-        ensures bounded { OnOk result (StaysTightWith self.old f self.new) }
-        ensures strand_path { OnOk result (LetsChildGo self.old self.new f) }
+    fn let_go(&mut self, f: Block)
+        requires room { vec_len self.old.blocks < vec_capacity self.old.blocks }
+        ensures laid { LaidWith self.old f → Laid self.new }
+        ensures bounded { StaysTightWith self.old f self.new }
+        ensures strand_path { LetsChildGo self.old self.new f }
     {
         self.steps.truncate(f.child);
-        self.blocks.push(Block {
+        self.blocks.push_reserved(Block {
             base: f.base,
             longest: f.longest,
             rest: 0,
@@ -297,10 +313,9 @@ impl Paths {
             mid: f.mid,
             end: f.end,
             child: f.end,
-        })?;
+        });
         self.weight = f.rest;
         self.start = f.end;
-        Ok(())
     }
 
     /// The innermost block that has spawned joins.

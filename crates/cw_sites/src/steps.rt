@@ -52,9 +52,14 @@ pub fn take_out(steps: &mut Vec<Steps>, from: usize, to: usize)
     if from >= to || to > steps.len() {
         return;
     }
+    if to - from == 1 {
+        let _gone = steps.swap_remove(from);
+        return;
+    }
     cut(steps, from, to);
 }
 
+#[inline(never)]
 fn cut(steps: &mut Vec<Steps>, from: usize, to: usize)
     requires order { from ≤ to }
     requires within { to ≤ length steps.old.items }
