@@ -152,6 +152,20 @@ cut_out from to end old moved new z order within h e =
           omega arith;
     }
 
+-- the last part is taken out
+pub last_out : (from to : ℕ) (old new : List Steps) → from ≤ to → to ≡ length old → new ≡ take from old → IsCutOut from to old new
+last_out from to old new order end e =
+    let l : length new ≡ from = ap length e ∙ length-take-le from old (omega arith) in
+    record {
+      count_is = omega arith;
+      below = λ q m b. ap (λ (xs : List Steps). upto q xs m) e ∙ upto-take q old from m b;
+      all = λ q.
+          let a = ap (whole q) e in
+          let b = whole_take q old from (omega arith) in
+          let d = ap (upto q old) end in
+          omega arith;
+    }
+
 -- a part of one step is taken out, and the last step comes to lie there
 pub swapped_out : (from to : ℕ) (old new : List Steps) (gone : Steps) → from + 1 ≡ to → to ≤ length old → new ≡ swap_remove old from gone → IsCutOut from to old new
 swapped_out from to old new gone one within e =

@@ -241,7 +241,7 @@ impl Paths {
         let mid = self.gather(f)?;
         let len = self.steps.len();
         self.blocks.push_reserved(Block {
-            base: f.base.saturating_add(f.rest),
+            base: f.base.wrapping_add(f.rest),
             longest: Some(self.weight),
             rest: 0,
             from: f.from,
@@ -266,7 +266,7 @@ impl Paths {
         if f.mid == f.child {
             return Ok(f.mid);
         }
-        // In memory of its own, so that the block of a first child is not put there.
+        // A copy, so that only a later child's block is put in memory for the call.
         let later = Block {
             base: f.base,
             longest: f.longest,
@@ -362,7 +362,7 @@ impl Paths {
         match f.longest {
             Some(l) if l >= self.weight => {
                 self.steps.truncate(f.end);
-                self.weight = f.base.saturating_add(l);
+                self.weight = f.base.wrapping_add(l);
                 self.start = f.from;
             }
             _ => {
@@ -379,7 +379,7 @@ impl Paths {
         ensures strand_path { ClosesBlock self.old self.new f }
     {
         take_out(&mut self.steps, f.mid, self.start);
-        self.weight = f.base.saturating_add(self.weight);
+        self.weight = f.base.wrapping_add(self.weight);
         self.start = f.from;
     }
 

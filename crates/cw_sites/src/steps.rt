@@ -52,6 +52,12 @@ pub fn take_out(steps: &mut Vec<Steps>, from: usize, to: usize)
     if from >= to || to > steps.len() {
         return;
     }
+    // Nothing lies behind it.
+    if to == steps.len() {
+        steps.truncate(from);
+        return;
+    }
+    // One step, as a small child's path mostly is.
     if to - from == 1 {
         let _gone = steps.swap_remove(from);
         return;
