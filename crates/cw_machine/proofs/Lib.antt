@@ -21,6 +21,7 @@ pub mod Going
 pub mod Additions
 pub mod Told
 pub mod Metering
+pub mod Keyed
 pub mod FromMain
 pub mod Inside
 pub mod Pieces

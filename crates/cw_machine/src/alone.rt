@@ -1,6 +1,7 @@
 //! A run with one worker.
 
-ghost use Rattle.std.specs.Prelude.{◌≡◌, IfOk};
+ghost use Rattle.std.specs.Prelude.{◌≡◌, true, IfOk};
+ghost use Rattle.std.specs.List.{enumerate_from, zip};
 ghost use Rattle.cw_code.specs.Code.{code_view};
 ghost use Rattle.cw_code.specs.Fits as fits;
 ghost use Rattle.cw_machine.specs.Runs as runs;
@@ -11,10 +12,12 @@ use crate::run::Run;
 use cw_code::code::Code;
 use cw_meter::Readings;
 use cw_model::limits::{MOST_BURDEN, MOST_LIMIT};
+use cw_model::syntax::Name;
 use cw_regions::RegionRow;
 use cw_sites::table::SiteRow;
 use cw_text::Fault;
 use cw_verify::verified::Verified;
+use indexmap::IndexMap;
 use std::alloc::{AllocError, Global};
 use std::sync::Arc;
 
@@ -29,10 +32,11 @@ pub struct Ended {
     pub sums: Vec<i128>,
     /// Work, span and burdened span of the whole run, in instructions.
     pub measure: Readings,
-    /// What is counted of each call site, by its number: 0 is the call of `main` by the run itself.
-    pub sites: Vec<SiteRow>,
-    /// What is counted of each region tag, in the order of the code's tags.
-    pub regions: Vec<RegionRow>,
+    /// What is counted of each call site, under its number and in the order of the numbers: 0 is the call of `main` by
+    /// the run itself.
+    pub sites: IndexMap<u32, SiteRow>,
+    /// What is counted of each region tag, under its bytes and in the order of the code's tags.
+    pub regions: IndexMap<Vec<u8>, RegionRow>,
 }
 
 /// Runs code on these arguments within `n` instructions: its value, the values printed, the sum of each reducer and all
@@ -82,7 +86,8 @@ pub fn run_alone(
     }
 }
 
-// What a run of code comes to that ended after so many instructions, with this value if it gives one.
+// What a run of code comes to that ended after so many instructions, with this value if it gives one. Of the code's tags
+// no two are the same.
 fn finished(
     alloc: Global,
     code: &Code,
@@ -90,19 +95,51 @@ fn finished(
     value: Option<i64>,
     count: u64,
 ) -> Result<Ended, AllocError>
+    requires { fits.are_apart code.now.tags.items ≡ true }
     ensures { IfOk result (λ e. runs.IsEndOf code.now run value count e) }
 {
     let Run { machine, meter } = run;
     let sites = code.sites.len() + 1;
     let all = meter.finish(alloc, count, sites, code.tags.len())?;
+    let sites = by_number(alloc, all.sites.as_slice())?;
+    let regions = by_tag(alloc, code.tags.as_slice(), all.regions.as_slice())?;
     Ok(Ended {
         value: int_given(value),
         lines: machine.lines,
         sums: machine.sums,
         measure: all.measure,
-        sites: all.sites,
-        regions: all.regions,
+        sites,
+        regions,
     })
+}
+
+// The rows under their numbers. A number of a site has 32 bits, and a map has no room for as many rows as that.
+fn by_number(alloc: Global, rows: &[SiteRow]) -> Result<IndexMap<u32, SiteRow>, AllocError>
+    ensures { IfOk result (λ m. m.entries ≡ enumerate_from 0 rows.now) }
+{
+    let mut sites = IndexMap::with_capacity(alloc, rows.len())?;
+    for (number, row) in rows.iter().enumerate() {
+        let number = u32::try_from(number).or(Err(AllocError))?;
+        sites.insert(number, *row)?;
+    }
+    Ok(sites)
+}
+
+// The rows under their tags, of which no two are the same.
+fn by_tag(
+    alloc: Global,
+    tags: &[Name],
+    rows: &[RegionRow],
+) -> Result<IndexMap<Vec<u8>, RegionRow>, AllocError>
+    requires { fits.are_apart tags.now ≡ true }
+    ensures { IfOk result (λ m. runs.named m.entries ≡ zip tags.now rows.now) }
+{
+    let mut regions = IndexMap::with_capacity(alloc, rows.len())?;
+    for (tag, row) in tags.iter().zip(rows) {
+        let key = Vec::from_slice(alloc, tag.as_bytes())?;
+        regions.insert(key, *row)?;
+    }
+    Ok(regions)
 }
 
 /// How many arguments `main` takes.

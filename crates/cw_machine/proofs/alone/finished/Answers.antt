@@ -1,4 +1,5 @@
-use Rattle.std.proofs.Common.{rules, ◌≡◌, ◌+◌, length, refl, ◌∙◌, subst, w64, of_z, to_z}
+use Rattle.std.proofs.Common.{rules, ◌≡◌, ◌+◌, length, refl, ap, ap₂, ◌∙◌, subst, w64, of_z, to_z}
+use Rattle.std.specs.List.{enumerate_from, zip}
 use Rattle.cw_meter.specs.Whole.{Reads}
 use Rattle.cw_machine.proofs.alone.finished.Goals as goal
 
@@ -15,5 +16,9 @@ returns c =
       value = same ∙ c.int_given.ensures;
       lines = refl;
       sums = refl;
+      all = all;
       reads = subst (λ k. Reads m c.args.count (k + 1) (length code.tags.items) all) sites (subst (λ k. Reads m c.args.count (c.len-sites.result + 1) k all) tags c.in_ok-all.ensures);
+      measure = refl;
+      sites = c.in_ok-sites.ensures ∙ ap (enumerate_from 0) c.as_slice.ensures.value;
+      regions = c.in_ok-regions.ensures ∙ ap₂ zip c.as_slice-2.ensures.value c.as_slice-3.ensures.value;
     }
