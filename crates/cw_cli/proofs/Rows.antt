@@ -3,6 +3,7 @@ use Rattle.std.proofs.Common.{◌≡◌, ◌∙◌, ◌+◌, ℕ, suc, Bool, tru
 use Rattle.std.specs.Prelude.{nat_eq, slice_get, decimal}
 use Rattle.std.proofs.lemmas.Bool.Decides.{nat_tests}
 use Rattle.std.proofs.lemmas.List.{length-map}
+use Rattle.indexmap.specs.IndexMap.{values}
 use Rattle.cw_model.specs.Syntax.{Program, Name}
 use Rattle.cw_model.specs.Trees.{Tree}
 use Rattle.cw_model.specs.Answers.{Ended}
@@ -33,11 +34,11 @@ tags_are (tag ∷ tags) (row ∷ rows) burden t h =
     ap₂ (λ a b. a ++ b) (line_is tag _ _ _ _ _ _ is.work is.span is.burdened)
     (tags_are tags rows burden t (record { as_many = omega (arith, e); are = λ k r g there named. h.are (suc k) r g there named }))
 
-pub scale_is : (program : Program) (code : Code) (burden : ℕ) (e : run.Ended) (t : Tree) → code.tags ≡ tags_of program → AreReadings burden t e.measure → AreRegionRows burden code.tags t e.regions.items
+pub scale_is : (program : Program) (code : Code) (burden : ℕ) (e : run.Ended) (t : Tree) → code.tags ≡ tags_of program → AreReadings burden t e.measure → AreRegionRows burden code.tags t (values e.regions)
     → scale_of code (Ok e) ≡ scale_text program burden (Ended e.value e.lines.items e.sums.items t)
 scale_is program code burden e t tags whole rows =
     ap₂ (λ a b. scale_header ++ (a ++ b)) (line_is [] _ _ _ _ _ _ whole.work whole.span whole.burdened)
-    (tags_are code.tags e.regions.items burden t rows ∙ ap (flat_map (region_line burden t)) tags)
+    (tags_are code.tags (values e.regions) burden t rows ∙ ap (flat_map (region_line burden t)) tags)
 
 -- ---- sites
 
@@ -87,9 +88,9 @@ all_rows_are root all (row ∷ rows) t first numbered h =
     there_at k site r at there = ap (slice_get (row ∷ rows)) at ∙ there
 
 pub sites_are : (program : Program) (code : Code) (e : run.Ended) (t : Tree) → told_sites code ≡ call_sites program → code.main_line ≡ (root_site program).line
-    → are_numbered 0 (call_sites program) ≡ true → AreSiteRows (length code.sites + 1) t e.sites.items
+    → are_numbered 0 (call_sites program) ≡ true → AreSiteRows (length code.sites + 1) t (values e.sites)
     → sites_of code (Ok e) ≡ sites_text program (Ended e.value e.lines.items e.sums.items t)
 sites_are program code e t told line numbered rows =
     let count : length code.sites ≡ length (call_sites program) = sym (length-map code.sites (λ s. s.told)) ∙ ap length told in
-    ap₂ (λ l all. sites_header ++ row_lines (root_at l ∷ all) e.sites.items) line told
-    ∙ ap (λ text. sites_header ++ text) (all_rows_are (root_site program) (call_sites program) e.sites.items t refl numbered (subst (λ n. AreSiteRows (n + 1) t e.sites.items) count rows))
+    ap₂ (λ l all. sites_header ++ row_lines (root_at l ∷ all) (values e.sites)) line told
+    ∙ ap (λ text. sites_header ++ text) (all_rows_are (root_site program) (call_sites program) (values e.sites) t refl numbered (subst (λ n. AreSiteRows (n + 1) t (values e.sites)) count rows))

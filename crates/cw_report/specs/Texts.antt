@@ -1,6 +1,7 @@
 -- The texts of reports.
 use Rattle.std.specs.Prelude.{◌≡◌, ℕ, ℤ, List, [], ◌∷◌, ◌++◌, codes, decimal, map, flat_map, Result, Ok, Err, IfOk, OnOk}
 use Rattle.std.specs.Global.{Vec}
+use Rattle.indexmap.specs.IndexMap.{values}
 use Rattle.cw_model.specs.Syntax.{Name}
 use Rattle.cw_model.specs.Answers.{main_name}
 use Rattle.cw_model.specs.Sites.{Root, CallSite}
@@ -59,10 +60,10 @@ tag_lines [] rows = []
 tag_lines (tag ∷ tags) [] = []
 tag_lines (tag ∷ tags) (row ∷ rows) = scale_line tag row.work row.span row.burdened ++ tag_lines tags rows
 
--- work and span of a run that ended, and of each tag of its code
+-- work and span of a run that ended, and of each tag of its code, by the rows of the run in their order
 abbrev pub scale_text : Code → Ended → List ℕ
 scale_text code ended =
-    scale_header ++ (scale_line [] ended.measure.work ended.measure.span ended.measure.burdened ++ tag_lines code.tags ended.regions.items)
+    scale_header ++ (scale_line [] ended.measure.work ended.measure.span ended.measure.burdened ++ tag_lines code.tags (values ended.regions))
 
 -- the same, of a run as it is handed on; of one that did not end there is none
 abbrev pub scale_of : Code → Result Ended Fault → List ℕ
@@ -99,9 +100,9 @@ root_at line = record { number = 0; kind = Root; line = line; callee = main_name
 abbrev pub told_rows : Code → List SiteRow → List ℕ
 told_rows code rows = row_lines (root_at code.main_line ∷ told_sites code) rows
 
--- what is counted of each call site over a run that ended
+-- what is counted of each call site over a run that ended, by the rows of the run in their order
 abbrev pub sites_text : Code → Ended → List ℕ
-sites_text code ended = sites_header ++ told_rows code ended.sites.items
+sites_text code ended = sites_header ++ told_rows code (values ended.sites)
 
 -- the same, of a run as it is handed on; of one that did not end there is none
 abbrev pub sites_of : Code → Result Ended Fault → List ℕ

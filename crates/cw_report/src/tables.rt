@@ -40,7 +40,7 @@ pub fn scale_text(alloc: Global, code: &Code, ended: &Ended) -> Result<Vec<u8>, 
         alloc,
         &mut table,
         code.tags.as_slice(),
-        ended.regions.as_slice(),
+        ended.regions.values().as_slice(),
     )?;
     let text = table.into_text()?;
     Ok(text)
@@ -54,7 +54,7 @@ pub fn sites_text(alloc: Global, code: &Code, ended: &Ended) -> Result<Vec<u8>, 
 {
     let mut table = Table::new(alloc);
     push_sites_header(&mut table)?;
-    push_rows(&mut table, code, ended.sites.as_slice())?;
+    push_rows(&mut table, code, ended.sites.values().as_slice())?;
     let text = table.into_text()?;
     Ok(text)
 }
