@@ -1,8 +1,10 @@
 -- The rows that a run tells of are those of its tree.
-use Rattle.std.proofs.Common.{◌≡◌, ◌∙◌, ◌+◌, ℕ, suc, Bool, true, false, ◌&&◌, List, [], ◌∷◌, ◌++◌, length, Some, Ok, flat_map, refl, sym, ap, ap₂, subst, arith}
+use Rattle.std.proofs.Common.{◌≡◌, ◌∙◌, ◌+◌, ℕ, suc, Bool, true, false, ◌&&◌, List, [], ◌∷◌, ◌++◌, length, Some, Ok, flat_map, map, refl, sym, ap, ap₂, subst, arith}
 use Rattle.std.specs.Prelude.{nat_eq, slice_get, decimal}
 use Rattle.std.proofs.lemmas.Bool.Decides.{nat_tests}
 use Rattle.std.proofs.lemmas.List.{length-map}
+use Rattle.std.specs.Global.{Vec}
+use Rattle.std.specs.Map.{keys_of, values_of}
 use Rattle.indexmap.specs.IndexMap.{values}
 use Rattle.cw_model.specs.Syntax.{Program, Name}
 use Rattle.cw_model.specs.Trees.{Tree}
@@ -16,7 +18,8 @@ use Rattle.cw_regions.specs.declared.table.RegionRow.{RegionRow}
 use Rattle.cw_meter.specs.Whole.{AreReadings, AreSiteRows, AreRegionRows}
 use Rattle.cw_code.specs.Code.{Code, told_sites}
 use Rattle.cw_machine.specs.declared.alone.Ended as run
-use Rattle.cw_report.specs.Texts.{tag_lines, scale_of, counts_of, row_line, row_lines, root_at, sites_of}
+use Rattle.cw_machine.specs.Runs.{tags_in}
+use Rattle.cw_report.specs.Texts.{tag_lines, scale_report, counts_of, row_line, row_lines, root_at, sites_of}
 
 -- ---- tags
 
@@ -25,20 +28,23 @@ line_is : (tag : Name) (work work' span span' burdened burdened' : ℕ) → work
 line_is tag work work' span span' burdened burdened' w s b =
     ap (λ x. scale_line tag x span burdened) w ∙ ap (λ x. scale_line tag work' x burdened) s ∙ ap (scale_line tag work' span') b
 
-tags_are : (tags : List Name) (rows : List RegionRow) (burden : ℕ) (t : Tree) → AreRegionRows burden tags t rows → tag_lines tags rows ≡ flat_map (region_line burden t) tags
-tags_are [] rows burden t h = refl
-tags_are (tag ∷ tags) [] burden t h = let e = h.as_many in absurd (omega (arith, e))
-tags_are (tag ∷ tags) (row ∷ rows) burden t h =
-    let is = h.are 0 row tag refl refl in
+tags_are : (entries : List (Vec ℕ × RegionRow)) (burden : ℕ) (t : Tree)
+    → AreRegionRows burden (map (λ tag. tag.items) (keys_of entries)) t (values_of entries)
+    → tag_lines entries ≡ flat_map (region_line burden t) (map (λ tag. tag.items) (keys_of entries))
+tags_are [] burden t h = refl
+tags_are (entry ∷ entries) burden t h =
+    let is = h.are 0 entry.1 entry.0.items refl refl in
     let e = h.as_many in
-    ap₂ (λ a b. a ++ b) (line_is tag _ _ _ _ _ _ is.work is.span is.burdened)
-    (tags_are tags rows burden t (record { as_many = omega (arith, e); are = λ k r g there named. h.are (suc k) r g there named }))
+    ap₂ (λ a b. a ++ b) (line_is entry.0.items _ _ _ _ _ _ is.work is.span is.burdened)
+    (tags_are entries burden t (record { as_many = omega (arith, e); are = λ k r g there named. h.are (suc k) r g there named }))
 
-pub scale_is : (program : Program) (code : Code) (burden : ℕ) (e : run.Ended) (t : Tree) → code.tags ≡ tags_of program → AreReadings burden t e.measure → AreRegionRows burden code.tags t (values e.regions)
-    → scale_of code (Ok e) ≡ scale_text program burden (Ended e.value e.lines.items e.sums.items t)
-scale_is program code burden e t tags whole rows =
+pub scale_is : (program : Program) (code : Code) (burden : ℕ) (e : run.Ended) (t : Tree) → code.tags ≡ tags_of program
+    → tags_in e.regions ≡ code.tags → AreReadings burden t e.measure → AreRegionRows burden code.tags t (values e.regions)
+    → scale_report (Ok e) ≡ scale_text program burden (Ended e.value e.lines.items e.sums.items t)
+scale_is program code burden e t tags keys whole rows =
     ap₂ (λ a b. scale_header ++ (a ++ b)) (line_is [] _ _ _ _ _ _ whole.work whole.span whole.burdened)
-    (tags_are code.tags (values e.regions) burden t rows ∙ ap (flat_map (region_line burden t)) tags)
+    (tags_are e.regions.entries burden t (subst (λ names. AreRegionRows burden names t (values e.regions)) (sym keys) rows)
+    ∙ ap (flat_map (region_line burden t)) (keys ∙ tags))
 
 -- ---- sites
 

@@ -94,7 +94,7 @@ report_is : (m : Mode) (program : Program) (code : Code) (args : List ℤ) (n bu
     → told_of m code (Ok e) ≡ report_text (analyses.mode_of m) program burden (Ended e.value e.lines.items e.sums.items r.tree)
 report_is mode.Check program code args n burden e r runs counts g numbered = absurd (runs refl)
 report_is mode.Run program code args n burden e r runs counts g numbered = absurd (counts refl)
-report_is mode.Scale program code args n burden e r runs counts g numbered = scale_is program code burden e r.tree g.tags r.measure r.regions
+report_is mode.Scale program code args n burden e r runs counts g numbered = scale_is program code burden e r.tree g.tags r.tags r.measure r.regions
 report_is mode.Sites program code args n burden e r runs counts g numbered = sites_are program code e r.tree g.sites g.main_line numbered r.sites
 
 printed_is : (m : Mode) (program : Program) (code : Code) (burden : ℕ) (trap : Trap) (line : ℕ) (lines : Vec ℤ) → m ≢ mode.Check → m ≢ mode.Run

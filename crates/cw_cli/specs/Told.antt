@@ -4,7 +4,7 @@ use Rattle.cw_text.specs.declared.fault.Fault.{Fault}
 use Rattle.cw_code.specs.Code.{Code, code_view}
 use Rattle.cw_verify.specs.declared.verified.Verified.{Verified}
 use Rattle.cw_machine.specs.declared.alone.Ended.{Ended}
-use Rattle.cw_report.specs.Texts.{scale_of, sites_of}
+use Rattle.cw_report.specs.Texts.{scale_report, sites_of}
 use Rattle.cw_cli.specs.declared.asked.Mode.{Mode}
 use Rattle.cw_cli.specs.declared.asked.Mode.TheVariants as mode
 
@@ -12,7 +12,7 @@ use Rattle.cw_cli.specs.declared.asked.Mode.TheVariants as mode
 abbrev pub told_of : Mode → Code → Result Ended Fault → List ℕ
 told_of mode.Check code ended = []
 told_of mode.Run code ended = []
-told_of mode.Scale code ended = scale_of code ended
+told_of mode.Scale code ended = scale_report ended
 told_of mode.Sites code ended = sites_of code ended
 
 -- the same of verified code

@@ -123,7 +123,7 @@ fn report<W: Sink>(
     match mode {
         Mode::Check => Ok(()),
         Mode::Run => Ok(()),
-        Mode::Scale => scale(alloc, code, ended, out),
+        Mode::Scale => scale(alloc, ended, out),
         Mode::Sites => sites(alloc, code, ended, out),
     }
 }

@@ -54,21 +54,20 @@ handed_text code (Ok values) = run_text code values
 handed_text code (Err (fault.Trap trap line output)) = flat_map value_line output.items
 handed_text code (Err _) = []
 
--- the line of each tag; where a row is missing nothing more is written
-abbrev pub tag_lines : List Name → List RegionRow → List ℕ
-tag_lines [] rows = []
-tag_lines (tag ∷ tags) [] = []
-tag_lines (tag ∷ tags) (row ∷ rows) = scale_line tag row.work row.span row.burdened ++ tag_lines tags rows
+-- the line of each tag, under which its row stands
+abbrev pub tag_lines : List (Vec ℕ × RegionRow) → List ℕ
+tag_lines [] = []
+tag_lines (entry ∷ entries) = scale_line entry.0.items entry.1.work entry.1.span entry.1.burdened ++ tag_lines entries
 
--- work and span of a run that ended, and of each tag of its code, by the rows of the run in their order
-abbrev pub scale_text : Code → Ended → List ℕ
-scale_text code ended =
-    scale_header ++ (scale_line [] ended.measure.work ended.measure.span ended.measure.burdened ++ tag_lines code.tags (values ended.regions))
+-- work and span of a run that ended, and of each of its tags
+abbrev pub scale_text : Ended → List ℕ
+scale_text ended =
+    scale_header ++ (scale_line [] ended.measure.work ended.measure.span ended.measure.burdened ++ tag_lines ended.regions.entries)
 
 -- the same, of a run as it is handed on; of one that did not end there is none
-abbrev pub scale_of : Code → Result Ended Fault → List ℕ
-scale_of code (Ok ended) = scale_text code ended
-scale_of code (Err e) = []
+abbrev pub scale_report : Result Ended Fault → List ℕ
+scale_report (Ok ended) = scale_text ended
+scale_report (Err e) = []
 
 -- what is counted of a site, as the last fields of its line
 abbrev pub counts_of : SiteRow → List (List ℕ)
@@ -112,10 +111,6 @@ sites_of code (Err e) = []
 -- what is reported of a run of verified code
 abbrev pub run_report : Verified → Result Values Fault → List ℕ
 run_report verified values = handed_text (code_view verified.code) values
-
--- its work and span, and those of its tags
-abbrev pub scale_report : Verified → Result Ended Fault → List ℕ
-scale_report verified ended = scale_of (code_view verified.code) ended
 
 -- what is counted of its call sites
 abbrev pub sites_report : Verified → Result Ended Fault → List ℕ

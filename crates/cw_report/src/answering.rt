@@ -62,26 +62,21 @@ pub fn answer<W: Sink>(
 }
 
 /// Writes the work and the span of a run, with and without burdens, and its parallelism: on one line of the whole run,
-/// with an empty tag, and then on one for each tag of the code. Of a run that did not end nothing is written, and the
+/// with an empty tag, and then on one for each tag of its code. Of a run that did not end nothing is written, and the
 /// sink is left alone.
 ///
 /// The error is `Memory` where there is none for the text: nothing was written then. It is `Write` where a write failed
 /// or took no byte: the sink took a beginning of the text, and counts one more failed write.
 ///
 /// It asks that fewer than 2^64 - 1 writes to the sink failed before.
-pub fn scale<W: Sink>(
-    alloc: Global,
-    code: &Verified,
-    ended: &Result<Ended, Fault>,
-    to: &mut W,
-) -> Result<(), Fault>
+pub fn scale<W: Sink>(alloc: Global, ended: &Result<Ended, Fault>, to: &mut W) -> Result<(), Fault>
     requires { (W.seen to.old).failures < 2 ^ 64 - 1 }
-    ensures idle { scale_report code.now ended.now ≡ [] → to.new ≡ to.old }
-    ensures answers { AnswersText W.seen to.old to.new (scale_report code.now ended.now) result }
+    ensures idle { scale_report ended.now ≡ [] → to.new ≡ to.old }
+    ensures answers { AnswersText W.seen to.old to.new (scale_report ended.now) result }
 {
     match ended {
         Ok(ended) => {
-            let text = scale_text(alloc, &code.code, ended)?;
+            let text = scale_text(alloc, ended)?;
             write_text(to, text.as_slice())
         }
         Err(_) => Ok(()),

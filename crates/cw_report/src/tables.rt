@@ -12,17 +12,18 @@ use crate::fields::parallelism_text;
 use crate::table::Table;
 use cw_code::code::{Code, Site};
 use cw_machine::alone::Ended;
-use cw_model::syntax::{CallKind, Name};
+use cw_model::syntax::CallKind;
 use cw_regions::RegionRow;
 use cw_sites::table::SiteRow;
 use cw_text::Fault;
+use indexmap::IndexMap;
 use itoa::Buffer;
 use std::alloc::{AllocError, Global};
 
-/// Work, span and parallelism of a run that ended, and of each tag of its code, each on a line; the error is `Memory`
+/// Work, span and parallelism of a run that ended, and of each of its tags, each on a line; the error is `Memory`
 /// where there is none for the text.
-pub fn scale_text(alloc: Global, code: &Code, ended: &Ended) -> Result<Vec<u8>, Fault>
-    ensures ok { Makes (texts.scale_text (code_view code.now) ended.now) result }
+pub fn scale_text(alloc: Global, ended: &Ended) -> Result<Vec<u8>, Fault>
+    ensures ok { Makes (texts.scale_text ended.now) result }
     ensures why { IfErr result (λ e. e ≡ Fault.Memory) }
 {
     let whole = ended.measure;
@@ -36,12 +37,7 @@ pub fn scale_text(alloc: Global, code: &Code, ended: &Ended) -> Result<Vec<u8>, 
         whole.span,
         whole.burdened,
     )?;
-    push_tags(
-        alloc,
-        &mut table,
-        code.tags.as_slice(),
-        ended.regions.values().as_slice(),
-    )?;
+    push_tags(alloc, &mut table, &ended.regions)?;
     let text = table.into_text()?;
     Ok(text)
 }
@@ -77,16 +73,15 @@ fn push_scale_header(table: &mut Table) -> Result<(), AllocError>
 fn push_tags(
     alloc: Global,
     table: &mut Table,
-    tags: &[Name],
-    rows: &[RegionRow],
+    regions: &IndexMap<Vec<u8>, RegionRow>,
 ) -> Result<(), AllocError>
-    ensures { Adds table.old table.new (texts.tag_lines tags.now rows.now) result }
+    ensures { Adds table.old table.new (texts.tag_lines regions.now.entries) result }
 {
-    for (tag, row) in tags.iter().zip(rows) {
+    for (tag, row) in regions {
         push_scale(
             alloc,
             table,
-            tag.as_bytes(),
+            tag.as_slice(),
             row.work,
             row.span,
             row.burdened,

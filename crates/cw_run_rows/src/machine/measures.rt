@@ -22,22 +22,14 @@ fn ended(alloc: Global, code: Code, args: &[i64]) -> Result<Ended, Fault> {
     Ok(ended)
 }
 
-// The row of a site by its number, where it has one.
-fn site_of(ended: &Ended, number: usize) -> Option<SiteRow> {
-    if number < ended.sites.len() {
-        Some(ended.sites[number])
-    } else {
-        None
-    }
+// The row of a site under its number, where it has one.
+fn site_of(ended: &Ended, number: u32) -> Option<SiteRow> {
+    ended.sites.get(&number).copied()
 }
 
-// The row of a tag by its number, where it has one.
-fn region_of(ended: &Ended, number: usize) -> Option<RegionRow> {
-    if number < ended.regions.len() {
-        Some(ended.regions[number])
-    } else {
-        None
-    }
+// The row of a tag under its bytes, where it has one.
+fn region_of(ended: &Ended, tag: &[u8]) -> Option<RegionRow> {
+    ended.regions.get(tag).copied()
 }
 
 fn readings(work: u64, span: u64, burdened: u128) -> Readings {
@@ -171,7 +163,7 @@ fn a_rest_with_a_meter(rt: HostRuntime) -> Result<(), Fault> {
             // 10 + 2 + 46
             assert_eq!(rt; all.measure, readings(157, 54, 65));
             assert_eq!(rt; all.measure, serial.measure);
-            assert_eq!(rt; all.sites.as_slice(), serial.sites.as_slice());
+            assert_eq!(rt; all.sites.as_slice(), serial.sites.values().as_slice());
         }
         None => assert!(rt; false),
     }
@@ -247,12 +239,12 @@ fn blocks(rt: HostRuntime) -> Result<(), Fault> {
     assert_eq!(rt; site_of(&e, 0), Some(site(1, 13, 13, 21, 17)));
     assert_eq!(rt; site_of(&e, 4), Some(site(2, 8, 4, 8, 8)));
     assert_eq!(rt; e.regions.len(), 1);
-    assert_eq!(rt; region_of(&e, 0), Some(region(0, 0, 0)));
+    assert_eq!(rt; region_of(&e, b""), Some(region(0, 0, 0)));
     let e = ended(alloc, code_of(alloc, &block(BlockKind::Region(0)))?, &[0])?;
     assert_eq!(rt; e.measure, readings(21, 17, 33));
     assert_eq!(rt; site_of(&e, 0), Some(site(1, 13, 13, 21, 17)));
     assert_eq!(rt; site_of(&e, 4), Some(site(2, 8, 4, 8, 8)));
-    assert_eq!(rt; region_of(&e, 0), Some(region(7, 7, 13)));
+    assert_eq!(rt; region_of(&e, b""), Some(region(7, 7, 13)));
     Ok(())
 }
 
@@ -277,7 +269,7 @@ fn regions(rt: HostRuntime) -> Result<(), Fault> {
     ];
     let e = ended(alloc, code_of(alloc, &turns)?, &[3])?;
     assert_eq!(rt; e.measure, readings(37, 37, 37));
-    assert_eq!(rt; region_of(&e, 0), Some(region(6, 6, 6)));
+    assert_eq!(rt; region_of(&e, b""), Some(region(6, 6, 6)));
     // a region in one of the same tag, after a spawn of 4 that the outer one joins: 3, child 4; 1, 2, 1
     let inside = [
         Instr::Open(BlockKind::Region(0)),
@@ -295,7 +287,7 @@ fn regions(rt: HostRuntime) -> Result<(), Fault> {
     let e = ended(alloc, code_of(alloc, &inside)?, &[0])?;
     assert_eq!(rt; e.value, 7);
     assert_eq!(rt; e.measure, readings(15, 11, 21));
-    assert_eq!(rt; region_of(&e, 0), Some(region(11, 7, 17)));
+    assert_eq!(rt; region_of(&e, b""), Some(region(11, 7, 17)));
     // on a tie the child is on the chosen path
     assert_eq!(rt; site_of(&e, 0), Some(site(1, 11, 7, 15, 11)));
     assert_eq!(rt; site_of(&e, 4), Some(site(1, 4, 4, 4, 4)));

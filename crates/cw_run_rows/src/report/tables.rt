@@ -10,6 +10,7 @@ use cw_report::{Counted, Sink, answer, scale, sites};
 use cw_sites::table::SiteRow;
 use cw_text::Fault;
 use cw_verify::verified::Verified;
+use indexmap::IndexMap;
 use std::alloc::Global;
 use std::io::Cursor;
 use std::test::Fail;
@@ -17,11 +18,11 @@ use std::test::Fail;
 // More than any text here takes.
 const ROOM: usize = 500;
 
-// A run with these readings, and these rows of its tags.
+// A run with these readings, and these rows under its tags.
 fn ended_with(
     alloc: Global,
     measure: Readings,
-    regions: &[RegionRow],
+    rows: &[(&[u8], RegionRow)],
 ) -> Result<Result<Ended, Fault>, Fail> {
     let root = SiteRow {
         calls: 1,
@@ -44,13 +45,18 @@ fn ended_with(
         work: 0,
         span: 0,
     };
+    let sites = IndexMap::from_array(alloc, [(0, root), (1, fib), (2, leaf)])?;
+    let mut regions = IndexMap::new(alloc);
+    for (tag, row) in rows {
+        regions.insert(Vec::from_slice(alloc, tag)?, *row)?;
+    }
     Ok(Ok(Ended {
         value: -3,
         lines: Vec::from_slice(alloc, &[7])?,
         sums: Vec::new(alloc),
         measure,
-        sites: Vec::from_slice(alloc, &[root, fib, leaf])?,
-        regions: Vec::from_slice(alloc, regions)?,
+        sites,
+        regions,
     }))
 }
 
@@ -99,7 +105,7 @@ fn report_to_room(
     let mut sink = Counted::new(Cursor::new(bytes.as_mut_slice()));
     let told = match asked {
         Asked::Run => answer(alloc, code, &values, &mut sink),
-        Asked::Scale => scale(alloc, code, ended, &mut sink),
+        Asked::Scale => scale(alloc, ended, &mut sink),
         Asked::Sites => sites(alloc, code, ended, &mut sink),
     };
     let failures = sink.failures();
@@ -144,7 +150,7 @@ const SITES_TEXT: &[u8] =
 fn each_room_takes_a_beginning(rt: HostRuntime) -> Result<(), Fail> {
     let alloc = rt.alloc();
     let code = code_with(alloc, &[], &[b"sort", b"never"])?;
-    let ended = ended_with(alloc, SMALL, &[SORT, NEVER])?;
+    let ended = ended_with(alloc, SMALL, &[(b"sort", SORT), (b"never", NEVER)])?;
     for (asked, text) in [
         (Asked::Run, RUN_TEXT),
         (Asked::Scale, SCALE_TEXT),
@@ -193,7 +199,7 @@ fn fields_that_need_quotes_get_them(rt: HostRuntime) -> Result<(), Fail> {
     let alloc = rt.alloc();
     let tags: [&[u8]; 5] = [b"a,b", b"a\"b", b"a\nb", b"a\rb", b"a b"];
     let code = code_with(alloc, &[], &tags)?;
-    let ended = ended_with(alloc, SMALL, &[NEVER, NEVER, NEVER, NEVER, NEVER])?;
+    let ended = ended_with(alloc, SMALL, &tags.map(|tag| (tag, NEVER)))?;
     let taken = report_to_room(alloc, Asked::Scale, &code, &ended, ROOM)?;
     assert_eq!(rt; taken.bytes.as_slice(), QUOTED_TEXT);
     Ok(())

@@ -4,5 +4,4 @@ use Rattle.cw_report.proofs.Lines.{Towards}
 use Rattle.cw_report.proofs.tables.push_tags.Given as goal
 
 abbrev pub invariant-loop-tag : goal.invariant-loop-tag
-invariant-loop-tag l =
-    Towards l.fn.table l.table (tag_lines l.tag-iterator.a.rest.now l.tag-iterator.b.rest.now) (tag_lines l.tags l.rows)
+invariant-loop-tag l = Towards l.fn.table l.table (tag_lines l.tag-iterator) (tag_lines l.regions.entries)

@@ -1,5 +1,4 @@
 use Rattle.std.proofs.Common.{[], ◌∙◌, append_assoc}
-use Rattle.indexmap.specs.IndexMap.{values}
 use Rattle.cw_model.specs.Report.{scale_header, scale_line}
 use Rattle.cw_report.specs.Texts.{tag_lines}
 use Rattle.cw_report.proofs.tables.scale_text.Goals as goal
@@ -9,5 +8,6 @@ returns-clause-ok c =
     let whole = c.args.ended.now.measure in
     let header = c.in_ok-push_scale_header.ensures [] c.new-table.ensures in
     let first = c.in_ok-push_scale.ensures _ header in
-    let tags = (rw (c.as_slice.ensures.value, c.as_slice-2.ensures, c.values.ensures.rest) at c.in_ok-push_tags.ensures) _ first in
-    c.in_ok-text.ensures _ tags ∙ append_assoc scale_header (scale_line [] whole.work whole.span whole.burdened) (tag_lines c.args.code.now.tags.items (values c.args.ended.now.regions))
+    let tags = c.in_ok-push_tags.ensures _ first in
+    c.in_ok-text.ensures _ tags
+    ∙ append_assoc scale_header (scale_line [] whole.work whole.span whole.burdened) (tag_lines c.args.ended.now.regions.entries)
