@@ -62,7 +62,8 @@ tag_lines (entry ∷ entries) = scale_line entry.0.items entry.1.work entry.1.sp
 -- work and span of a run that ended, and of each of its tags
 abbrev pub scale_text : Ended → List ℕ
 scale_text ended =
-    scale_header ++ (scale_line [] ended.measure.work ended.measure.span ended.measure.burdened ++ tag_lines ended.regions.entries)
+    scale_header
+    ++ (scale_line [] ended.measure.work ended.measure.span ended.measure.burdened ++ tag_lines ended.regions.entries)
 
 -- the same, of a run as it is handed on; of one that did not end there is none
 abbrev pub scale_report : Result Ended Fault → List ℕ
