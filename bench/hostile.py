@@ -5,6 +5,7 @@
     python3 bench/hostile.py PROGRAM sources   the worst source of about 1 MiB of each kind: time and memory of a check
     python3 bench/hostile.py PROGRAM verifier  sources of 1 MiB on which the verifier has most to do: time and memory of a check
     python3 bench/hostile.py PROGRAM cuts      100,000 cuts and passes of an array of 16,777,216 elements
+    python3 bench/hostile.py PROGRAM arrays    an array of 16,777,216 elements declared in each turn of a loop: never two at once
     python3 bench/hostile.py PROGRAM paths     runs whose paths would be long: spawns without a join, long paths under many joins
     python3 bench/hostile.py PROGRAM memory    the same programs with less and less memory: an answer, or `memory`
     python3 bench/hostile.py PROGRAM refusals  the same programs and more with each single allocation refused in turn: the answer,
@@ -216,6 +217,18 @@ def cuts(program):
     return not fine
 
 
+# an array of this program takes 128 MiB
+DECLARED = "int main() { int n = 0; while (n < 30) { int a[16777216]; a[n] = 1; n = n + 1; } return n; }"
+DECLARED_BYTES = 160 << 20
+
+
+def arrays(program):
+    got = answer(program, ["run"], DECLARED)
+    fine = got[:3] == gives(30) and got[3] <= 6.0 and got[4] <= DECLARED_BYTES
+    print(f"{'ok ' if fine else 'BAD'} 30 arrays of 16,777,216 elements, one after another: {got[3]:.2f} s, {got[4] >> 20} MiB, {got[:3]}")
+    return not fine
+
+
 # 11 instructions a turn, of which 10 are on the path, and a burden each; 6 beside them
 SPAWNS = "void f() { } int main(int n) { while (n > 0) { cilk_spawn f(); n = n - 1; } return 0; }"
 SCALE = "tag,work,span,parallelism,burdened_span,burdened_parallelism\n"
@@ -342,7 +355,7 @@ def refusals(program):
 
 
 if __name__ == "__main__":
-    parts = {"rows": rows, "limits": limits, "sources": sources, "verifier": verifier, "cuts": cuts, "paths": paths, "memory": memory, "refusals": refusals}
+    parts = {"rows": rows, "limits": limits, "sources": sources, "verifier": verifier, "cuts": cuts, "arrays": arrays, "paths": paths, "memory": memory, "refusals": refusals}
     if len(sys.argv) != 3 or sys.argv[2] not in parts:
         sys.exit(__doc__)
     bad = parts[sys.argv[2]](str(pathlib.Path(sys.argv[1]).resolve()))
