@@ -15,7 +15,7 @@ use Rattle.cw_yard.specs.declared.view.Stage.TheVariants.{Free, Held, Out, Back,
 use Rattle.cw_yard.specs.declared.view.CellView.{CellView}
 use Rattle.cw_yard.specs.declared.view.CellView.TheVariants.{Idle, Rest, Owner, Duty}
 use Rattle.cw_jobs.specs.Means.{IsMeaningOf}
-use Rattle.cw_yard.specs.Cells.{Phase, free, held, opened, putting, full, taken, Spot, Lies, Pending, Knows, serving, cell_of, Fits, Funds, Stands, rest_of, owner_of, Kept, dealt, duty, back}
+use Rattle.cw_yard.specs.Cells.{Phase, free, held, opened, putting, full, taken, Spot, Lies, Pending, Knows, serving, cell_of, Fits, Funds, Stands, Kept}
 use Rattle.cw_yard.specs.Steps.{Gains, Reads}
 
 abbrev St : Type 0

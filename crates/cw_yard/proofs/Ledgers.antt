@@ -1,8 +1,8 @@
 -- What a push, a pop and a theft do to the ledger of a deque.
-use Rattle.std.proofs.Common.{◌≡◌, ◌≢◌, ◌<◌, ◌≤◌, ◌+◌, ℕ, zero, suc, Bool, true, false, eqb, List, [], ◌∷◌, ◌++◌, length, map, sym, refl, ap, ◌∙◌, subst, arith, Option, Some, None, eq-eqb, ne_eqb}
+use Rattle.std.proofs.Common.{◌≡◌, ◌≢◌, ◌<◌, ◌≤◌, ◌+◌, ℕ, suc, Bool, true, false, eqb, List, [], ◌∷◌, ◌++◌, length, map, sym, refl, ap, ◌∙◌, subst, arith, eq-eqb, ne_eqb}
 use Rattle.cw_jobs.specs.declared.job.Job.{Job}
 use Rattle.cw_yard.specs.declared.task.Offer.{Offer}
-use Rattle.cw_yard.specs.Ledger.{Name, Fate, out, retaken, stolen, Entry, out_here, outs, if_same, theft_here, thefts, IsUnstolen, NoneStolen, FrontAt, FrontFirst, is_retaken, offer, shown, Each}
+use Rattle.cw_yard.specs.Ledger.{Name, Fate, out, retaken, stolen, Entry, outs, if_same, thefts, NoneStolen, FrontFirst, shown, Each}
 
 pub nil_no_cons : {A : Type 0} (x : A) (xs : List A) → ¬ ([] ≡ x ∷ xs)
 nil_no_cons x xs e = let l : 0 ≡ suc (length xs) = ap length e in absurd (omega arith)

@@ -1,5 +1,5 @@
 -- Each step at a deque keeps its rule.
-use Rattle.std.proofs.Common.{◌≡◌, ◌≢◌, ◌<◌, ◌+◌, ◌⊎◌, ℕ, zero, suc, Bool, true, false, List, [], ◌∷◌, ◌++◌, length, map, set, sym, refl, ap, ◌∙◌, subst, inl, inr, ⊎_elim, arith, Option, Some, None}
+use Rattle.std.proofs.Common.{◌≡◌, ◌≢◌, ◌<◌, ◌+◌, ◌⊎◌, ℕ, zero, suc, true, false, List, [], ◌∷◌, ◌++◌, length, map, set, sym, refl, ap, ◌∙◌, subst, inl, inr, ⊎_elim, arith, Option, Some, None}
 use Rattle.std.proofs.lemmas.List.{length-map}
 use mathlib.Core.Option.{some, some-injective, some-ne-none}
 use mathlib.Core.List.{map-append}
@@ -8,7 +8,6 @@ use Rattle.crossbeam_deque.specs.Tasks.{Pushes, Pops, Takes, Forks}
 use Rattle.crossbeam_deque.proofs.Lists.{at_set, at_snoc, set_again}
 use Rattle.atomic_table.specs.Seated.{TableId}
 use Rattle.atomic_table.specs.declared.shared.Seat.{Seat}
-use Rattle.cw_jobs.specs.declared.job.Job.{Job}
 use Rattle.cw_jobs.specs.declared.effect.Effect.{Effect}
 use Rattle.cw_yard.specs.declared.view.CellView.{CellView}
 use Rattle.cw_yard.specs.declared.task.Task.{Task}
@@ -17,8 +16,8 @@ use Rattle.cw_yard.specs.declared.task.Item.TheVariants.{Mark, Work}
 use Rattle.cw_yard.specs.declared.task.Offer.{Offer}
 use Rattle.cw_yard.specs.declared.task.DequeView.{DequeView}
 use Rattle.cw_yard.specs.declared.task.DequeView.TheVariants.{Fresh, Marked, Owner, Thief}
-use Rattle.cw_yard.specs.Ledger.{Each, Name, name_of, table_of, Fate, out, retaken, stolen, Entry, outs, thefts, FrontFirst, offer, shown, Fits, Running, Starting, Dealt, MayPush, pushed, Retakes, Steals, IsOwner, IsThief, number, marked, begun, as_thief}
-use Rattle.cw_yard.proofs.Ledgers.{outs-snoc, front-snoc, thefts-snoc, among, Last, last_out, all_back, front_after, front_retake, thefts_retake, First, first_out, front_steal, thefts_steal, thefts_other, shown_steal, below, nil_no_cons, nil_no_snoc, head_or, tail_of}
+use Rattle.cw_yard.specs.Ledger.{Each, Name, name_of, table_of, out, retaken, stolen, Entry, outs, thefts, FrontFirst, offer, shown, Fits, Running, Dealt, MayPush, pushed, Retakes, Steals, IsOwner, IsThief, number, marked}
+use Rattle.cw_yard.proofs.Ledgers.{outs-snoc, front-snoc, thefts-snoc, among, last_out, all_back, front_after, front_retake, thefts_retake, first_out, front_steal, thefts_steal, thefts_other, shown_steal, below, nil_no_cons, nil_no_snoc, head_or, tail_of}
 
 plus_none : (n : ℕ) → 0 + n ≡ n
 plus_none n = omega arith

@@ -1,15 +1,15 @@
 -- Each step at the end mark keeps its rule.
-use Rattle.std.proofs.Common.{◌≡◌, ◌≢◌, ◌⊎◌, ◌<◌, ◌++◌, ℕ, zero, suc, Bool, true, false, List, [], ◌∷◌, length, set, sym, refl, ap, ◌∙◌, subst, inl, inr, ⊎_elim, arith}
-use mathlib.Core.Option.{none, some, some-injective, some-ne-none}
+use Rattle.std.proofs.Common.{◌≡◌, ◌⊎◌, ◌++◌, ℕ, zero, suc, List, [], ◌∷◌, set, sym, refl, ap, ◌∙◌, subst, inl, inr, ⊎_elim, arith}
+use mathlib.Core.Option.{some, some-injective, some-ne-none}
 use mathlib.Core.Logic.{dite}
 use native.Mathlib.Decide.{ℕ_discrete}
 use lib.ListN.{get_elem?}
 use Rattle.std.specs.List.{slice_index}
-use Rattle.atomic_table.specs.Table.{State, Me, keeps, stepped, Allows, Splits, opening}
+use Rattle.atomic_table.specs.Table.{State, Me, keeps, Allows, Splits, opening}
 use Rattle.atomic_table.proofs.Lists.{at_set, set_else}
 use Rattle.cw_yard.specs.declared.mark.MarkView.{MarkView}
 use Rattle.cw_yard.specs.declared.mark.MarkView.TheVariants.{Unseen, Seen, Marked}
-use Rattle.cw_yard.specs.Marks.{IsSeen, EndsAt, Ends, seeing, Finds}
+use Rattle.cw_yard.specs.Marks.{IsSeen, Ends, seeing, Finds}
 
 abbrev St : Type 0
 St = State (Unit {0}) MarkView

@@ -18,7 +18,7 @@ use Rattle.cw_yard.specs.declared.task.Item.TheVariants.{Mark, Work}
 use Rattle.cw_yard.specs.declared.task.DequeView.{DequeView}
 use Rattle.cw_yard.specs.declared.task.DequeView.TheVariants.{Fresh, Marked, Owner, Thief}
 use Rattle.cw_yard.specs.Deals.{number_of}
-use Rattle.cw_yard.specs.Ledger.{Steals, Each}
+use Rattle.cw_yard.specs.Ledger.{Steals}
 use Rattle.cw_yard.specs.Words.{StealsAt, Rises, Deal, stolen, is_duty, job_in, duty_deal}
 use Rattle.cw_yard.proofs.Outs.{duties}
 

@@ -1,5 +1,5 @@
 -- The cells of a yard: what lies in each, and what each token knows of one.
-use Rattle.std.specs.Prelude.{◌≡◌, ◌==◌, ◌<◌, ◌≤◌, ◌+◌, ℕ, Bool, true, false, List, [], length, Option, Some, None}
+use Rattle.std.specs.Prelude.{◌≡◌, ◌<◌, ◌≤◌, ◌+◌, ℕ, Bool, true, false, length, Option, Some, None}
 use mathlib.Core.Option.{none, some}
 use lib.ListN.{get_elem?}
 use Rattle.atomic_table.specs.Table.{State}
@@ -66,7 +66,9 @@ Fits x id (Owner c k) = (x.0 ≡ id) × Knows k x.1
 Fits x id (Duty c b n j) = x.1 ≡ serving b n j id
 
 abbrev pub Stands : State (Option Effect) CellView → ℕ → Phase → Type 0
-Stands s c p = (w : ℕ) × (h : mathlib.Core.Option.Option (Option Effect)) × (get_elem? s.words c ≡ some w) × (get_elem? s.homes c ≡ some h) × Lies w h p
+Stands s c p =
+    (w : ℕ) × (h : mathlib.Core.Option.Option (Option Effect))
+    × (get_elem? s.words c ≡ some w) × (get_elem? s.homes c ≡ some h) × Lies w h p
 
 -- who owns the rest owns each cell from the k-th on, and all of them are free
 abbrev pub Funds : (ℕ → Spot) → ℕ → CellView → Type 0

@@ -1,7 +1,5 @@
 -- What an item of a deque names.
-use Rattle.std.specs.Prelude.{◌≡◌, ◌<◌, ◌+◌, ℕ, suc, Bool, true, false, List, [], ◌∷◌, ◌++◌, length, map, Option, Some, None}
-use Rattle.atomic_table.specs.Seated.{TableId}
-use Rattle.cw_jobs.specs.declared.job.Job.{Job}
+use Rattle.std.specs.Prelude.{ℕ}
 use Rattle.cw_yard.specs.declared.view.CellView.{CellView}
 use Rattle.cw_yard.specs.declared.view.CellView.TheVariants.{Idle, Rest, Owner, Duty}
 

@@ -1,5 +1,5 @@
 -- The rule of one worker's deque: its jobs by number, and what became of each.
-use Rattle.std.specs.Prelude.{◌≡◌, ◌<◌, ◌+◌, ◌==◌, ◌⊎◌, ℕ, suc, Bool, true, false, List, [], ◌∷◌, ◌++◌, length, map, Option, Some, None}
+use Rattle.std.specs.Prelude.{◌≡◌, ◌<◌, ◌==◌, ◌⊎◌, ℕ, suc, Bool, true, false, List, [], ◌∷◌, ◌++◌, length, map, Option, Some, None}
 use mathlib.Core.Option.{some}
 use lib.ListN.{get_elem?}
 use Rattle.atomic_table.specs.Seated.{TableId}
@@ -107,7 +107,9 @@ Running items views =
 
 -- before the first offer one mark goes through the deque, which tells the owner of which table its cells are
 abbrev pub Starting : List Item → List DequeView → Type 0
-Starting items views = ((items ≡ []) × (views ≡ Fresh ∷ [])) ⊎ ((t : _) × (items ≡ Mark t ∷ []) × (views ≡ Marked t ∷ []))
+Starting items views =
+    ((items ≡ []) × (views ≡ Fresh ∷ []))
+    ⊎ ((t : _) × (items ≡ Mark t ∷ []) × (views ≡ Marked t ∷ []))
 
 abbrev pub Dealt : List Item → List DequeView → Type 0
 Dealt items views = Starting items views ⊎ Running items views
@@ -140,13 +142,18 @@ Retakes (Owner t os) xs w =
     × (w ≡ Owner t (pre ++ offer k.job true ∷ post))
 Retakes (Thief t ss) xs w = Unit {0}
 
+-- the newest job that was not yet retaken comes out
+abbrev pub TakesLast : (old new : DequeView) → Task → Type 0
+TakesLast old new k = Retakes old (Work k ∷ []) new
+
 -- a job with a higher number than those that this pass stole before
 abbrev pub Steals : DequeView → List Item → DequeView → Type 0
 Steals Fresh xs w = Unit {0}
 Steals (Marked t) xs w = Unit {0}
 Steals (Owner t os) xs w = Unit {0}
 Steals (Thief t ss) xs w =
-    (k : Task) × (xs ≡ Work k ∷ []) × (k.duty.table_id ≡ t.table_id) × Each (λ x. x.0 < number k) ss × (w ≡ Thief t (ss ++ (number k, k.job) ∷ []))
+    (k : Task) × (xs ≡ Work k ∷ []) × (k.duty.table_id ≡ t.table_id) × Each (λ x. x.0 < number k) ss
+    × (w ≡ Thief t (ss ++ (number k, k.job) ∷ []))
 
 abbrev pub marked : List Item → DequeView
 marked (Mark t ∷ []) = Marked t

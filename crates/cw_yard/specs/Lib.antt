@@ -1,5 +1,6 @@
 pub mod Cells
 pub mod Deals
+pub mod Handed
 pub mod Ledger
 pub mod Marks
 pub mod Opened

@@ -33,7 +33,8 @@ IsOpened workers cells y seats = (workers_of y ≡ workers) × AreSeats y cells 
 
 -- a yard may have so many workers, and so many cells for each
 abbrev pub is_asked : (workers cells : ℕ) → Bool
-is_asked workers cells = nat_le 1 workers && (nat_le workers MOST_WORKERS && (nat_le 1 cells && nat_le cells MOST_CELLS))
+is_asked workers cells =
+    nat_le 1 workers && (nat_le workers MOST_WORKERS && (nat_le 1 cells && nat_le cells MOST_CELLS))
 
 -- why there is no such yard: what was asked for is out of range, or memory ran out
 abbrev pub IsRefused : (workers cells : ℕ) → Fault → Type 0

@@ -1,5 +1,5 @@
 -- What the opening of a yard makes.
-use Rattle.std.specs.Prelude.{◌≡◌, ◌+◌, ℕ, List, [], ◌∷◌, length, slice_get, Option, Some, None}
+use Rattle.std.specs.Prelude.{◌≡◌, ◌+◌, ℕ, List, [], length, slice_get, Option, Some}
 use Rattle.crossbeam_deque.specs.Handles.{Pass, view, IsPassOf, stealer_deque, worker_deque, worker_view, worker_flavor}
 use Rattle.crossbeam_utils.specs.Padded.{padded_value}
 use Rattle.atomic_table.specs.Seated.{TableId}
@@ -19,7 +19,7 @@ use Rattle.crossbeam_utils.specs.declared.cache_padded.CachePadded.{CachePadded}
 use Rattle.std.specs.declared.alloc.Global.{Global}
 use Rattle.cw_yard.specs.declared.seat.Yard.{Yard}
 use Rattle.cw_yard.specs.declared.open.Part.{Part}
-use Rattle.cw_yard.specs.Words.{OwnsAt, StealsAt, stolen}
+use Rattle.cw_yard.specs.Words.{StealsAt, stolen}
 use Rattle.cw_yard.specs.Seats.{table_of, workers_of}
 
 abbrev pub OwnDeque : Type 0
@@ -44,7 +44,10 @@ IsFresh z w = Begins z (worker_view w) × (worker_flavor w ≡ 1)
 
 -- a stealer of each deque, in order
 abbrev pub AreStealersOf : List OwnDeque → List Victim → Type 0
-AreStealersOf owns others = (length others ≡ length owns) × ((k : ℕ) (w : OwnDeque) (o : Victim) → slice_get owns k ≡ Some w → slice_get others k ≡ Some o → stealer_deque (padded_value o) ≡ worker_deque w)
+AreStealersOf owns others =
+    (length others ≡ length owns)
+    × ((k : ℕ) (w : OwnDeque) (o : Victim) → slice_get owns k ≡ Some w → slice_get others k ≡ Some o
+    → stealer_deque (padded_value o) ≡ worker_deque w)
 
 abbrev pub ServesDeques : Yard → List OwnDeque → Type 0
 ServesDeques y owns = AreStealersOf owns y.stealers.items × Each (IsFresh (table_of y)) owns
@@ -54,7 +57,9 @@ ThiefPass = Pass Item DequeView Global
 
 -- a pass at each worker's deque, in order
 abbrev pub HasPasses : Yard → List ThiefPass → Type 0
-HasPasses y es = (k : ℕ) (o : Victim) (e : ThiefPass) → slice_get y.stealers.items k ≡ Some o → slice_get es k ≡ Some e → IsPassOf (stealer_deque (padded_value o)) e × StealsAt (table_of y) (view e)
+HasPasses y es =
+    (k : ℕ) (o : Victim) (e : ThiefPass) → slice_get y.stealers.items k ≡ Some o → slice_get es k ≡ Some e
+    → IsPassOf (stealer_deque (padded_value o)) e × StealsAt (table_of y) (view e)
 
 -- a pass at each deque, with which nothing was stolen
 abbrev pub ArePasses : Yard → List ThiefPass → Type 0

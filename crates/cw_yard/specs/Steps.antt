@@ -1,7 +1,8 @@
 -- What the steps at a cell ask and tell.
-use Rattle.std.specs.Prelude.{◌≡◌, ◌==◌, ◌<◌, ◌+◌, ℕ, Bool, true, false, List, [], ◌∷◌, length, Option, Some, None}
+use Rattle.std.specs.Prelude.{◌≡◌, ◌<◌, ◌+◌, ℕ, true, false, [], ◌∷◌, Option, Some, None}
 use Rattle.atomic_table.specs.Table.{Me}
 use Rattle.atomic_table.specs.Seated.{TableId}
+use Rattle.atomic_table.specs.declared.shared.Seat.{Seat}
 use Rattle.cw_jobs.specs.declared.job.Job.{Job}
 use Rattle.cw_jobs.specs.declared.effect.Effect.{Effect}
 use Rattle.cw_yard.specs.declared.view.Stage.{Stage}
@@ -36,7 +37,8 @@ abbrev pub ReadsStage : ℕ → Stage → ℕ → Mine → Type 0
 ReadsStage c Free r n = Unit {0}
 ReadsStage c (Held m j) r n = Unit {0}
 ReadsStage c (Out m j) r n =
-    (r ≡ 2 → (e : Effect) × (n ≡ (Owner c (Taken m j), (c, Some e) ∷ [])) × IsMeaningOf j e) × (¬ (r ≡ 2) → n ≡ (Owner c (Out m j), []))
+    (r ≡ 2 → (e : Effect) × (n ≡ (Owner c (Taken m j), (c, Some e) ∷ [])) × IsMeaningOf j e)
+    × (¬ (r ≡ 2) → n ≡ (Owner c (Out m j), []))
 ReadsStage c (Back m j m' j') r n = Unit {0}
 ReadsStage c (Taken m j) r n = Unit {0}
 
@@ -45,3 +47,20 @@ Reads c Idle r n = Unit {0}
 Reads c (Rest k) r n = Unit {0}
 Reads c (Owner c' k) r n = ReadsStage c' k r n
 Reads c (Duty c' b m j) r n = Unit {0}
+
+-- the token of a whole table of so many cells, all of them free
+abbrev pub IsWhole : ℕ → TableId → Seat (Option Effect) CellView → Type 0
+IsWhole cells z t = (t.table_id ≡ z) × (z.slots ≡ cells) × (z.words ≡ cells + 1) × (t.me ≡ (Rest 0, []))
+
+-- the owner holds the cell for the number and the job of a stage
+abbrev pub HoldsAs : ℕ → Stage → Mine → Type 0
+HoldsAs cell stage me = (n : ℕ) (j : Job) → stage ≡ Held n j → me ≡ (Owner cell (Held n j), [])
+
+-- the slot is out with the duty, empty
+abbrev pub PutsFrom : ℕ → CellView → Mine → Type 0
+PutsFrom cell v me = (n : ℕ) (j : Job) → v ≡ Duty cell false n j → me ≡ (Duty cell true n j, (cell, None) ∷ [])
+
+-- the cell is free, and what lay in it means the job that it was open for
+abbrev pub Empties : ℕ → (old new : Mine) → Effect → Type 0
+Empties cell old new e =
+    (new ≡ (Owner cell Free, [])) × ((n : ℕ) (j : Job) → old.0 ≡ Owner cell (Out n j) → IsMeaningOf j e)

@@ -1,5 +1,5 @@
 -- What the views of a yard's tokens and passes stand for.
-use Rattle.std.specs.Prelude.{◌≡◌, ◌<◌, ◌+◌, ◌==◌, if◌then◌else◌, Bool, ℕ, true, false, List, [], ◌∷◌, ◌++◌, length, Option, Some, None}
+use Rattle.std.specs.Prelude.{◌≡◌, ◌<◌, ◌==◌, if◌then◌else◌, Bool, ℕ, true, false, List, [], ◌∷◌, ◌++◌, length, Option, Some, None}
 use Rattle.atomic_table.specs.Seated.{TableId}
 use Rattle.cw_jobs.specs.declared.job.Job.{Job}
 use Rattle.cw_yard.specs.declared.view.Stage.TheVariants.{Free, Held, Out, Back, Taken}
@@ -45,7 +45,8 @@ StealsAt z (Thief t ss) = t.table_id ≡ z
 -- the job of a number was taken back, and all that were offered after it before
 abbrev pub Takes : List Offer → Option ℕ → Job → List Offer → Type 0
 Takes os number job os' =
-    (pre : List Offer) × (post : List Offer) × (os ≡ pre ++ offer job false ∷ post) × (number ≡ Some (length pre)) × Each (λ o. o.retaken ≡ true) post × (os' ≡ pre ++ offer job true ∷ post)
+    (pre : List Offer) × (post : List Offer) × (os ≡ pre ++ offer job false ∷ post)
+    × (number ≡ Some (length pre)) × Each (λ o. o.retaken ≡ true) post × (os' ≡ pre ++ offer job true ∷ post)
 
 -- a job was stolen, whose number is above those of the earlier ones
 abbrev pub Rises : List Deal → Job → List Deal → Type 0

@@ -6,7 +6,7 @@ ghost use Rattle.cw_yard.specs.declared.view.Stage.TheVariants.{Free, Held, Out,
 ghost use Rattle.cw_yard.specs.declared.view.CellView.TheVariants.{Idle, Rest, Owner, Duty};
 ghost use Rattle.cw_jobs.specs.Means.{IsMeaningOf};
 ghost use Rattle.cw_yard.specs.Cells.{Kept, dealt, duty, back, rest_of, owner_of};
-ghost use Rattle.cw_yard.specs.Steps.{Fitting, Gains, Reads};
+ghost use Rattle.cw_yard.specs.Steps.{Fitting, Gains, Reads, IsWhole, HoldsAs, PutsFrom, Empties};
 
 use crate::view::CellView;
 use atomic_table::{Join, Play, Seat, Shared, Split, Table, TableRule};
@@ -27,7 +27,8 @@ pub type Cells = Shared<Option<Effect>, CellView, (), CellRule>;
 
 pub type Token = Seat<Option<Effect>, CellView>;
 
-/// The stage that a cell is opened at: held for a number and its job. Each call of a program picks it.
+/// The stage that a cell is opened at: held for a number and its job. Each call of a program
+/// picks it.
 pub trait Holding {
     ghost stage: { Stage };
 }
@@ -41,7 +42,7 @@ pub struct Opens<B> {
 }
 
 impl<B: Holding> Play<Option<Effect>, CellView> for Opens<B> {
-    ghost then = { λ s me r n. (m : ℕ) (j : Job) → B.stage ≡ Held m j → n ≡ (Owner s.word (Held m j), []) };
+    ghost then = { λ s me r n. HoldsAs s.word B.stage n };
 }
 
 pub struct Frees;
@@ -53,7 +54,7 @@ impl Play<Option<Effect>, CellView> for Frees {
 pub struct Puts;
 
 impl Play<Option<Effect>, CellView> for Puts {
-    ghost then = { λ s me r n. (m : ℕ) (j : Job) → me.0 ≡ Duty s.word false m j → n ≡ (Duty s.word true m j, (s.word, None) ∷ []) };
+    ghost then = { λ s me r n. PutsFrom s.word me.0 n };
 }
 
 pub struct Marks;
@@ -95,7 +96,7 @@ pub type CellTable = Table<Option<Effect>, CellView, (), CellRule, Global>;
 /// The table of so many cells, all of them free, and the token that owns them.
 pub fn new(alloc: Global, cells: usize) -> Result<(CellTable, Token), AllocError>
     requires { cells < 2 ^ 60 }
-    ensures { IfOk result (λ r. (r.1.table_id ≡ r.0.shared.table_id) × (r.0.shared.table_id.slots ≡ cells) × (r.0.shared.table_id.words ≡ cells + 1) × (r.1.me ≡ (Rest 0, []))) }
+    ensures { IfOk result (λ r. IsWhole cells r.0.shared.table_id r.1) }
 {
     let words = Vec::from_elem(alloc, 0u64, cells + 1)?;
     Table::vacant(alloc, words.as_slice(), cells, &())
@@ -118,7 +119,7 @@ pub fn open<B: Holding>(table: &Cells, token: &mut Token, cell: usize)
     requires free { token.old.me ≡ (Owner cell Free, []) }
     requires stage { (n : ℕ) × (j : Job) × (B.stage ≡ Held n j) }
     ensures same { token.new.table_id ≡ token.old.table_id }
-    ensures held { (n : ℕ) (j : Job) → B.stage ≡ Held n j → token.new.me ≡ (Owner cell (Held n j), []) }
+    ensures held { HoldsAs cell B.stage token.new.me }
 {
     table.load::<Opens<B>>(token, cell);
 }
@@ -127,7 +128,8 @@ pub fn open<B: Holding>(table: &Cells, token: &mut Token, cell: usize)
 pub fn deal(table: &Cells, token: &mut Token, cell: usize) -> Token
     requires table { Fitting table.now.table_id token.old.table_id cell }
     requires held { (n : ℕ) × (j : Job) × (token.old.me ≡ (Owner cell (Held n j), [])) }
-    ensures same { (token.new.table_id ≡ token.old.table_id) × (result.table_id ≡ token.old.table_id) }
+    ensures same { (token.new.table_id ≡ token.old.table_id)
+        × (result.table_id ≡ token.old.table_id) }
     ensures out { token.new.me ≡ (dealt token.old.me.0, []) }
     ensures duty { result.me ≡ (duty token.old.me.0, []) }
 {
@@ -136,7 +138,8 @@ pub fn deal(table: &Cells, token: &mut Token, cell: usize) -> Token
 
 /// Takes the duty back and frees the cell. The duty was for this ticket's job.
 pub fn undo(table: &Cells, token: &mut Token, other: Token, cell: usize)
-    requires table { Fitting table.now.table_id token.old.table_id cell × (other.table_id ≡ table.now.table_id) }
+    requires table { Fitting table.now.table_id token.old.table_id cell
+        × (other.table_id ≡ table.now.table_id) }
     requires out { (n : ℕ) × (j : Job) × (token.old.me ≡ (Owner cell (Out n j), [])) }
     requires duty { (n : ℕ) × (j : Job) × (other.me ≡ (Duty cell false n j, [])) }
     ensures same { token.new.table_id ≡ token.old.table_id }
@@ -150,7 +153,8 @@ pub fn undo(table: &Cells, token: &mut Token, other: Token, cell: usize)
 /// Puts the effect, then marks the cell full.
 pub fn settle(table: &Cells, mut token: Token, cell: usize, effect: Effect)
     requires table { Fitting table.now.table_id token.table_id cell }
-    requires means { (n : ℕ) × (j : Job) × (token.me ≡ (Duty cell false n j, [])) × IsMeaningOf j effect }
+    requires means { (n : ℕ) × (j : Job) × (token.me ≡ (Duty cell false n j, []))
+        × IsMeaningOf j effect }
 {
     table.load::<Puts>(&mut token, cell);
     let _none = table.exchange(&mut token, cell, Some(effect));
@@ -163,7 +167,7 @@ pub fn collect(table: &Cells, token: &mut Token, cell: usize) -> Option<Effect>
     requires out { (n : ℕ) × (j : Job) × (token.old.me ≡ (Owner cell (Out n j), [])) }
     ensures same { token.new.table_id ≡ token.old.table_id }
     ensures later { result ≡ None → token.new.me ≡ token.old.me }
-    ensures done { (e : Effect) → result ≡ Some e → (token.new.me ≡ (Owner cell Free, [])) × ((n : ℕ) (j : Job) → token.old.me.0 ≡ Owner cell (Out n j) → IsMeaningOf j e) }
+    ensures done { (e : Effect) → result ≡ Some e → Empties cell token.old.me token.new.me e }
 {
     if table.load::<ReadsMark>(token, cell) != 2 {
         return None;

@@ -7,7 +7,7 @@ ghost use Rattle.cw_yard.specs.declared.view.CellView.{CellView};
 ghost use Rattle.cw_jobs.specs.declared.effect.Effect.{Effect};
 ghost use Rattle.cw_yard.specs.declared.task.DequeView.TheVariants.{Fresh, Owner, Thief};
 ghost use Rattle.cw_yard.specs.declared.task.Item.TheVariants.{Work};
-ghost use Rattle.cw_yard.specs.Ledger.{Dealt, MayPush, pushed, Retakes, Steals, marked, begun, as_thief, IsOwner, IsThief};
+ghost use Rattle.cw_yard.specs.Ledger.{Dealt, MayPush, pushed, Retakes, TakesLast, Steals, marked, begun, as_thief, IsOwner, IsThief};
 
 use crate::cells::Token;
 use crate::task::{DequeView, Item, Task};
@@ -88,7 +88,8 @@ pub fn new(alloc: Global, capacity: usize, mark: Token) -> Result<OwnDeque, Allo
 pub fn guest(own: &mut OwnDeque) -> ThiefPass
     requires { (t : Seat (Option Effect) CellView) × (worker_view own.old ≡ Owner t []) }
     ensures same { SameWorker own.old own.new × (worker_view own.new ≡ worker_view own.old) }
-    ensures thief { IsPassOf (worker_deque own.old) result × (view result ≡ as_thief (worker_view own.old)) }
+    ensures thief { IsPassOf (worker_deque own.old) result
+        × (view result ≡ as_thief (worker_view own.old)) }
 {
     own.another::<Guests>()
 }
@@ -111,7 +112,7 @@ pub fn offer(own: &mut OwnDeque, task: Task) -> Result<(), Task>
 pub fn retake(own: &mut OwnDeque) -> Option<Task>
     requires { IsOwner (worker_view own.old) × (worker_flavor own.old ≡ 1) }
     ensures same { SameWorker own.old own.new }
-    ensures some { IfSome result (λ k. Retakes (worker_view own.old) (Work k ∷ []) (worker_view own.new)) }
+    ensures some { IfSome result (TakesLast (worker_view own.old) (worker_view own.new)) }
     ensures none { IfNone result (worker_view own.new ≡ worker_view own.old) }
 {
     match own.pop_as::<Takes>() {

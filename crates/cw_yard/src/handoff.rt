@@ -9,6 +9,7 @@ ghost use Rattle.cw_yard.specs.Deals.{number_of};
 ghost use Rattle.cw_yard.specs.Ledger.{offer, Retakes, Steals};
 ghost use Rattle.cw_yard.specs.declared.task.Item.TheVariants.{Work};
 ghost use Rattle.cw_yard.specs.Words.{offered, stolen, Deal, Rises, Takes, OwnsAt, StealsAt};
+ghost use Rattle.cw_yard.specs.Handed.{IsOfTable, MayOffer, IsOffered, IsGivenBack, IsTakenBack, IsStolen, IsCollected, IsSameTicket};
 ghost use Rattle.cw_yard.specs.Tickets.{ticket_job, ticket_number, duty_job};
 
 use crate::cells::{Cells, Holding, Token};
@@ -26,10 +27,10 @@ fn offer_held<B: Holding>(
     job: Job,
 ) -> Result<Ticket, (Job, FreeCell)>
     requires held { B.stage ≡ Held (length (offered (worker_view own.old))) job }
-    requires table { (free.token.table_id ≡ table.now.table_id) × (table.now.table_id.words ≡ table.now.table_id.slots + 1) × OwnsAt table.now.table_id (worker_view own.old) }
+    requires table { MayOffer table.now.table_id free own.old }
     ensures same { SameWorker own.old own.new × OwnsAt table.now.table_id (worker_view own.new) }
-    ensures ok { IfOk result (λ t. (t.token.table_id ≡ table.now.table_id) × (ticket_job t ≡ Some job) × (ticket_number t ≡ Some (length (offered (worker_view own.old)))) × (offered (worker_view own.new) ≡ offered (worker_view own.old) ++ offer job false ∷ [])) }
-    ensures err { IfErr result (λ e. (e.0 ≡ job) × (e.1.token.table_id ≡ table.now.table_id) × (worker_view own.new ≡ worker_view own.old) × (worker_capacity own.old ≤ worker_index own.old)) }
+    ensures ok { IfOk result (IsOffered table.now.table_id job own.old own.new) }
+    ensures err { IfErr result (IsGivenBack table.now.table_id job own.old own.new) }
 {
     let FreeCell { cell, mut token } = free;
     crate::cells::open::<B>(table, &mut token, cell);
@@ -51,17 +52,20 @@ pub fn offer(
     free: FreeCell,
     job: Job,
 ) -> Result<Ticket, (Job, FreeCell)>
-    requires table { (free.token.table_id ≡ table.now.table_id) × (table.now.table_id.words ≡ table.now.table_id.slots + 1) × OwnsAt table.now.table_id (worker_view own.old) }
+    requires table { MayOffer table.now.table_id free own.old }
     ensures same { SameWorker own.old own.new × OwnsAt table.now.table_id (worker_view own.new) }
-    ensures ok { IfOk result (λ t. (t.token.table_id ≡ table.now.table_id) × (ticket_job t ≡ Some job) × (ticket_number t ≡ Some (length (offered (worker_view own.old)))) × (offered (worker_view own.new) ≡ offered (worker_view own.old) ++ offer job false ∷ [])) }
-    ensures err { IfErr result (λ e. (e.0 ≡ job) × (e.1.token.table_id ≡ table.now.table_id) × (worker_view own.new ≡ worker_view own.old) × (worker_capacity own.old ≤ worker_index own.old)) }
+    ensures ok { IfOk result (IsOffered table.now.table_id job own.old own.new) }
+    ensures err { IfErr result (IsGivenBack table.now.table_id job own.old own.new) }
 {
     offer_held::<Brand>(table, own, free, job)
 }
 
-// A job that no ticket of this moment is for: its effect is left in its cell, as if it had been stolen.
+// A job that no ticket of this moment is for: its effect is left in its cell, as if it had been
+// stolen. It is never called, and kept out of `retake`, whose frame it would make larger.
+#[inline(never)]
 fn give_up(table: &Cells, cell: usize, duty: Token, job: Job)
-    requires table { (duty.table_id ≡ table.now.table_id) × (cell < duty.table_id.slots) × (table.now.table_id.words ≡ table.now.table_id.slots + 1) }
+    requires table { IsOfTable table.now.table_id duty.table_id }
+    requires inside { cell < duty.table_id.slots }
     requires names { duty.me ≡ (OnDuty cell false (number_of duty.me.0) job, []) }
 {
     let effect = job.give_up();
@@ -70,10 +74,10 @@ fn give_up(table: &Cells, cell: usize, duty: Token, job: Job)
 
 /// The job of the ticket, with its cell, which is free.
 pub fn retake(table: &Cells, own: &mut OwnDeque, ticket: Ticket) -> Result<(Job, FreeCell), Ticket>
-    requires table { (ticket.token.table_id ≡ table.now.table_id) × (table.now.table_id.words ≡ table.now.table_id.slots + 1) }
+    requires table { IsOfTable table.now.table_id ticket.token.table_id }
     requires own { OwnsAt table.now.table_id (worker_view own.old) × (worker_flavor own.old ≡ 1) }
     ensures same { SameWorker own.old own.new × OwnsAt table.now.table_id (worker_view own.new) }
-    ensures mine { IfOk result (λ r. (ticket_job ticket ≡ Some r.0) × Takes (offered (worker_view own.old)) (ticket_number ticket) r.0 (offered (worker_view own.new)) × (r.1.token.table_id ≡ table.now.table_id)) }
+    ensures mine { IfOk result (IsTakenBack table.now.table_id ticket own.old own.new) }
     ensures later { IfErr result (λ t. t ≡ ticket) }
 {
     let Some(task) = crate::deque::retake(own) else {
@@ -91,9 +95,10 @@ pub fn retake(table: &Cells, own: &mut OwnDeque, ticket: Ticket) -> Result<(Job,
 
 /// A job that a pass at another's deque got, with the duty to settle it.
 pub fn steal(table: &Cells, other: &Victim, pass: &mut ThiefPass) -> Option<(Job, Duty)>
-    requires thief { IsPassOf (stealer_deque other.now) pass.old × StealsAt table.now.table_id (view pass.old) }
+    requires thief { IsPassOf (stealer_deque other.now) pass.old
+        × StealsAt table.now.table_id (view pass.old) }
     ensures same { SamePass pass.old pass.new × StealsAt table.now.table_id (view pass.new) }
-    ensures some { IfSome result (λ r. (r.1.token.table_id ≡ table.now.table_id) × (duty_job r.1 ≡ Some r.0) × Rises (stolen (view pass.old)) r.0 (stolen (view pass.new))) }
+    ensures some { IfSome result (IsStolen table.now.table_id pass.old pass.new) }
     ensures none { IfNone result (view pass.new ≡ view pass.old) }
 {
     let Task { job, cell, duty } = crate::deque::steal(other, pass)?;
@@ -102,7 +107,7 @@ pub fn steal(table: &Cells, other: &Victim, pass: &mut ThiefPass) -> Option<(Job
 
 /// Leaves the effect of a stolen job in its cell.
 pub fn settle(table: &Cells, duty: Duty, effect: Effect)
-    requires table { (duty.token.table_id ≡ table.now.table_id) × (table.now.table_id.words ≡ table.now.table_id.slots + 1) }
+    requires table { IsOfTable table.now.table_id duty.token.table_id }
     requires means { (j : Job) × (duty_job duty ≡ Some j) × IsMeaningOf j effect }
 {
     let Duty { cell, token } = duty;
@@ -111,9 +116,9 @@ pub fn settle(table: &Cells, duty: Duty, effect: Effect)
 
 /// A meaning of the ticket's job, with its cell, which is free.
 pub fn collect(table: &Cells, ticket: Ticket) -> Result<(Effect, FreeCell), Ticket>
-    requires table { (ticket.token.table_id ≡ table.now.table_id) × (table.now.table_id.words ≡ table.now.table_id.slots + 1) }
-    ensures done { IfOk result (λ r. ((j : Job) → ticket_job ticket ≡ Some j → IsMeaningOf j r.0) × (r.1.token.table_id ≡ table.now.table_id)) }
-    ensures later { IfErr result (λ t. (t.cell ≡ ticket.cell) × (t.token.table_id ≡ ticket.token.table_id) × (t.token.me ≡ ticket.token.me)) }
+    requires table { IsOfTable table.now.table_id ticket.token.table_id }
+    ensures done { IfOk result (IsCollected table.now.table_id ticket) }
+    ensures later { IfErr result (IsSameTicket ticket) }
 {
     let Ticket { cell, mut token } = ticket;
     match crate::cells::collect(table, &mut token, cell) {

@@ -57,7 +57,8 @@ pub fn unmarked(alloc: Global) -> Result<(MarkTable, Watch), AllocError>
 /// The token of one more watcher.
 pub fn another(mark: &Mark, watch: &mut Watch) -> Watch
     requires { IsWatchOf mark.now.table_id watch.old }
-    ensures { IsWatchOf mark.now.table_id watch.new × IsWatchOf mark.now.table_id result × (watch.new.me.0 ≡ watch.old.me.0) }
+    ensures { IsWatchOf mark.now.table_id watch.new × IsWatchOf mark.now.table_id result
+        × (watch.new.me.0 ≡ watch.old.me.0) }
 {
     mark.split_seat::<Shares>(watch)
 }

@@ -63,7 +63,8 @@ fn deques(
     room: usize,
 ) -> Result<Vec<OwnDeque>, AllocError>
     requires { AllRest table.now.table_id all.old 0 × (workers ≤ table.now.table_id.slots) }
-    ensures { IfOk result (λ v. AllRest table.now.table_id all.new workers × (length v.items ≡ workers) × Each (IsFresh table.now.table_id) v.items) }
+    ensures { IfOk result (λ v. AllRest table.now.table_id all.new workers
+        × (length v.items ≡ workers) × Each (IsFresh table.now.table_id) v.items) }
 {
     let mut owns = Vec::with_capacity(alloc, workers)?;
     let mut k = 0;
@@ -76,7 +77,8 @@ fn deques(
 
 // The cells that mark nothing are let go.
 fn pass_by(table: &Cells, all: &mut Token, from: usize, to: usize)
-    requires { AllRest table.now.table_id all.old from × (to ≤ table.now.table_id.slots) × (from ≤ to) }
+    requires { AllRest table.now.table_id all.old from × (to ≤ table.now.table_id.slots)
+        × (from ≤ to) }
     ensures { AllRest table.now.table_id all.new to }
 {
     let mut k = from;
@@ -108,8 +110,10 @@ fn free_cells(
     from: usize,
     count: usize,
 ) -> Result<Vec<FreeCell>, AllocError>
-    requires { AllRest table.now.table_id all.old from × (from + count ≤ table.now.table_id.slots) × (from + count < 2 ^ 60) }
-    ensures { IfOk result (λ v. AllRest table.now.table_id all.new (from + count) × (length v.items ≡ count) × Each (λ f. f.token.table_id ≡ table.now.table_id) v.items) }
+    requires { AllRest table.now.table_id all.old from × (from + count ≤ table.now.table_id.slots)
+        × (from + count < 2 ^ 60) }
+    ensures { IfOk result (λ v. AllRest table.now.table_id all.new (from + count)
+        × (length v.items ≡ count) × Each (λ f. f.token.table_id ≡ table.now.table_id) v.items) }
 {
     let mut cells = Vec::with_capacity(alloc, count)?;
     let mut k = 0;
@@ -152,9 +156,13 @@ fn parts(
     watch: &mut Watch,
     cells: usize,
 ) -> Result<Vec<Part>, AllocError>
-    requires { ServesDeques yard.now owns.old.items × AllRest (table_of yard.now) all.old 64 × (64 + workers_of yard.now * cells ≤ (table_of yard.now).slots) × (64 + workers_of yard.now * cells < 2 ^ 60) × IsWatchOf yard.now.mark.shared.table_id watch.old }
+    requires { ServesDeques yard.now owns.old.items × AllRest (table_of yard.now) all.old 64
+        × (64 + workers_of yard.now * cells ≤ (table_of yard.now).slots)
+        × (64 + workers_of yard.now * cells < 2 ^ 60)
+        × IsWatchOf yard.now.mark.shared.table_id watch.old }
     ensures deques { ServesDeques yard.now owns.new.items }
-    ensures parts { IfOk result (λ v. (length v.items ≡ workers_of yard.now) × Each (IsPart yard.now cells) v.items) }
+    ensures parts { IfOk result (λ v. (length v.items ≡ workers_of yard.now)
+        × Each (IsPart yard.now cells) v.items) }
 {
     let workers = owns.len();
     let mut made = Vec::with_capacity(alloc, workers)?;
@@ -184,7 +192,8 @@ fn seats(
     _cells: usize,
 ) -> Result<Vec<Seat>, AllocError>
     requires deques { ServesDeques yard.now owns.items }
-    requires parts { (length parts.items ≡ workers_of yard.now) × Each (IsPart yard.now _cells) parts.items }
+    requires parts { (length parts.items ≡ workers_of yard.now)
+        × Each (IsPart yard.now _cells) parts.items }
     ensures { IfOk result (λ v. AreSeats yard.now _cells v.items) }
 {
     let mut made = Vec::with_capacity(alloc, owns.len())?;
@@ -242,7 +251,8 @@ impl Yard {
     /// The error is `Arguments` exactly where one of the numbers is out of its range; otherwise `Memory`, where memory
     /// runs out.
     pub fn open(alloc: Global, workers: usize, cells: usize) -> Result<(Yard, Vec<Seat>), Fault>
-        ensures { MatchResult result (λ r. IsOpened workers cells r.0 r.1.items) (IsRefused workers cells) }
+        ensures { MatchResult result (λ r. IsOpened workers cells r.0 r.1.items)
+            (IsRefused workers cells) }
     {
         if !is_asked(workers, cells) {
             return Err(Fault::Arguments);

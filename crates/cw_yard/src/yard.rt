@@ -5,7 +5,7 @@ ghost use Rattle.cw_jobs.specs.Means.{IsMeaningOf};
 ghost use Rattle.cw_yard.specs.Ledger.{offer as offered_job};
 ghost use Rattle.cw_yard.specs.Words.{Rises};
 ghost use Rattle.cw_yard.specs.Tickets.{ticket_job, ticket_number, duty_job};
-ghost use Rattle.cw_yard.specs.Seats.{IsSeatOf, IsTicketOf, IsDutyOf, offered_by, stolen_from, workers_of, HasNoCell, HasFullDeque, RetakesFor, CollectsFor, HasSeenEnd};
+ghost use Rattle.cw_yard.specs.Seats.{IsSeatOf, IsTicketOf, IsDutyOf, offered_by, stolen_from, workers_of, HasNoCell, HasFullDeque, OffersFor, RefusesOffer, RetakesFor, StealsFor, CollectsFor, HasSeenEnd};
 
 use crate::seat::{Seat, Yard};
 use crate::ticket::{Duty, Ticket};
@@ -38,8 +38,8 @@ impl Yard {
     pub fn offer(&self, seat: &mut Seat, job: Job) -> Result<Ticket, Job>
         requires seat { IsSeatOf self.now seat.old }
         ensures seat { IsSeatOf self.now seat.new }
-        ensures ok { IfOk result (λ t. IsTicketOf self.now t × (ticket_job t ≡ Some job) × (ticket_number t ≡ Some (length (offered_by seat.old))) × (offered_by seat.new ≡ offered_by seat.old ++ offered_job job false ∷ [])) }
-        ensures err { IfErr result (λ j. (j ≡ job) × (offered_by seat.new ≡ offered_by seat.old) × (HasNoCell seat.old ⊎ HasFullDeque seat.old)) }
+        ensures ok { IfOk result (OffersFor self.now job seat.old seat.new) }
+        ensures err { IfErr result (RefusesOffer job seat.old seat.new) }
     {
         let Some(free) = seat.free.pop() else {
             return Err(job);
@@ -83,7 +83,7 @@ impl Yard {
         requires seat { IsSeatOf self.now seat.old }
         requires victim { victim < workers_of self.now }
         ensures seat { IsSeatOf self.now seat.new }
-        ensures some { IfSome result (λ r. IsDutyOf self.now r.1 × (duty_job r.1 ≡ Some r.0) × Rises (stolen_from seat.old victim) r.0 (stolen_from seat.new victim)) }
+        ensures some { IfSome result (StealsFor self.now victim seat.old seat.new) }
         ensures none { IfNone result (stolen_from seat.new victim ≡ stolen_from seat.old victim) }
     {
         let stealer = &self.stealers[victim];

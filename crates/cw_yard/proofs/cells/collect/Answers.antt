@@ -1,4 +1,4 @@
-use Rattle.std.proofs.Common.{◌≡◌, refl, ◌∙◌, [], ◌∷◌, true, None, Some, ap, sym, subst, arith}
+use Rattle.std.proofs.Common.{◌≡◌, refl, ◌∙◌, [], ◌∷◌, None, Some, ap, sym, subst, arith}
 use Rattle.cw_yard.specs.declared.view.Stage.TheVariants.{Taken}
 use Rattle.cw_yard.specs.declared.view.CellView.TheVariants.{Owner}
 use Rattle.atomic_table.specs.Table.{rest}

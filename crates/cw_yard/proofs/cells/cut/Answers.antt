@@ -1,4 +1,4 @@
-use Rattle.std.proofs.Common.{ap, sym, subst, arith}
+use Rattle.std.proofs.Common.{arith}
 use Rattle.cw_yard.proofs.Keeps.{cuts}
 use Rattle.cw_yard.proofs.cells.cut.Goals as goal
 

@@ -1,4 +1,4 @@
-use Rattle.std.proofs.Common.{◌≡◌, ◌∙◌, ◌+◌, ap, sym, subst, arith, replicate, None}
+use Rattle.std.proofs.Common.{◌≡◌, ◌∙◌, ◌+◌, sym, subst, replicate, None}
 use Rattle.atomic_table.specs.Table.{opening}
 use Rattle.cw_yard.specs.declared.view.CellView.TheVariants.{Rest}
 use Rattle.cw_yard.specs.Cells.{Kept}

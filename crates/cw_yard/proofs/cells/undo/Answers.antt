@@ -1,4 +1,4 @@
-use Rattle.std.proofs.Common.{◌≡◌, ◌∙◌, [], false, ap, sym, subst, arith}
+use Rattle.std.proofs.Common.{◌≡◌, ◌∙◌, [], ap, arith}
 use Rattle.cw_yard.specs.declared.view.Stage.TheVariants.{Back}
 use Rattle.cw_yard.specs.declared.view.CellView.TheVariants.{Owner}
 use Rattle.cw_yard.specs.Cells.{back}

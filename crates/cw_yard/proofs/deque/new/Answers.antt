@@ -1,6 +1,4 @@
-use Rattle.std.proofs.Common.{◌≡◌, ◌∙◌, refl, inl, sym, ap, subst}
-use Rattle.crossbeam_deque.specs.Tasks.{Pops, Pushes}
-use Rattle.cw_yard.specs.Ledger.{Dealt, begun, marked}
+use Rattle.std.proofs.Common.{refl, inl}
 use Rattle.cw_yard.proofs.Moves.{marks, begins}
 use Rattle.cw_yard.proofs.deque.new.Goals as goal
 

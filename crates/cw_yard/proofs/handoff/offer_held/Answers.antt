@@ -1,4 +1,4 @@
-use Rattle.std.proofs.Common.{◌≡◌, ◌∙◌, ◌<◌, [], ap, subst, sym, true}
+use Rattle.std.proofs.Common.{◌∙◌, ◌<◌, [], ap, subst, sym}
 use Rattle.cw_yard.specs.declared.task.Task.{Task}
 use Rattle.cw_yard.specs.Cells.{dealt, duty}
 use Rattle.cw_yard.proofs.Outs.{out_of}

@@ -1,6 +1,5 @@
-use Rattle.std.proofs.Common.{◌≡◌, ◌≤◌, ◌+◌, ◌-◌, ◌*◌, ℕ, length}
-use Rattle.cw_yard.specs.Ledger.{Each}
-use Rattle.cw_yard.specs.Opens.{AllRest, IsFresh, IsPart, ServesDeques, AreStealersOf, HasPasses, OwnDeque, Victim}
+use Rattle.std.proofs.Common.{◌≤◌, ◌-◌}
+use Rattle.cw_yard.specs.Opens.{AllRest}
 use Rattle.cw_yard.proofs.open.pass_by.Given as goal
 
 abbrev pub invariant-loop-k : goal.invariant-loop-k

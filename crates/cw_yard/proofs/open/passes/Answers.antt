@@ -1,4 +1,4 @@
-use Rattle.std.proofs.Common.{rules, ◌≡◌, ◌∙◌, ◌+◌, ◌++◌, ◌∷◌, [], sym, ap, subst, length}
+use Rattle.std.proofs.Common.{rules, ◌≡◌, [], sym, subst}
 use Rattle.cw_yard.specs.Seats.{table_of}
 use Rattle.cw_yard.specs.Opens.{HasPasses}
 use Rattle.cw_yard.specs.Ledger.{Each}

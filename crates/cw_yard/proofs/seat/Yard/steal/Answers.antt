@@ -1,8 +1,6 @@
-use Rattle.std.proofs.Common.{◌≡◌, ◌<◌, ◌∙◌, Some, IfSome, sym, ap, subst}
+use Rattle.std.proofs.Common.{◌<◌, ◌∙◌, sym, ap, subst}
 use Rattle.crossbeam_deque.specs.Handles.{view}
-use Rattle.cw_yard.specs.Words.{Rises, stolen}
-use Rattle.cw_yard.specs.Tickets.{duty_job}
-use Rattle.cw_yard.specs.Seats.{IsDutyOf, deals_by}
+use Rattle.cw_yard.specs.Words.{stolen}
 use Rattle.cw_yard.proofs.Thefts.{stolen_before, stolen_after, if_none, if_some, rises}
 use Rattle.cw_yard.proofs.seat.Yard.steal.Goals as goal
 
