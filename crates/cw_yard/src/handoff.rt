@@ -60,8 +60,8 @@ pub fn offer(
     offer_held::<Brand>(table, own, free, job)
 }
 
-// A job that no ticket of this moment is for: its effect is left in its cell, as if it had been
-// stolen. It is never called, and kept out of `retake`, whose frame it would make larger.
+// A job that is not the asked ticket's: its effect is left in its cell, as if it had been stolen.
+// It is kept out of `retake`, whose frame it would make larger.
 #[inline(never)]
 fn give_up(table: &Cells, cell: usize, duty: Token, job: Job)
     requires table { IsOfTable table.now.table_id duty.table_id }

@@ -1,6 +1,8 @@
-//! Jobs for the tests: the call of a main that gives its argument.
+//! Jobs for the tests, and what tells them apart: the argument of a job, and of its effect the number of arrays that
+//! come back, which is the same.
 
 use cw_code::code::{Code, Func, Instr};
+use cw_jobs::effect::Effect;
 use cw_jobs::job::Job;
 use cw_text::Fault;
 use cw_verify::verified::Verified;
@@ -8,8 +10,8 @@ use cw_verify::verify::verify;
 use std::alloc::Global;
 use std::sync::Arc;
 
-// Code of a main that gives its argument.
-pub fn same(alloc: Global) -> Result<Arc<Verified>, Fault> {
+// Code of a main that gives its argument, and has so many arrays.
+fn same(alloc: Global, arrays: usize) -> Result<Arc<Verified>, Fault> {
     let mut code = Code {
         instrs: Vec::new(alloc),
         funcs: Vec::new(alloc),
@@ -29,16 +31,16 @@ pub fn same(alloc: Global) -> Result<Arc<Verified>, Fault> {
         params: 1,
         slots: 1,
         array_params: 0,
-        arrays: 0,
+        arrays,
     })?;
     let verified = verify(alloc, code)?;
     Ok(Arc::new(alloc, verified)?)
 }
 
-// The job of a run on this argument.
-pub fn job(alloc: Global, code: &Arc<Verified>, arg: i64) -> Result<Job, Fault> {
-    let share = code.clone()?;
-    Job::root(alloc, share, &[arg], 1000, 0)
+// The job of a run on this argument, with as many arrays.
+pub fn job(alloc: Global, arg: u16) -> Result<Job, Fault> {
+    let code = same(alloc, arg as usize)?;
+    Job::root(alloc, code, &[arg as i64], 1000, 0)
 }
 
 // The argument of a job.
@@ -46,5 +48,13 @@ pub fn argument(job: &Job) -> i64 {
     match job.parts.rest.cells.first() {
         Some(x) => *x,
         None => 0,
+    }
+}
+
+// The arrays that came back from a job that was given up, or 0.
+pub fn value(effect: &Effect) -> i64 {
+    match effect {
+        Effect::Memory { back } => i64::try_from(back.len()).unwrap_or(0),
+        _ => 0,
     }
 }

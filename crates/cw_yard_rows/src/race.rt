@@ -2,36 +2,40 @@
 ghost use Rattle.std.specs.Prelude.{◌≡◌, ◌<◌, IfOk};
 ghost use Rattle.cw_yard.specs.Seats.{IsSeatOf, workers_of};
 
-use crate::jobs::{argument, job, same};
+use crate::jobs::{argument, job};
 use crate::walk::{offer_once, rob, spend};
 use cw_text::Fault;
-use cw_verify::verified::Verified;
 use cw_yard::seat::{Seat, Yard};
 use std::alloc::Global;
-use std::sync::{Arc, Wait};
+use std::sync::Wait;
 use std::test::Fail;
 use std::thread;
 use std::thread::Threads;
 
-// Offers the jobs of so many arguments, from 1 on, and marks the end: the sum of those that came back.
+// Offers the jobs of so many arguments, from 1 on, and marks the end: the sum of the arguments of those that came back,
+// and that of the values of the effects that came.
 fn own<R: Wait>(
     rt: &R,
     alloc: Global,
     yard: &Yard,
     seat: &mut Seat,
-    code: &Arc<Verified>,
-    count: u64,
-) -> Result<i64, Fault>
+    count: u16,
+) -> Result<(i64, i64), Fault>
     requires { IsSeatOf yard.now seat.old }
 {
-    let mut sum = 0i64;
-    let mut arg = 0i64;
+    let mut back = 0i64;
+    let mut came = 0i64;
+    let mut arg = 0u16;
     let mut left = count;
     while left > 0 {
         left -= 1;
         arg = arg.wrapping_add(1);
-        match job(alloc, code, arg) {
-            Ok(job) => sum = sum.wrapping_add(offer_once(rt, yard, seat, job)),
+        match job(alloc, arg) {
+            Ok(job) => {
+                let spent = offer_once(rt, yard, seat, job);
+                back = back.wrapping_add(spent.argument().unwrap_or(0));
+                came = came.wrapping_add(spent.value().unwrap_or(0));
+            }
             Err(fault) => {
                 yard.end(seat);
                 return Err(fault);
@@ -39,7 +43,7 @@ fn own<R: Wait>(
         }
     }
     yard.end(seat);
-    Ok(sum)
+    Ok((back, came))
 }
 
 // Steals until the end is marked: the sum of the arguments of what was stolen.
@@ -56,24 +60,23 @@ fn steal_all<R: Wait>(rt: &R, yard: &Yard, seat: &mut Seat) -> i64
     sum
 }
 
-// Both at once: what came back, and what was stolen.
+// Both at once: what came back and what came, and what was stolen.
 fn race<R: Wait + Threads + Sync>(
     rt: &R,
     alloc: Global,
     yard: &Yard,
     mut one: Seat,
     mut other: Seat,
-    code: Arc<Verified>,
-    count: u64,
-) -> (Result<i64, Fault>, i64)
+    count: u16,
+) -> (Result<(i64, i64), Fault>, i64)
     requires { IsSeatOf yard.now one × IsSeatOf yard.now other × (0 < workers_of yard.now) }
 {
-    let (first, second, share) = (&mut one, &mut other, &code);
+    let (first, second) = (&mut one, &mut other);
     thread::join(
         rt,
-        move || -> Result<i64, Fault>
+        move || -> Result<(i64, i64), Fault>
             requires { IsSeatOf yard.now first.now }
-        { own(rt, alloc, yard, first, share, count) },
+        { own(rt, alloc, yard, first, count) },
         move || -> i64
             requires { IsSeatOf yard.now second.now × (0 < workers_of yard.now) }
         { steal_all(rt, yard, second) },
@@ -94,25 +97,25 @@ fn two(alloc: Global, cells: usize) -> Result<(Yard, Seat, Seat), Fault>
     Ok((yard, one, other))
 }
 
-// Each job came back or was stolen, and none did both.
+// Each job came back or was stolen, none did both, and the effect of each that was stolen came once.
 #[test]
 fn each_job_is_done_once(rt: HostRuntime) -> Result<(), Fail> {
-    let code = same(rt.alloc())?;
     let (yard, one, other) = two(rt.alloc(), 4)?;
-    let (kept, stolen) = race(&rt, rt.alloc(), &yard, one, other, code, 1000);
-    assert_eq!(rt; kept?.wrapping_add(stolen), 500_500);
+    let (own, stolen) = race(&rt, rt.alloc(), &yard, one, other, 1000);
+    let (back, came) = own?;
+    assert_eq!(rt; back.wrapping_add(came), 500_500);
+    assert_eq!(rt; came, stolen);
     Ok(())
 }
 
 // With one cell the first job is taken, the second given back whole, and after a retake the next is taken.
 #[test]
 fn one_cell_takes_one_job(rt: HostRuntime) -> Result<(), Fail> {
-    let code = same(rt.alloc())?;
     let (yard, mut one, _other) = two(rt.alloc(), 1)?;
     let (first, second, third) = (
-        job(rt.alloc(), &code, 7)?,
-        job(rt.alloc(), &code, 8)?,
-        job(rt.alloc(), &code, 9)?,
+        job(rt.alloc(), 7)?,
+        job(rt.alloc(), 8)?,
+        job(rt.alloc(), 9)?,
     );
     let Ok(ticket) = yard.offer(&mut one, first) else {
         panic!(rt; "the first job was given back")
@@ -121,22 +124,21 @@ fn one_cell_takes_one_job(rt: HostRuntime) -> Result<(), Fail> {
         Ok(_) => panic!(rt; "one cell took two jobs"),
         Err(back) => assert_eq!(rt; argument(&back), 8),
     }
-    let back = spend(&rt, &yard, &mut one, ticket);
-    assert_eq!(rt; back.map(|job| argument(&job)), Some(7));
+    let spent = spend(&rt, &yard, &mut one, ticket);
+    assert_eq!(rt; spent.argument(), Some(7));
     let Ok(ticket) = yard.offer(&mut one, third) else {
         panic!(rt; "the third job was given back")
     };
-    let back = spend(&rt, &yard, &mut one, ticket);
-    assert_eq!(rt; back.map(|job| argument(&job)), Some(9));
+    let spent = spend(&rt, &yard, &mut one, ticket);
+    assert_eq!(rt; spent.argument(), Some(9));
     Ok(())
 }
 
 // Worker 1 steals the oldest of two jobs, its effect comes to worker 0, and the end is seen at both.
 #[test]
 fn the_oldest_is_stolen(rt: HostRuntime) -> Result<(), Fail> {
-    let code = same(rt.alloc())?;
     let (yard, mut one, mut other) = two(rt.alloc(), 2)?;
-    let (first, second) = (job(rt.alloc(), &code, 7)?, job(rt.alloc(), &code, 8)?);
+    let (first, second) = (job(rt.alloc(), 7)?, job(rt.alloc(), 8)?);
     let Ok(older) = yard.offer(&mut one, first) else {
         panic!(rt; "the first job was given back")
     };
@@ -144,10 +146,10 @@ fn the_oldest_is_stolen(rt: HostRuntime) -> Result<(), Fail> {
         panic!(rt; "the second job was given back")
     };
     assert_eq!(rt; rob(&yard, &mut other, 0), 7);
-    let back = spend(&rt, &yard, &mut one, newer);
-    assert_eq!(rt; back.map(|job| argument(&job)), Some(8));
-    let back = spend(&rt, &yard, &mut one, older);
-    assert!(rt; back.is_none());
+    let spent = spend(&rt, &yard, &mut one, newer);
+    assert_eq!(rt; spent.argument(), Some(8));
+    let spent = spend(&rt, &yard, &mut one, older);
+    assert_eq!(rt; spent.value(), Some(7));
     assert_eq!(rt; rob(&yard, &mut other, 0), 0);
     assert!(rt; !yard.ended(&mut other));
     yard.end(&mut one);

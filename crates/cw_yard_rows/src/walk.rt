@@ -2,15 +2,43 @@
 ghost use Rattle.std.specs.Prelude.{◌≡◌, ◌<◌};
 ghost use Rattle.cw_yard.specs.Seats.{IsSeatOf, IsTicketOf, workers_of};
 
-use crate::jobs::argument;
+use crate::jobs::{argument, value};
+use cw_jobs::effect::Effect;
 use cw_jobs::job::Job;
 use cw_yard::seat::{Seat, Yard};
 use cw_yard::ticket::Ticket;
 use cw_yard::yard::{Collected, Retaken};
 use std::sync::Wait;
 
-/// The job of a ticket, or none where it was stolen and its effect has come.
-pub fn spend<R: Wait>(rt: &R, yard: &Yard, seat: &mut Seat, ticket: Ticket) -> Option<Job>
+/// What a ticket was spent for.
+#[derive(Drop)]
+pub enum Spent {
+    /// Its job came back.
+    Back(Job),
+    /// Its job was stolen, and this is its effect.
+    Came(Effect),
+}
+
+impl Spent {
+    /// The argument of the job that came back, or none.
+    pub fn argument(&self) -> Option<i64> {
+        match self {
+            Spent::Back(job) => Some(argument(job)),
+            Spent::Came(_) => None,
+        }
+    }
+
+    /// The value of the effect that came, or none.
+    pub fn value(&self) -> Option<i64> {
+        match self {
+            Spent::Back(_) => None,
+            Spent::Came(effect) => Some(value(effect)),
+        }
+    }
+}
+
+/// The job of a ticket, or where it was stolen its effect.
+pub fn spend<R: Wait>(rt: &R, yard: &Yard, seat: &mut Seat, ticket: Ticket) -> Spent
     requires seat { IsSeatOf yard.now seat.old }
     requires ticket { IsTicketOf yard.now ticket }
     ensures { IsSeatOf yard.now seat.new }
@@ -18,9 +46,9 @@ pub fn spend<R: Wait>(rt: &R, yard: &Yard, seat: &mut Seat, ticket: Ticket) -> O
     let mut left = ticket;
     for _ in rt.forever() {
         match yard.retake(seat, left) {
-            Retaken::Mine(job) => return Some(job),
+            Retaken::Mine(job) => return Spent::Back(job),
             Retaken::Later(later) => match yard.collect(seat, later) {
-                Collected::Done(_) => return None,
+                Collected::Done(effect) => return Spent::Came(effect),
                 Collected::Later(later) => left = later,
             },
         }
@@ -44,16 +72,13 @@ pub fn rob(yard: &Yard, seat: &mut Seat, victim: usize) -> i64
     }
 }
 
-/// Offers a job and spends its ticket: the argument of the job if it came back, 0 if it was stolen.
-pub fn offer_once<R: Wait>(rt: &R, yard: &Yard, seat: &mut Seat, job: Job) -> i64
+/// Offers a job and spends its ticket. A job that is given back has come back.
+pub fn offer_once<R: Wait>(rt: &R, yard: &Yard, seat: &mut Seat, job: Job) -> Spent
     requires seat { IsSeatOf yard.now seat.old }
     ensures { IsSeatOf yard.now seat.new }
 {
     match yard.offer(seat, job) {
-        Ok(ticket) => match spend(rt, yard, seat, ticket) {
-            Some(job) => argument(&job),
-            None => 0,
-        },
-        Err(job) => argument(&job),
+        Ok(ticket) => spend(rt, yard, seat, ticket),
+        Err(job) => Spent::Back(job),
     }
 }
