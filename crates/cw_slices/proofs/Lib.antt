@@ -1,5 +1,7 @@
 pub mod Holds
+pub mod Lots
 pub mod Marks
+pub mod Missing
 pub mod Readers
 pub mod Rows
 pub mod Runs

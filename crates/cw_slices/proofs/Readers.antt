@@ -1,5 +1,5 @@
 -- Cells are lent to all who hold a part of a token. Assumes `Logic`.
-use Rattle.std.proofs.Common.{ℕ, ◌*◌, ◌^◌, ℤ, Bool, true, false, List, [], ◌∷◌}
+use Rattle.std.proofs.Common.{◌≡◌, ℕ, ◌*◌, ◌^◌, ℤ, pos, Bool, true, false, List, [], ◌∷◌, length, Option, Some, None, sym, subst}
 use seplogic.Ra.Ura.{Ura}
 use base.Logic.{ent, sep, wand, apply∗}
 use base.Fml.{Lft, Incl, Share, Fml, ftrue, fsep, flt, flft, fbor}
@@ -15,6 +15,8 @@ use denote.Moves.{moves_from}
 use denote.Shares.{Shares-less}
 use denote.Struct.Lending.{Lends, Lends-false, Lends-lies, Lends-said, Lends-nothing, Lends-both, lent_at_shr_laws}
 use Rattle.core.specs.Mem.Slots.Ownership.{bytes_of, slot, slots, owned, slot_lent, slots_lent, lent}
+use Rattle.cw_slices.specs.Memory.{cells_in, kept_owned}
+use Rattle.cw_slices.specs.Blocks.{numbers, marks}
 use Rattle.cw_slices.proofs.Runs.{number_laws}
 
 slot_laws : (f : Bool) (p : Ptr) (x : ℤ) → ShrLaws (slot_lent i64 f p x)
@@ -73,3 +75,19 @@ module _ {M : Type 1} {𝓤 : Ura M} (𝓛 : Logic 𝓤) where
       updating ! $ use2 𝓛 (later (‵ (beside (one (λ r. flft (a ∷ []) r)) (held (a ∷ []) t) κ) ⊛ raw (lfts 𝓛 ts)))
       (Lends-both 𝓛 (flft (a ∷ []) q) (t (a ∷ [])) (one (λ r. flft (a ∷ []) r)) (held (a ∷ []) t) l (Lends-token a q l) (Lends-held t L (a ∷ []) l) κ ts inc sp) $ await ! tt $ split ! $ fsplit ! $
       use2 𝓛 (‵ (t κ)) (moves_from 𝓛 t L κ (a ∷ []) (a ∷ []) (meet_⊑_left (a ∷ []) κ)) $ now ! $ done !)
+  module _ (l : Lft) (within : Incl l i64.lives) where
+    -- the cells that are in are lent
+    Lends-in : (p : Ptr) (cs : List (Option ℤ)) → Lends 𝓛 (cells_in p cs) (slots_lent i64 p (numbers cs) (marks cs)) l
+    Lends-in p [] = Lends-nothing 𝓛 ftrue l
+    Lends-in p (Some x ∷ cs) =
+        Lends-both 𝓛 (slot i64 true p x) (cells_in (p +ₚ bytes_of i64) cs) (slot_lent i64 true p x) (slots_lent i64 (p +ₚ bytes_of i64) (numbers cs) (marks cs)) l (Lends-slot l within true p x) (Lends-in (p +ₚ bytes_of i64) cs)
+    Lends-in p (None ∷ cs) =
+        Lends-both 𝓛 ftrue (cells_in (p +ₚ bytes_of i64) cs) (slot_lent i64 false p (pos 0)) (slots_lent i64 (p +ₚ bytes_of i64) (numbers cs) (marks cs)) l (Lends-nothing 𝓛 ftrue l) (Lends-in (p +ₚ bytes_of i64) cs)
+
+    Lends-here : (p : Ptr) (cs : List (Option ℤ)) → Lends 𝓛 (in_block p (cells_in p cs)) (slots_lent i64 p (numbers cs) (marks cs)) l
+    Lends-here (block_ptr b o) cs = Lends-in (block_ptr b o) cs
+    Lends-here null_ptr cs = Lends-false 𝓛 (slots_lent i64 null_ptr (numbers cs) (marks cs)) l
+
+    pub Lends-kept : (p : Ptr) (n : ℕ) (cs : List (Option ℤ)) → n ≡ length cs → Lends 𝓛 (kept_owned p cs) (lent i64 p n (numbers cs) (marks cs)) l
+    Lends-kept p n cs e = let small = flt (length cs * bytes_of i64) (2 ^ 63) in subst (λ (k : ℕ). Lends 𝓛 (kept_owned p cs) (lent i64 p k (numbers cs) (marks cs)) l) (sym e)
+        (Lends-both 𝓛 small (in_block p (cells_in p cs)) (said small) (slots_lent i64 p (numbers cs) (marks cs)) l (Lends-said 𝓛 small tt l) (Lends-here p cs))

@@ -17,6 +17,10 @@ pub record Spot : Type 0 where
 abbrev pub after : ℕ → Spot → Spot
 after n s = record { ptr = s.ptr +ₚ (n * 8); frees = 0; frozen = s.frozen; halved = s.halved }
 
+-- where a slice lies that has one owner
+abbrev pub own_spot : Ptr → (frees : ℕ) → Spot
+own_spot p frees = record { ptr = p; frees = frees; frozen = 0; halved = 0 }
+
 -- numbers, and where they lie
 pub record Placed : Type 0 where
   pub items : List ℤ

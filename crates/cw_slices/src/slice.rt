@@ -1,10 +1,11 @@
 //! A part of a block of numbers: with one owner, or frozen for a time, to be read by several.
 ghost use Rattle.std.specs.Prelude.{◌≡◌, ℕ, suc, ◌+◌, ◌*◌, ◌^◌, ◌<◌, ◌≤◌, ℤ, pos, List, [], ◌∷◌, ◌++◌, length, take, drop, replicate, slice_index_or, slice_set, IfOk, MatchBool, true, false};
 ghost use Rattle.core.specs.Mem.Slots.{slots_items, slots_filled, slots_ptr, slots_len, IsFull};
-ghost use Rattle.cw_slices.specs.Placed.{Placed, Spot, Owed as TheOwed, after, Follows, IsOwn, half, all_of};
+ghost use Rattle.cw_slices.specs.Placed.{Placed, Spot, Owed as TheOwed, after, own_spot, Follows, IsOwn, half, all_of};
+ghost use Rattle.cw_slices.specs.Loose.{IsRun, MayFree};
 
 use crate::cells::{Cells, Due, freeze, thaw};
-use crate::memory::{Title, claim, free, lay, lift, nothing};
+use crate::memory::{Span, Title, claim, free, lay, lift, nothing};
 use core::slots::Slots;
 use std::alloc::{AllocError, Global};
 use std::marker::Model;
@@ -60,6 +61,17 @@ impl Model for Owed {
     ghost view = { λ o. record { slice = record { items = o.due.items; spot = record { ptr = o.due.at; frees = o.frees; frozen = 0; halved = 0 } }; freeze = o.due.freeze } };
 
     ghost invariant = { λ o. (o.due.filled ≡ replicate (length o.due.items) true) × (length o.due.items < 2 ^ 60) × (o.title.frees ≡ o.frees) × (0 < o.frees → (o.title.heap ≡ o.alloc) × (o.title.at ≡ o.due.at)) × (o.frees < 2 ^ 60) };
+}
+
+// A slice with one owner, as its words, its cells and the right to free its block.
+#[derive(Drop)]
+pub(crate) struct Loose {
+    pub(crate) ptr: *mut i64,
+    pub(crate) len: usize,
+    pub(crate) frees: usize,
+    pub(crate) span: Span,
+    pub(crate) title: Title<Global>,
+    pub(crate) alloc: Global,
 }
 
 // What a frozen slice has in the place of a block's length.
@@ -326,6 +338,59 @@ impl Slice {
             alloc,
         };
         (left, right)
+    }
+
+    // A slice with one owner, taken apart.
+    #[inline(always)]
+    pub(crate) fn loosen(self) -> Loose
+        requires own { IsOwn self }
+        ensures run { IsRun result.ptr result.len result.span }
+        ensures small { result.len < 2 ^ 60 }
+        ensures right { MayFree result.frees result.ptr result.alloc result.title }
+        ensures items { self.items ≡ result.span.items }
+        ensures spot { self.spot ≡ own_spot result.ptr result.frees }
+    {
+        let Slice {
+            cells,
+            frees,
+            title,
+            alloc,
+        } = self;
+        let len = cells.row().len();
+        let (ptr, span) = cells.disown();
+        Loose {
+            ptr,
+            len,
+            frees,
+            span,
+            title,
+            alloc,
+        }
+    }
+
+    // A slice with one owner, put together.
+    #[inline(always)]
+    pub(crate) fn bound(loose: Loose) -> Slice
+        requires run { IsRun loose.ptr loose.len loose.span }
+        requires small { loose.len < 2 ^ 60 }
+        requires right { MayFree loose.frees loose.ptr loose.alloc loose.title }
+        ensures items { result.items ≡ loose.span.items }
+        ensures spot { result.spot ≡ own_spot loose.ptr loose.frees }
+    {
+        let Loose {
+            ptr,
+            len,
+            frees,
+            span,
+            title,
+            alloc,
+        } = loose;
+        Slice {
+            cells: Cells::own(ptr, len, span),
+            frees,
+            title,
+            alloc,
+        }
     }
 
     /// Two neighbours, as one: the right one begins where the left one ends, as after a cut. Nothing

@@ -1,7 +1,7 @@
 ghost use Rattle.std.specs.Prelude.{◌≡◌, ◌<◌, length};
 ghost use Rattle.cw_slices.specs.Placed.{IsOwn};
 
-use super::Slice;
+use super::{Block, Slice};
 use std::test::Fail;
 use std::thread;
 
@@ -118,5 +118,29 @@ fn two_threads_read(rt: HostRuntime) -> Result<(), Fail> {
     assert_eq!(rt; whole.get(1), 7);
     assert_eq!(rt; whole.get(3), 8);
     assert!(rt; !whole.is_frozen());
+    Ok(())
+}
+
+// A part of a block is written by another thread, while this one writes the rest.
+#[test]
+#[tactic(auto, using(crate::specs::lemmas::Sent::slice_send))]
+fn a_part_is_lent(rt: HostRuntime) -> Result<(), Fail> {
+    let mut block = Block::zeros(rt.alloc(), 4)?;
+    block.set(1, 5);
+    let part = block.lend(1, 2);
+    let (part, ()) = thread::join(
+        &rt,
+        || -> Slice
+            requires own { IsOwn part }
+            requires some { 0 < length part.items }
+            ensures spot { result.spot ≡ part.spot }
+            ensures len { length result.items ≡ length part.items }
+        { write_first(part, 7) },
+        || { () },
+    );
+    block.set(3, 9);
+    block.give_back(1, part);
+    assert_eq!(rt; block.get(1), 7);
+    assert_eq!(rt; block.get(3), 9);
     Ok(())
 }

@@ -1,5 +1,5 @@
 -- A slice may go to another thread.
-use Rattle.std.proofs.Common.{ℕ, ℤ, Bool, true, false, List, [], ◌∷◌}
+use Rattle.std.proofs.Common.{ℕ, ℤ, Bool, true, false, List, [], ◌∷◌, Option, Some, None}
 use Prim.Native.Nat.{zero, suc}
 use mir.Syntax.{Ty}
 use base.Fml.{Fml}
@@ -22,7 +22,11 @@ use denote.Struct.Declared as declared
 use Rattle.std_heap.specs.contracts.Global as G
 use Rattle.std_heap.specs.contracts.GlobalAllocator.TheImpl.{ghosts}
 use Rattle.std.proofs.Crossing.{frees}
-use Rattle.cw_slices.specs.Memory.{right_owned}
+use Rattle.cw_slices.specs.Memory.{right_owned, cell_owned, cells_in}
+use Rattle.cw_slices.specs.Blocks.{Lodged, lodged_code}
+use Rattle.cw_slices.specs.contracts.kept.Kept as Kept
+use Rattle.cw_slices.specs.contracts.block.Block as Block
+use Rattle.cw_slices.specs.contracts.block.Block.TheInside as BlockInside
 use Rattle.cw_slices.specs.contracts.cells.Cells as Hold
 use Rattle.cw_slices.specs.contracts.cells.Due as Due
 use Rattle.cw_slices.specs.contracts.slice.Owed as Owed
@@ -83,6 +87,17 @@ hold_send = owning_send Hold.the_type (search sendable) (λ d. cells_keyless d.f
 pub due_send : IsSend Due.the_row
 due_send = owning_send Due.the_type (search sendable) (λ d. (tt, inside d.at (slots i64 d.at d.items d.filled) (places d.items d.at d.filled))) (λ k x w. tt)
 
+cell_keyless : (p : Ptr) (c : Option ℤ) → Keyless (cell_owned p c)
+cell_keyless p (Some x) = lies i64 number_send p x
+cell_keyless p None = tt
+
+kept_keyless : (cs : List (Option ℤ)) (p : Ptr) → Keyless (cells_in p cs)
+kept_keyless [] p = tt
+kept_keyless (c ∷ cs) p = (cell_keyless p c, kept_keyless cs _)
+
+pub kept_send : IsSend Kept.the_row
+kept_send = owning_send Kept.the_type (search sendable) (λ d. (tt, inside d.ptr (cells_in d.ptr d.cells) (kept_keyless d.cells d.ptr))) (λ k x w. tt)
+
 owed_inside_send : IsSend (declared.row OwedInside.the_type)
 owed_inside_send = recorded_send (OwedInside.the_field).row _ _ (OwedInside.the_type).to_one (struct_send (declared.shape OwedInside.the_type) (due_send, (search sendable, (title_global, (search sendable, tt)))))
 
@@ -96,3 +111,10 @@ inside_send = recorded_send (Inside.the_field).row _ _ (Inside.the_type).to_one 
 -- a check at a thread's start finds this where it is listed
 pub slice_send : IsSend C.the_row
 slice_send = view_send (declared.row Inside.the_type) Placed placed_code C.the_view C.the_invariant inside_send
+
+block_inside_send : IsSend (declared.row BlockInside.the_type)
+block_inside_send = recorded_send (BlockInside.the_field).row _ _ (BlockInside.the_type).to_one (struct_send (declared.shape BlockInside.the_type) (kept_send, (search sendable, (search sendable, (title_global, (search sendable, tt))))))
+
+-- and a block
+pub block_send : IsSend Block.the_row
+block_send = view_send (declared.row BlockInside.the_type) Lodged lodged_code Block.the_view Block.the_invariant block_inside_send

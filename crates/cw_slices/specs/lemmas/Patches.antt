@@ -1,0 +1,181 @@
+-- What is in a block and what is out, place by place, once others are in the place of some cells.
+use Rattle.std.proofs.Common.{◌≡◌, ℕ, ◌+◌, ◌-◌, ◌<◌, ◌≤◌, ◌⊎◌, ℤ, pos, Bool, true, false, List, [], ◌∷◌, ◌++◌, map, length, take, drop, replicate, Option, Some, None, slice_get, slice_set, slice_index_or, refl, sym, ap, ap₂, inl, inr, subst, ◌∙◌, arith}
+use Prim.Native.Nat.{zero, suc}
+use lib.ListN.{length-append, length-drop, length-replicate}
+use lib.Seq.{length-take-le}
+use Rattle.std.proofs.lemmas.Option.{none-some, same_Some, slice_get_within}
+use Rattle.cw_slices.specs.Blocks.{ins, outs, patched, IsIn, Have, AreIn, AreOut, missing, numbers, marks}
+
+abbrev Cells : Type 0
+Cells = List (Option ℤ)
+
+in_first : {X : Type 0} (xs ys : List X) (k : ℕ) → k < length xs → slice_get (xs ++ ys) k ≡ slice_get xs k
+in_first [] ys k lt = absurd (omega (arith, lt))
+in_first (x ∷ xs) ys zero lt = refl
+in_first (x ∷ xs) ys (suc k) lt = in_first xs ys k (omega (arith, lt))
+
+in_second : {X : Type 0} (xs ys : List X) (k : ℕ) → length xs ≤ k → slice_get (xs ++ ys) k ≡ slice_get ys (k - length xs)
+in_second [] ys k le = ap (λ (j : ℕ). slice_get ys j) (let e : k ≡ k - 0 = omega arith in e)
+in_second (x ∷ xs) ys zero le = absurd (omega (arith, le))
+in_second (x ∷ xs) ys (suc k) le = in_second xs ys k (omega (arith, le)) ∙ ap (λ (j : ℕ). slice_get ys j) (let e : k - length xs ≡ suc k - suc (length xs) = omega arith in e)
+
+in_take : {X : Type 0} (n : ℕ) (xs : List X) (k : ℕ) → k < n → slice_get (take n xs) k ≡ slice_get xs k
+in_take zero xs k lt = absurd (omega (arith, lt))
+in_take (suc n) [] k lt = refl
+in_take (suc n) (x ∷ xs) zero lt = refl
+in_take (suc n) (x ∷ xs) (suc k) lt = in_take n xs k (omega (arith, lt))
+
+in_drop : {X : Type 0} (n : ℕ) (xs : List X) (k : ℕ) → slice_get (drop n xs) k ≡ slice_get xs (n + k)
+in_drop zero xs k = ap (λ (j : ℕ). slice_get xs j) (let e : k ≡ 0 + k = omega arith in e)
+in_drop (suc n) [] k = refl
+in_drop (suc n) (x ∷ xs) k = in_drop n xs k ∙ ap (λ (j : ℕ). slice_get (x ∷ xs) j) (let e : suc (n + k) ≡ suc n + k = omega arith in e)
+
+-- a list of as many, with the same at each place, is the same
+pub same_each : {X : Type 0} (xs ys : List X) → length xs ≡ length ys → ((k : ℕ) (x : X) → slice_get xs k ≡ Some x → slice_get ys k ≡ Some x) → xs ≡ ys
+same_each [] [] e at = refl
+same_each [] (y ∷ ys) e at = let e' : 0 ≡ suc (length ys) = e in absurd (omega (arith, e'))
+same_each (x ∷ xs) [] e at = let e' : suc (length xs) ≡ 0 = e in absurd (omega (arith, e'))
+same_each {X = X} (x ∷ xs) (y ∷ ys) e at =
+    let e' : suc (length xs) ≡ suc (length ys) = e in
+    ap₂ (λ (a : X) (rest : List X). a ∷ rest) (sym (same_Some y x (at 0 x refl))) (same_each xs ys (omega (arith, e')) (λ k. at (suc k)))
+
+module _ (from : ℕ) (new cells : Cells) (fits : from + length new ≤ length cells) where
+  front : length (take from cells) ≡ from
+  front = length-take-le from cells (omega (arith, fits))
+
+  -- as many cells are there as before
+  pub length_patched : length (patched from new cells) ≡ length cells
+  length_patched =
+      let back : length (drop (from + length new) cells) ≡ length cells - (from + length new) = length-drop (from + length new) cells in
+      let end : length (new ++ drop (from + length new) cells) ≡ length new + length (drop (from + length new) cells) = length-append new (drop (from + length new) cells) in
+      let all = length-append (take from cells) (new ++ drop (from + length new) cells) in omega (arith, fits, front, back, end, all)
+
+  -- those before are as they were
+  pub patched_before : (k : ℕ) → k < from → slice_get (patched from new cells) k ≡ slice_get cells k
+  patched_before k lt = in_first (take from cells) (new ++ drop (from + length new) cells) k (omega (arith, lt, front)) ∙ in_take from cells k lt
+
+  -- the new ones are there
+  pub patched_at : (k : ℕ) → k < length new → slice_get (patched from new cells) (from + k) ≡ slice_get new k
+  patched_at k lt =
+      in_second (take from cells) (new ++ drop (from + length new) cells) (from + k) (omega (arith, front)) ∙
+      ap (λ (j : ℕ). slice_get (new ++ drop (from + length new) cells) j) (let e : (from + k) - length (take from cells) ≡ k = omega (arith, front) in e) ∙
+      in_first new (drop (from + length new) cells) k lt
+
+  -- those after are as they were
+  pub patched_after : (k : ℕ) → from + length new ≤ k → slice_get (patched from new cells) k ≡ slice_get cells k
+  patched_after k le =
+      in_second (take from cells) (new ++ drop (from + length new) cells) k (omega (arith, front, le)) ∙
+      ap (λ (j : ℕ). slice_get (new ++ drop (from + length new) cells) j) (let e : k - length (take from cells) ≡ k - from = omega (arith, front) in e) ∙
+      in_second new (drop (from + length new) cells) (k - from) (omega (arith, le)) ∙
+      in_drop (from + length new) cells (k - from - length new) ∙
+      ap (λ (j : ℕ). slice_get cells j) (let e : from + length new + (k - from - length new) ≡ k = omega (arith, le) in e)
+
+-- a place of cells that are all in has its number
+pub ins_get : (xs : List ℤ) (k : ℕ) (x : ℤ) → slice_get xs k ≡ Some x → slice_get (ins xs) k ≡ Some (Some x)
+ins_get [] k x e = absurd (none-some x e)
+ins_get (y ∷ xs) zero x e = ap (λ (o : ℤ). Some (Some o)) (same_Some y x e)
+ins_get (y ∷ xs) (suc k) x e = ins_get xs k x e
+
+pub get_ins : (xs : List ℤ) (k : ℕ) (x : ℤ) → slice_get (ins xs) k ≡ Some (Some x) → slice_get xs k ≡ Some x
+get_ins [] k x e = absurd (none-some (Some x) e)
+get_ins (y ∷ xs) zero x e = same_Some (Some y) (Some x) e
+get_ins (y ∷ xs) (suc k) x e = get_ins xs k x e
+
+-- a place of cells that are all out has nothing
+pub outs_get : (n k : ℕ) → k < n → slice_get (outs n) k ≡ Some None
+outs_get zero k lt = absurd (omega (arith, lt))
+outs_get (suc n) zero lt = refl
+outs_get (suc n) (suc k) lt = outs_get n k (omega (arith, lt))
+
+there : {X : Type 0} (xs : List X) (k : ℕ) → k < length xs → (x : X) × (slice_get xs k ≡ Some x)
+there [] k lt = absurd (omega (arith, lt))
+there (x ∷ xs) zero lt = (x, refl)
+there (x ∷ xs) (suc k) lt = there xs k (omega (arith, lt))
+
+-- so many cells have one list of numbers from a place on
+pub have_same : (cells : Cells) (from : ℕ) (xs ys : List ℤ) → Have cells from xs → Have cells from ys → length xs ≡ length ys → xs ≡ ys
+have_same cells from xs ys hx hy e = same_each xs ys e (λ k x at.
+    let got = there ys k (omega (arith, e, slice_get_within xs k x at)) in
+    got.1 ∙ sym (ap (λ (z : ℤ). Some z) (same_Some x got.0 (same_Some (Some x) (Some got.0) (sym (hx k x at) ∙ hy k got.0 got.1)))))
+
+-- cells that are all in have their numbers, and those that have as many numbers as they are have no others
+pub have_ins : (xs : List ℤ) → Have (ins xs) 0 xs
+have_ins xs k x e = ap (λ (j : ℕ). slice_get (ins xs) j) (let z : 0 + k ≡ k = omega arith in z) ∙ ins_get xs k x e
+
+pub length_ins : (xs : List ℤ) → length (ins xs) ≡ length xs
+length_ins [] = refl
+length_ins (x ∷ xs) = ap suc (length_ins xs)
+
+here : (xs : List ℤ) (cells : Cells) → ((k : ℕ) (x : ℤ) → slice_get xs k ≡ Some x → slice_get cells k ≡ Some (Some x)) → length xs ≤ length cells → cells ≡ ins xs ++ drop (length xs) cells
+here [] cells at le = refl
+here (x ∷ xs) [] at le = absurd (omega (arith, le))
+here (x ∷ xs) (c ∷ cells) at le = ap₂ (λ (a : Option ℤ) (rest : Cells). a ∷ rest) (same_Some c (Some x) (at 0 x refl)) (here xs cells (λ k. at (suc k)) (omega (arith, le)))
+
+-- cells are those before, those that have the numbers and those after
+pub middle : (from : ℕ) (xs : List ℤ) (cells : Cells) → Have cells from xs → from + length xs ≤ length cells → cells ≡ take from cells ++ (ins xs ++ drop (from + length xs) cells)
+middle zero xs cells at le =
+    here xs cells (λ k x e. ap (λ (j : ℕ). slice_get cells j) (let z : k ≡ 0 + k = omega arith in z) ∙ at k x e) (omega (arith, le)) ∙
+    ap (λ (j : ℕ). ins xs ++ drop j cells) (let z : length xs ≡ 0 + length xs = omega arith in z)
+middle (suc n) xs [] at le = absurd (omega (arith, le))
+middle (suc n) xs (c ∷ cells) at le =
+    ap (λ (rest : Cells). c ∷ rest) (middle n xs cells (λ k x e. ap (λ (j : ℕ). slice_get (c ∷ cells) j) (let z : suc (n + k) ≡ suc n + k = omega arith in z) ∙ at k x e) (omega (arith, le))
+    ∙ ap (λ (j : ℕ). take n cells ++ (ins xs ++ drop j (c ∷ cells))) (let z : suc (n + length xs) ≡ suc n + length xs = omega arith in z))
+
+pub ins_have : (xs : List ℤ) (cells : Cells) → Have cells 0 xs → length xs ≡ length cells → cells ≡ ins xs
+ins_have xs cells at e = sym (same_each (ins xs) cells (length_ins xs ∙ e) (λ k o is. all_in k o is))
+  where
+    all_in : (k : ℕ) (o : Option ℤ) → slice_get (ins xs) k ≡ Some o → slice_get cells k ≡ Some o
+    all_in k None is = absurd (never_out xs k is)
+      where
+        never_out : (ys : List ℤ) (j : ℕ) → slice_get (ins ys) j ≡ Some None → ⊥
+        never_out [] j e = none-some None e
+        never_out (y ∷ ys) zero e = none-some y (sym (same_Some (Some y) None e))
+        never_out (y ∷ ys) (suc j) e = never_out ys j e
+    all_in k (Some x) is = ap (λ (j : ℕ). slice_get cells j) (let z : k ≡ 0 + k = omega arith in z) ∙ at k x (get_ins xs k x is)
+
+-- other cells have the numbers that they had, beside those that others are in the place of
+pub have_beside : (from at : ℕ) (new cells : Cells) (xs : List ℤ) → from + length new ≤ length cells → (at + length xs ≤ from) ⊎ (from + length new ≤ at) → Have cells at xs → Have (patched from new cells) at xs
+have_beside from at new cells xs fits (inl before) has k x e = patched_before from new cells fits (at + k) (omega (arith, before, slice_get_within xs k x e)) ∙ has k x e
+have_beside from at new cells xs fits (inr after) has k x e = patched_after from new cells fits (at + k) (omega (arith, after)) ∙ has k x e
+
+-- numbers that were given back are there
+pub have_back : (from : ℕ) (xs : List ℤ) (cells : Cells) → from + length xs ≤ length cells → Have (patched from (ins xs) cells) from xs
+have_back from xs cells fits k x e =
+    patched_at from (ins xs) cells (omega (arith, fits, length_ins xs)) k (omega (arith, length_ins xs, slice_get_within xs k x e)) ∙ ins_get xs k x e
+
+-- what was lent is out
+pub out_there : (from count : ℕ) (cells : Cells) → from + count ≤ length cells → AreOut (patched from (outs count) cells) from count
+out_there from count cells fits k lt =
+    let as_many : length (outs count) ≡ count = length-replicate count None in
+    patched_at from (outs count) cells (omega (arith, fits, as_many)) k (omega (arith, as_many, lt)) ∙ outs_get count k lt
+
+-- each cell has a number and a mark
+pub length_numbers : (cells : Cells) → length (numbers cells) ≡ length cells
+length_numbers [] = refl
+length_numbers (Some x ∷ cells) = ap suc (length_numbers cells)
+length_numbers (None ∷ cells) = ap suc (length_numbers cells)
+
+pub length_marks : (cells : Cells) → length (marks cells) ≡ length cells
+length_marks [] = refl
+length_marks (Some x ∷ cells) = ap suc (length_marks cells)
+length_marks (None ∷ cells) = ap suc (length_marks cells)
+
+-- cells are those before a place, the one there and those after
+pub at_place : (cells : Cells) (i : ℕ) (c : Option ℤ) → slice_get cells i ≡ Some c → cells ≡ take i cells ++ (c ∷ drop (suc i) cells)
+at_place [] i c e = absurd (none-some c e)
+at_place (d ∷ cells) zero c e = ap (λ (a : Option ℤ). a ∷ cells) (same_Some d c e)
+at_place (d ∷ cells) (suc i) c e = ap (λ (rest : Cells). d ∷ rest) (at_place cells i c e)
+
+pub set_place : (cells : Cells) (i : ℕ) (c : Option ℤ) → i < length cells → slice_set cells i c ≡ take i cells ++ (c ∷ drop (suc i) cells)
+set_place [] i c lt = absurd (omega (arith, lt))
+set_place (d ∷ cells) zero c lt = refl
+set_place (d ∷ cells) (suc i) c lt = ap (λ (rest : Cells). d ∷ rest) (set_place cells i c (omega (arith, lt)))
+
+-- cells that are all in are all marked
+pub marks_ins : (xs : List ℤ) → marks (ins xs) ≡ replicate (length xs) true
+marks_ins [] = refl
+marks_ins (x ∷ xs) = ap (λ (rest : List Bool). true ∷ rest) (marks_ins xs)
+
+-- so many cells that are out are so many
+pub length_outs : (n : ℕ) → length (outs n) ≡ n
+length_outs n = length-replicate n None
