@@ -1,5 +1,6 @@
-ghost use Rattle.std.specs.Prelude.{◌≡◌, ◌<◌, length};
+ghost use Rattle.std.specs.Prelude.{◌≡◌, ◌<◌, length, pos, Some, slice_set};
 ghost use Rattle.cw_slices.specs.Placed.{IsOwn};
+ghost use Rattle.cw_slices.specs.Blocks.{IsIn};
 
 use super::{Block, Slice};
 use std::test::Fail;
@@ -121,14 +122,22 @@ fn two_threads_read(rt: HostRuntime) -> Result<(), Fail> {
     Ok(())
 }
 
-// A part of a block is written by another thread, while this one writes the rest.
+fn write_last(mut block: Block, number: i64) -> Block
+    requires { IsIn block.cells 3 }
+    ensures cells { result.cells ≡ slice_set block.cells 3 (Some number) }
+    ensures spot { result.spot ≡ block.spot }
+{
+    block.set(3, number);
+    block
+}
+
+// One thread writes a part that is lent, and another the block that it was lent from.
 #[test]
-#[tactic(auto, using(crate::specs::lemmas::Sent::slice_send))]
+#[tactic(auto, using(crate::specs::lemmas::Sent::slice_send, crate::specs::lemmas::Sent::block_send))]
 fn a_part_is_lent(rt: HostRuntime) -> Result<(), Fail> {
     let mut block = Block::zeros(rt.alloc(), 4)?;
-    block.set(1, 5);
     let part = block.lend(1, 2);
-    let (part, ()) = thread::join(
+    let (part, mut block) = thread::join(
         &rt,
         || -> Slice
             requires own { IsOwn part }
@@ -136,11 +145,52 @@ fn a_part_is_lent(rt: HostRuntime) -> Result<(), Fail> {
             ensures spot { result.spot ≡ part.spot }
             ensures len { length result.items ≡ length part.items }
         { write_first(part, 7) },
-        || { () },
+        || -> Block
+            requires there { IsIn block.cells 3 }
+            ensures cells { result.cells ≡ slice_set block.cells 3 (Some (pos 9)) }
+            ensures spot { result.spot ≡ block.spot }
+        { write_last(block, 9) },
     );
-    block.set(3, 9);
     block.give_back(1, part);
+    assert_eq!(rt; block.len(), 4);
     assert_eq!(rt; block.get(1), 7);
+    assert_eq!(rt; block.get(2), 0);
     assert_eq!(rt; block.get(3), 9);
+    Ok(())
+}
+
+// Lent at the beginning, at the end, and none at all; then all is taken out.
+#[test]
+fn parts_are_lent_at_the_ends(rt: HostRuntime) -> Result<(), Fail> {
+    let mut slice = Slice::zeros(rt.alloc(), 3)?;
+    slice.set(0, 4);
+    let mut block = Block::of(slice);
+    let first = block.lend(0, 1);
+    let none = block.lend(0, 0);
+    let end = block.lend(3, 0);
+    let last = block.lend(2, 1);
+    assert_eq!(rt; first.get(0), 4);
+    assert_eq!(rt; none.len() + end.len(), 0);
+    block.give_back(2, last);
+    block.give_back(3, end);
+    block.give_back(0, none);
+    block.give_back(0, first);
+    let whole = block.take();
+    assert_eq!(rt; block.len(), 0);
+    assert_eq!(rt; whole.len(), 3);
+    assert_eq!(rt; whole.get(0), 4);
+    Ok(())
+}
+
+// The memory stays where it is, so that the part can be used still.
+#[test]
+fn dropped_with_a_part_out(rt: HostRuntime) -> Result<(), Fail> {
+    let mut block = Block::zeros(rt.alloc(), 2)?;
+    let mut part = block.lend(1, 1);
+    drop(block);
+    part.set(0, 6);
+    assert_eq!(rt; part.get(0), 6);
+    let empty = Block::empty(rt.alloc());
+    assert_eq!(rt; empty.whole().len(), 0);
     Ok(())
 }

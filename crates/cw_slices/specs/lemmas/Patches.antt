@@ -179,3 +179,45 @@ marks_ins (x ∷ xs) = ap (λ (rest : List Bool). true ∷ rest) (marks_ins xs)
 -- so many cells that are out are so many
 pub length_outs : (n : ℕ) → length (outs n) ≡ n
 length_outs n = length-replicate n None
+
+-- which places are in: each of cells that are all in
+pub in_ins : (xs : List ℤ) (k : ℕ) → k < length xs → IsIn (ins xs) k
+in_ins xs k lt = let x = there xs k lt in (x.0, ins_get xs k x.0 x.1)
+
+-- one that was in, once a number is written anywhere
+pub in_set : (cells : Cells) (i k : ℕ) (y : ℤ) → IsIn cells k → IsIn (slice_set cells i (Some y)) k
+in_set [] i k y is = absurd (none-some (Some is.0) is.1)
+in_set (c ∷ cells) zero zero y is = (y, refl)
+in_set (c ∷ cells) zero (suc k) y is = is
+in_set (c ∷ cells) (suc i) zero y is = is
+in_set (c ∷ cells) (suc i) (suc k) y is = in_set cells i k y is
+
+-- one that was in, beside those that others are in the place of
+pub in_beside : (from : ℕ) (new cells : Cells) (k : ℕ) → from + length new ≤ length cells → (k < from) ⊎ (from + length new ≤ k) → IsIn cells k → IsIn (patched from new cells) k
+in_beside from new cells k fits (inl before) is = (is.0, patched_before from new cells fits k before ∙ is.1)
+in_beside from new cells k fits (inr after) is = (is.0, patched_after from new cells fits k after ∙ is.1)
+
+-- one that a list of numbers tells
+pub in_have : (cells : Cells) (from k : ℕ) (xs : List ℤ) → Have cells from xs → k < length xs → IsIn cells (from + k)
+in_have cells from k xs has lt = let x = there xs k lt in (x.0, has k x.0 x.1)
+
+one_more : (c : Option ℤ) (cells : Cells) (x : ℤ) (xs : List ℤ) → Some c ≡ Some (Some x) → ((k : ℕ) (y : ℤ) → slice_get xs k ≡ Some y → slice_get cells k ≡ Some (Some y)) → (k : ℕ) (y : ℤ) → slice_get (x ∷ xs) k ≡ Some y → slice_get (c ∷ cells) k ≡ Some (Some y)
+one_more c cells x xs is rest zero y e = is ∙ ap (λ (z : ℤ). Some (Some z)) (same_Some x y e)
+one_more c cells x xs is rest (suc k) y e = rest k y e
+
+listed : (count : ℕ) (cells : Cells) → ((k : ℕ) → k < count → IsIn cells k) → (xs : List ℤ) × (length xs ≡ count) × ((k : ℕ) (x : ℤ) → slice_get xs k ≡ Some x → slice_get cells k ≡ Some (Some x))
+listed zero cells all = ([], refl, λ k x e. absurd (none-some x e))
+listed (suc n) [] all = absurd (none-some (Some (all 0 (omega arith)).0) (all 0 (omega arith)).1)
+listed (suc n) (c ∷ cells) all =
+    let x = all 0 (omega arith) in let rest = listed n cells (λ k lt. all (suc k) (omega (arith, lt))) in
+    (x.0 ∷ rest.0, ap suc rest.1, one_more c cells x.0 rest.0 x.1 rest.2)
+
+-- cells are in that are in one by one
+pub are_in : (cells : Cells) (from count : ℕ) → ((k : ℕ) → k < count → IsIn cells (from + k)) → AreIn cells from count
+are_in cells from count all =
+    let got = listed count (drop from cells) (λ k lt. ((all k lt).0, in_drop from cells k ∙ (all k lt).1)) in
+    (got.0, got.1, λ k x e. sym (in_drop from cells k) ∙ got.2 k x e)
+
+-- so are cells that were given back
+pub in_back : (from : ℕ) (xs : List ℤ) (cells : Cells) (k : ℕ) → from + length xs ≤ length cells → k < length xs → IsIn (patched from (ins xs) cells) (from + k)
+in_back from xs cells k fits lt = in_have (patched from (ins xs) cells) from k xs (have_back from xs cells fits) lt
