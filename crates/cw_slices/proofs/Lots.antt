@@ -1,7 +1,7 @@
 -- A row of which cells are out is parted and put together. Assumes `Logic`.
-use Rattle.std.proofs.Common.{◌≡◌, ℕ, ◌+◌, ◌-◌, ◌*◌, ◌^◌, ◌<◌, ◌≤◌, ℤ, Bool, true, List, [], ◌∷◌, ◌++◌, length, take, drop as drop_l, replicate, Option, Some, None, slice_get, slice_set, refl, sym, ap, ◌∙◌, subst, arith}
+use Rattle.std.proofs.Common.{◌≡◌, ℕ, ◌+◌, ◌-◌, ◌*◌, ◌^◌, ◌≤◌, ℤ, List, [], ◌∷◌, ◌++◌, length, take, drop as drop_l, Option, Some, None, slice_get, slice_set, refl, sym, ap, ◌∙◌, subst, arith}
 use Prim.Native.Nat.{zero, suc}
-use lib.ListN.{length-append, length-drop, length-replicate, take-append-drop}
+use lib.ListN.{length-drop, length-replicate, take-append-drop}
 use Rattle.std.proofs.lemmas.Option.{slice_get_within}
 use lib.Seq.{length-take-le, drop-drop}
 use seplogic.Ra.Ura.{Ura}
@@ -10,7 +10,7 @@ use base.Logic.{SProp, ent, sep, emp, emp∗, snd∗, id⊢, never_e}
 use base.Fml.{Fml, ftrue, fsep, fat, froom}
 use mir.Val.{Val}
 use types.Logic.{Logic, sem}
-use types.Kit.{‵, ◌⊛◌, some, given, ◌$◌, ◌∵◌, !, qed, move, keep, drop, use0, use1, use2, use3, split, split3, join, fsplit, fjoin, flt_l, flt_i, rewrite, pick, learn, by, frame, done}
+use types.Kit.{‵, ◌⊛◌, some, given, ◌$◌, ◌∵◌, !, qed, move, keep, drop, use0, use1, use2, split, fsplit, fjoin, flt_l, flt_i, rewrite, pick, learn, by, frame, done}
 use denote.Builtin.{i64}
 use denote.Memory.{part_at}
 use denote.RawPtr.{Ptr, block_ptr, null_ptr, ◌+ₚ◌}
@@ -19,7 +19,7 @@ use Rattle.core.proofs.mem.Param.{elτ, Good}
 use Rattle.core.proofs.slice.Rows.{el_out, el_in}
 use Rattle.core.specs.Mem.Slots.Ownership.{slots}
 use Rattle.cw_slices.specs.Memory.{span_owned, cell_owned, cells_in, kept_owned}
-use Rattle.cw_slices.specs.Blocks.{ins, outs, patched, marks, Have, AreIn, IsIn}
+use Rattle.cw_slices.specs.Blocks.{ins, outs, patched, marks, Have}
 use Rattle.cw_slices.specs.lemmas.Patches.{middle, length_patched, length_ins, at_place, set_place}
 use Rattle.cw_slices.proofs.Runs.{number}
 

@@ -1,10 +1,9 @@
 -- How many cells of a block are out, and what is read where one is in.
-use Rattle.std.proofs.Common.{◌≡◌, ℕ, ◌+◌, ◌-◌, ◌<◌, ◌≤◌, ℤ, pos, Bool, true, false, List, [], ◌∷◌, ◌++◌, length, take, drop, replicate, Option, Some, None, slice_get, slice_set, slice_index_or, refl, sym, ap, ap₂, ◌∙◌, arith}
+use Rattle.std.proofs.Common.{◌≡◌, ℕ, ◌+◌, ◌<◌, ◌≤◌, ℤ, Bool, true, false, List, [], ◌∷◌, ◌++◌, length, take, drop, Option, Some, None, slice_get, slice_set, slice_index_or, IsTrue, refl, sym, ap, ap₂, ◌∙◌, arith}
 use Prim.Native.Nat.{zero, suc}
-use lib.ListN.{length-set}
 use Rattle.std.proofs.lemmas.Option.{none-some, same_Some, slice_get_within}
-use Rattle.cw_slices.specs.Blocks.{ins, outs, patched, missing, numbers, marks, IsIn, Have, AreIn, AreOut}
-use Rattle.cw_slices.specs.lemmas.Patches.{middle, at_place, set_place, length_ins, length_outs, length_patched}
+use Rattle.cw_slices.specs.Blocks.{ins, outs, patched, missing, numbers, marks, IsIn, Have, AreOut}
+use Rattle.cw_slices.specs.lemmas.Patches.{middle, length_ins, length_outs}
 
 abbrev Cells : Type 0
 Cells = List (Option ℤ)
@@ -75,12 +74,15 @@ none_missing (Some x ∷ cells) e = let rest = none_missing cells e in (x ∷ re
 none_missing (None ∷ cells) e = let e' : suc (missing cells) ≡ 0 = e in absurd (omega (arith, e'))
 
 -- a place that is in is marked, and its number is read there
-pub marked : (cells : Cells) (i : ℕ) → IsIn cells i → slice_index_or (marks cells) i false ≡ true
+marked : (cells : Cells) (i : ℕ) → IsIn cells i → slice_index_or (marks cells) i false ≡ true
 marked [] i is = absurd (none-some (Some is.0) is.1)
 marked (Some x ∷ cells) zero is = refl
 marked (None ∷ cells) zero is = absurd (none-some is.0 (same_Some None (Some is.0) is.1))
 marked (Some x ∷ cells) (suc i) is = marked cells i is
 marked (None ∷ cells) (suc i) is = marked cells i is
+
+pub reads : (cells : Cells) (i n : ℕ) (bs : List Bool) → IsIn cells i → n ≡ length cells → bs ≡ marks cells → (i < n) × IsTrue (slice_index_or bs i false)
+reads cells i n bs is many are = (omega (arith, many, slice_get_within cells i (Some is.0) is.1), ap (λ (l : List Bool). slice_index_or l i false) are ∙ marked cells i is)
 
 pub read_at : (cells : Cells) (i : ℕ) (r : ℤ) → IsIn cells i → r ≡ slice_index_or (numbers cells) i r → slice_get cells i ≡ Some (Some r)
 read_at [] i r is e = absurd (none-some (Some is.0) is.1)

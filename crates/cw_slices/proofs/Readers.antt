@@ -75,6 +75,7 @@ module _ {M : Type 1} {𝓤 : Ura M} (𝓛 : Logic 𝓤) where
       updating ! $ use2 𝓛 (later (‵ (beside (one (λ r. flft (a ∷ []) r)) (held (a ∷ []) t) κ) ⊛ raw (lfts 𝓛 ts)))
       (Lends-both 𝓛 (flft (a ∷ []) q) (t (a ∷ [])) (one (λ r. flft (a ∷ []) r)) (held (a ∷ []) t) l (Lends-token a q l) (Lends-held t L (a ∷ []) l) κ ts inc sp) $ await ! tt $ split ! $ fsplit ! $
       use2 𝓛 (‵ (t κ)) (moves_from 𝓛 t L κ (a ∷ []) (a ∷ []) (meet_⊑_left (a ∷ []) κ)) $ now ! $ done !)
+
   module _ (l : Lft) (within : Incl l i64.lives) where
     -- the cells that are in are lent
     Lends-in : (p : Ptr) (cs : List (Option ℤ)) → Lends 𝓛 (cells_in p cs) (slots_lent i64 p (numbers cs) (marks cs)) l

@@ -1,20 +1,21 @@
 -- A block as contracts see it: which of its numbers are in, and where they lie.
-use Rattle.std.specs.Prelude.{◌≡◌, ℕ, suc, ◌+◌, ◌*◌, ◌<◌, ◌≤◌, ℤ, pos, Bool, true, false, List, [], ◌∷◌, ◌++◌, length, take, drop, map, replicate, Option, Some, None, slice_get, slice_set, refl}
+use Rattle.std.specs.Prelude.{◌≡◌, ℕ, suc, ◌+◌, ◌^◌, ◌<◌, ℤ, pos, Bool, true, false, List, [], ◌∷◌, ◌++◌, length, take, drop, map, replicate, Option, Some, None, slice_get, refl}
 use Rattle.std.specs.Coded.{Coded, code_by, coded×, coded_list, coded_option, coded_ℕ, coded_ℤ}
 use denote.RawPtr.{Ptr, coded_ptr}
 use Rattle.cw_slices.specs.Placed.{Spot}
 
--- a block: each of its numbers that is in, nothing where one is lent out, and where it lies. It is never frozen, so that
--- `spot` has 0 as `frozen` and `halved`
+-- a block: each of its numbers that is in, nothing where one is lent out, and where it lies. It is never frozen: `spot`
+-- has 0 as `frozen` and as `halved`
 pub record Lodged : Type 0 where
   pub cells : List (Option ℤ)
   pub spot : Spot
 
 abbrev pub lodged_code : Coded Lodged
 lodged_code =
-    code_by (List (Option ℤ) × (Ptr × (ℕ × (ℕ × ℕ)))) (coded× (coded_list (coded_option coded_ℤ)) (coded× coded_ptr (coded× coded_ℕ (coded× coded_ℕ coded_ℕ))))
+    code_by (List (Option ℤ) × (Ptr × (ℕ × (ℕ × ℕ))))
+    (coded× (coded_list (coded_option coded_ℤ)) (coded× coded_ptr (coded× coded_ℕ (coded× coded_ℕ coded_ℕ))))
     (λ s. (s.cells, (s.spot.ptr, (s.spot.frees, (s.spot.frozen, s.spot.halved)))))
-    (λ p. record { cells = p.0; spot = record { ptr = p.1.0; frees = p.1.1.0; frozen = p.1.1.1.0; halved = p.1.1.1.1 } })
+    (λ r. record { cells = r.0; spot = record { ptr = r.1.0; frees = r.1.1.0; frozen = r.1.1.1.0; halved = r.1.1.1.1 } })
     (λ _. refl)
 
 -- cells that are all in
@@ -54,6 +55,10 @@ abbrev pub missing : List (Option ℤ) → ℕ
 missing [] = 0
 missing (Some x ∷ cells) = missing cells
 missing (None ∷ cells) = suc (missing cells)
+
+-- cells are not too many, and so many of them are out
+abbrev pub Counts : List (Option ℤ) → (out : ℕ) → Type 0
+Counts cells n = (length cells < 2 ^ 60) × (n ≡ missing cells)
 
 -- the number of each cell, and 0 for one that is out
 abbrev pub numbers : List (Option ℤ) → List ℤ

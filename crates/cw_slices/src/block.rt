@@ -1,7 +1,7 @@
 //! A block of numbers with one owner, of which parts are lent out as slices and come back.
-ghost use Rattle.std.specs.Prelude.{◌≡◌, ℕ, ◌+◌, ◌*◌, ◌^◌, ◌<◌, ◌≤◌, ℤ, pos, List, [], ◌∷◌, ◌++◌, length, replicate, true, Option, Some, None, slice_get, slice_set, IfOk};
-ghost use Rattle.cw_slices.specs.Placed.{Placed, Spot, after, IsOwn};
-ghost use Rattle.cw_slices.specs.Blocks.{Lodged, ins, outs, patched, missing, IsIn, Have, AreIn, AreOut};
+ghost use Rattle.std.specs.Prelude.{◌≡◌, ◌+◌, ◌^◌, ◌<◌, ◌≤◌, ℤ, pos, List, [], length, replicate, Some, slice_get, slice_set, IfOk};
+ghost use Rattle.cw_slices.specs.Placed.{after, IsOwn};
+ghost use Rattle.cw_slices.specs.Blocks.{ins, outs, patched, IsIn, Have, AreIn, AreOut};
 
 use crate::kept::Kept;
 use crate::memory::{Title, free};
@@ -28,10 +28,9 @@ pub struct Block {
 }
 
 impl Model for Block {
-    ghost use Rattle.std.specs.Prelude.{◌≡◌, ◌^◌, ◌<◌, length};
     ghost use Rattle.cw_slices.specs.Placed.{own_spot};
     ghost use Rattle.cw_slices.specs.Loose.{MayFree};
-    ghost use Rattle.cw_slices.specs.Blocks.{Lodged, lodged_code, missing};
+    ghost use Rattle.cw_slices.specs.Blocks.{Lodged, lodged_code, Counts};
 
     ghost Value = { Lodged };
 
@@ -39,7 +38,7 @@ impl Model for Block {
 
     ghost view = { λ b. record { cells = b.kept.cells; spot = own_spot b.kept.ptr b.frees } };
 
-    ghost invariant = { λ b. (length b.kept.cells < 2 ^ 60) × (b.out ≡ missing b.kept.cells) × MayFree b.frees b.kept.ptr b.alloc b.title };
+    ghost invariant = { λ b. Counts b.kept.cells b.out × MayFree b.frees b.kept.ptr b.alloc b.title };
 }
 
 impl Block {
@@ -138,7 +137,7 @@ impl Block {
 
     /// A number of it that is in.
     #[inline(always)]
-    #[tactic(auto, using(crate::proofs::Missing::marked, crate::proofs::Missing::read_at))]
+    #[tactic(auto, using(crate::proofs::Missing::read_at))]
     pub fn get(&self, i: usize) -> i64
         requires there { IsIn self.now.cells i }
         ensures { slice_get self.now.cells i ≡ Some (Some result) }
@@ -182,8 +181,8 @@ impl Block {
         })
     }
 
-    /// A slice back at the place that it was lent from, with the numbers that it has now. Nothing is
-    /// copied, no memory is taken, and it takes the same time for all lengths.
+    /// A slice back at the place that it was lent from, with the numbers that it has now. Nothing
+    /// is copied, no memory is taken, and it takes the same time for all lengths.
     #[inline(always)]
     pub fn give_back(&mut self, from: usize, slice: Slice)
         requires within { from + length slice.items ≤ length self.old.cells }
@@ -206,8 +205,10 @@ impl Block {
     }
 }
 
-// A block that is all in is freed if it begins its memory; one of which a part is out leaves the memory where it is.
+// A block that is all in is freed if it begins its memory. One of which a part is out leaves the
+// memory where it is.
 impl Drop for Block {
+    #[tactic(auto, using(crate::proofs::Missing::none_missing))]
     fn drop(self) {
         let Block {
             kept,

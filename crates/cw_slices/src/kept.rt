@@ -1,9 +1,9 @@
-// A row of cells of which some are in and the others lent out. Which ones are in is ghost state: nothing at run time tells.
-ghost use Rattle.std.specs.Prelude.{◌≡◌, ℕ, ◌+◌, ◌*◌, ◌^◌, ◌<◌, ◌≤◌, ℤ, Bool, List, length, Option, Some, None, slice_set};
+// A row of cells of which some are in and the others lent out. Which ones are in is ghost state.
+ghost use Rattle.std.specs.Prelude.{◌≡◌, ◌+◌, ◌*◌, ◌^◌, ◌<◌, ◌≤◌, ℤ, List, length, Option, Some, slice_set};
 ghost use Rattle.std.specs.Coded.{coded_option, coded_ℤ};
 ghost use base.Stored.{coded_list};
-ghost use Rattle.core.specs.Mem.Slots.{slots_items, slots_filled, slots_ptr, slots_len};
-ghost use denote.RawPtr.{Ptr, ◌+ₚ◌};
+ghost use Rattle.core.specs.Mem.Slots.{slots_items, slots_filled, slots_len};
+ghost use denote.RawPtr.{◌+ₚ◌};
 ghost use denote.Builtin.{i64};
 ghost use Rattle.core.specs.Mem.Slots.Ownership.{lent};
 ghost use Rattle.cw_slices.specs.Memory.{kept_owned};
@@ -14,7 +14,8 @@ use crate::memory::Span;
 use core::slots::Slots;
 use std::marker::Model;
 
-// A row of cells, of which those that are in are owned. To let it go is to leave the cells where they are.
+// A row of cells, of which those that are in are owned. To let it go is to leave the cells where
+// they are.
 #[derive(Drop)]
 pub(crate) struct Kept {
     ptr: *mut i64,

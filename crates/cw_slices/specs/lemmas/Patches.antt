@@ -1,23 +1,29 @@
 -- What is in a block and what is out, place by place, once others are in the place of some cells.
-use Rattle.std.proofs.Common.{◌≡◌, ℕ, ◌+◌, ◌-◌, ◌<◌, ◌≤◌, ◌⊎◌, ℤ, pos, Bool, true, false, List, [], ◌∷◌, ◌++◌, map, length, take, drop, replicate, Option, Some, None, slice_get, slice_set, slice_index_or, refl, sym, ap, ap₂, inl, inr, subst, ◌∙◌, arith}
+use Rattle.std.proofs.Common.{◌≡◌, ◌≢◌, ℕ, ◌+◌, ◌-◌, ◌<◌, ◌≤◌, ◌⊎◌, ℤ, Bool, true, List, [], ◌∷◌, ◌++◌, length, take, drop, replicate, Option, Some, None, slice_get, slice_set, refl, sym, ap, ap₂, inl, inr, ◌∙◌, arith}
 use Prim.Native.Nat.{zero, suc}
 use lib.ListN.{length-append, length-drop, length-replicate}
 use lib.Seq.{length-take-le}
 use Rattle.std.proofs.lemmas.Option.{none-some, same_Some, slice_get_within}
-use Rattle.cw_slices.specs.Blocks.{ins, outs, patched, IsIn, Have, AreIn, AreOut, missing, numbers, marks}
+use Rattle.cw_slices.specs.Blocks.{ins, outs, patched, IsIn, Have, AreIn, AreOut, numbers, marks}
 
 abbrev Cells : Type 0
 Cells = List (Option ℤ)
+
+-- the same place, counted otherwise
+same_place : {X : Type 0} (xs : List X) (j k : ℕ) → j ≡ k → slice_get xs j ≡ slice_get xs k
+same_place xs j k e = ap (λ (i : ℕ). slice_get xs i) e
 
 in_first : {X : Type 0} (xs ys : List X) (k : ℕ) → k < length xs → slice_get (xs ++ ys) k ≡ slice_get xs k
 in_first [] ys k lt = absurd (omega (arith, lt))
 in_first (x ∷ xs) ys zero lt = refl
 in_first (x ∷ xs) ys (suc k) lt = in_first xs ys k (omega (arith, lt))
 
-in_second : {X : Type 0} (xs ys : List X) (k : ℕ) → length xs ≤ k → slice_get (xs ++ ys) k ≡ slice_get ys (k - length xs)
-in_second [] ys k le = ap (λ (j : ℕ). slice_get ys j) (let e : k ≡ k - 0 = omega arith in e)
+in_second : {X : Type 0} (xs ys : List X) (k : ℕ) → length xs ≤ k
+    → slice_get (xs ++ ys) k ≡ slice_get ys (k - length xs)
+in_second [] ys k le = same_place ys k (k - 0) (omega arith)
 in_second (x ∷ xs) ys zero le = absurd (omega (arith, le))
-in_second (x ∷ xs) ys (suc k) le = in_second xs ys k (omega (arith, le)) ∙ ap (λ (j : ℕ). slice_get ys j) (let e : k - length xs ≡ suc k - suc (length xs) = omega arith in e)
+in_second (x ∷ xs) ys (suc k) le =
+    in_second xs ys k (omega (arith, le)) ∙ same_place ys (k - length xs) (suc k - suc (length xs)) (omega arith)
 
 in_take : {X : Type 0} (n : ℕ) (xs : List X) (k : ℕ) → k < n → slice_get (take n xs) k ≡ slice_get xs k
 in_take zero xs k lt = absurd (omega (arith, lt))
@@ -26,49 +32,55 @@ in_take (suc n) (x ∷ xs) zero lt = refl
 in_take (suc n) (x ∷ xs) (suc k) lt = in_take n xs k (omega (arith, lt))
 
 in_drop : {X : Type 0} (n : ℕ) (xs : List X) (k : ℕ) → slice_get (drop n xs) k ≡ slice_get xs (n + k)
-in_drop zero xs k = ap (λ (j : ℕ). slice_get xs j) (let e : k ≡ 0 + k = omega arith in e)
+in_drop zero xs k = same_place xs k (0 + k) (omega arith)
 in_drop (suc n) [] k = refl
-in_drop (suc n) (x ∷ xs) k = in_drop n xs k ∙ ap (λ (j : ℕ). slice_get (x ∷ xs) j) (let e : suc (n + k) ≡ suc n + k = omega arith in e)
+in_drop (suc n) (x ∷ xs) k = in_drop n xs k ∙ same_place (x ∷ xs) (suc (n + k)) (suc n + k) (omega arith)
 
 -- a list of as many, with the same at each place, is the same
-pub same_each : {X : Type 0} (xs ys : List X) → length xs ≡ length ys → ((k : ℕ) (x : X) → slice_get xs k ≡ Some x → slice_get ys k ≡ Some x) → xs ≡ ys
+pub same_each : {X : Type 0} (xs ys : List X) → length xs ≡ length ys
+    → ((k : ℕ) (x : X) → slice_get xs k ≡ Some x → slice_get ys k ≡ Some x) → xs ≡ ys
 same_each [] [] e at = refl
 same_each [] (y ∷ ys) e at = let e' : 0 ≡ suc (length ys) = e in absurd (omega (arith, e'))
 same_each (x ∷ xs) [] e at = let e' : suc (length xs) ≡ 0 = e in absurd (omega (arith, e'))
 same_each {X = X} (x ∷ xs) (y ∷ ys) e at =
     let e' : suc (length xs) ≡ suc (length ys) = e in
-    ap₂ (λ (a : X) (rest : List X). a ∷ rest) (sym (same_Some y x (at 0 x refl))) (same_each xs ys (omega (arith, e')) (λ k. at (suc k)))
+    let rest = same_each xs ys (omega (arith, e')) (λ k. at (suc k)) in
+    ap₂ (λ (a : X) (l : List X). a ∷ l) (sym (same_Some y x (at 0 x refl))) rest
 
 module _ (from : ℕ) (new cells : Cells) (fits : from + length new ≤ length cells) where
+  abbrev last : Cells
+  last = drop (from + length new) cells
+
+  abbrev tail : Cells
+  tail = new ++ last
+
   front : length (take from cells) ≡ from
   front = length-take-le from cells (omega (arith, fits))
 
   -- as many cells are there as before
   pub length_patched : length (patched from new cells) ≡ length cells
   length_patched =
-      let back : length (drop (from + length new) cells) ≡ length cells - (from + length new) = length-drop (from + length new) cells in
-      let end : length (new ++ drop (from + length new) cells) ≡ length new + length (drop (from + length new) cells) = length-append new (drop (from + length new) cells) in
-      let all = length-append (take from cells) (new ++ drop (from + length new) cells) in omega (arith, fits, front, back, end, all)
+      let back : length last ≡ length cells - (from + length new) = length-drop (from + length new) cells in
+      let end : length tail ≡ length new + length last = length-append new last in
+      let all = length-append (take from cells) tail in omega (arith, fits, front, back, end, all)
 
   -- those before are as they were
   pub patched_before : (k : ℕ) → k < from → slice_get (patched from new cells) k ≡ slice_get cells k
-  patched_before k lt = in_first (take from cells) (new ++ drop (from + length new) cells) k (omega (arith, lt, front)) ∙ in_take from cells k lt
+  patched_before k lt = in_first (take from cells) tail k (omega (arith, lt, front)) ∙ in_take from cells k lt
 
   -- the new ones are there
   pub patched_at : (k : ℕ) → k < length new → slice_get (patched from new cells) (from + k) ≡ slice_get new k
   patched_at k lt =
-      in_second (take from cells) (new ++ drop (from + length new) cells) (from + k) (omega (arith, front)) ∙
-      ap (λ (j : ℕ). slice_get (new ++ drop (from + length new) cells) j) (let e : (from + k) - length (take from cells) ≡ k = omega (arith, front) in e) ∙
-      in_first new (drop (from + length new) cells) k lt
+      in_second (take from cells) tail (from + k) (omega (arith, front)) ∙
+      same_place tail (from + k - length (take from cells)) k (omega (arith, front)) ∙ in_first new last k lt
 
   -- those after are as they were
   pub patched_after : (k : ℕ) → from + length new ≤ k → slice_get (patched from new cells) k ≡ slice_get cells k
   patched_after k le =
-      in_second (take from cells) (new ++ drop (from + length new) cells) k (omega (arith, front, le)) ∙
-      ap (λ (j : ℕ). slice_get (new ++ drop (from + length new) cells) j) (let e : k - length (take from cells) ≡ k - from = omega (arith, front) in e) ∙
-      in_second new (drop (from + length new) cells) (k - from) (omega (arith, le)) ∙
-      in_drop (from + length new) cells (k - from - length new) ∙
-      ap (λ (j : ℕ). slice_get cells j) (let e : from + length new + (k - from - length new) ≡ k = omega (arith, le) in e)
+      in_second (take from cells) tail k (omega (arith, front, le)) ∙
+      same_place tail (k - length (take from cells)) (k - from) (omega (arith, front)) ∙
+      in_second new last (k - from) (omega (arith, le)) ∙ in_drop (from + length new) cells (k - from - length new) ∙
+      same_place cells (from + length new + (k - from - length new)) k (omega (arith, le))
 
 -- a place of cells that are all in has its number
 pub ins_get : (xs : List ℤ) (k : ℕ) (x : ℤ) → slice_get xs k ≡ Some x → slice_get (ins xs) k ≡ Some (Some x)
@@ -87,69 +99,172 @@ outs_get zero k lt = absurd (omega (arith, lt))
 outs_get (suc n) zero lt = refl
 outs_get (suc n) (suc k) lt = outs_get n k (omega (arith, lt))
 
+-- as many cells as numbers, and as many as are out
+pub length_ins : (xs : List ℤ) → length (ins xs) ≡ length xs
+length_ins [] = refl
+length_ins (x ∷ xs) = ap suc (length_ins xs)
+
+pub length_outs : (n : ℕ) → length (outs n) ≡ n
+length_outs n = length-replicate n None
+
 there : {X : Type 0} (xs : List X) (k : ℕ) → k < length xs → (x : X) × (slice_get xs k ≡ Some x)
 there [] k lt = absurd (omega (arith, lt))
 there (x ∷ xs) zero lt = (x, refl)
 there (x ∷ xs) (suc k) lt = there xs k (omega (arith, lt))
 
 -- so many cells have one list of numbers from a place on
-pub have_same : (cells : Cells) (from : ℕ) (xs ys : List ℤ) → Have cells from xs → Have cells from ys → length xs ≡ length ys → xs ≡ ys
+pub have_same : (cells : Cells) (from : ℕ) (xs ys : List ℤ) → Have cells from xs → Have cells from ys
+    → length xs ≡ length ys → xs ≡ ys
 have_same cells from xs ys hx hy e = same_each xs ys e (λ k x at.
     let got = there ys k (omega (arith, e, slice_get_within xs k x at)) in
-    got.1 ∙ sym (ap (λ (z : ℤ). Some z) (same_Some x got.0 (same_Some (Some x) (Some got.0) (sym (hx k x at) ∙ hy k got.0 got.1)))))
+    let same = same_Some x got.0 (same_Some (Some x) (Some got.0) (sym (hx k x at) ∙ hy k got.0 got.1)) in
+    got.1 ∙ sym (ap (λ (z : ℤ). Some z) same))
 
--- cells that are all in have their numbers, and those that have as many numbers as they are have no others
+-- cells that are all in have their numbers, and no others
 pub have_ins : (xs : List ℤ) → Have (ins xs) 0 xs
-have_ins xs k x e = ap (λ (j : ℕ). slice_get (ins xs) j) (let z : 0 + k ≡ k = omega arith in z) ∙ ins_get xs k x e
+have_ins xs k x e = same_place (ins xs) (0 + k) k (omega arith) ∙ ins_get xs k x e
 
-pub length_ins : (xs : List ℤ) → length (ins xs) ≡ length xs
-length_ins [] = refl
-length_ins (x ∷ xs) = ap suc (length_ins xs)
+pub ins_same : (xs ys : List ℤ) → ins xs ≡ ins ys → xs ≡ ys
+ins_same xs ys e =
+    same_each xs ys (sym (length_ins xs) ∙ ap length e ∙ length_ins ys)
+    (λ k x at. get_ins ys k x (ap (λ (l : Cells). slice_get l k) (sym e) ∙ ins_get xs k x at))
 
-here : (xs : List ℤ) (cells : Cells) → ((k : ℕ) (x : ℤ) → slice_get xs k ≡ Some x → slice_get cells k ≡ Some (Some x)) → length xs ≤ length cells → cells ≡ ins xs ++ drop (length xs) cells
+never_out : (xs : List ℤ) (k : ℕ) → slice_get (ins xs) k ≡ Some None → ⊥
+never_out [] k e = none-some None e
+never_out (x ∷ xs) zero e = none-some x (sym (same_Some (Some x) None e))
+never_out (x ∷ xs) (suc k) e = never_out xs k e
+
+has_each : (xs : List ℤ) (cells : Cells) → Have cells 0 xs
+    → (k : ℕ) (o : Option ℤ) → slice_get (ins xs) k ≡ Some o → slice_get cells k ≡ Some o
+has_each xs cells at k None is = absurd (never_out xs k is)
+has_each xs cells at k (Some x) is = same_place cells k (0 + k) (omega arith) ∙ at k x (get_ins xs k x is)
+
+-- cells that have as many numbers as they are are all in
+pub ins_have : (xs : List ℤ) (cells : Cells) → Have cells 0 xs → length xs ≡ length cells → cells ≡ ins xs
+ins_have xs cells at e = sym (same_each (ins xs) cells (length_ins xs ∙ e) (has_each xs cells at))
+
+here : (xs : List ℤ) (cells : Cells) → ((k : ℕ) (x : ℤ) → slice_get xs k ≡ Some x → slice_get cells k ≡ Some (Some x))
+    → length xs ≤ length cells → cells ≡ ins xs ++ drop (length xs) cells
 here [] cells at le = refl
 here (x ∷ xs) [] at le = absurd (omega (arith, le))
-here (x ∷ xs) (c ∷ cells) at le = ap₂ (λ (a : Option ℤ) (rest : Cells). a ∷ rest) (same_Some c (Some x) (at 0 x refl)) (here xs cells (λ k. at (suc k)) (omega (arith, le)))
+here (x ∷ xs) (c ∷ cells) at le =
+    let rest = here xs cells (λ k. at (suc k)) (omega (arith, le)) in
+    ap₂ (λ (a : Option ℤ) (l : Cells). a ∷ l) (same_Some c (Some x) (at 0 x refl)) rest
 
 -- cells are those before, those that have the numbers and those after
-pub middle : (from : ℕ) (xs : List ℤ) (cells : Cells) → Have cells from xs → from + length xs ≤ length cells → cells ≡ take from cells ++ (ins xs ++ drop (from + length xs) cells)
+pub middle : (from : ℕ) (xs : List ℤ) (cells : Cells) → Have cells from xs → from + length xs ≤ length cells
+    → cells ≡ take from cells ++ (ins xs ++ drop (from + length xs) cells)
 middle zero xs cells at le =
-    here xs cells (λ k x e. ap (λ (j : ℕ). slice_get cells j) (let z : k ≡ 0 + k = omega arith in z) ∙ at k x e) (omega (arith, le)) ∙
+    here xs cells (λ k x e. same_place cells k (0 + k) (omega arith) ∙ at k x e) (omega (arith, le)) ∙
     ap (λ (j : ℕ). ins xs ++ drop j cells) (let z : length xs ≡ 0 + length xs = omega arith in z)
 middle (suc n) xs [] at le = absurd (omega (arith, le))
 middle (suc n) xs (c ∷ cells) at le =
-    ap (λ (rest : Cells). c ∷ rest) (middle n xs cells (λ k x e. ap (λ (j : ℕ). slice_get (c ∷ cells) j) (let z : suc (n + k) ≡ suc n + k = omega arith in z) ∙ at k x e) (omega (arith, le))
-    ∙ ap (λ (j : ℕ). take n cells ++ (ins xs ++ drop j (c ∷ cells))) (let z : suc (n + length xs) ≡ suc n + length xs = omega arith in z))
+    let less : Have cells n xs = λ k x e. same_place (c ∷ cells) (suc (n + k)) (suc n + k) (omega arith) ∙ at k x e in
+    let up : suc (n + length xs) ≡ suc n + length xs = omega arith in
+    ap (λ (l : Cells). c ∷ l) (middle n xs cells less (omega (arith, le))
+    ∙ ap (λ (j : ℕ). take n cells ++ (ins xs ++ drop j (c ∷ cells))) up)
 
-pub ins_have : (xs : List ℤ) (cells : Cells) → Have cells 0 xs → length xs ≡ length cells → cells ≡ ins xs
-ins_have xs cells at e = sym (same_each (ins xs) cells (length_ins xs ∙ e) (λ k o is. all_in k o is))
+-- cells are those before a place, the one there and those after
+pub at_place : (cells : Cells) (i : ℕ) (c : Option ℤ) → slice_get cells i ≡ Some c
+    → cells ≡ take i cells ++ (c ∷ drop (suc i) cells)
+at_place [] i c e = absurd (none-some c e)
+at_place (d ∷ cells) zero c e = ap (λ (a : Option ℤ). a ∷ cells) (same_Some d c e)
+at_place (d ∷ cells) (suc i) c e = ap (λ (l : Cells). d ∷ l) (at_place cells i c e)
+
+pub set_place : (cells : Cells) (i : ℕ) (c : Option ℤ) → i < length cells
+    → slice_set cells i c ≡ take i cells ++ (c ∷ drop (suc i) cells)
+set_place [] i c lt = absurd (omega (arith, lt))
+set_place (d ∷ cells) zero c lt = refl
+set_place (d ∷ cells) (suc i) c lt = ap (λ (l : Cells). d ∷ l) (set_place cells i c (omega (arith, lt)))
+
+set_here : {X : Type 0} (xs : List X) (i : ℕ) (x : X) → i < length xs → slice_get (slice_set xs i x) i ≡ Some x
+set_here [] i x lt = absurd (omega (arith, lt))
+set_here (y ∷ xs) zero x lt = refl
+set_here (y ∷ xs) (suc i) x lt = set_here xs i x (omega (arith, lt))
+
+set_other : {X : Type 0} (xs : List X) (i k : ℕ) (x : X) → k ≢ i → slice_get (slice_set xs i x) k ≡ slice_get xs k
+set_other [] i k x apart = refl
+set_other (y ∷ xs) zero zero x apart = absurd (apart refl)
+set_other (y ∷ xs) zero (suc k) x apart = refl
+set_other (y ∷ xs) (suc i) zero x apart = refl
+set_other (y ∷ xs) (suc i) (suc k) x apart = set_other xs i k x (λ e. apart (ap suc e))
+
+same_or : (j k : ℕ) → (k ≡ j) ⊎ (k ≢ j)
+same_or zero zero = inl refl
+same_or zero (suc k) = inr (λ e. absurd (omega (arith, e)))
+same_or (suc j) zero = inr (λ e. absurd (omega (arith, e)))
+same_or (suc j) (suc k) = up (same_or j k)
   where
-    all_in : (k : ℕ) (o : Option ℤ) → slice_get (ins xs) k ≡ Some o → slice_get cells k ≡ Some o
-    all_in k None is = absurd (never_out xs k is)
-      where
-        never_out : (ys : List ℤ) (j : ℕ) → slice_get (ins ys) j ≡ Some None → ⊥
-        never_out [] j e = none-some None e
-        never_out (y ∷ ys) zero e = none-some y (sym (same_Some (Some y) None e))
-        never_out (y ∷ ys) (suc j) e = never_out ys j e
-    all_in k (Some x) is = ap (λ (j : ℕ). slice_get cells j) (let z : k ≡ 0 + k = omega arith in z) ∙ at k x (get_ins xs k x is)
+    up : (k ≡ j) ⊎ (k ≢ j) → (suc k ≡ suc j) ⊎ (suc k ≢ suc j)
+    up (inl e) = inl (ap suc e)
+    up (inr apart) = inr (λ e. apart (omega (arith, e)))
+
+-- another number among those that cells have
+pub have_set : (cells : Cells) (from : ℕ) (xs : List ℤ) (j : ℕ) (y : ℤ) → Have cells from xs → j < length xs
+    → Have (slice_set cells (from + j) (Some y)) from (slice_set xs j y)
+have_set cells from xs j y has lt k x e = by_place (same_or j k)
+  where
+    by_place : (k ≡ j) ⊎ (k ≢ j) → slice_get (slice_set cells (from + j) (Some y)) (from + k) ≡ Some (Some x)
+    by_place (inl is) =
+        let old = there xs j lt in let within = slice_get_within cells (from + j) (Some old.0) (has j old.0 old.1) in
+        let at = same_place (slice_set xs j y) j k (sym is) ∙ e in
+        let same = same_Some y x (sym (set_here xs j y lt) ∙ at) in
+        same_place (slice_set cells (from + j) (Some y)) (from + k) (from + j) (ap (λ (i : ℕ). from + i) is) ∙
+        set_here cells (from + j) (Some y) within ∙ ap (λ (z : ℤ). Some (Some z)) same
+    by_place (inr apart) =
+        set_other cells (from + j) (from + k) (Some y) (λ is. apart (omega (arith, is))) ∙
+        has k x (sym (set_other xs j k y apart) ∙ e)
+
+-- another number beside those
+pub have_set_beside : (cells : Cells) (from : ℕ) (xs : List ℤ) (i : ℕ) (c : Option ℤ) → Have cells from xs
+    → (i < from) ⊎ (from + length xs ≤ i) → Have (slice_set cells i c) from xs
+have_set_beside cells from xs i c has beside k x e =
+    set_other cells i (from + k) c (λ is. away beside is) ∙ has k x e
+  where
+    away : (i < from) ⊎ (from + length xs ≤ i) → from + k ≡ i → ⊥
+    away (inl before) is = absurd (omega (arith, before, is))
+    away (inr after) is = absurd (omega (arith, after, is, slice_get_within xs k x e))
 
 -- other cells have the numbers that they had, beside those that others are in the place of
-pub have_beside : (from at : ℕ) (new cells : Cells) (xs : List ℤ) → from + length new ≤ length cells → (at + length xs ≤ from) ⊎ (from + length new ≤ at) → Have cells at xs → Have (patched from new cells) at xs
-have_beside from at new cells xs fits (inl before) has k x e = patched_before from new cells fits (at + k) (omega (arith, before, slice_get_within xs k x e)) ∙ has k x e
-have_beside from at new cells xs fits (inr after) has k x e = patched_after from new cells fits (at + k) (omega (arith, after)) ∙ has k x e
+pub have_beside : (from at : ℕ) (new cells : Cells) (xs : List ℤ) → from + length new ≤ length cells
+    → (at + length xs ≤ from) ⊎ (from + length new ≤ at) → Have cells at xs → Have (patched from new cells) at xs
+have_beside from at new cells xs fits (inl before) has k x e =
+    patched_before from new cells fits (at + k) (omega (arith, before, slice_get_within xs k x e)) ∙ has k x e
+have_beside from at new cells xs fits (inr after) has k x e =
+    patched_after from new cells fits (at + k) (omega (arith, after)) ∙ has k x e
 
 -- numbers that were given back are there
-pub have_back : (from : ℕ) (xs : List ℤ) (cells : Cells) → from + length xs ≤ length cells → Have (patched from (ins xs) cells) from xs
+pub have_back : (from : ℕ) (xs : List ℤ) (cells : Cells) → from + length xs ≤ length cells
+    → Have (patched from (ins xs) cells) from xs
 have_back from xs cells fits k x e =
-    patched_at from (ins xs) cells (omega (arith, fits, length_ins xs)) k (omega (arith, length_ins xs, slice_get_within xs k x e)) ∙ ins_get xs k x e
+    let as_many = length_ins xs in let lt : k < length xs = slice_get_within xs k x e in
+    patched_at from (ins xs) cells (omega (arith, fits, as_many)) k (omega (arith, as_many, lt)) ∙ ins_get xs k x e
 
 -- what was lent is out
-pub out_there : (from count : ℕ) (cells : Cells) → from + count ≤ length cells → AreOut (patched from (outs count) cells) from count
+pub out_there : (from count : ℕ) (cells : Cells) → from + count ≤ length cells
+    → AreOut (patched from (outs count) cells) from count
 out_there from count cells fits k lt =
-    let as_many : length (outs count) ≡ count = length-replicate count None in
-    patched_at from (outs count) cells (omega (arith, fits, as_many)) k (omega (arith, as_many, lt)) ∙ outs_get count k lt
+    let as_many = length_outs count in
+    patched_at from (outs count) cells (omega (arith, fits, as_many)) k (omega (arith, as_many, lt)) ∙
+    outs_get count k lt
 
--- each cell has a number and a mark
+-- what was out beside those that others are in the place of is out
+pub out_beside : (from at count : ℕ) (new cells : Cells) → from + length new ≤ length cells
+    → (at + count ≤ from) ⊎ (from + length new ≤ at) → AreOut cells at count → AreOut (patched from new cells) at count
+out_beside from at count new cells fits (inl before) out k lt =
+    patched_before from new cells fits (at + k) (omega (arith, before, lt)) ∙ out k lt
+out_beside from at count new cells fits (inr after) out k lt =
+    patched_after from new cells fits (at + k) (omega (arith, after)) ∙ out k lt
+
+-- what is out stays out where a number is written
+pub out_set : (cells : Cells) (at count i : ℕ) (y : ℤ) → IsIn cells i → AreOut cells at count
+    → AreOut (slice_set cells i (Some y)) at count
+out_set cells at count i y is out k lt = set_other cells i (at + k) (Some y) (λ e. none-some is.0 (differ e)) ∙ out k lt
+  where
+    differ : at + k ≡ i → None ≡ Some is.0
+    differ e = same_Some None (Some is.0) (sym (out k lt) ∙ same_place cells (at + k) i e ∙ is.1)
+
+-- each cell has a number and a mark; those that are all in are all marked
 pub length_numbers : (cells : Cells) → length (numbers cells) ≡ length cells
 length_numbers [] = refl
 length_numbers (Some x ∷ cells) = ap suc (length_numbers cells)
@@ -160,25 +275,9 @@ length_marks [] = refl
 length_marks (Some x ∷ cells) = ap suc (length_marks cells)
 length_marks (None ∷ cells) = ap suc (length_marks cells)
 
--- cells are those before a place, the one there and those after
-pub at_place : (cells : Cells) (i : ℕ) (c : Option ℤ) → slice_get cells i ≡ Some c → cells ≡ take i cells ++ (c ∷ drop (suc i) cells)
-at_place [] i c e = absurd (none-some c e)
-at_place (d ∷ cells) zero c e = ap (λ (a : Option ℤ). a ∷ cells) (same_Some d c e)
-at_place (d ∷ cells) (suc i) c e = ap (λ (rest : Cells). d ∷ rest) (at_place cells i c e)
-
-pub set_place : (cells : Cells) (i : ℕ) (c : Option ℤ) → i < length cells → slice_set cells i c ≡ take i cells ++ (c ∷ drop (suc i) cells)
-set_place [] i c lt = absurd (omega (arith, lt))
-set_place (d ∷ cells) zero c lt = refl
-set_place (d ∷ cells) (suc i) c lt = ap (λ (rest : Cells). d ∷ rest) (set_place cells i c (omega (arith, lt)))
-
--- cells that are all in are all marked
 pub marks_ins : (xs : List ℤ) → marks (ins xs) ≡ replicate (length xs) true
 marks_ins [] = refl
-marks_ins (x ∷ xs) = ap (λ (rest : List Bool). true ∷ rest) (marks_ins xs)
-
--- so many cells that are out are so many
-pub length_outs : (n : ℕ) → length (outs n) ≡ n
-length_outs n = length-replicate n None
+marks_ins (x ∷ xs) = ap (λ (l : List Bool). true ∷ l) (marks_ins xs)
 
 -- which places are in: each of cells that are all in
 pub in_ins : (xs : List ℤ) (k : ℕ) → k < length xs → IsIn (ins xs) k
@@ -193,7 +292,8 @@ in_set (c ∷ cells) (suc i) zero y is = is
 in_set (c ∷ cells) (suc i) (suc k) y is = in_set cells i k y is
 
 -- one that was in, beside those that others are in the place of
-pub in_beside : (from : ℕ) (new cells : Cells) (k : ℕ) → from + length new ≤ length cells → (k < from) ⊎ (from + length new ≤ k) → IsIn cells k → IsIn (patched from new cells) k
+pub in_beside : (from : ℕ) (new cells : Cells) (k : ℕ) → from + length new ≤ length cells
+    → (k < from) ⊎ (from + length new ≤ k) → IsIn cells k → IsIn (patched from new cells) k
 in_beside from new cells k fits (inl before) is = (is.0, patched_before from new cells fits k before ∙ is.1)
 in_beside from new cells k fits (inr after) is = (is.0, patched_after from new cells fits k after ∙ is.1)
 
@@ -201,11 +301,20 @@ in_beside from new cells k fits (inr after) is = (is.0, patched_after from new c
 pub in_have : (cells : Cells) (from k : ℕ) (xs : List ℤ) → Have cells from xs → k < length xs → IsIn cells (from + k)
 in_have cells from k xs has lt = let x = there xs k lt in (x.0, has k x.0 x.1)
 
-one_more : (c : Option ℤ) (cells : Cells) (x : ℤ) (xs : List ℤ) → Some c ≡ Some (Some x) → ((k : ℕ) (y : ℤ) → slice_get xs k ≡ Some y → slice_get cells k ≡ Some (Some y)) → (k : ℕ) (y : ℤ) → slice_get (x ∷ xs) k ≡ Some y → slice_get (c ∷ cells) k ≡ Some (Some y)
+-- one that was given back
+pub in_back : (from : ℕ) (xs : List ℤ) (cells : Cells) (k : ℕ) → from + length xs ≤ length cells → k < length xs
+    → IsIn (patched from (ins xs) cells) (from + k)
+in_back from xs cells k fits lt = in_have (patched from (ins xs) cells) from k xs (have_back from xs cells fits) lt
+
+one_more : (c : Option ℤ) (cells : Cells) (x : ℤ) (xs : List ℤ) → Some c ≡ Some (Some x)
+    → ((k : ℕ) (y : ℤ) → slice_get xs k ≡ Some y → slice_get cells k ≡ Some (Some y))
+    → (k : ℕ) (y : ℤ) → slice_get (x ∷ xs) k ≡ Some y → slice_get (c ∷ cells) k ≡ Some (Some y)
 one_more c cells x xs is rest zero y e = is ∙ ap (λ (z : ℤ). Some (Some z)) (same_Some x y e)
 one_more c cells x xs is rest (suc k) y e = rest k y e
 
-listed : (count : ℕ) (cells : Cells) → ((k : ℕ) → k < count → IsIn cells k) → (xs : List ℤ) × (length xs ≡ count) × ((k : ℕ) (x : ℤ) → slice_get xs k ≡ Some x → slice_get cells k ≡ Some (Some x))
+listed : (count : ℕ) (cells : Cells) → ((k : ℕ) → k < count → IsIn cells k)
+    → (xs : List ℤ) × (length xs ≡ count) ×
+    ((k : ℕ) (x : ℤ) → slice_get xs k ≡ Some x → slice_get cells k ≡ Some (Some x))
 listed zero cells all = ([], refl, λ k x e. absurd (none-some x e))
 listed (suc n) [] all = absurd (none-some (Some (all 0 (omega arith)).0) (all 0 (omega arith)).1)
 listed (suc n) (c ∷ cells) all =
@@ -217,7 +326,3 @@ pub are_in : (cells : Cells) (from count : ℕ) → ((k : ℕ) → k < count →
 are_in cells from count all =
     let got = listed count (drop from cells) (λ k lt. ((all k lt).0, in_drop from cells k ∙ (all k lt).1)) in
     (got.0, got.1, λ k x e. sym (in_drop from cells k) ∙ got.2 k x e)
-
--- so are cells that were given back
-pub in_back : (from : ℕ) (xs : List ℤ) (cells : Cells) (k : ℕ) → from + length xs ≤ length cells → k < length xs → IsIn (patched from (ins xs) cells) (from + k)
-in_back from xs cells k fits lt = in_have (patched from (ins xs) cells) from k xs (have_back from xs cells fits) lt

@@ -96,7 +96,9 @@ kept_keyless [] p = tt
 kept_keyless (c ∷ cs) p = (cell_keyless p c, kept_keyless cs _)
 
 pub kept_send : IsSend Kept.the_row
-kept_send = owning_send Kept.the_type (search sendable) (λ d. (tt, inside d.ptr (cells_in d.ptr d.cells) (kept_keyless d.cells d.ptr))) (λ k x w. tt)
+kept_send =
+    owning_send Kept.the_type (search sendable) (λ d. (tt, inside d.ptr (cells_in d.ptr d.cells) (kept_keyless d.cells d.ptr)))
+    (λ k x w. tt)
 
 owed_inside_send : IsSend (declared.row OwedInside.the_type)
 owed_inside_send = recorded_send (OwedInside.the_field).row _ _ (OwedInside.the_type).to_one (struct_send (declared.shape OwedInside.the_type) (due_send, (search sendable, (title_global, (search sendable, tt)))))
@@ -113,7 +115,9 @@ pub slice_send : IsSend C.the_row
 slice_send = view_send (declared.row Inside.the_type) Placed placed_code C.the_view C.the_invariant inside_send
 
 block_inside_send : IsSend (declared.row BlockInside.the_type)
-block_inside_send = recorded_send (BlockInside.the_field).row _ _ (BlockInside.the_type).to_one (struct_send (declared.shape BlockInside.the_type) (kept_send, (search sendable, (search sendable, (title_global, (search sendable, tt))))))
+block_inside_send =
+    recorded_send (BlockInside.the_field).row _ _ (BlockInside.the_type).to_one
+    (struct_send (declared.shape BlockInside.the_type) (kept_send, (search sendable, (search sendable, (title_global, (search sendable, tt))))))
 
 -- and a block
 pub block_send : IsSend Block.the_row

@@ -1,4 +1,4 @@
-use Rattle.std.proofs.Common.{◌≡◌, ◌+◌, ◌<◌, ℕ, pos, length, replicate, Some, slice_get, slice_set, inr, ap, ◌∙◌, subst, sym, arith}
+use Rattle.std.proofs.Common.{◌≡◌, ◌+◌, pos, length, replicate, Some, slice_get, slice_set, inr, ap, ◌∙◌, subst, sym, arith}
 use Rattle.cw_slices.specs.Blocks.{IsIn, ins, outs, patched}
 use Rattle.cw_slices.specs.lemmas.Patches.{are_in, in_ins, in_back, in_beside, length_ins}
 use Rattle.cw_slices.proofs.tests.a_part_is_lent.Goals as goal

@@ -1,4 +1,4 @@
-use Rattle.std.proofs.Common.{◌≡◌, ◌+◌, ℕ, ℤ, List, Option, [], ◌∷◌, pos, length, replicate, Some, None, slice_get, slice_set, refl, ap, ap₂, ◌∙◌, subst, sym, arith}
+use Rattle.std.proofs.Common.{◌≡◌, ◌+◌, ℤ, List, [], ◌∷◌, pos, length, slice_get, slice_set, refl, ap, ap₂, ◌∙◌, subst, sym, arith}
 use Prim.Native.Nat.{suc}
 use Rattle.cw_slices.specs.Blocks.{IsIn, ins, outs, patched}
 use Rattle.cw_slices.specs.lemmas.Patches.{are_in, in_ins}

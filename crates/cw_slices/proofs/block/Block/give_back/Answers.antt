@@ -1,5 +1,5 @@
-use Rattle.std.proofs.Common.{◌≡◌, ◌+◌, ◌-◌, ◌<◌, ◌≤◌, ℕ, List, Option, ℤ, length, slice_get, None, Some, sym, ap, subst, ◌∙◌, arith}
-use Rattle.cw_slices.specs.Blocks.{ins, patched, missing, AreOut}
+use Rattle.std.proofs.Common.{◌≡◌, ◌+◌, ◌≤◌, length, slice_get, sym, ap, ◌∙◌, arith}
+use Rattle.cw_slices.specs.Blocks.{ins, missing, AreOut}
 use Rattle.cw_slices.specs.lemmas.Patches.{length_ins, length_patched}
 use Rattle.cw_slices.proofs.Missing.{missing_back}
 use Rattle.cw_slices.proofs.block.Block.give_back.Goals as goal
@@ -12,7 +12,7 @@ overflow_sub-self c =
     let fits : c.args.from + length xs ≤ length cells = omega (arith, many, c.requires.within, ap length is) in
     let out : AreOut cells c.args.from (length xs) = λ k lt. ap (λ l. slice_get l (c.args.from + k)) is ∙ c.requires.out k (omega (arith, lt, many)) in
     let more = missing_back cells c.args.from xs out fits in
-    omega (arith, more, c.self.invariant.1, c.loosen-len.ensures.run.1)
+    omega (arith, more, c.self.invariant.0.1, c.loosen-len.ensures.run.1)
 
 pub invariant_of-self : goal.invariant_of-self
 invariant_of-self c =
@@ -23,11 +23,13 @@ invariant_of-self c =
     let out : AreOut cells c.args.from (length xs) = λ k lt. ap (λ l. slice_get l (c.args.from + k)) is ∙ c.requires.out k (omega (arith, lt, many)) in
     let more = missing_back cells c.args.from xs out fits in let now = ap missing c.meet.ensures.cells in
     let same = length_patched c.args.from (ins xs) cells (omega (arith, fits, length_ins xs)) in (
-      omega (arith, ap length c.meet.ensures.cells, same, c.self.invariant.0),
-      omega (arith, more, now, c.self.invariant.1, c.loosen-len.ensures.run.1),
       (
-        c.self.invariant.2.0,
-        c.self.invariant.2.1,
-        λ some. ((c.self.invariant.2.2 some).0, (c.self.invariant.2.2 some).1 ∙ sym c.meet.ensures.words.0),
+        omega (arith, ap length c.meet.ensures.cells, same, c.self.invariant.0.0),
+        omega (arith, more, now, c.self.invariant.0.1, c.loosen-len.ensures.run.1),
+      ),
+      (
+        c.self.invariant.1.0,
+        c.self.invariant.1.1,
+        λ some. ((c.self.invariant.1.2 some).0, (c.self.invariant.1.2 some).1 ∙ sym c.meet.ensures.words.0),
       ),
     )

@@ -1,5 +1,5 @@
 -- `keep` makes a row that is all in of a span.
-use Rattle.cw_slices.proofs.Steps.{◌≡◌, ◌^◌, ◌<◌, [], ◌∷◌, length, refl, sym, ◌∙◌, w64, proved, vint, fact, tables, ‵, raw, ◌⊛◌, ◌$◌, ◌∵◌, !, qed, done, move, keep, use1, split, fsplit, fsplit3, fjoin, rewrite, agg, enter, no_more, and_then, returns, alloc_all, pass_all, free_all, look_at, get, sets, owns, plain, types_at, yes, i64, usize, RawPtr, ptr_val, rawptr_vals, rawptr_Tells, uint_vals, uint_Tells, nothing, heard, alive, says, suffices, Stays, walk_of, stay_dropped, Goes-dropped, ends_at, span_owned, bare}
+use Rattle.cw_slices.proofs.Steps.{◌^◌, ◌<◌, [], ◌∷◌, refl, sym, ◌∙◌, w64, proved, vint, fact, tables, ‵, raw, ◌⊛◌, ◌$◌, ◌∵◌, !, qed, done, move, keep, use1, split, fsplit, fsplit3, fjoin, rewrite, agg, enter, no_more, and_then, returns, alloc_all, pass_all, free_all, look_at, get, sets, owns, plain, types_at, yes, usize, RawPtr, ptr_val, rawptr_vals, rawptr_Tells, uint_vals, uint_Tells, nothing, heard, alive, says, suffices, Stays, walk_of, stay_dropped, Goes-dropped, ends_at, span_owned, bare}
 use Rattle.core.proofs.slots.Opens.{words_val}
 use Rattle.cw_slices.proofs.Rows.{ptr_good, row_good}
 use Rattle.cw_slices.proofs.Holds.{kept_made}
@@ -8,7 +8,7 @@ use Rattle.cw_slices.specs.Memory.{kept_owned}
 use Rattle.std.specs.Prelude.{true, replicate}
 use mathlib.Core.Path.{ap}
 use Rattle.cw_slices.specs.Loose.{IsRun}
-use Rattle.cw_slices.specs.Blocks.{ins, marks}
+use Rattle.cw_slices.specs.Blocks.{ins}
 use Rattle.cw_slices.specs.lemmas.Patches.{length_ins, marks_ins}
 use Rattle.cw_slices.specs.contracts.memory.Span as Span
 use Rattle.cw_slices.specs.contracts.kept.Kept as Kept

@@ -1,5 +1,5 @@
 -- `meet` puts a run into a row.
-use Rattle.cw_slices.proofs.Steps.{◌≡◌, ◌+◌, ◌*◌, ◌^◌, ◌<◌, ◌≤◌, ◌∙◌, List, [], ◌∷◌, length, refl, sym, ap, arith, named, proved, fact, ftrue, flft, Val, vint, vptr, vunit, w64, tables, ‵, raw, ◌⊛◌, ◌$◌, ◌∵◌, !, qed, done, move, keep, drop, use2, split, join, fsplit, fsplit3, fjoin, fjoin3, feq_i, rewrite, suffices, of_opd, unit_lit, enter, returns, alloc_all, pass_all, free_all, look_at, sets, owns, plain, types_at, yes, usize, ◌+ₚ◌, uint_vals, uint_Tells, nothing, heard, Stays, walk_of, stay_dropped, Goes-dropped, ends_at, span_owned, bare}
+use Rattle.cw_slices.proofs.Steps.{◌≡◌, ◌+◌, ◌*◌, ◌≤◌, ◌∙◌, List, [], ◌∷◌, length, refl, sym, arith, named, proved, fact, ftrue, flft, Val, vint, vptr, vunit, w64, tables, ‵, raw, ◌⊛◌, ◌$◌, ◌∵◌, !, qed, done, move, keep, drop, use2, split, join, fsplit, fsplit3, fjoin, fjoin3, feq_i, rewrite, suffices, of_opd, unit_lit, enter, returns, alloc_all, pass_all, free_all, look_at, sets, owns, plain, types_at, yes, usize, ◌+ₚ◌, uint_vals, uint_Tells, nothing, heard, Stays, walk_of, stay_dropped, Goes-dropped, ends_at, span_owned, bare}
 use Prim.Native.Nat.{ℕ}
 use base.Fraction.{full_share}
 use denote.Laws.{Is, shows}
@@ -13,7 +13,7 @@ use Rattle.cw_slices.proofs.Holds.{kept_told, kept_made}
 use Rattle.cw_slices.proofs.Lots.{joined}
 use Rattle.cw_slices.specs.Memory.{kept_owned}
 use Rattle.cw_slices.specs.Loose.{IsRun}
-use Rattle.cw_slices.specs.Blocks.{ins, patched, marks}
+use Rattle.cw_slices.specs.Blocks.{ins, patched}
 use Rattle.cw_slices.specs.lemmas.Patches.{length_ins, length_patched, marks_ins}
 use Rattle.cw_slices.specs.contracts.memory.Span as Span
 use Rattle.cw_slices.specs.contracts.kept.Kept as Kept
