@@ -6,7 +6,7 @@ use Rattle.cw_model.specs.declared.token.Token.{Token}
 use Rattle.cw_model.specs.declared.token.Kind.{Kind}
 use Rattle.cw_lex.specs.declared.front.Front.TheVariants as front
 use Rattle.cw_lex.specs.Front.{IsFront}
-use Rattle.cw_model.specs.Tokens.{IsLongest, IsToken, AreTokens, FaultAt}
+use Rattle.cw_model.specs.Tokens.{IsLongest, IsToken, AreTokens}
 use Rattle.cw_lex.proofs.Lines.{line_past}
 use Rattle.cw_lex.proofs.Grow.{add_separator, add_comment, add_token}
 
@@ -50,6 +50,3 @@ past_separator text ts at line line' r lt f l few = record {
   few = few;
   cut = add_separator text 0 ts at r.cut lt ((rw (get_or-drop, add-zero) at f));
 }
-
-pub fault_at : (Faulty : List ℕ → Type 0) (text : List ℕ) (ts : List Token) (at line : ℕ) → IsReached text ts at line → Faulty (drop at text) → FaultAt Faulty text line
-fault_at Faulty text ts at line r f = record { tokens = ts; at = at; before = r.cut; faulty = f; same_line = r.same_line }
