@@ -448,25 +448,9 @@ module _ (U : Type 0) {A : Type 0} (n : ℕ) (B : Token → Kind → List Token 
     stuck = stuck_first;
   }
 
--- what stands behind the first token
-pub behind_first : {A : Type 0} (B : Token → Kind → List Token → A → List Token → Type 0) (t : Token) (us : List Token) (a : A) (rest : List Token) → First B (t ∷ us) a rest → B t t.kind us a rest
-behind_first B t us a rest (v, xs, e, r) =
-    let head : v ≡ t = cc in
-    let tail : xs ≡ us = cc in
-    subst (λ w. B t t.kind w a rest) tail (subst (λ (w : Token). B w w.kind xs a rest) head r)
-
 -- at a first token of a known kind
 pub at_first : {A : Type 0} (B : Token → Kind → List Token → A → List Token → Type 0) (t : Token) (k : Kind) → t.kind ≡ k → (us : List Token) (a : A) (rest : List Token) → B t k us a rest → First B (t ∷ us) a rest
 at_first B t k is us a rest r = (t, us, refl, subst (λ k. B t k us a rest) (sym is) r)
-
--- a part that begins with a token is not empty
-pub first_eats : (U : Type 0) {A : Type 0} (n : ℕ) (B : Token → Kind → List Token → A → List Token → Type 0) (s : Kind → Bool) (f : Token → Kind → Reader A)
-    → ((t : Token) (k : Kind) → Branch U n (B t k) s t (f t k)) → (ts : List Token) (a : A) (rest : List Token) → len ts ≤ suc n → First B ts a rest → len rest < len ts
-first_eats U n B s f branch ts a rest le (t, us, e, r) = go (branch t t.kind)
-  where
-    go : Branch U n (B t t.kind) s t (f t t.kind) → len rest < len ts
-    go (inr off) = absurd (off.never us a rest r)
-    go (inl x) = let l = ap len e in let fewer = shorter us a rest (x.stable us a rest (omega arith) r) in omega arith
 
 -- ---- one part behind a token, and else another
 

@@ -354,8 +354,3 @@ module _ (text : List ℕ) where
   -- no expression begins with such a token
   pub begins_not : (m : Mark) → begins (kind_of m) ≡ false → {t : Token} {ts rest : List Token} {e : Expr} → t.kind ≡ kind_of m → ReadsWhole text (t ∷ ts) e rest → ⊥
   begins_not m off is r = differ (expr_begins r) (ap begins is ∙ off)
-
-  -- an expression is not empty
-  pub expr_long : {k : ℕ} {ts rest : List Token} {e : Expr} → At k ts e rest → 0 < len ts
-  expr_long (grammar.operand is r) = omega arith
-  expr_long (grammar.operators r q) = expr_long r

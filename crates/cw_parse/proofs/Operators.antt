@@ -75,15 +75,6 @@ operator_stops k t o e = lt-ltb k (rank t.kind) (let r = rank_of t.kind (suc k) 
 pub operator_on : (k : ℕ) (t : Token) (o : Operator) → infix_of t.kind ≡ Some (k, o) → stops k t.kind ≡ true → ⊥
 operator_on k t o e h = let r = rank_of t.kind k o e in let l = ltb-true k (rank t.kind) h in omega arith
 
--- no operator of this level stands where the level ends
-no_level : (k : ℕ) (x : Kind) (v : Option (ℕ × Operator)) → infix_of x ≡ v → stops k x ≡ true → at_level k v ≡ None
-no_level k x None e h = refl
-no_level k x (Some (j, o)) e h = go (eqb j k) refl
-  where
-    go : (b : Bool) → eqb j k ≡ b → cond {A = Option Operator} b (Some o) None ≡ None
-    go true f = absurd (let r = rank_of x j o e in let l = ltb-true k (rank x) h in let s = eqb-true j k f in omega arith)
-    go false f = refl
-
 pub level_of : (k : ℕ) (v : Option (ℕ × Operator)) (o : Operator) → at_level k v ≡ Some o → v ≡ Some (k, o)
 level_of k None o e = absurd cc
 level_of k (Some (j, p)) o e = go (eqb j k) refl e
@@ -97,11 +88,6 @@ level_of k (Some (j, p)) o e = go (eqb j k) refl e
 
 pub is_level : (k : ℕ) (v : Option (ℕ × Operator)) (o : Operator) → v ≡ Some (k, o) → at_level k v ≡ Some o
 is_level k v o e = rw e (ap (λ b. cond {A = Option Operator} b (Some o) None) (eq-eqb k k refl))
-
--- no operator of the level stands where the level ends
-pub none_at : (k : ℕ) (ts : List Token) → Stops (stops k) ts → operator_at k ts ≡ None
-none_at k [] h = refl
-none_at k (t ∷ ts) h = rw (no_level k t.kind (infix_of t.kind) refl h) refl
 
 pub at_operator : (k : ℕ) (t : Token) (ts : List Token) (o : Operator) → infix_of t.kind ≡ Some (k, o) → operator_at k (t ∷ ts) ≡ Some (o, ts)
 at_operator k t ts o e = rw (is_level k (infix_of t.kind) o e) refl

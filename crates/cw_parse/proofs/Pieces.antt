@@ -71,11 +71,6 @@ then_halts U n s x g h ts b rest few e =
     let y = shorter ts z.0.0 z.0.1 (x.exact.stable ts z.0.0 z.0.1 few (x.exact.sound ts z.0.0 z.0.1 z.1)) in
     h z.0.0 z.0.1 b rest (omega arith) z.2
 
--- another relation that a piece reads
-abbrev pub as_rel : {U : Type 0} {n : ℕ} {s : Kind → Bool} {A : Type 0} (Q : List Token → A → List Token → Type 0) (x : Piece U n s A)
-    → ((ts : List Token) (a : A) (rest : List Token) → x.rel ts a rest → Q ts a rest) → ((ts : List Token) (a : A) (rest : List Token) → Q ts a rest → x.rel ts a rest) → Piece U n s A
-as_rel {U} {n} {s} Q x into out = record { rel = Q; read = x.read; exact = same_exact U n x.rel Q s x.read into out x.exact }
-
 -- ---- a choice by the next token
 
 -- one piece behind a token that a mark stands for, and else another

@@ -1,12 +1,12 @@
 -- What was read leaves room for the numbers of the call statements that follow.
-use Rattle.std.proofs.Common.{◌≡◌, ℕ, suc, ◌+◌, ◌<◌, ◌≤◌, Bool, true, false, cond, List, [], ◌∷◌, length as len, Option, Some, None, Ok, sym, ap, ◌∙◌, arith, inl, inr}
+use Rattle.std.proofs.Common.{◌≡◌, ℕ, suc, ◌+◌, ◌<◌, ◌≤◌, List, length as len, Option, Ok, sym, ◌∙◌, arith, inl, inr}
 use Rattle.cw_model.specs.declared.token.Token.{Token}
 use Rattle.cw_model.specs.declared.token.Kind.{Kind}
 use Rattle.cw_model.specs.Syntax.{Name, Expr, Stmt, Block, Param}
 use Rattle.cw_model.specs.Grammar as grammar
 use Rattle.cw_model.specs.Grammar.{ReadsWhole, ReadsArguments, ReadsCall, ReadsParams, ReadsMoreNames, ReadsGrain, ReadsOver, ReadsHead, Head, ReadsAssigned, ReadsNamed, ReadsDeclared, ReadsReturned, ReadsStmt, ReadsStmtBy, ReadsBlock, ReadsStmts}
 use Rattle.cw_parse.specs.declared.marks.Mark.{Mark}
-use Rattle.cw_parse.specs.Marks.{is_mark, past}
+use Rattle.cw_parse.specs.Marks.{is_mark}
 use Rattle.cw_parse.specs.Reading.{token, by_first}
 use Rattle.cw_parse.specs.Parts.{list, param, Opening, opening, Line, line, lines, Item, item}
 use Rattle.cw_parse.proofs.Reader.{tok, shorter}
@@ -24,17 +24,6 @@ marked_less m (tok is) = omega arith
 -- a token that was read
 pub token_less : (m : Mark) (ts : List Token) (t : Token) (us : List Token) → token (is_mark m) ts ≡ Ok (t, us) → len us < len ts
 token_less m ts t us e = marked_less m ((expect {U = Unit {0}} {n = 0} m).exact.sound ts t us e)
-
-pub past_less : (m : Mark) (ts : List Token) (t : Token) (us : List Token) → past m ts ≡ Some (t, us) → len us < len ts
-past_less m [] t us e = absurd cc
-past_less m (v ∷ vs) t us e = go (is_mark m v.kind) e
-  where
-    same : (x y : Token × List Token) → Some x ≡ Some y → x ≡ y
-    same x y e = cc
-
-    go : (b : Bool) → cond {A = Option (Token × List Token)} b (Some (v, vs)) None ≡ Some (t, us) → len us < len (v ∷ vs)
-    go true e = let l = ap (λ (x : Token × List Token). len x.1) (same (v, vs) (t, us) e) in omega arith
-    go false e = absurd cc
 
 module _ (text : List ℕ) where
   expr_less : {ts us : List Token} {e : Expr} → ReadsWhole text ts e us → len us ≤ len ts

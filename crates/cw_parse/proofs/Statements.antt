@@ -1,5 +1,5 @@
 -- Statements without a block, and what stands in front of a block.
-use Rattle.std.proofs.Common.{◌≡◌, ℕ, suc, ◌+◌, pos, Bool, true, false, cond, List, [], ◌∷◌, ◌++◌, Option, Some, None, refl, sym, ap, ◌∙◌, arith, add-one, ◌⊎◌, inl, inr}
+use Rattle.std.proofs.Common.{◌≡◌, ℕ, suc, ◌+◌, Bool, true, false, cond, List, [], ◌∷◌, ◌++◌, Option, Some, None, refl, sym, ap, ◌∙◌, arith, add-one, ◌⊎◌, inl, inr}
 use Rattle.cw_model.specs.declared.token.Token.{Token}
 use Rattle.cw_model.specs.declared.token.Kind.{Kind}
 use Rattle.cw_model.specs.declared.token.Kind.TheVariants as kind
@@ -112,9 +112,6 @@ module _ (text : List ℕ) where
   named_branch U n site t u kind.AddAssign = inl (ended_piece {U = U} {n = n} site (λ e. tree.AddTo (name_of text t) e)).exact
   named_branch U n site t u kind.LeftParen = inl (called_exact U n Plain site None t)
   named_branch U n site t u _ = inr (record { stops = λ ts. refl; never = λ ts a rest d. d })
-
-  zero_read : (after : List Token) → ReadsWhole text (token_of (kind.Number 0) ∷ after) (tree.Number (pos 0)) after
-  zero_read after = grammar.operators (grammar.operators (grammar.operators (grammar.operators (grammar.operand refl (grammar.number (omega arith))) grammar.end) grammar.end) grammar.end) grammar.end
 
   -- some text of an expression and a semicolon behind a first token
   some_ended : (site : ℕ) (make : Expr → Stmt) → SomeText (ended_piece {U = Unit {0}} {n = 0} site make).rel

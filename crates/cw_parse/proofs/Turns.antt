@@ -42,11 +42,6 @@ regroup : {A B : Type 0} (join : A → B → B) (front : List A) (a : A) (read :
 regroup join front a (Ok y) = ap (λ b. Ok (b, y.1)) (sym (pile_push join front a y.0))
 regroup join front a (Err m) = refl
 
--- nothing stands before
-pub with_nothing : {A B : Type 0} (join : A → B → B) (read : Read B) → with_front join [] read ≡ read
-with_nothing join (Ok y) = refl
-with_nothing join (Err m) = refl
-
 module _ {A S B : Type 0} (m : Mark) (end : S → B) (join : A → B → B) (part : S → Reader (A × S)) (n i : ℕ) (front : List A) (s : S) (ts : List Token) (total : Read B)
     (so_far : with_front join front (row (is_mark m) end join part (n - i) s ts) ≡ total) where
   abbrev onward : Reader B
