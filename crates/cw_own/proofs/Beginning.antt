@@ -84,10 +84,6 @@ head_row ps =
     none k = grind (arith, nat_tests)
 
 -- parameters that differ are new, one after another
-out_left : (a b : Bool) → (a || b) ≡ false → a ≡ false
-out_left true b h = cc
-out_left false b h = refl
-
 not_is : (a : Bool) → not a ≡ true → a ≡ false
 not_is true h = cc
 not_is false h = refl
@@ -101,13 +97,6 @@ names_of ps = map (λ p. p.name) ps
 
 abbrev NotIn : Locals → Name → Type 0
 NotIn locals x = (is_among x locals.ints ≡ false) × (is_among x locals.arrays ≡ false)
-
-not_first : (x y : Name) (ys : List Name) → is_among x (y ∷ ys) ≡ false → (same_name x y ≡ false) × (is_among x ys ≡ false)
-not_first x y ys h = by (same_name x y) h
-  where
-    by : (b : Bool) → (if b then true else is_among x ys) ≡ false → (b ≡ false) × (is_among x ys ≡ false)
-    by true h = cc
-    by false h = (refl, h)
 
 apart_all : (x : Name) (locals : Locals) (ps : List Param) → is_among x (names_of ps) ≡ false → ((p : Name) → is_among p (names_of ps) ≡ true → NotIn locals p) →
     (p : Name) → is_among p (names_of ps) ≡ true → (NotIn (spec.with_int x locals) p) × (NotIn (spec.with_array x locals) p)

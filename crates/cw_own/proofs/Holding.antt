@@ -1,9 +1,9 @@
 -- What holds a name, by a test of holders.
-use Rattle.std.proofs.Common.{◌≡◌, ℕ, Bool, true, false, not, ◌&&◌, ◌||◌, if◌then◌else◌, cond, List, [], ◌∷◌, ◌++◌, refl, sym, ap, ◌∙◌}
+use Rattle.std.proofs.Common.{◌≡◌, ℕ, Bool, true, false, not, ◌&&◌, ◌||◌, cond, List, [], ◌∷◌, ◌++◌, refl, sym, ap, ◌∙◌}
 use Rattle.std.proofs.lemmas.Slice.Eq.{bytes_eq-Decides}
 use Rattle.cw_model.specs.Syntax.{Name}
 use Rattle.cw_model.specs.Names.{same_name, is_among}
-use Rattle.cw_model.specs.Ownership.{Holder, SpawnIn, CutOf, Taken, is_taken, is_spawn_in, freed, is_cut_of, cut_ended, without, taken_by}
+use Rattle.cw_model.specs.Ownership.{Holder, SpawnIn, CutOf, Taken, is_taken, is_spawn_in, freed, is_cut_of, cut_ended, without}
 use Rattle.cw_own.proofs.Words.{if_or, or_group, and_all}
 
 -- a holder of this kind holds the name
@@ -38,10 +38,6 @@ held_append p [] ys x = refl
 held_append p (t ∷ xs) ys x =
     ap (λ b. (same_name x t.0 && p t.1) || b) (held_append p xs ys x)
     ∙ sym (or_group (same_name x t.0 && p t.1) (held p xs x) (held p ys x))
-
--- one of several by a filter
-abbrev by_test : (b s q : Bool) (r r' : Bool) → Type 0
-by_test b s q r r' = ((s && (q && b)) || r) ≡ r'
 
 pub held_freed : (depth : ℕ) (p : Holder → Bool) (taken : Taken) (x : Name) → held p (freed depth taken) x ≡ held (but_spawn depth p) taken x
 held_freed depth p [] x = refl
@@ -116,22 +112,6 @@ held_uncut a p ((n, h) ∷ taken) x = by (not (is_cut_of a (n, h))) refl (held_u
         here : (s : Bool) → same_name x n ≡ s → false ≡ (s && (p h && not (same_name a x && is_cut h)))
         here true same = none (p h) ∙ ap (λ b. p h && b) (sym e) ∙ ap (λ b. p h && not b) (cut_is h same)
         here false same = refl
-
-pub held_spawned : (depth : ℕ) (xs : List Name) (p : Holder → Bool) (taken : Taken) (x : Name) →
-    held p (taken_by depth xs taken) x ≡ ((p (SpawnIn depth) && is_among x xs) || held p taken x)
-held_spawned depth [] p taken x = ap (λ b. b || held p taken x) (none (p (SpawnIn depth)))
-  where
-    none : (b : Bool) → false ≡ (b && false)
-    none true = refl
-    none false = refl
-held_spawned depth (y ∷ xs) p taken x =
-    ap (λ r. (same_name x y && p (SpawnIn depth)) || r) (held_spawned depth xs p taken x)
-    ∙ by (same_name x y) (p (SpawnIn depth)) (is_among x xs) (held p taken x)
-  where
-    by : (s q a r : Bool) → ((s && q) || ((q && a) || r)) ≡ ((q && (if s then true else a)) || r)
-    by true true a r = refl
-    by true false a r = refl
-    by false q a r = refl
 
 -- names that are held by no holder of a greater kind are held by none of a lesser one
 pub held_same : (p q : Holder → Bool) (taken : Taken) (x : Name) → ((h : Holder) → p h ≡ q h) → held p taken x ≡ held q taken x

@@ -106,15 +106,6 @@ over_same known locals around l taken t (x ∷ xs) k h r s =
     ∙ ap (λ b. rules.may_pass l t (slot_of x locals.arrays) && b) (over_same known locals around l taken t xs k (both_right (is_array known x) (list_all (λ a. is_array known a) xs) h) r s)
 
 -- arguments that are read or passed
-swap_and : (a b c : Bool) → (a && (b && c)) ≡ (b && (a && c))
-swap_and true true c = refl
-swap_and true false c = refl
-swap_and false true c = refl
-swap_and false false c = refl
-
-given_words : (r m g w : Bool) → ((r && m) && (g && w)) ≡ ((r && g) && (m && w))
-given_words r m g w = four_and r m g w
-
 args_same : (known : Known) (locals : Locals) (around : Around) (l : Option Loop) (taken : Taken) (t : rows.Taken) (ps : List Param) (es : List Expr) → Knows known locals → are_arguments known ps es ≡ true → Rounds locals around l → Sees locals taken t →
     (list_all (λ e. may_read around taken e) es && may_write around taken (arrays_given ps es)) ≡ list_all (rules.may_give l t) (map (resolved_argument locals) es)
 args_same known locals around l taken t [] [] k h r s = refl

@@ -1,26 +1,14 @@
 -- Rows of bits as sets of slots.
 use Rattle.std.proofs.Common.{◌≡◌, ◌≢◌, ℕ, zero, suc, ◌*◌, ◌/◌, ◌%◌, ◌^◌, ◌<◌, ◌==◌, false, ◌||◌, List, [], ◌∷◌, length, slice_index, slice_set, bit_or, bit_and, ◌&&◌, not, min, max, w64, refl, sym, ap, ◌∙◌, arith, inl, inr, get_or-set_same, get_or-set_other}
 use Rattle.std.specs.Int.{bit_at, bit_not}
-use Rattle.std.proofs.lemmas.Nat.Bits.{bit_at-zero, bit_at-lt, bit_at_or, bit_at_and, bit_at_set_same, bit_at_set_other, bit_at_clear_same, bit_at_clear_other}
+use Rattle.std.proofs.lemmas.Nat.Bits.{bit_at-lt, bit_at_or, bit_at_and, bit_at_set_same, bit_at_set_other, bit_at_clear_same, bit_at_clear_other}
 use Rattle.std.proofs.lemmas.Bool.{eq-eqb}
 use Rattle.std.proofs.lemmas.Bool.Decides.{eqb_tells}
 use Rattle.cw_model.specs.declared.limits.TheConstants.{MOST_DECLARED}
-use Rattle.cw_own.specs.Sets.{Slots, no_slot, with_slot, without_slot, either, both, slots_of}
+use Rattle.cw_own.specs.Sets.{Slots, with_slot, without_slot, either, both, slots_of}
 
 pub same_sets : (s t : Slots) → ((slot : ℕ) → s slot ≡ t slot) → s ≡ t
 same_sets s t h = λ i. λ slot. h slot i
-
--- four empty rows
-empty_row : (i : ℕ) → slice_index (0 ∷ 0 ∷ 0 ∷ 0 ∷ []) i ≡ 0
-empty_row zero = refl
-empty_row (suc zero) = refl
-empty_row (suc (suc zero)) = refl
-empty_row (suc (suc (suc zero))) = refl
-empty_row (suc (suc (suc (suc i)))) = refl
-
-pub none_taken : slots_of (0 ∷ 0 ∷ 0 ∷ 0 ∷ []) ≡ no_slot
-none_taken = same_sets (slots_of (0 ∷ 0 ∷ 0 ∷ 0 ∷ [])) no_slot (λ slot.
-    ap (λ row. bit_at row (slot % 64) == 1) (empty_row (slot / 64)) ∙ ap (λ bit. bit == 1) (bit_at-zero (slot % 64)))
 
 abbrev row_with : ℕ → ℕ → ℕ
 row_with row place = bit_or row (1 * 2 ^ place % 2 ^ 64)

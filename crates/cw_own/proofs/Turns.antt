@@ -1,9 +1,9 @@
 -- Rows in order: what is set at a place, and what begins.
-use Rattle.std.proofs.Common.{◌≡◌, ℕ, zero, suc, List, [], ◌∷◌, ◌++◌, length, drop, map, slice_set, refl, sym, ap, ◌∙◌}
+use Rattle.std.proofs.Common.{◌≡◌, ℕ, zero, suc, List, [], ◌∷◌, ◌++◌, length, drop, map, slice_set, refl, ap, ◌∙◌}
 use Rattle.cw_own.specs.declared.row.Row as code
 use Rattle.cw_own.specs.Sets.{Row, row_of}
 use Rattle.cw_tree.specs.Resolved.{Stmt, Declare, DeclareArray, Assign, AssignElement, AddTo, Call, Sync, If, IfElse, While, For, Scope, Cut, Region, Print, Return}
-use Rattle.cw_own.specs.Taken.{Taken, BeginWith, taken_after, left_by}
+use Rattle.cw_own.specs.Taken.{Taken, taken_after, left_by}
 use Rattle.cw_own.specs.Rules.{seen_by}
 
 -- a place that was kept is set
@@ -20,9 +20,6 @@ set_kept (x ∷ xs) (y ∷ ys) kept g rest h =
 pub rest_is : (first more : List Row) → drop (length first) (first ++ more) ≡ more
 rest_is [] more = refl
 rest_is (x ∷ first) more = rest_is first more
-
-pub begins : (first more rows : List Row) → rows ≡ first ++ more → BeginWith first rows
-begins first more rows h = h ∙ ap (λ r. first ++ r) (sym (rest_is first more) ∙ ap (λ r. drop (length first) r) (sym h))
 
 abbrev no_rows : List Row
 no_rows = []

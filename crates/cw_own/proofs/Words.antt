@@ -1,5 +1,5 @@
 -- Words of tests.
-use Rattle.std.proofs.Common.{◌≡◌, Bool, true, false, not, ◌&&◌, ◌||◌, if◌then◌else◌, refl}
+use Rattle.std.proofs.Common.{◌≡◌, Bool, true, false, ◌&&◌, ◌||◌, if◌then◌else◌, refl}
 
 pub if_or : (a b : Bool) → (if a then true else b) ≡ (a || b)
 if_or true b = refl
@@ -35,20 +35,12 @@ pub and_group : (a b c : Bool) → ((a && b) && c) ≡ (a && (b && c))
 and_group true b c = refl
 and_group false b c = refl
 
-pub or_twice : (a b : Bool) → (a || (a || b)) ≡ (a || b)
-or_twice true b = refl
-or_twice false b = refl
-
 -- the parts of two sums, by their sorts
 pub four_or : (a b c d : Bool) → ((a || b) || (c || d)) ≡ ((a || c) || (b || d))
 four_or true b c d = refl
 four_or false true true d = refl
 four_or false true false d = refl
 four_or false false c d = refl
-
-pub not_or : (a b : Bool) → not (a || b) ≡ (not a && not b)
-not_or true b = refl
-not_or false b = refl
 
 pub four_and : (a b c d : Bool) → ((a && b) && (c && d)) ≡ ((a && c) && (b && d))
 four_and false b c d = refl
