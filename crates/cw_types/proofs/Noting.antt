@@ -81,13 +81,6 @@ longer_declares (Region tag b) ks n h = h
 longer_declares (Print e) ks n h = h
 longer_declares (Return e) ks n h = h
 
--- a name and what is known then
-pub oldest_whole : (ks : Known) → oldest (length ks) ks ≡ ks
-oldest_whole ks = ap (λ n. drop n ks) (none (length ks))
-  where
-    none : (n : ℕ) → n - n ≡ 0
-    none n = omega arith
-
 -- a statement and those after it, as they are noted
 pub noted : (keeps rest_stands : Bool) (line : ℕ) (inner rest : List ℕ) (p q r s t : Option ℕ) →
     q ≡ lowest p (unless keeps line) → r ≡ lowest q inner → s ≡ lowest r (unless rest_stands line) → t ≡ lowest s rest →
