@@ -4,12 +4,11 @@ use Rattle.std.specs.Prelude.{if◌then◌else◌, not, ◌&&◌, nat_lt, int_le
 use Rattle.std.proofs.lemmas.Bool.{leb-true}
 use Rattle.std.proofs.lemmas.List.{length-take-le}
 use Rattle.cw_model.specs.declared.limits.TheConstants.{MOST_DEPTH}
-use Rattle.cw_model.specs.Ints.{Result, Value, Fails, natural, fits}
+use Rattle.cw_model.specs.Ints.{natural, fits}
 use Rattle.cw_model.specs.Trees.{Series}
 use Rattle.cw_model.specs.Syntax.{Name, Block, Function}
 use Rattle.cw_model.specs.Names.{same_name, is_among, differ, find, put}
 use Rattle.cw_model.specs.Frames.{Frame, no_frame, int_of, array_of}
-use Rattle.cw_model.specs.Expressions.{done_at}
 use Rattle.cw_model.specs.Outcome.{Done, then_do, quiet, joined_up}
 use Rattle.cw_model.specs.Loops.{lies_within, halves}
 use Rattle.cw_model.specs.LoopLaws.{for_body}
@@ -32,15 +31,10 @@ use Rattle.cw_loops.proofs.Slices.{mapped, Distinct, differ_distinct, keys-mappe
 use Rattle.cw_loops.proofs.Ranges.{Agrees, Put, ranges}
 use Rattle.cw_loops.proofs.Turn.{turn_scope, BodyAlike, each_turn, table_at, other_than}
 use Rattle.cw_loops.proofs.Fresh.{AllPlain, not_plain, fresh_from, pairs_fresh, cutting_from, taken_of, keys-taken, find-taken, frame_is}
-use Rattle.cw_loops.proofs.Loop.{GivesSuch, ResultSuch}
 
 pub map_same : {B : Type 0} (f g : Name → B) (xs : List Name) → ((a : Name) → is_among a xs ≡ true → f a ≡ g a) → map f xs ≡ map g xs
 map_same f g [] h = refl
 map_same f g (x ∷ xs) h = rw (h x (front_among x xs)) (ap (λ t. g x ∷ t) (map_same f g xs (λ a o. h a (later_among a x xs o))))
-
-pub such_done : (P : ℤ → Type 0) (r : Result) → ResultSuch P r → GivesSuch P (done_at 1 r)
-such_done P (Value v) h = h
-such_done P (Fails trap) h = tt
 
 mapped_past : (as' : List Name) (f : Name → List ℤ → List ℤ) (t u : List (Name × List ℤ)) → ((a : Name) → is_among a as' ≡ true → is_among a (keys t) ≡ false) → mapped as' f (t ++ u) ≡ t ++ mapped as' f u
 mapped_past [] f t u h = refl

@@ -8,7 +8,7 @@ use Rattle.cw_model.specs.Ints.{Value, Fails, fits, exact}
 use Rattle.cw_model.specs.declared.trap.Trap.TheVariants as trap
 use Rattle.cw_model.specs.declared.syntax.Operator.TheVariants.{AtMost, Plus, Divide}
 use Rattle.cw_model.specs.Trees.{Series, Fork, Join}
-use Rattle.cw_model.specs.Syntax.{Name, Expr, Number, Variable, Binary, Declare, IfElse, Block, Function}
+use Rattle.cw_model.specs.Syntax.{Name, Number, Variable, Binary, Declare, IfElse, Block, Function}
 use Rattle.cw_model.specs.Names.{is_among}
 use Rattle.cw_model.specs.Frames.{Frame, new_int, leave}
 use Rattle.cw_model.specs.Expressions.{Gives, evaluate, also, done_at, apply}
@@ -65,9 +65,6 @@ split k a c first second last left = ap (λ o. then_do o last) (sym (pay_pay a c
 
 halfway : (lo : ℤ) (h : ℕ) → (lo +ℤ pos h) -ℤ lo ≡ pos h
 halfway lo h = range_is lo h
-
-middle_expr : Expr
-middle_expr = Binary Plus (Variable low) (Binary Divide range (Number (pos 2)))
 
 -- the middle of a range
 middle_gives : (lo : ℤ) (n : ℕ) (cs : List (Name × ℤ)) (arrays : List (Name × List ℤ)) → n < 2 ^ 63 → fits (lo +ℤ pos (n / 2)) ≡ true →

@@ -36,9 +36,6 @@ whole_right {R = R} {given = given} {o = o} e h = subst (λ x. Whole R given o x
 pub first_right : {A B C : Type 0} {R : A → B → Type 0} {given : ℕ} {o : Outcome A} {o' p : Outcome C} → o' ≡ p → (go : C → ℕ → Outcome B) → Whole R given o (then_do p go) → Whole R given o (then_do o' go)
 first_right {R = R} {given = given} {o = o} e go h = subst (λ x. Whole R given o (then_do x go)) (sym e) h
 
-pub first_left : {A B C : Type 0} {R : A → B → Type 0} {given : ℕ} {o p : Outcome C} {o' : Outcome B} → o ≡ p → (go : C → ℕ → Outcome A) → Whole R given (then_do p go) o' → Whole R given (then_do o go) o'
-first_left {R = R} {given = given} {o' = o'} e go h = subst (λ x. Whole R given (then_do x go) o') (sym e) h
-
 -- six instructions at the end as four and two
 split_end : {A : Type 0} (o : Outcome A) →
     then_do o (λ a l. then_do (pay 6 l) (λ _ l. Done a l quiet)) ≡ then_do (then_do o (λ a l. then_do (pay 4 l) (λ _ l. Done a l quiet))) (λ a l. then_do (pay 2 l) (λ _ l. Done a l quiet))

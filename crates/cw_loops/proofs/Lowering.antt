@@ -71,9 +71,6 @@ module _ {c : Surroundings} {ints arrays : List Name} {known : Known} {owners : 
   variable_pass false x plain fine inner well = all_of (can_read c x) (is_local c x) (read_from agree x plain well) (int_local agree x fine)
   variable_pass true x plain fine inner well = all_of (can_read c x) (is_local c x) (read_from agree x plain well) (local_from agree x (outside agree x (inner x (front_among x []))).1)
 
-  integer_pass : (array : Bool) (e : Expr) → ((array ≡ true) → is_argument known array e ≡ false) → is_source_expr e ≡ true → keeps_loop around e ≡ true → AllReadWell c (read_by e) → can_evaluate c e ≡ true
-  integer_pass array e never' source keeps well = expr_can agree e source keeps well
-
   argument_can : (array : Bool) (e : Expr) → is_source_expr e ≡ true → is_argument known array e ≡ true → keeps_loop around e ≡ true → AllInner around (if array then names_in e else []) → AllReadWell c (read_by e) → can_pass c e ≡ true
   argument_can array (Variable x) source fine keeps inner well = variable_pass array x source fine inner (well x (front_among x []))
   argument_can array (Number n) source fine keeps inner well = expr_can agree (Number n) source keeps well
