@@ -111,15 +111,6 @@ slots_apart x y (z ∷ names) hx hy other = test (slots_apart x y names) (same_n
     test more false true ex ey hx hy = λ e. omega (arith, e)
     test more false false ex ey hx hy = λ e. more hx hy other (omega (arith, e))
 
--- the slot of a name that was there stays
-pub slot_more : (x z : Name) (names : List Name) → is_among x names ≡ true → slot_of x (names ++ z ∷ []) ≡ slot_of x names
-slot_more x z [] h = cc
-slot_more x z (y ∷ names) h = test (slot_more x z names) (same_name x y) h
-  where
-    test : (is_among x names ≡ true → slot_of x (names ++ z ∷ []) ≡ slot_of x names) → (b : Bool) → (if b then true else is_among x names) ≡ true → (if b then 0 else suc (slot_of x (names ++ z ∷ []))) ≡ (if b then 0 else suc (slot_of x names))
-    test more true h' = refl
-    test more false h' = ap suc (more h')
-
 -- a name that was not there has a slot behind those that were
 pub slot_new : (x : Name) (names more : List Name) → is_among x names ≡ false → length names ≤ slot_of x (names ++ more)
 slot_new x [] more h = omega arith

@@ -11,7 +11,7 @@ use Rattle.cw_model.specs.Answers.{Ended, sum_to, int_given, answer_of, main_fra
 use Rattle.cw_model.specs.Trees.{Marked, Invocation, tree_of, normal}
 use Rattle.cw_tree.specs.Resolved.{Lists, slot_of, locals_of, function_names, reducer_names}
 use Rattle.cw_tree.specs.lemmas.NamedSlots.{slot_stays}
-use Rattle.cw_loops.specs.Lowered.{lower_function, lower_functions, made_by, made_in, made_of, loop_count, loop_count_in, lowered}
+use Rattle.cw_loops.specs.Lowered.{lower_functions, made_by, made_in, made_of, loop_count, loop_count_in, lowered}
 use Rattle.cw_loops.specs.Slotted.{slotted_block, slotted_function, lowered_lists}
 use Rattle.cw_loops.specs.lemmas.Numbering.{names_stay}
 use Rattle.cw_code.specs.declared.code.Func.{Func}
@@ -177,20 +177,6 @@ main_there program h = cases (is_among main_name (function_names program.functio
 pub main_place : (program : Program) → is_function main_name (lowered program).functions ≡ true → slot_of main_name (function_names program.functions) ≡ slot_of main_name (lowered_lists program).functions
 main_place program h =
     sym (slot_stays main_name (function_names program.functions) (function_names (made_of 0 program.functions)) (main_there program h)) ∙ sym (ap (slot_of main_name) (names_are program))
-
--- the function of a name that is there has the parameters of that in the source
-same_head : (name : Name) (k : ℕ) (fs made : List Function) → is_among name (function_names fs) ≡ true → (function_named name (lower_functions k fs ++ made)).params ≡ (function_named name fs).params
-same_head name k [] made h = cc
-same_head name k (f ∷ fs) made h = test (same_head name (k + loop_count_in f.body) fs made) (same_name name f.name) h
-  where
-    test : (is_among name (function_names fs) ≡ true → (function_named name (lower_functions (k + loop_count_in f.body) fs ++ made)).params ≡ (function_named name fs).params) → (b : Bool) → (if b then true else is_among name (function_names fs)) ≡ true →
-        (if b then lower_function k f else function_named name (lower_functions (k + loop_count_in f.body) fs ++ made)).params ≡ (if b then f else function_named name fs).params
-    test more true h' = refl
-    test more false h' = more h'
-
--- main takes as many arguments as in the source
-pub main_count_kept : (program : Program) → is_function main_name (lowered program).functions ≡ true → main_count (lowered program) ≡ main_count program
-main_count_kept program h = ap length (same_head main_name 0 program.functions (made_of 0 program.functions) (main_there program h))
 
 -- reducers are known by their names alone
 same_sums : (rs : List Reducer) (additions : List (Name × ℤ)) → map (λ (r : Reducer). sum_to r.name additions) (map (λ name. record { name = name; line = 0 }) (reducer_names rs)) ≡ map (λ (r : Reducer). sum_to r.name additions) rs
