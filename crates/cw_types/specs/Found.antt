@@ -3,6 +3,7 @@ use Rattle.std.specs.Prelude.{◌≡◌, ◌≤◌, ◌+◌, ◌++◌, ℕ, List
 use Rattle.std.specs.Global.{Vec}
 use Rattle.cw_model.specs.declared.limits.TheConstants.{MOST_DECLARED}
 use Rattle.cw_model.specs.Syntax.{Name}
+use Rattle.cw_model.specs.Syntax as model
 use Rattle.cw_tree.specs.declared.syntax.Call.{Call}
 use Rattle.cw_tree.specs.declared.syntax.Cut.{Cut}
 use Rattle.cw_tree.specs.declared.syntax.Expr.{Expr}
@@ -72,6 +73,23 @@ IsCut locals c found = parts_of found ≡ resolved_cut (locals_view locals) c
 -- a statement
 abbrev pub IsStmt : Lists → Locals → Stmt → made_stmt.Stmt → Type 0
 IsStmt lists locals s found = stmt_of found ≡ spec.resolved_stmt (lists_view lists) (locals_view locals) (parsed.stmt_of s)
+
+-- a parallel loop by its head and its body, and a cut by its parts and its block
+abbrev pub loop_over : Head → List Line → model.Stmt
+loop_over h b =
+    model.For h.variable h.tested h.stepped (parsed.expr_of h.from) (parsed.expr_of h.to) h.grain h.over.items (parsed.block_of b)
+
+abbrev pub cut_over : Cut → List Line → model.Stmt
+cut_over c b = model.Cut c.array (parsed.expr_of c.at) c.left c.right (parsed.block_of b)
+
+-- such a loop, and such a cut
+abbrev pub IsLoop : Lists → Locals → Head → List Line → made_stmt.Stmt → Type 0
+IsLoop lists locals h b found =
+    stmt_of found ≡ spec.resolved_stmt (lists_view lists) (locals_view locals) (loop_over h b)
+
+abbrev pub IsCutOver : Lists → Locals → Cut → List Line → made_stmt.Stmt → Type 0
+IsCutOver lists locals c b found =
+    stmt_of found ≡ spec.resolved_stmt (lists_view lists) (locals_view locals) (cut_over c b)
 
 -- the statements of a block
 abbrev pub IsBlock : Lists → Locals → List Line → List made_line.Line → Type 0

@@ -3,14 +3,14 @@
 ghost use Rattle.std.specs.Prelude.{◌≡◌, ◌<◌, ◌+◌, ◌^◌, true, IfOk, OnOk};
 ghost use Rattle.cw_tree.specs.SyntaxView as parsed;
 ghost use Rattle.cw_tree.specs.Declares.{declares_in, declares_in_block, is_plain};
-ghost use Rattle.cw_types.specs.Found.{IsBlock, IsStmt};
+ghost use Rattle.cw_types.specs.Found.{IsBlock, IsCutOver, IsLoop, IsStmt, cut_over, loop_over};
 ghost use Rattle.cw_types.specs.Locals.{locals_count};
 
 use crate::lists::Lists;
 use crate::locals::{Locals, declare};
 use crate::resolve::{call, cut, expression, head, listed, next_use, returned, use_of};
 use cw_tree::resolved as tree;
-use cw_tree::syntax::{Line, Stmt};
+use cw_tree::syntax::{Cut, Head, Line, Stmt};
 use std::alloc::{AllocError, Global};
 
 /// The statements of a block, each name looked up; the names that it declares are gone after it.
@@ -73,24 +73,16 @@ fn statement<'a>(
             Ok(tree::Stmt::While(condition, body))
         }
         Stmt::For(h, b) => {
-            locals.ints.add(h.variable.as_bytes())?;
-            let body = block(alloc, lists, locals, b)?;
-            locals.ints.forget();
-            let head = head(alloc, locals, h, &body)?;
-            Ok(tree::Stmt::For(head, body))
+            let found = turns(alloc, lists, locals, h, b)?;
+            Ok(found)
         }
         Stmt::Scope(b) => {
             let body = block(alloc, lists, locals, b)?;
             Ok(tree::Stmt::Scope(body))
         }
         Stmt::Cut(c, b) => {
-            let parts = cut(alloc, locals, c)?;
-            locals.arrays.add(c.left.as_bytes())?;
-            locals.arrays.add(c.right.as_bytes())?;
-            let body = block(alloc, lists, locals, b)?;
-            locals.arrays.forget();
-            locals.arrays.forget();
-            Ok(tree::Stmt::Cut(parts, body))
+            let found = with_parts(alloc, lists, locals, c, b)?;
+            Ok(found)
         }
         Stmt::Region(tag, b) => {
             let tag = listed(alloc, &lists.tags, tag)?;
@@ -110,6 +102,50 @@ fn statement<'a>(
             Ok(found)
         }
     }
+}
+
+// A parallel loop, each name looked up; its variable is known in its body alone.
+#[cycle(statements)]
+fn turns<'a>(
+    alloc: Global,
+    lists: &Lists,
+    locals: &mut Locals<'a>,
+    h: &'a Head,
+    b: &'a [Line],
+) -> Result<tree::Stmt, AllocError>
+    requires { locals_count locals.old + declares_in (loop_over h.now b.now) < 2 ^ 32 }
+    ensures tree { IfOk result (IsLoop lists.now locals.old h.now b.now) }
+    ensures ints { OnOk result (locals.new.ints ≡ locals.old.ints) }
+    ensures arrays { OnOk result (locals.new.arrays ≡ locals.old.arrays) }
+{
+    locals.ints.add(h.variable.as_bytes())?;
+    let body = block(alloc, lists, locals, b)?;
+    locals.ints.forget();
+    let head = head(alloc, locals, h, &body)?;
+    Ok(tree::Stmt::For(head, body))
+}
+
+// A cut, each name looked up; the parts are known in its block alone.
+#[cycle(statements)]
+fn with_parts<'a>(
+    alloc: Global,
+    lists: &Lists,
+    locals: &mut Locals<'a>,
+    c: &'a Cut,
+    b: &'a [Line],
+) -> Result<tree::Stmt, AllocError>
+    requires { locals_count locals.old + declares_in (cut_over c.now b.now) < 2 ^ 32 }
+    ensures tree { IfOk result (IsCutOver lists.now locals.old c.now b.now) }
+    ensures ints { OnOk result (locals.new.ints ≡ locals.old.ints) }
+    ensures arrays { OnOk result (locals.new.arrays ≡ locals.old.arrays) }
+{
+    let parts = cut(alloc, locals, c)?;
+    locals.arrays.add(c.left.as_bytes())?;
+    locals.arrays.add(c.right.as_bytes())?;
+    let body = block(alloc, lists, locals, b)?;
+    locals.arrays.forget();
+    locals.arrays.forget();
+    Ok(tree::Stmt::Cut(parts, body))
 }
 
 // A statement without blocks, each name looked up.
@@ -135,32 +171,21 @@ fn plain(
         }
         Stmt::Assign(x, e) => {
             let name = use_of(alloc, &locals.ints, x)?;
-            let value = expression(alloc, locals, e)?;
-            Ok(tree::Stmt::Assign(name, value))
+            Ok(tree::Stmt::Assign(name, expression(alloc, locals, e)?))
         }
         Stmt::AssignElement(a, i, e) => {
             let name = use_of(alloc, &locals.arrays, a)?;
             let index = expression(alloc, locals, i)?;
-            let value = expression(alloc, locals, e)?;
-            Ok(tree::Stmt::AssignElement(name, index, value))
+            Ok(tree::Stmt::AssignElement(name, index, expression(alloc, locals, e)?))
         }
         Stmt::AddTo(s, e) => {
             let reducer = listed(alloc, &lists.reducers, s)?;
             let value = expression(alloc, locals, e)?;
             Ok(tree::Stmt::AddTo(reducer, value))
         }
-        Stmt::Call(c) => {
-            let found = call(alloc, lists, locals, c)?;
-            Ok(tree::Stmt::Call(found))
-        }
-        Stmt::Print(e) => {
-            let value = expression(alloc, locals, e)?;
-            Ok(tree::Stmt::Print(value))
-        }
-        Stmt::Return(e) => {
-            let value = returned(alloc, locals, e)?;
-            Ok(tree::Stmt::Return(value))
-        }
+        Stmt::Call(c) => Ok(tree::Stmt::Call(call(alloc, lists, locals, c)?)),
+        Stmt::Print(e) => Ok(tree::Stmt::Print(expression(alloc, locals, e)?)),
+        Stmt::Return(e) => Ok(tree::Stmt::Return(returned(alloc, locals, e)?)),
         Stmt::Sync
         | Stmt::If(_, _)
         | Stmt::IfElse(_, _, _)
