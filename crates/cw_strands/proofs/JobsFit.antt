@@ -93,24 +93,6 @@ module _ (code : Code) (fits : Fits code) (steps_well : FitSteps code fits) (set
       rest (Stops trap line lines) k = tt
       rest Stuck k = k
 
-  pub never_lost : (x : Extent) (base : Base x) (n : ℕ) (s : State) → GoodState code fits (lifted base s) → NotLost (travel x code n s)
-  never_lost x base zero s good = cases (has_come x code s) refl
-    where
-      cases : (c : Bool) → has_come x code s ≡ c → NotLost (travel x code zero s)
-      cases true e = subst NotLost (sym (come_at x code zero s e)) tt
-      cases false e = subst NotLost (sym (none_left x code s e)) tt
-  never_lost x base (suc n) s good = cases (has_come x code s) refl (λ s' good'. never_lost x base n s' good')
-    where
-      went : (w : Transition) → LiftedTransition base w → ((s' : State) → GoodState code fits (lifted base s') → NotLost (travel x code n s')) → NotLost (moved w n (λ s'. travel x code n s'))
-      went (On s') h more = more s' h
-      went (Ends v arrays t) h more = tt
-      went (Stops trap line lines) h more = tt
-      went Stuck h more = h
-
-      cases : (c : Bool) → has_come x code s ≡ c → ((s' : State) → GoodState code fits (lifted base s') → NotLost (travel x code n s')) → NotLost (travel x code (suc n) s)
-      cases true e more = subst NotLost (sym (come_at x code (suc n) s e)) tt
-      cases false e more = subst NotLost (sym (go_one x code n s e)) (went (step code s) (lifted_step x base s e good) more)
-
   -- a job that fits
   pub record FitJob (job : Job) : Type 0 where
     pub base : Base job.extent

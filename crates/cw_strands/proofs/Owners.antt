@@ -128,10 +128,6 @@ module _ (world : World) (owned : Owned world) where
       still : (m : ℕ) → m ≢ n → IsOpen (slice_get world.places m) → IsOpen (slice_get (slice_set (slice_set world.places n Spent) i (Runs worker new numbers)) m)
       still m other h = open_set (slice_set world.places n Spent) i m (Runs worker new numbers) (λ e. runs_spent worker new numbers e) (subst IsOpen (sym (set_other world.places n m Spent other)) h)
 
-      list_of : Place → List ℕ
-      list_of (Runs w s ns) = ns
-      list_of _ = []
-
       mine : (k worker' : ℕ) (strand' : Strand) (numbers' : List ℕ) → k ≡ i → Runs worker' strand' numbers' ≡ Runs worker new numbers
           → Listed owned.parents (slice_set (slice_set world.places n Spent) i (Runs worker new numbers)) k numbers' × Falls numbers'
       mine k worker' strand' numbers' same e =

@@ -210,10 +210,6 @@ module _ (code : Code) where
         )
     gives_stop out s count outs Memory h m stop le = (omega (arith, le), tt)
 
-    -- skip, and drop
-    pub skips : (out : Job) (e : Effect) (outs : List Job) → IsStrandOf code job (Halted e (out ∷ outs)) → IsStrandOf code job (Halted e outs)
-    skips out e outs h = h
-
     pub drops : (out : Job) (e e' : Effect) (outs : List Job) → IsStrandOf code job (Halted e (out ∷ outs)) → IsStrandOf code job (Halted (dropped e e') outs)
     drops out e (Ended v arrays t cost) outs h = h
     drops out e (Joined frame t cost) outs h = h
