@@ -11,14 +11,14 @@ use Rattle.cw_tree.specs.declared.resolved.Argument as code_argument
 use Rattle.cw_tree.specs.declared.resolved.Stmt as code_stmt
 use Rattle.cw_tree.specs.declared.resolved.Line as code_line
 use Rattle.cw_tree.specs.declared.resolved.Function as code_function
-use Rattle.cw_tree.specs.Resolved.{Use, Expr, Block}
+use Rattle.cw_tree.specs.Resolved.{Use, Expr, Block, Scope}
 use Rattle.cw_tree.specs.ResolvedView.{use_of, expr_of, argument_of, stmt_of, block_of, function_of}
 use Rattle.cw_own.specs.declared.bits.Bits as code_bits
 use Rattle.cw_own.specs.declared.row.Row as code_row
 use Rattle.cw_own.specs.declared.taken.Taken as code_taken
 use Rattle.cw_own.specs.declared.around.Loop as code_loop
-use Rattle.cw_own.specs.Sets.{Slots, slots_of, Row, both_rows, row_of}
-use Rattle.cw_own.specs.Taken.{Taken, taken_of, taken_by_call, other_of, after_all, gain, turns, turns_in, turns_within, left_by, taken_after_all}
+use Rattle.cw_own.specs.Sets.{Slots, slots_of, with_slot, without_slot, Row, both_rows, row_of}
+use Rattle.cw_own.specs.Taken.{Taken, taken_of, inside_cut, taken_by_call, other_of, after_all, gain, turns, turns_in, turns_within, cuts_after_all, left_by, taken_after_all}
 use Rattle.cw_own.specs.Rules.{Loop, loop_of, may_give, may_pass, seen_by, left_lines, lines_within, lines_in, block_lines, function_lines}
 
 -- the set of slots that the code holds
@@ -72,6 +72,20 @@ sees known taken stmt = seen_by (row_of known) (taken_of taken) (stmt_of stmt)
 -- what is taken after a statement, whose blocks see this as taken
 abbrev pub left_after : (known : code_row.Row) → code_taken.Taken → code_stmt.Stmt → Taken
 left_after known taken stmt = left_by (row_of known) (stmt_of stmt) (taken_of taken)
+
+-- what is taken behind a sync block inside another: its cuts are all that it leaves
+abbrev pub left_by_scope : (known : code_row.Row) → code_taken.Taken → List code_line.Line → Taken
+left_by_scope known taken lines = left_by (row_of known) (Scope (block_of lines)) (taken_of taken)
+
+-- the same behind the block of a cut of this array, which is whole again
+abbrev pub left_by_cut : (array : ℕ) → code_taken.Taken → List code_line.Line → Taken
+left_by_cut array taken lines =
+    let before = taken_of taken in
+    record {
+      outer = before.outer;
+      here = before.here;
+      cuts = without_slot array (cuts_after_all (block_of lines) (with_slot array before.cuts));
+    }
 
 -- what is taken after these lines
 abbrev pub taken_after_lines : (known : code_row.Row) → code_taken.Taken → List code_line.Line → Taken
@@ -128,6 +142,15 @@ lines_of_other around known taken stmt = block_lines (around_of around) (row_of 
 -- the same, in the blocks of a statement
 abbrev pub lines_inside : Option code_loop.Loop → (known : code_row.Row) → code_taken.Taken → code_stmt.Stmt → List ℕ
 lines_inside around known taken stmt = lines_within (around_of around) (row_of known) (taken_of taken) (stmt_of stmt)
+
+-- the same, of a sync block inside another
+abbrev pub lines_of_scope : Option code_loop.Loop → (known : code_row.Row) → code_taken.Taken → List code_line.Line → List ℕ
+lines_of_scope around known taken lines = lines_within (around_of around) (row_of known) (taken_of taken) (Scope (block_of lines))
+
+-- the same, of the block of a cut of this array
+abbrev pub lines_of_cut : Option code_loop.Loop → (known : code_row.Row) → (array : ℕ) → code_taken.Taken → List code_line.Line → List ℕ
+lines_of_cut around known array taken lines =
+    block_lines (around_of around) (row_of known) (inside_cut array (taken_of taken)) Joins (block_of lines)
 
 -- the same, of a function
 abbrev pub lines_of : code_function.Function → List ℕ

@@ -1,15 +1,16 @@
 //! Which lines break a rule of ownership.
 
 ghost use Rattle.std.specs.Prelude.{◌≡◌, ◌∷◌, ◌<◌, length, drop, true};
+ghost use Rattle.cw_model.specs.declared.limits.TheConstants.{MOST_DECLARED};
 ghost use Rattle.cw_tree.specs.ResolvedView.{stmt_of, block_of};
 ghost use Rattle.cw_own.specs.Bounds.{small_stmt, small_block};
 ghost use Rattle.cw_own.specs.Sets.{row_of};
 ghost use Rattle.cw_own.specs.Taken.{taken_of, BeginWith};
-ghost use Rattle.cw_own.specs.Views.{rows_of, sees, left_after};
+ghost use Rattle.cw_own.specs.Views.{rows_of, sees, left_after, left_by_cut, left_by_scope};
 ghost use Rattle.cw_own.specs.Views.{taken_after_lines, taken_after_other};
 ghost use Rattle.cw_own.specs.Views.{turns_of, turns_inside, turns_of_other, turns_of_lines, Past};
 ghost use Rattle.cw_own.specs.Views.{lines_among, lines_leaving, lines_joining};
-ghost use Rattle.cw_own.specs.Views.{lines_of_other, lines_inside};
+ghost use Rattle.cw_own.specs.Views.{lines_of_other, lines_inside, lines_of_cut, lines_of_scope};
 ghost use Rattle.cw_own.specs.Views.{still_taken, Noted};
 
 use crate::around::Loop;
@@ -195,6 +196,56 @@ fn note_other(
     }
 }
 
+// Notes the lines that break a rule of a sync block inside another; what is taken behind it.
+#[cycle(rules)]
+#[tactic(auto, using(crate::proofs::Small::lowest_append))]
+fn note_scope(
+    around: &Option<Loop>,
+    known: Row,
+    taken: Taken,
+    lines: &[Line],
+    rest: &mut Turns<'_>,
+    least: &mut LeastLine,
+) -> Taken
+    requires small { small_block (block_of lines.now) ≡ true }
+    requires turns { BeginWith (turns_of_lines known lines.now) (rows_of rest.old.left.now) }
+    ensures taken { taken_of result ≡ left_by_scope known taken lines.now }
+    ensures lines { Noted least.old least.new (lines_of_scope around.now known taken lines.now) }
+    ensures turns { Past (turns_of_lines known lines.now) rest.old.left.now rest.new.left.now }
+{
+    let after = note_sync_block(around, known, taken.inside(), lines, rest, least);
+    Taken {
+        cuts: after.cuts,
+        ..taken
+    }
+}
+
+// The same of the block of a cut of this array, in which its parts are known.
+#[cycle(rules)]
+#[tactic(auto, using(crate::proofs::Small::lowest_append))]
+fn note_cut(
+    around: &Option<Loop>,
+    known: Row,
+    taken: Taken,
+    array: u32,
+    lines: &[Line],
+    rest: &mut Turns<'_>,
+    least: &mut LeastLine,
+) -> Taken
+    requires array { array < MOST_DECLARED }
+    requires small { small_block (block_of lines.now) ≡ true }
+    requires turns { BeginWith (turns_of_lines known lines.now) (rows_of rest.old.left.now) }
+    ensures taken { taken_of result ≡ left_by_cut array taken lines.now }
+    ensures lines { Noted least.old least.new (lines_of_cut around.now known array taken lines.now) }
+    ensures turns { Past (turns_of_lines known lines.now) rest.old.left.now rest.new.left.now }
+{
+    let inside = taken.inside_cut(array);
+    let after = note_sync_block(around, known, inside, lines, rest, least);
+    let mut cuts = after.cuts;
+    cuts.remove(array);
+    Taken { cuts, ..taken }
+}
+
 // Notes the lines in the blocks of a statement that break a rule; what is taken after the statement.
 #[cycle(rules)]
 #[tactic(auto, using(crate::proofs::Small::lowest_append))]
@@ -239,37 +290,16 @@ fn note_within(
             let inner = Some(Loop::new(head, known));
             let mut known = *known;
             known.add_int(head.variable.slot);
-            let after = note_sync_block(&inner, known, taken.inside(), block, rest, least);
-            Taken {
-                cuts: after.cuts,
-                ..taken
-            }
+            note_scope(&inner, known, taken, block, rest, least)
         }
-        Stmt::Scope(block) => {
-            let after = note_sync_block(around, *known, taken.inside(), block, rest, least);
-            Taken {
-                cuts: after.cuts,
-                ..taken
-            }
-        }
+        Stmt::Scope(block) => note_scope(around, *known, taken, block, rest, least),
         Stmt::Cut(cut, block) => {
-            let array = cut.array.slot;
             let mut known = *known;
             known.add_array(cut.left.slot);
             known.add_array(cut.right.slot);
-            let inside = taken.inside_cut(array);
-            let after = note_sync_block(around, known, inside, block, rest, least);
-            let mut cuts = after.cuts;
-            cuts.remove(array);
-            Taken { cuts, ..taken }
+            note_cut(around, known, taken, cut.array.slot, block, rest, least)
         }
-        Stmt::Region(_, block) => {
-            let after = note_sync_block(around, *known, taken.inside(), block, rest, least);
-            Taken {
-                cuts: after.cuts,
-                ..taken
-            }
-        }
+        Stmt::Region(_, block) => note_scope(around, *known, taken, block, rest, least),
         Stmt::Declare(_, _)
         | Stmt::DeclareArray(_, _)
         | Stmt::Assign(_, _)
