@@ -1,5 +1,5 @@
 -- What two halves show together.
-use Rattle.std.proofs.Common.{◌≡◌, ℕ, zero, suc, ◌+◌, ◌-◌, ◌≤◌, ◌<◌, List, [], ◌∷◌, ◌++◌, Option, Some, None, length, length-append, arith, refl, ap, sym, ◌∙◌, subst, set}
+use Rattle.std.proofs.Common.{◌≡◌, ℕ, zero, suc, ◌+◌, ◌-◌, ◌≤◌, [], ◌∷◌, ◌++◌, Option, Some, None, length, length-append, arith, refl, ap, sym, ◌∙◌, subst, set}
 use Rattle.std.specs.Prelude.{min, slice_get}
 use Rattle.std.proofs.lemmas.List.{set-append_left}
 use Rattle.std.proofs.lemmas.Option.{slice_get_within}
@@ -8,7 +8,7 @@ use Rattle.cw_board.specs.Falls.{length-lowered}
 use Rattle.cw_board.specs.declared.board.Node.{Node}
 use Rattle.cw_board.specs.declared.board.Told.{Told}
 use Rattle.cw_board.specs.Boards.{lowered, minus, lesser, least_slot, least_first, HasRoom, IsOwed, owed_more, owing, slots_of, Tells, IsBoard}
-use Rattle.cw_board.proofs.Slots.{lowered-append, lowered-zero, lowered-lowered, lowered-none, ready-lowered, least-lowered, owed_room}
+use Rattle.cw_board.proofs.Slots.{lowered-append, lowered-zero, lowered-lowered, lowered-none, ready-lowered, least-lowered}
 
 -- a board's node where it is known
 pub opened_right : {n m : Node} → IsBoard n → n ≡ m → IsBoard m
@@ -121,11 +121,6 @@ zero_second (Some a) (Some b) e f = by_zero b (zero_in (min a b) e) (λ h. f (ap
     by_zero : (b : ℕ) → min a b ≡ 0 → (a ≡ 0 → ⊥) → Some b ≡ Some 0
     by_zero zero h g = refl
     by_zero (suc b) h g = absurd (g (omega (arith, h)))
-
-pub get_first : (xs ys : Slots) (i : ℕ) (x : Option ℕ) → slice_get xs i ≡ Some x → slice_get (xs ++ ys) i ≡ Some x
-get_first [] ys i x e = cc
-get_first (y ∷ xs) ys zero x e = e
-get_first (y ∷ xs) ys (suc i) x e = get_first xs ys i x e
 
 pub get_second : (xs ys : Slots) (n i : ℕ) → n ≡ length xs → slice_get (xs ++ ys) (n + i) ≡ slice_get ys i
 get_second xs ys n i e = ap (λ m. slice_get (xs ++ ys) (m + i)) e ∙ behind xs

@@ -1,10 +1,10 @@
 -- A jump of the first ready strands ends one of them.
-use Rattle.std.proofs.Common.{◌≡◌, ℕ, zero, suc, ◌+◌, ◌-◌, ◌≤◌, ◌<◌, Bool, true, false, List, [], ◌∷◌, Option, Some, None, arith, refl, ap, sym, ◌∙◌, subst}
-use Rattle.std.specs.Prelude.{min, nat_le}
+use Rattle.std.proofs.Common.{◌≡◌, ℕ, zero, suc, ◌-◌, ◌≤◌, [], ◌∷◌, Option, Some, None, arith, refl, ap, sym, ◌∙◌, subst}
+use Rattle.std.specs.Prelude.{min}
 use Rattle.cw_greedy.specs.Slots.{Slots, ready_slots, run_slots, EachLeft, RoomFor}
 use Rattle.cw_board.specs.Boards.{lesser, least_slot, least_first, HasRoom}
 use Rattle.cw_board.proofs.Slots.{first-none}
-use Rattle.cw_board.proofs.Halves.{room_less, room_rest, zero_in}
+use Rattle.cw_board.proofs.Halves.{room_less, room_rest}
 
 -- the first ones have room for the least of them
 room_within : (p n : ℕ) (xs : Slots) → HasRoom n (least_first p xs) → RoomFor p n xs

@@ -1,5 +1,5 @@
 -- Lists of what is left, lowered, counted and run in two halves.
-use Rattle.std.proofs.Common.{◌≡◌, ℕ, zero, suc, ◌+◌, ◌-◌, ◌≤◌, ◌<◌, List, [], ◌∷◌, ◌++◌, Option, Some, None, length, arith, refl, ap, sym, ◌∙◌, subst}
+use Rattle.std.proofs.Common.{◌≡◌, ℕ, zero, suc, ◌+◌, ◌-◌, ◌≤◌, [], ◌∷◌, ◌++◌, Option, Some, None, length, arith, refl, ap, sym, ◌∙◌, subst}
 use Rattle.std.specs.Prelude.{min}
 use Rattle.cw_greedy.specs.Greedy.{if_done}
 use Rattle.cw_greedy.specs.Slots.{Slots, nones, ready_slots, run_slots, RoomFor}

@@ -1,5 +1,5 @@
 -- Each half of a board has fewer places than the board.
-use Rattle.std.specs.Prelude.{ℕ, ◌≡◌, ◌+◌, ◌≤◌, max, [], ◌∷◌, ◌++◌, length, Some, None, refl}
+use Rattle.std.specs.Prelude.{ℕ, ◌≡◌, ◌≤◌, max, [], ◌∷◌, ◌++◌, length, Some, None, refl}
 use Rattle.std.proofs.Common.{arith, length-append}
 use Rattle.cw_greedy.specs.Slots.{Slots}
 use Rattle.cw_board.specs.declared.board.Node.{Node}

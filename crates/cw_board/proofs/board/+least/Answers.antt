@@ -1,6 +1,6 @@
-use Rattle.std.proofs.Common.{◌≤◌, ◌≡◌, ◌++◌, arith, ap, sym, ◌∙◌, subst}
+use Rattle.std.proofs.Common.{◌≤◌, ◌≡◌, ◌++◌, arith, sym, ◌∙◌, subst}
 use Rattle.cw_greedy.specs.Slots.{ready_slots}
-use Rattle.cw_board.specs.Boards.{lowered, least_first, HasRoom}
+use Rattle.cw_board.specs.Boards.{lowered, HasRoom}
 use Rattle.cw_board.proofs.Slots.{ready-lowered, least-lowered, first_first, first-append, first-all, first-lowered, owed_room}
 use Rattle.cw_board.proofs.Halves.{opened_right, opened_shows, same_tells, same_shows, length_shown, room_of_some}
 use Rattle.cw_board.proofs.board.+least.Goals as goal

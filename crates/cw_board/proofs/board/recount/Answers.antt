@@ -1,4 +1,4 @@
-use Rattle.std.proofs.Common.{arith, ◌++◌}
+use Rattle.std.proofs.Common.{arith}
 use Rattle.cw_board.proofs.Slots.{ready_in, ready-append, least-append}
 use Rattle.cw_board.proofs.Halves.{owed_zero}
 use Rattle.cw_board.proofs.board.recount.Goals as goal

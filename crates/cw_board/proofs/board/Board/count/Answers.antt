@@ -1,4 +1,3 @@
-use Rattle.std.proofs.Common.{◌++◌}
 use Rattle.cw_board.proofs.Halves.{opened_right, opened_shows, count_of}
 use Rattle.cw_board.proofs.board.Board.count.Goals as goal
 

@@ -1,5 +1,5 @@
-use Rattle.std.proofs.Common.{◌≡◌, Some, ap, sym, ◌∙◌}
-use Rattle.cw_board.specs.Boards.{least_slot, least_first}
+use Rattle.std.proofs.Common.{ap, sym, ◌∙◌}
+use Rattle.cw_board.specs.Boards.{least_slot}
 use Rattle.cw_board.proofs.Jumps.{room_first_least, run_ends_one, some_first}
 use Rattle.cw_board.proofs.board.Board.jump.Goals as goal
 

@@ -1,4 +1,4 @@
-use Rattle.std.proofs.Common.{◌++◌, ap, sym, ◌∙◌, subst}
+use Rattle.std.proofs.Common.{ap, sym, ◌∙◌, subst}
 use Rattle.cw_board.specs.Boards.{lowered}
 use Rattle.cw_board.specs.contracts.board.Board.{the_invariant, the_view}
 use Rattle.cw_board.proofs.Halves.{opened_right, opened_shows, room_shown, owed_tells, owed_shows}
