@@ -1,5 +1,5 @@
 -- A plan follows the block that codes are read as.
-use Rattle.std.proofs.Common.{◌≡◌, ℕ, ◌+◌, ◌-◌, ◌≤◌, ◌<◌, Bool, true, false, List, [], ◌∷◌, ◌++◌, Option, Some, None, length, length-append, append_assoc, arith, set, drop, get_or, refl, ap, sym, ◌∙◌, subst}
+use Rattle.std.proofs.Common.{◌≡◌, ℕ, ◌+◌, ◌-◌, ◌<◌, Bool, true, false, List, [], ◌∷◌, ◌++◌, Option, Some, None, length, length-append, append_assoc, arith, set, drop, get_or, refl, ap, sym, ◌∙◌, subst}
 use Rattle.std.proofs.lemmas.List.{set_at, get_or_at, drop_more}
 use Rattle.cw_greedy.specs.declared.code.Code.{Code}
 use Rattle.cw_greedy.specs.declared.code.Code.TheVariants.{Instructions, Spawned, Ended, Joined, Called}
@@ -10,7 +10,7 @@ use Rattle.cw_schedule.specs.declared.plan.Strand.{Strand}
 use Rattle.cw_schedule.specs.declared.plan.Open.{Open}
 use Rattle.cw_schedule.specs.declared.plan.Planning.{Planning}
 use Rattle.cw_schedule.specs.Reading.{Frame, InChild, InRest, add_at_end, fork_at_end, joined, after_join, read, instructions}
-use Rattle.cw_schedule.specs.Planned.{strand, first_weight, behind_first, strands_of, begins_of, strands_before, is_first, open_at, opens_of, patched, instructions_of, HasSpawn, Continues, Joins, Plans, Makes}
+use Rattle.cw_schedule.specs.Planned.{strand, first_weight, behind_first, strands_of, begins_of, strands_before, is_first, open_at, opens_of, patched, instructions_of, Continues, Joins, Plans, Makes}
 
 -- the last strand with more instructions
 abbrev more : ℕ → Strand → Strand
@@ -94,20 +94,6 @@ length_begun frames b p h =
       length-strands (begins_of frames) b,
     )
 
-pub spawned : (frames : List Frame) (b : Block) (first : Bool) (p p' : Planning) → Plans frames b p → p'.strands.items ≡ p.strands.items ++ p.last ∷ [] →
-    p'.last ≡ strand 0 (Child 0) → p'.spawns.items ≡ p.spawns.items ++ open_at (length p.strands.items + 1) first ∷ [] → Plans (InChild first b ∷ frames) (Last 0) p'
-spawned frames b first p p' h e f g =
-    let n : length p.strands.items + 1 ≡ length (strands_before (InChild first b ∷ frames)) =
-    omega (arith, ap length h.strands, length-append p.strands.items (p.last ∷ [])) in
-    record {
-      strands = ap (λ x. x ++ p'.last ∷ []) (e ∙ h.strands) ∙ ap (λ (s : Strand). strands_before (InChild first b ∷ frames) ++ s ∷ []) f;
-      spawns = g ∙ ap (λ x. x ++ open_at (length p.strands.items + 1) first ∷ []) h.spawns ∙ ap (λ k. opens_of frames ++ open_at k first ∷ []) n;
-    }
-
-some_block : (b : Block) → 1 ≤ size b
-some_block (Last k) = omega arith
-some_block (Fork k c r a) = omega arith
-
 pub ended : (frames : List Frame) (first : Bool) (b block : Block) (p p' : Planning) → Plans (InChild first b ∷ frames) block p →
     Continues p p' (opens_of frames) (length (strands_before (InChild first b ∷ frames))) first → Plans (InRest first b block ∷ frames) (Last 0) p'
 ended frames first b block p p' h c =
@@ -161,34 +147,6 @@ makes_work block n codes p p' h e f g = record {
   plans = worked h.frames h.begun n p p' h.plans e f g;
   reads = h.reads;
 }
-
-pub makes_spawn : (block : Block) (first : Bool) (codes : List Code) (p p' : Planning) → Makes block (Spawned first ∷ codes) p → p'.strands.items ≡ p.strands.items ++ p.last ∷ [] →
-    p'.last ≡ strand 0 (Child 0) → p'.spawns.items ≡ p.spawns.items ++ open_at (length p.strands.items + 1) first ∷ [] → Makes block codes p'
-makes_spawn block first codes p p' h e f g = record {
-  frames = InChild first h.begun ∷ h.frames;
-  begun = Last 0;
-  plans = spawned h.frames h.begun first p p' h.plans e f g;
-  reads = h.reads;
-}
-
-pub makes_call : (block : Block) (codes : List Code) (p : Planning) → Makes block (Called ∷ codes) p → Makes block codes p
-makes_call block codes p h = record { frames = h.frames; begun = h.begun; plans = h.plans; reads = h.reads }
-
-spawn_of : (codes : List Code) (block : Block) (p : Planning) (frames : List Frame) (begun : Block) → Plans frames begun p → read (Ended ∷ codes) frames begun ≡ Some block → HasSpawn p
-spawn_of codes block p [] begun h e = absurd (differ e)
-  where
-    differ : None ≡ Some block → ⊥
-    differ e = cc
-spawn_of codes block p (InRest first before child ∷ frames) begun h e = absurd (differ e)
-  where
-    differ : None ≡ Some block → ⊥
-    differ e = cc
-spawn_of codes block p (InChild first before ∷ frames) begun h e =
-    let n = length_begun (InChild first before ∷ frames) begun p h in
-    (opens_of frames, (length (strands_before (InChild first before ∷ frames)), (first, (h.spawns, omega (arith, n, some_block begun)))))
-
-pub makes_has_spawn : (block : Block) (codes : List Code) (p : Planning) → Makes block (Ended ∷ codes) p → HasSpawn p
-makes_has_spawn block codes p h = spawn_of codes block p h.frames h.begun h.plans h.reads
 
 end_of : (codes : List Code) (block : Block) (p p' : Planning) (frames : List Frame) (begun : Block) → Plans frames begun p → read (Ended ∷ codes) frames begun ≡ Some block →
     ((outer : List Open) (at : ℕ) (first : Bool) → p.spawns.items ≡ outer ++ open_at at first ∷ [] → Continues p p' outer at first) → Makes block codes p'
@@ -244,24 +202,6 @@ snoc_same (z ∷ xs) (u ∷ ys) x y e =
 
     tail : (a b : Open) (as' bs : List Open) → a ∷ as' ≡ b ∷ bs → as' ≡ bs
     tail a b as' bs e = cc
-
--- the last open spawn is at the end of the list, and its block is there
-top_at : (end : List Frame × Block) (p : Planning) (outer : List Open) (top : Open) (frames : List Frame) (begun : Block) → Plans frames begun p → joined frames begun ≡ Some end →
-    p.spawns.items ≡ outer ++ top ∷ [] → top.at ≤ length p.strands.items
-top_at end p outer top [] begun h e s = absurd (differ e)
-  where
-    differ : None ≡ Some end → ⊥
-    differ e = cc
-top_at end p outer top (InChild first b ∷ frames) begun h e s = absurd (differ e)
-  where
-    differ : None ≡ Some end → ⊥
-    differ e = cc
-top_at end p outer top (InRest first b child ∷ frames) begun h e s =
-    let q = ap (λ (x : Open). x.at) (snoc_same outer (opens_of frames) top (open_at (length (strands_before (InRest first b child ∷ frames))) first) (sym s ∙ h.spawns)).1 in
-    omega (arith, q, length_begun (InRest first b child ∷ frames) begun p h, some_block begun)
-
-pub joins_top : (end : List Frame × Block) (p : Planning) (outer : List Open) (top : Open) → Joins end p → p.spawns.items ≡ outer ++ top ∷ [] → top.at ≤ length p.strands.items
-joins_top end p outer top h s = top_at end p outer top h.frames h.begun h.plans h.joins s
 
 -- one join of several: the last one, or the others are left
 abbrev pub Left : (first : Bool) → (end : List Frame × Block) → Planning → Type 0

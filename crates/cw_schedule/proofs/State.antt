@@ -620,6 +620,3 @@ record_of t r codes e h = subst (IsRecordOf t) (sym e) h
 
 pub some_planned : (block : Block) (strands : List Strand) → strands ≡ strands_of w.Start block → 1 ≤ length strands
 some_planned block strands e = let n = length_planned block strands e in omega (arith, n, some_size block)
-
-pub nones_places : (n : ℕ) → length (nones n) ≡ n
-nones_places n = length_nones n
