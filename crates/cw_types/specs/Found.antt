@@ -72,7 +72,8 @@ IsCut locals c found = parts_of found ≡ resolved_cut (locals_view locals) c
 
 -- a statement
 abbrev pub IsStmt : Lists → Locals → Stmt → made_stmt.Stmt → Type 0
-IsStmt lists locals s found = stmt_of found ≡ spec.resolved_stmt (lists_view lists) (locals_view locals) (parsed.stmt_of s)
+IsStmt lists locals s found =
+    stmt_of found ≡ spec.resolved_stmt (lists_view lists) (locals_view locals) (parsed.stmt_of s)
 
 -- a parallel loop by its head and its body, and a cut by its parts and its block
 abbrev pub loop_over : Head → List Line → model.Stmt

@@ -24,4 +24,5 @@ resolved_cut locals c = spec.parts_of locals c.array (expr_of c.at) c.left c.rig
 
 -- a call that the code made
 abbrev pub call_of : Made → spec.Stmt
-call_of c = spec.Call c.kind c.site (option_map use_of c.target) (listed_of c.callee) (map argument_of c.arguments.items)
+call_of c =
+    spec.Call c.kind c.site (option_map use_of c.target) (listed_of c.callee) (map argument_of c.arguments.items)

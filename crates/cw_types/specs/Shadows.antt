@@ -15,7 +15,8 @@ known_from known (e ∷ es) = known_from ((e.name.now, e.is_array) ∷ known) es
 -- each entry keeps the kind that its name had before it
 abbrev pub ShadowsRight : Known → List Entry → Type 0
 ShadowsRight known [] = Unit {0}
-ShadowsRight known (e ∷ es) = (e.shadowed ≡ kind_of e.name.now known) × ShadowsRight ((e.name.now, e.is_array) ∷ known) es
+ShadowsRight known (e ∷ es) =
+    (e.shadowed ≡ kind_of e.name.now known) × ShadowsRight ((e.name.now, e.is_array) ∷ known) es
 
 -- the map has the newest kind of each name, and the entries what they hide
 pub record AreKinds {S : Type 0} (kinds : HashMap (Bor (List ℕ)) Bool S) (entries : List Entry) : Type 0 where

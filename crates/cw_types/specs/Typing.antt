@@ -52,7 +52,8 @@ keeps_rules program returns known Sync = true
 keeps_rules program returns known (If e b) = is_fine known e
 keeps_rules program returns known (IfElse e b c) = is_fine known e
 keeps_rules program returns known (While e b) = is_fine known e
-keeps_rules program returns known (For x y z from to grain over b) = is_head_of_loop program known x y z from to grain over
+keeps_rules program returns known (For x y z from to grain over b) =
+    is_head_of_loop program known x y z from to grain over
 keeps_rules program returns known (Scope b) = true
 keeps_rules program returns known (Cut a e l r b) = is_cut program known a e l r
 keeps_rules program returns known (Region tag b) = true
@@ -62,9 +63,11 @@ keeps_rules program returns known (Return e) = may_return returns known e
 -- the lines of the blocks in a statement that break a rule
 abbrev pub faults_inside : Program → Returns → Known → Stmt → List ℕ
 faults_inside program returns known (If e b) = faults_in_block program returns known b
-faults_inside program returns known (IfElse e b c) = faults_in_block program returns known b ++ faults_in_block program returns known c
+faults_inside program returns known (IfElse e b c) =
+    faults_in_block program returns known b ++ faults_in_block program returns known c
 faults_inside program returns known (While e b) = faults_in_block program returns known b
-faults_inside program returns known (For x y z from to grain over b) = faults_in_block program Nowhere ((x, false) ∷ known) b
+faults_inside program returns known (For x y z from to grain over b) =
+    faults_in_block program Nowhere ((x, false) ∷ known) b
 faults_inside program returns known (Scope b) = faults_in_block program Nowhere known b
 faults_inside program returns known (Cut a e l r b) = faults_in_block program Nowhere ((r, true) ∷ (l, true) ∷ known) b
 faults_inside program returns known (Region tag b) = faults_in_block program Nowhere known b

@@ -37,16 +37,20 @@ block_faults globals returns known lines =
 
 -- those of the blocks in a statement
 abbrev pub inner_faults : Globals → Returns → Known → Stmt → List ℕ
-inner_faults globals returns known stmt = faults_inside (program_of globals.ast.now) (returns_of returns) known (stmt_of stmt)
+inner_faults globals returns known stmt =
+    faults_inside (program_of globals.ast.now) (returns_of returns) known (stmt_of stmt)
 
 -- the lines of a block that break a rule were noted, where memory did not run out
-abbrev pub NotesBlock : {R E : Type 0} → Globals → Returns → Known → List Line → (before after : LeastLine) → Result R E → Type 0
+abbrev pub NotesBlock : {R E : Type 0} → Globals → Returns → Known → List Line → (before after : LeastLine) →
+    Result R E → Type 0
 NotesBlock globals returns known lines before after r = Notes (block_faults globals returns known lines) before after r
 
 -- the same of those of the blocks in a statement
-abbrev pub NotesInner : {R E : Type 0} → Globals → Returns → Known → Stmt → (before after : LeastLine) → Result R E → Type 0
+abbrev pub NotesInner : {R E : Type 0} → Globals → Returns → Known → Stmt → (before after : LeastLine) → Result R E →
+    Type 0
 NotesInner globals returns known stmt before after r = Notes (inner_faults globals returns known stmt) before after r
 
 -- what stands in the line of a statement itself keeps the rules, the blocks in it aside
 abbrev pub line_keeps : Globals → Returns → Known → Stmt → Bool
-line_keeps globals returns known stmt = keeps_rules (program_of globals.ast.now) (returns_of returns) known (stmt_of stmt)
+line_keeps globals returns known stmt =
+    keeps_rules (program_of globals.ast.now) (returns_of returns) known (stmt_of stmt)

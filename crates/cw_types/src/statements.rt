@@ -58,36 +58,29 @@ fn statement<'a>(
     match stmt {
         Stmt::If(e, b) => {
             let condition = expression(alloc, locals, e)?;
-            let body = block(alloc, lists, locals, b)?;
-            Ok(tree::Stmt::If(condition, body))
+            Ok(tree::Stmt::If(condition, block(alloc, lists, locals, b)?))
         }
         Stmt::IfElse(e, b, c) => {
             let condition = expression(alloc, locals, e)?;
             let body = block(alloc, lists, locals, b)?;
-            let other = block(alloc, lists, locals, c)?;
-            Ok(tree::Stmt::IfElse(condition, body, other))
+            Ok(tree::Stmt::IfElse(condition, body, block(alloc, lists, locals, c)?))
         }
         Stmt::While(e, b) => {
             let condition = expression(alloc, locals, e)?;
-            let body = block(alloc, lists, locals, b)?;
-            Ok(tree::Stmt::While(condition, body))
+            Ok(tree::Stmt::While(condition, block(alloc, lists, locals, b)?))
         }
         Stmt::For(h, b) => {
             let found = turns(alloc, lists, locals, h, b)?;
             Ok(found)
         }
-        Stmt::Scope(b) => {
-            let body = block(alloc, lists, locals, b)?;
-            Ok(tree::Stmt::Scope(body))
-        }
+        Stmt::Scope(b) => Ok(tree::Stmt::Scope(block(alloc, lists, locals, b)?)),
         Stmt::Cut(c, b) => {
             let found = with_parts(alloc, lists, locals, c, b)?;
             Ok(found)
         }
         Stmt::Region(tag, b) => {
             let tag = listed(alloc, &lists.tags, tag)?;
-            let body = block(alloc, lists, locals, b)?;
-            Ok(tree::Stmt::Region(tag, body))
+            Ok(tree::Stmt::Region(tag, block(alloc, lists, locals, b)?))
         }
         Stmt::Declare(_, _)
         | Stmt::DeclareArray(_, _)
