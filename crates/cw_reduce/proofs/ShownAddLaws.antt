@@ -23,9 +23,6 @@ pub record AddedTo (from into : List ℕ) (i : ℕ) (now : List ℕ) : Type 0 wh
   pub sums : map word now ≡ sums_joined (take i (map word from)) (map word into)
   pub size : length now ≡ length into
 
-pub none_added : (from into : List ℕ) → AddedTo from into 0 into
-none_added from into = record { sums = sym (first_added (map word from) (map word into) 0); size = refl }
-
 pub one_added : (from into now : List ℕ) (i f n : ℕ) → i < length from → length from ≤ length into → f ≡ get_or from i f → n ≡ get_or now i n → AddedTo from into i now → AddedTo from into (i + 1) (set now i ((f + n) % 2 ^ 128))
 one_added from into now i f n h k e g a =
     let lf = length-map from word in
