@@ -83,7 +83,6 @@ mapped_put : (as' : List Name) (f g : Name → List ℤ → List ℤ) (t : List 
 mapped_put [] f g t a d h k = absurd cc
 mapped_put (b ∷ bs) f g t a d h k = go (same_name a b) refl h (λ u. mapped_put bs f g u a d.1)
   where
-
     go : (x : Bool) → same_name a b ≡ x → (if x then true else is_among a bs) ≡ true →
         ((u : List (Name × List ℤ)) → is_among a bs ≡ true → ((b : Name) → same_name a b ≡ false → (xs : List ℤ) → g b xs ≡ f b xs) → put a (g a (find [] a u)) (mapped bs f u) ≡ mapped bs g u) →
         put a (g a (find [] a t)) (mapped bs f (put b (f b (find [] b t)) t)) ≡ mapped bs g (put b (g b (find [] b t)) t)

@@ -192,14 +192,8 @@ pub(crate) fn alone(alloc: Global, moves: Moves, stmt: &Stmt) -> Result<tree::St
             Ok(tree::Stmt::AddTo(s.index, value))
         }
         Stmt::Call(c) => call(alloc, moves, c),
-        Stmt::Print(e) => {
-            let value = expression(alloc, moves, e)?;
-            Ok(tree::Stmt::Print(value))
-        }
-        Stmt::Return(e) => {
-            let value = returned(alloc, moves, e)?;
-            Ok(tree::Stmt::Return(value))
-        }
+        Stmt::Print(e) => Ok(tree::Stmt::Print(expression(alloc, moves, e)?)),
+        Stmt::Return(e) => Ok(tree::Stmt::Return(returned(alloc, moves, e)?)),
         Stmt::Sync
         | Stmt::If(_, _)
         | Stmt::IfElse(_, _, _)
