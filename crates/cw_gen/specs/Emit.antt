@@ -43,7 +43,8 @@ emitted_expr line (Element u e) = emitted_expr line e ++ instr.Element u line �
 emitted_expr line (Length u) = instr.Length u ∷ []
 emitted_expr line (Negative e) = emitted_expr line e ++ instr.Unary unary.Negative line ∷ []
 emitted_expr line (Not e) = emitted_expr line e ++ instr.Unary unary.Not line ∷ []
-emitted_expr line (Binary operator d e) = emitted_expr line d ++ (emitted_expr line e ++ instr.Binary operator line ∷ [])
+emitted_expr line (Binary operator d e) =
+    emitted_expr line d ++ (emitted_expr line e ++ instr.Binary operator line ∷ [])
 
 -- the instructions of an argument; an array has none
 abbrev pub emitted_arg : (line : ℕ) → Argument → List Instr
@@ -113,11 +114,13 @@ emitted_begin first line callee from to captured =
 abbrev pub emitted_alone : (first line : ℕ) → Stmt → List Instr
 emitted_alone first line (Declare u e) = emitted_expr line e ++ instr.Store u ∷ []
 emitted_alone first line (DeclareArray u e) = emitted_expr line e ++ instr.NewArray u line ∷ []
-emitted_alone first line (AssignElement u i e) = emitted_expr line i ++ (emitted_expr line e ++ instr.SetElement u line ∷ [])
+emitted_alone first line (AssignElement u i e) =
+    emitted_expr line i ++ (emitted_expr line e ++ instr.SetElement u line ∷ [])
 emitted_alone first line (Assign u e) = emitted_expr line e ++ instr.Store u ∷ []
 emitted_alone first line (AddTo s e) = emitted_expr line e ++ instr.AddTo s ∷ []
 emitted_alone first line (Print e) = emitted_expr line e ++ instr.Print ∷ []
-emitted_alone first line (Call kind site target f es) = emitted_args line es ++ instr.Call kind (callee_of line site target f) ∷ []
+emitted_alone first line (Call kind site target f es) =
+    emitted_args line es ++ instr.Call kind (callee_of line site target f) ∷ []
 emitted_alone first line (Start kind f es) = emitted_args line es ++ instr.Recur kind (half_of first kind f) ∷ []
 emitted_alone first line (Begin f from to captured over) = emitted_begin first line f from to captured
 emitted_alone first line Sync = instr.Sync ∷ []
@@ -145,10 +148,13 @@ abbrev mutual
   -- the instructions of a statement of a line
   pub emitted_stmt : (first line : ℕ) → Stmt → List Instr
   emitted_stmt first line (If e b) = emitted_expr line e ++ emitted_over (emitted_block first b)
-  emitted_stmt first line (IfElse e b c) = emitted_expr line e ++ emitted_branches (returns b) (emitted_block first b) (emitted_block first c)
-  emitted_stmt first line (While e b) = emitted_expr line e ++ emitted_turn (length (emitted_expr line e)) (emitted_block first b)
+  emitted_stmt first line (IfElse e b c) =
+      emitted_expr line e ++ emitted_branches (returns b) (emitted_block first b) (emitted_block first c)
+  emitted_stmt first line (While e b) =
+      emitted_expr line e ++ emitted_turn (length (emitted_expr line e)) (emitted_block first b)
   emitted_stmt first line (Scope b) = emitted_inside block.Scope (emitted_block first b)
-  emitted_stmt first line (Cut a e l r b) = emitted_expr line e ++ emitted_cut line (halves_of a l r) (emitted_block first b)
+  emitted_stmt first line (Cut a e l r b) =
+      emitted_expr line e ++ emitted_cut line (halves_of a l r) (emitted_block first b)
   emitted_stmt first line (Region tag b) = emitted_inside (block.Region tag) (emitted_block first b)
   emitted_stmt first line (Return e) = emitted_return line e
   emitted_stmt first line s = emitted_alone first line s
@@ -226,7 +232,8 @@ emitted_func first start f =
 -- functions one after another, from a place on
 abbrev pub emitted_funcs : (first start : ℕ) → List Function → List Func
 emitted_funcs first start [] = []
-emitted_funcs first start (f ∷ fs) = emitted_func first start f ∷ emitted_funcs first (start + length (emitted_function first f)) fs
+emitted_funcs first start (f ∷ fs) =
+    emitted_func first start f ∷ emitted_funcs first (start + length (emitted_function first f)) fs
 
 -- the call site of a call of a line
 abbrev pub site_of : (line : ℕ) → CallKind → (site : ℕ) → Listed → CodeSite

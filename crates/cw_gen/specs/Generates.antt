@@ -27,7 +27,8 @@ main_count program = length (function_named main_name program.functions).params
 -- takes the arguments of the program's main, it carries the program's call statements, the line of main's head, reducers and tags, and the
 -- program is small enough
 pub record Generates (program : Program) (code : Code) : Type 0 where
-  pub serial : (args : List ℤ) → list_all ints.fits args ≡ true → length args ≡ main_count program → (n : ℕ) → code_serial code args n ≡ Some (serial_answer program args n)
+  pub serial : (args : List ℤ) → list_all ints.fits args ≡ true → length args ≡ main_count program → (n : ℕ) →
+      code_serial code args n ≡ Some (serial_answer program args n)
   pub fits : Fits code
   pub params : main_params code ≡ main_count program
   pub sites : told_sites code ≡ call_sites program

@@ -102,7 +102,8 @@ code_of first f body = emitted_function first (function_with f body)
 
 -- what the code keeps of functions whose instructions come behind these stands behind what stood there before, where memory
 -- did not run out
-abbrev pub AddsFuncs : {R E : Type 0} → (first : ℕ) → Vec Instr → (old new : Vec Func) → List code.Function → List (Vec Line) → Result R E → Type 0
+abbrev pub AddsFuncs : {R E : Type 0} → (first : ℕ) → Vec Instr → (old new : Vec Func) → List code.Function →
+    List (Vec Line) → Result R E → Type 0
 AddsFuncs first instrs old new functions bodies r =
     Adds old new (emitted_funcs first (length instrs.items) (functions_with functions bodies)) r
 
@@ -170,7 +171,8 @@ abbrev pub written_begin : (first line : ℕ) → Begin → List Instr
 written_begin first line b = emitted_begin first line b.callee (expr_of b.from) (expr_of b.to) b.captured.items
 
 abbrev pub written_cut : (first line : ℕ) → Cut → List Line → List Instr
-written_cut first line c body = emitted_cut line (halves_of c.array c.left c.right) (emitted_block first (block_of body))
+written_cut first line c body =
+    emitted_cut line (halves_of c.array c.left c.right) (emitted_block first (block_of body))
 
 -- the test of a loop's function: whether its range is a leaf
 abbrev pub written_test : Loop → List Instr
@@ -184,7 +186,8 @@ turn_text l =
 
 -- the turns of a leaf, whose test starts at a place of these instructions
 abbrev pub leaf_turn : (start : ℕ) → Vec Instr → (first : ℕ) → lowered.Loop → List Instr
-leaf_turn start instrs first l = emitted_turn (length instrs.items - start) (emitted_block first (turn_text (loop_of l)))
+leaf_turn start instrs first l =
+    emitted_turn (length instrs.items - start) (emitted_block first (turn_text (loop_of l)))
 
 -- a leaf, and a node
 abbrev pub written_leaf : (first : ℕ) → Loop → List Instr
