@@ -73,7 +73,8 @@ operator_at k [] = None
 operator_at k (t ∷ ts) = beside ts (at_level k (infix_of t.kind))
 
 -- a left operand, and what follows an operator behind it
-abbrev pub chain_on : Reader Expr → (Expr → Reader Expr) → Expr → List Token → Option (Operator × List Token) → Read Expr
+abbrev pub chain_on : Reader Expr → (Expr → Reader Expr) → Expr → List Token → Option (Operator × List Token) →
+    Read Expr
 chain_on next more d ts None = Ok (d, ts)
 chain_on next more d ts (Some x) = next x.1 >>= λ e. more (tree.Binary x.0 d e.0) e.1
 
@@ -159,7 +160,8 @@ called text n how site target f ts =
 
 -- a call after what stands in front of the name of its callee
 unfoldable pub call : List ℕ → ℕ → CallKind → ℕ → Option Name → Reader (Stmt × ℕ)
-call text n how site target ts = marked mark.Name ts >>= λ f. marked mark.LeftParen f.1 >>= λ u. called text n how site target f.0 u.1
+call text n how site target ts =
+    marked mark.Name ts >>= λ f. marked mark.LeftParen f.1 >>= λ u. called text n how site target f.0 u.1
 
 -- an expression up to the semicolon of its statement
 abbrev pub ended : List ℕ → ℕ → ℕ → (Expr → Stmt) → Reader (Stmt × ℕ)
@@ -317,7 +319,8 @@ framed_by lines o b site ts = unanswered (around o b, site) ts
 
 -- a statement with a block after a first token of this kind
 unfoldable pub framed : List ℕ → ℕ → (ℕ → Reader (Block × ℕ)) → ℕ → Token → Kind → Reader (Stmt × ℕ)
-framed text n lines site t k ts = opening text n t k ts >>= λ o. lines site o.1 >>= λ b. framed_by lines o.0 b.0.0 b.0.1 b.1
+framed text n lines site t k ts =
+    opening text n t k ts >>= λ o. lines site o.1 >>= λ b. framed_by lines o.0 b.0.0 b.0.1 b.1
 
 -- a statement after a first token of this kind
 unfoldable pub stmt : List ℕ → ℕ → (ℕ → Reader (Block × ℕ)) → ℕ → Token → Kind → Reader (Stmt × ℕ)
@@ -430,7 +433,8 @@ push_item xs (Code f) = (xs.0, xs.1 ++ f ∷ [])
 unfoldable pub items : (ℕ → Reader (Item × ℕ)) → ℕ → ℕ → Reader Items
 items item n site [] = Ok (([], []), [])
 items item zero site (t ∷ ts) = Err (length (t ∷ ts))
-items item (suc n) site (t ∷ ts) = item site (t ∷ ts) >>= λ x. items item n x.0.1 x.1 >>= λ y. Ok (put_item x.0.0 y.0, y.1)
+items item (suc n) site (t ∷ ts) =
+    item site (t ∷ ts) >>= λ x. items item n x.0.1 x.1 >>= λ y. Ok (put_item x.0.0 y.0, y.1)
 
 -- a whole source of at least one item
 unfoldable pub whole : List ℕ → ℕ → Reader Items
