@@ -24,7 +24,8 @@ shown_joined a b = record { sums = sums_joined a.sums b.sums; lines = a.lines ++
 
 -- so much more for one reducer
 abbrev pub Adds : Shown → Shown → (reducer : ℕ) → ℤ → Type 0
-Adds old new reducer n = (q : ℕ) → sum_of new.sums q ≡ (if reducer == q then plus (sum_of old.sums q) (word_of n) else sum_of old.sums q)
+Adds old new reducer n =
+    (q : ℕ) → sum_of new.sums q ≡ (if reducer == q then plus (sum_of old.sums q) (word_of n) else sum_of old.sums q)
 
 -- the same of the bits
 abbrev pub AddsBits : List ℕ → List ℕ → (reducer n : ℕ) → Type 0

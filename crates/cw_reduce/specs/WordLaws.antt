@@ -9,7 +9,8 @@ use Rattle.cw_reduce.specs.Words.{Word, word, nothing, plus}
 abbrev word_with : (n : ℕ) → nat_lt n (2 ^ 128) ≡ true → Word
 word_with n p = record { bits = n; within = p }
 
-same_bits : (m n : ℕ) → m ≡ n → (p : nat_lt m (2 ^ 128) ≡ true) (q : nat_lt n (2 ^ 128) ≡ true) → word_with m p ≡ word_with n q
+same_bits : (m n : ℕ) → m ≡ n → (p : nat_lt m (2 ^ 128) ≡ true) (q : nat_lt n (2 ^ 128) ≡ true) →
+    word_with m p ≡ word_with n q
 same_bits m n e p q =
     let P : ℕ → Type 0 = λ k. (r : nat_lt k (2 ^ 128) ≡ true) → word_with m p ≡ word_with k r in
     (subst P e (λ r. ap (word_with m) (Bool-set (nat_lt m (2 ^ 128)) true p r))) q
