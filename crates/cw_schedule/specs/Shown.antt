@@ -21,13 +21,16 @@ pub data Shows (s : ℕ → Option ℕ) (f : ℕ → Bool) : ℕ → Block → G
   ready : (o j k : ℕ) → s o ≡ Some k → f o ≡ false → Shows s f o (Last j) (Ready k)
   before : (o j k : ℕ) (c r a : Block) → s o ≡ Some k → f o ≡ false → Quiet s f (o + 1) (size c + (size r + size a))
       → Shows s f o (Fork j c r a) (Before k c r a)
-  both : (o j : ℕ) (c r a : Block) (x y : Going) → Quiet s f o 1 → Shows s f (o + 1) c x → Shows s f (o + 1 + size c) r y
+  both : (o j : ℕ) (c r a : Block) (x y : Going) → Quiet s f o 1 → Shows s f (o + 1) c x →
+      Shows s f (o + 1 + size c) r y
       → Quiet s f (o + 1 + size c + size r) (size a) → Shows s f o (Fork j c r a) (Both x y a)
-  child : (o j : ℕ) (c r a : Block) (x : Going) → Quiet s f o 1 → Shows s f (o + 1) c x → Quiet s f (o + 1 + size c) (size r)
+  child : (o j : ℕ) (c r a : Block) (x : Going) → Quiet s f o 1 → Shows s f (o + 1) c x →
+      Quiet s f (o + 1 + size c) (size r)
       → Half s f (o + 1 + size c + size r) (size a) → Shows s f o (Fork j c r a) (Child x (size r) a)
   rest : (o j : ℕ) (c r a : Block) (y : Going) → Quiet s f o (1 + size c) → Shows s f (o + 1 + size c) r y
       → Half s f (o + 1 + size c + size r) (size a) → Shows s f o (Fork j c r a) (Rest (size c) y a)
-  after : (o j : ℕ) (c r a : Block) (x : Going) → Quiet s f o (1 + (size c + size r)) → Shows s f (o + 1 + size c + size r) a x
+  after : (o j : ℕ) (c r a : Block) (x : Going) → Quiet s f o (1 + (size c + size r)) →
+      Shows s f (o + 1 + size c + size r) a x
       → Shows s f o (Fork j c r a) (After (1 + (size c + size r)) x)
 
 -- the strands of a block, by number
@@ -72,5 +75,7 @@ pub record Joins (p : ℕ → Strand) (s : ℕ → Option ℕ) (f : ℕ → Bool
 -- a strand is taken off, and what waited for it alone gets ready: that is told by how the next strand begins
 pub data Releases (p : ℕ → Strand) (s : ℕ → Option ℕ) (f : ℕ → Bool) (s' : ℕ → Option ℕ) (f' : ℕ → Bool) (i : ℕ) : Type 0 where
   forks : (later : ℕ) → (p (i + 1)).begins ≡ w.Child later → Forks p s f s' f' i later → Releases p s f s' f' i
-  arrives : (join : ℕ) → join_of (p (i + 1)).begins (i + 1) ≡ Some join → Arrives s f s' f' i join → Releases p s f s' f' i
-  joins : (join : ℕ) → join_of (p (i + 1)).begins (i + 1) ≡ Some join → Joins p s f s' f' i join → Releases p s f s' f' i
+  arrives : (join : ℕ) → join_of (p (i + 1)).begins (i + 1) ≡ Some join → Arrives s f s' f' i join →
+      Releases p s f s' f' i
+  joins : (join : ℕ) → join_of (p (i + 1)).begins (i + 1) ≡ Some join → Joins p s f s' f' i join →
+      Releases p s f s' f' i

@@ -60,9 +60,11 @@ pub data Takes (block : Block) (g : Going) (strands : List Strand) (flags : List
 
 -- after so many strands and steps: a state stands, or all is done
 pub data Counts (processors : ℕ) (block : Block) (taken steps : ℕ) (strands : List Strand) (flags : List Bool) (slots : Slots) : Type 0 where
-  going : (g : Going) → Stands block g strands flags slots → waiting g + taken ≡ size block → IsAfter processors steps (start block) g
+  going : (g : Going) → Stands block g strands flags slots → waiting g + taken ≡ size block →
+      IsAfter processors steps (start block) g
       → Counts processors block taken steps strands flags slots
-  ended : taken ≡ size block → greedy_length processors (to_do (start block)) ≡ steps → Counts processors block taken steps strands flags slots
+  ended : taken ≡ size block → greedy_length processors (to_do (start block)) ≡ steps →
+      Counts processors block taken steps strands flags slots
 
 -- the first state of a block, whose schedule is not too long
 pub record Begun (processors : ℕ) (block : Block) (strands : List Strand) (flags : List Bool) (slots : Slots) : Type 0 where
