@@ -57,7 +57,8 @@ may_index (Some l) slot e = not (l.outer.arrays slot) || (l.over slot && is_vari
 abbrev pub may_read : Option Loop → Taken → Expr → Bool
 may_read around taken (Number n) = true
 may_read around taken (Variable u) = not (int_taken taken u.slot)
-may_read around taken (Element u e) = not (array_taken taken u.slot) && may_index around u.slot e && may_read around taken e
+may_read around taken (Element u e) =
+    not (array_taken taken u.slot) && may_index around u.slot e && may_read around taken e
 may_read around taken (Length u) = not (array_taken taken u.slot) && not (is_outer_array around u.slot)
 may_read around taken (Negative e) = may_read around taken e
 may_read around taken (Not e) = may_read around taken e
@@ -160,11 +161,13 @@ abbrev mutual
   lines_within around known taken (For head b) =
       lines_in (Some (loop_in head known)) (with_int head.variable.slot known) (inside taken) b
       ++ left_at_end Joins (with_int head.variable.slot known) (inside taken) b
-  lines_within around known taken (Scope b) = lines_in around known (inside taken) b ++ left_at_end Joins known (inside taken) b
+  lines_within around known taken (Scope b) =
+      lines_in around known (inside taken) b ++ left_at_end Joins known (inside taken) b
   lines_within around known taken (Cut parts b) =
       lines_in around (with_parts parts known) (inside_cut parts.array.slot taken) b
       ++ left_at_end Joins (with_parts parts known) (inside_cut parts.array.slot taken) b
-  lines_within around known taken (Region tag b) = lines_in around known (inside taken) b ++ left_at_end Joins known (inside taken) b
+  lines_within around known taken (Region tag b) =
+      lines_in around known (inside taken) b ++ left_at_end Joins known (inside taken) b
   lines_within around known taken _ = []
 
   -- the lines of the statements of a block that break a rule, its blocks included

@@ -63,7 +63,8 @@ may_give_all around taken es = list_all (may_give (around_of around) (taken_of t
 
 -- each of these arrays may be passed
 abbrev pub may_pass_all : Option code_loop.Loop → code_taken.Taken → List code_use.Use → Bool
-may_pass_all around taken us = list_all (λ (u : Use). may_pass (around_of around) (taken_of taken) u.slot) (map use_of us)
+may_pass_all around taken us =
+    list_all (λ (u : Use). may_pass (around_of around) (taken_of taken) u.slot) (map use_of us)
 
 -- what the test and the blocks of a statement see as taken
 abbrev pub sees : (known : code_row.Row) → code_taken.Taken → code_stmt.Stmt → Taken
@@ -124,31 +125,40 @@ abbrev pub still_taken : code_taken.Taken → List code_line.Line → List ℕ
 still_taken taken lines = left_lines (taken_of taken) (block_of lines)
 
 -- the lines that break a rule, of these
-abbrev pub lines_among : Option code_loop.Loop → (known : code_row.Row) → code_taken.Taken → List code_line.Line → List ℕ
+abbrev pub lines_among : Option code_loop.Loop → (known : code_row.Row) → code_taken.Taken → List code_line.Line →
+    List ℕ
 lines_among around known taken lines = lines_in (around_of around) (row_of known) (taken_of taken) (block_of lines)
 
 -- the same, of a block that joins no spawn at its end
-abbrev pub lines_leaving : Option code_loop.Loop → (known : code_row.Row) → code_taken.Taken → List code_line.Line → List ℕ
-lines_leaving around known taken lines = block_lines (around_of around) (row_of known) (taken_of taken) Leaves (block_of lines)
+abbrev pub lines_leaving : Option code_loop.Loop → (known : code_row.Row) → code_taken.Taken → List code_line.Line →
+    List ℕ
+lines_leaving around known taken lines =
+    block_lines (around_of around) (row_of known) (taken_of taken) Leaves (block_of lines)
 
 -- the same, of a sync block
-abbrev pub lines_joining : Option code_loop.Loop → (known : code_row.Row) → code_taken.Taken → List code_line.Line → List ℕ
-lines_joining around known taken lines = block_lines (around_of around) (row_of known) (taken_of taken) Joins (block_of lines)
+abbrev pub lines_joining : Option code_loop.Loop → (known : code_row.Row) → code_taken.Taken → List code_line.Line →
+    List ℕ
+lines_joining around known taken lines =
+    block_lines (around_of around) (row_of known) (taken_of taken) Joins (block_of lines)
 
 -- the same, of what a statement does where its test does not hold
 abbrev pub lines_of_other : Option code_loop.Loop → (known : code_row.Row) → code_taken.Taken → code_stmt.Stmt → List ℕ
-lines_of_other around known taken stmt = block_lines (around_of around) (row_of known) (taken_of taken) Leaves (other_block stmt)
+lines_of_other around known taken stmt =
+    block_lines (around_of around) (row_of known) (taken_of taken) Leaves (other_block stmt)
 
 -- the same, in the blocks of a statement
 abbrev pub lines_inside : Option code_loop.Loop → (known : code_row.Row) → code_taken.Taken → code_stmt.Stmt → List ℕ
 lines_inside around known taken stmt = lines_within (around_of around) (row_of known) (taken_of taken) (stmt_of stmt)
 
 -- the same, of a sync block inside another
-abbrev pub lines_of_scope : Option code_loop.Loop → (known : code_row.Row) → code_taken.Taken → List code_line.Line → List ℕ
-lines_of_scope around known taken lines = lines_within (around_of around) (row_of known) (taken_of taken) (Scope (block_of lines))
+abbrev pub lines_of_scope : Option code_loop.Loop → (known : code_row.Row) → code_taken.Taken → List code_line.Line →
+    List ℕ
+lines_of_scope around known taken lines =
+    lines_within (around_of around) (row_of known) (taken_of taken) (Scope (block_of lines))
 
 -- the same, of the block of a cut of this array
-abbrev pub lines_of_cut : Option code_loop.Loop → (known : code_row.Row) → (array : ℕ) → code_taken.Taken → List code_line.Line → List ℕ
+abbrev pub lines_of_cut : Option code_loop.Loop → (known : code_row.Row) → (array : ℕ) → code_taken.Taken →
+    List code_line.Line → List ℕ
 lines_of_cut around known array taken lines =
     block_lines (around_of around) (row_of known) (inside_cut array (taken_of taken)) Joins (block_of lines)
 

@@ -173,10 +173,6 @@ fn after(known: &Row, stmt: &Stmt, here: Row, gains: &mut Gains) -> Row
             after_all(inner, block, Row::none(), gains);
             here
         }
-        Stmt::Scope(block) => {
-            after_all(*known, block, Row::none(), gains);
-            here
-        }
         Stmt::Cut(cut, block) => {
             let mut inner = *known;
             inner.add_array(cut.left.slot);
@@ -184,7 +180,7 @@ fn after(known: &Row, stmt: &Stmt, here: Row, gains: &mut Gains) -> Row
             after_all(inner, block, Row::none(), gains);
             here
         }
-        Stmt::Region(_, block) => {
+        Stmt::Scope(block) | Stmt::Region(_, block) => {
             after_all(*known, block, Row::none(), gains);
             here
         }
