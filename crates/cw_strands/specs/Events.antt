@@ -22,27 +22,34 @@ pub data Event : Type 0 where
 
 abbrev pub advanced : World → (i worker : ℕ) → List ℕ → Advanced → Option World
 advanced world i worker outs (Ran new) = Some (placed world i (Runs worker new outs))
-advanced world i worker outs (Handed out new) = Some (placed (joined_by world out (Undecided worker)) i (Runs worker new (length world.jobs ∷ outs)))
+advanced world i worker outs (Handed out new) =
+    Some (placed (joined_by world out (Undecided worker)) i (Runs worker new (length world.jobs ∷ outs)))
 advanced world i worker outs AtSync = None
 advanced world i worker outs (Finished e) = Some (placed world i (Made worker e))
 advanced world i worker outs Unfit = None
 
 -- the newest job out is skipped, if it has not begun
 abbrev pub skips : World → (i n worker : ℕ) → Strand → List ℕ → Place → Option World
-skips world i n worker (Halted e jobs) outs (Kept w) = Some (placed (placed world n Spent) i (Runs worker (skip (Halted e jobs)) outs))
-skips world i n worker (Halted e jobs) outs (Offered w) = Some (placed (placed world n Spent) i (Runs worker (skip (Halted e jobs)) outs))
+skips world i n worker (Halted e jobs) outs (Kept w) =
+    Some (placed (placed world n Spent) i (Runs worker (skip (Halted e jobs)) outs))
+skips world i n worker (Halted e jobs) outs (Offered w) =
+    Some (placed (placed world n Spent) i (Runs worker (skip (Halted e jobs)) outs))
 skips world i n worker strand outs place = None
 
 -- the newest job out is given, if its effect was made
 abbrev pub gives : World → (i n worker : ℕ) → Job → Strand → List ℕ → Option Effect → Option World
-gives world i n worker job (Waits s count jobs) outs (Some e) = Some (placed (placed world n Spent) i (Runs worker (give job (Waits s count jobs) e) outs))
-gives world i n worker job (Halted e' jobs) outs (Some e) = Some (placed (placed world n Spent) i (Runs worker (give job (Halted e' jobs) e) outs))
+gives world i n worker job (Waits s count jobs) outs (Some e) =
+    Some (placed (placed world n Spent) i (Runs worker (give job (Waits s count jobs) e) outs))
+gives world i n worker job (Halted e' jobs) outs (Some e) =
+    Some (placed (placed world n Spent) i (Runs worker (give job (Halted e' jobs) e) outs))
 gives world i n worker job strand outs found = None
 
 -- the newest job out is taken back, if it has not begun
 abbrev pub takes_back : World → (i n worker : ℕ) → Strand → List ℕ → Place → Option World
-takes_back world i n worker (Waits s count jobs) outs (Kept w) = Some (placed (placed world n Spent) i (Runs worker (take_back (Waits s count jobs)) outs))
-takes_back world i n worker (Waits s count jobs) outs (Offered w) = Some (placed (placed world n Spent) i (Runs worker (take_back (Waits s count jobs)) outs))
+takes_back world i n worker (Waits s count jobs) outs (Kept w) =
+    Some (placed (placed world n Spent) i (Runs worker (take_back (Waits s count jobs)) outs))
+takes_back world i n worker (Waits s count jobs) outs (Offered w) =
+    Some (placed (placed world n Spent) i (Runs worker (take_back (Waits s count jobs)) outs))
 takes_back world i n worker strand outs place = None
 
 -- with a job and its place
@@ -59,13 +66,17 @@ happens code world (Offer i) job (Undecided worker) = Some (placed world i (Offe
 happens code world (Inline i) job (Undecided worker) = Some (placed world i (Kept worker))
 happens code world (Begin worker i) job (Kept w) = Some (placed world i (Runs worker (started job) []))
 happens code world (Begin worker i) job (Offered w) = Some (placed world i (Runs worker (started job) []))
-happens code world (Skip i) job (Runs worker strand (n ∷ outs)) = at world n (λ out place. skips world i n worker strand outs place)
+happens code world (Skip i) job (Runs worker strand (n ∷ outs)) =
+    at world n (λ out place. skips world i n worker strand outs place)
 happens code world (Settle i) job (Made worker e) = Some (placed world i (Settled e))
-happens code world (Give i) job (Runs worker strand (n ∷ outs)) = at world n (λ out place. gives world i n worker job strand outs (effect_in place))
-happens code world (Want i) job (Runs worker strand outs) = Some (placed world i (Runs worker (out_of_memory strand) outs))
+happens code world (Give i) job (Runs worker strand (n ∷ outs)) =
+    at world n (λ out place. gives world i n worker job strand outs (effect_in place))
+happens code world (Want i) job (Runs worker strand outs) =
+    Some (placed world i (Runs worker (out_of_memory strand) outs))
 happens code world (GiveUp worker i) job (Kept w) = Some (placed world i (Made worker Memory))
 happens code world (GiveUp worker i) job (Offered w) = Some (placed world i (Made worker Memory))
-happens code world (TakeBack i) job (Runs worker strand (n ∷ outs)) = at world n (λ out place. takes_back world i n worker strand outs place)
+happens code world (TakeBack i) job (Runs worker strand (n ∷ outs)) =
+    at world n (λ out place. takes_back world i n worker strand outs place)
 happens code world event job place = None
 
 -- the number that an event is at

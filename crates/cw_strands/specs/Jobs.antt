@@ -61,7 +61,8 @@ moved Stuck left next = Lost
 -- the run of a job within a budget of instructions
 abbrev pub travel : Extent → Code → ℕ → State → Came
 travel x code zero s = if has_come x code s then Arrives (standing s) s.trace zero else Beyond
-travel x code (suc n) s = if has_come x code s then Arrives (standing s) s.trace (suc n) else moved (step code s) n (λ s'. travel x code n s')
+travel x code (suc n) s =
+    if has_come x code s then Arrives (standing s) s.trace (suc n) else moved (step code s) n (λ s'. travel x code n s')
 
 -- a job: how far it goes, its place, its slots, in which what a spawn still out took stands empty, its depth, the limit of the run, and the cost before it
 pub record Job : Type 0 where

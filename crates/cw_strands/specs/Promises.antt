@@ -54,6 +54,8 @@ ComesTo code job count s = Takes count (course code job) (λ n. travel job.exten
 
 -- a strand of a job
 abbrev pub IsStrandOf : Code → Job → Strand → Type 0
-IsStrandOf code job (Going s count outs) = (job.before + count ≤ job.limit) × ComesTo code job count s × Outs job.limit (job.before + count) s.around outs
-IsStrandOf code job (Waits s count outs) = (job.before + count ≤ job.limit) × ComesTo code job count s × OutsHere job.limit (job.before + count) s outs
+IsStrandOf code job (Going s count outs) =
+    (job.before + count ≤ job.limit) × ComesTo code job count s × Outs job.limit (job.before + count) s.around outs
+IsStrandOf code job (Waits s count outs) =
+    (job.before + count ≤ job.limit) × ComesTo code job count s × OutsHere job.limit (job.before + count) s outs
 IsStrandOf code job (Halted e outs) = (job.before + cost_of e ≤ job.limit) × StandsFor code job e

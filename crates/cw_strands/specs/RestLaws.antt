@@ -11,7 +11,8 @@ use Rattle.cw_strands.specs.Promises.{IsStrandOf}
 -- what a run comes to over what waits in its block: at the join what waits goes back into its slots, and the block goes on from the join; at the end of a call its caller goes on
 abbrev pub onwards : Code → Extent → State → Came → Came
 onwards code y b (Arrives frame t left) = travel y code left (resumed b frame t)
-onwards code y b (Returns v arrays t left) = moved (back b.around v arrays (joined b.trace t)) left (λ s. travel y code left s)
+onwards code y b (Returns v arrays t left) =
+    moved (back b.around v arrays (joined b.trace t)) left (λ s. travel y code left s)
 onwards code y b (Falls trap line lines left) = Falls trap line (b.trace.lines ++ lines) left
 onwards code y b Beyond = Beyond
 onwards code y b Lost = Lost
@@ -30,8 +31,10 @@ call_job e limit before = record {
 
 -- the cut: from a spawn the serial run is the child's run, and then its caller goes on; where the caller goes on, the serial run is the run of the rest up to the join, from the slots as they stand, and then what waits goes back into its slots and the block goes on
 pub record Cut (code : Code) : Type 0 where
-  pub child : (y : Extent) (s : State) (e : Entering) (limit before n : ℕ) → travel y code n (begun s e) ≡ onwards code y (begun s e) (course code (call_job e limit before) n)
-  pub rest : (y : Extent) (s : State) (limit before n : ℕ) → s.operands ≡ [] → travel y code n s ≡ onwards code y s (course code (rest_at s limit before) n)
+  pub child : (y : Extent) (s : State) (e : Entering) (limit before n : ℕ) →
+      travel y code n (begun s e) ≡ onwards code y (begun s e) (course code (call_job e limit before) n)
+  pub rest : (y : Extent) (s : State) (limit before n : ℕ) → s.operands ≡ [] →
+      travel y code n s ≡ onwards code y s (course code (rest_at s limit before) n)
 
 -- a strand, whatever it hands out and is given, is a strand of its job, and each effect that can be made of a job means it
 pub record Kept (code : Code) : Type 0 where

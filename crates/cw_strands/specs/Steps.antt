@@ -56,7 +56,8 @@ given_to s count outs Memory = Halted Memory outs
 abbrev pub give : Job → Strand → Effect → Strand
 give job (Going s count outs) e = Going s count outs
 give job (Waits s count []) e = Waits s count []
-give job (Waits s count (out ∷ outs)) e = if nat_lt job.limit (job.before + (count + cost_of e)) then Halted OverLimit outs else given_to s count outs e
+give job (Waits s count (out ∷ outs)) e =
+    if nat_lt job.limit (job.before + (count + cost_of e)) then Halted OverLimit outs else given_to s count outs e
 give job (Halted e' []) e = Halted e' []
 give job (Halted e' (out ∷ outs)) e = Halted (dropped e' e) outs
 
@@ -83,7 +84,8 @@ WaitsFor (Halted e outs) out others = outs ≡ out ∷ others
 -- what holds after an advance
 abbrev pub AdvanceKeeps : Code → Job → Strand → Advanced → Type 0
 AdvanceKeeps code job old (Ran new) = IsStrandOf code job new × (outs_of new ≡ outs_of old)
-AdvanceKeeps code job old (Handed out new) = IsStrandOf code job new × (outs_of new ≡ out ∷ outs_of old) × (out.before ≤ out.limit)
+AdvanceKeeps code job old (Handed out new) =
+    IsStrandOf code job new × (outs_of new ≡ out ∷ outs_of old) × (out.before ≤ out.limit)
 AdvanceKeeps code job old AtSync = Unit {0}
 AdvanceKeeps code job old (Finished e) = JobMeaning code job e
 AdvanceKeeps code job old Unfit = Unit {0}
@@ -91,8 +93,10 @@ AdvanceKeeps code job old Unfit = Unit {0}
 -- the calls on a strand keep that it is a strand of its job, and what it ends with means the job
 pub record CallsKeep (code : Code) : Type 0 where
   pub starting : (job : Job) → job.before ≤ job.limit → IsStrandOf code job (started job)
-  pub advancing : (job : Job) (strand : Strand) → IsStrandOf code job strand → AdvanceKeeps code job strand (advance code job strand)
-  pub giving : (job : Job) (strand : Strand) (out : Job) (others : List Job) (e : Effect) → IsStrandOf code job strand → WaitsFor strand out others → JobMeaning code out e
+  pub advancing : (job : Job) (strand : Strand) → IsStrandOf code job strand →
+      AdvanceKeeps code job strand (advance code job strand)
+  pub giving : (job : Job) (strand : Strand) (out : Job) (others : List Job) (e : Effect) → IsStrandOf code job strand →
+      WaitsFor strand out others → JobMeaning code out e
       → IsStrandOf code job (give job strand e) × (outs_of (give job strand e) ≡ others)
   pub skipping : (job : Job) (strand : Strand) → IsStrandOf code job strand → IsStrandOf code job (skip strand)
   pub taking_back : (job : Job) (strand : Strand) → IsStrandOf code job strand → IsStrandOf code job (take_back strand)

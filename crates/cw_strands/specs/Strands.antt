@@ -74,7 +74,8 @@ spawn_job s target taken limit before = record {
 -- a strand after an instruction that led from one state to another
 abbrev pub goes_on : Turn → (from to : State) → (limit before count : ℕ) → List Job → Strand
 goes_on Goes from to limit before count outs = Going to count outs
-goes_on (HandsOut target taken) from to limit before count outs = Going to count (spawn_job from target taken limit (before + count) ∷ outs)
+goes_on (HandsOut target taken) from to limit before count outs =
+    Going to count (spawn_job from target taken limit (before + count) ∷ outs)
 goes_on ComesBack from to limit before count outs = Waits to count outs
 
 -- the join: the rest is done, what waits goes back into its slots, and the block goes on from its join

@@ -71,10 +71,13 @@ pub data Next (code : Code) : World → World → Type 0 where
   Spawn : (world : World) (i worker : ℕ) (job out : Job) (strand new : Strand) (outs : List ℕ)
       → Has world i job (Runs worker strand outs) → advance code job strand ≡ Handed out new
       → Next code world (placed (joined_by world out (Undecided worker)) i (Runs worker new (length world.jobs ∷ outs)))
-  Offer : (world : World) (i worker : ℕ) (job : Job) → Has world i job (Undecided worker) → Next code world (placed world i (Offered worker))
-  Inline : (world : World) (i worker : ℕ) (job : Job) → Has world i job (Undecided worker) → Next code world (placed world i (Kept worker))
+  Offer : (world : World) (i worker : ℕ) (job : Job) → Has world i job (Undecided worker) →
+      Next code world (placed world i (Offered worker))
+  Inline : (world : World) (i worker : ℕ) (job : Job) → Has world i job (Undecided worker) →
+      Next code world (placed world i (Kept worker))
   -- Retake or Steal: this worker begins the job
-  Begin : (world : World) (i worker : ℕ) (job : Job) (place : Place) → Has world i job place → IsUnrun place → Next code world (placed world i (Runs worker (started job) []))
+  Begin : (world : World) (i worker : ℕ) (job : Job) (place : Place) → Has world i job place → IsUnrun place →
+      Next code world (placed world i (Runs worker (started job) []))
   -- Retake where the spawned call has stopped: the newest job out is skipped
   Skip : (world : World) (i n worker : ℕ) (job out : Job) (strand : Strand) (outs : List ℕ) (place : Place)
       → Has world i job (Runs worker strand (n ∷ outs)) → HasStopped strand → Has world n out place → IsUnrun place
@@ -86,7 +89,8 @@ pub data Next (code : Code) : World → World → Type 0 where
   -- a strand has ended
   End : (world : World) (i worker : ℕ) (job : Job) (strand : Strand) (outs : List ℕ) (e : Effect)
       → Has world i job (Runs worker strand outs) → advance code job strand ≡ Finished e → Next code world (placed world i (Made worker e))
-  Settle : (world : World) (i worker : ℕ) (job : Job) (e : Effect) → Has world i job (Made worker e) → Next code world (placed world i (Settled e))
+  Settle : (world : World) (i worker : ℕ) (job : Job) (e : Effect) → Has world i job (Made worker e) →
+      Next code world (placed world i (Settled e))
   -- Collect, or a rest that the worker ran itself hands its effect over: it is given to the strand whose newest job out it is
   Give : (world : World) (i n worker : ℕ) (job out : Job) (strand : Strand) (outs : List ℕ) (place : Place) (e : Effect)
       → Has world i job (Runs worker strand (n ∷ outs)) → IsWaiting strand → Has world n out place → effect_in place ≡ Some e
@@ -94,7 +98,8 @@ pub data Next (code : Code) : World → World → Type 0 where
   -- memory was wanting, in a strand or before one was made
   Want : (world : World) (i worker : ℕ) (job : Job) (strand : Strand) (outs : List ℕ)
       → Has world i job (Runs worker strand outs) → Next code world (placed world i (Runs worker (out_of_memory strand) outs))
-  GiveUp : (world : World) (i worker : ℕ) (job : Job) (place : Place) → Has world i job place → IsUnrun place → Next code world (placed world i (Made worker Memory))
+  GiveUp : (world : World) (i worker : ℕ) (job : Job) (place : Place) → Has world i job place → IsUnrun place →
+      Next code world (placed world i (Made worker Memory))
 
 -- any list of events
 pub data After (code : Code) (first : World) : World → Type 0 where
@@ -133,9 +138,13 @@ Falls (n ∷ (m ∷ numbers)) = (m < n) × Falls (m ∷ numbers)
 
 -- in a world that comes about, a job is out at one strand at most, once, and was then neither given nor skipped
 pub record OneOwner (world : World) : Type 0 where
-  pub one : (i j n worker worker' : ℕ) (job job' : Job) (strand strand' : Strand) (outs outs' : List ℕ) → Has world i job (Runs worker strand outs) → Has world j job' (Runs worker' strand' outs') → IsAmong n outs → IsAmong n outs' → i ≡ j
-  pub once : (i worker : ℕ) (job : Job) (strand : Strand) (outs : List ℕ) → Has world i job (Runs worker strand outs) → Falls outs
-  pub still : (i n worker : ℕ) (job : Job) (strand : Strand) (outs : List ℕ) → Has world i job (Runs worker strand outs) → IsAmong n outs → slice_get world.places n ≢ Some Spent
+  pub one : (i j n worker worker' : ℕ) (job job' : Job) (strand strand' : Strand) (outs outs' : List ℕ) →
+      Has world i job (Runs worker strand outs) → Has world j job' (Runs worker' strand' outs') → IsAmong n outs →
+      IsAmong n outs' → i ≡ j
+  pub once : (i worker : ℕ) (job : Job) (strand : Strand) (outs : List ℕ) → Has world i job (Runs worker strand outs) →
+      Falls outs
+  pub still : (i n worker : ℕ) (job : Job) (strand : Strand) (outs : List ℕ) →
+      Has world i job (Runs worker strand outs) → IsAmong n outs → slice_get world.places n ≢ Some Spent
 
 abbrev pub OwnersAreSingle : Type 0
 OwnersAreSingle = (code : Code) (root : Job) (world : World) → After code (world_of root) world → OneOwner world

@@ -32,24 +32,30 @@ module _ (code : Code) (s : State) (P : (joins : Bool) → Turn → Transition �
     pub local : (place : ℕ) (operands : List ℤ) (slots : Slots ℤ) (arrays : Slots (List ℤ)) (lines : List ℤ) (additions : List (Name × ℤ))
         → P false Goes (On (record s { place = place; operands = operands; slots = slots; arrays = arrays; trace = joined s.trace (record { lines = lines; additions = additions; events = works 1 }) }))
     pub enters : (e : Entering) → P false (turn_call e.kind e.target e.taken) (On (begun s e))
-    pub opens : (operands : List ℤ) (arrays : Slots (List ℤ)) (tag : Option Name) (cut : Option Halves) → P false Goes (opened (record s { operands = operands; arrays = arrays }) tag cut)
+    pub opens : (operands : List ℤ) (arrays : Slots (List ℤ)) (tag : Option Name) (cut : Option Halves) →
+        P false Goes (opened (record s { operands = operands; arrays = arrays }) tag cut)
     pub syncs : P true Goes (On (record (put_in s) { place = s.place + 1; trace = synced s.trace }))
-    pub leaves : (arrays : Slots (List ℤ)) (o : Opened) (around : List Around) → s.around ≡ Block o ∷ around → P true Goes (resumes (record (put_in s) { arrays = arrays }) o around)
-    pub returns : (v : Option ℤ) → P true (turn_in s.around) (back s.around v (settled s.arrived s.arrays) (synced s.trace))
+    pub leaves : (arrays : Slots (List ℤ)) (o : Opened) (around : List Around) → s.around ≡ Block o ∷ around →
+        P true Goes (resumes (record (put_in s) { arrays = arrays }) o around)
+    pub returns : (v : Option ℤ) →
+        P true (turn_in s.around) (back s.around v (settled s.arrived s.arrays) (synced s.trace))
 
   module _ (moves : Moves) where
-    either : (j : Bool) (turn : Turn) (c : Bool) (x y : Transition) → P j turn x → P j turn y → P j turn (if c then x else y)
+    either : (j : Bool) (turn : Turn) (c : Bool) (x y : Transition) → P j turn x → P j turn y →
+        P j turn (if c then x else y)
     either j turn true x y h k = h
     either j turn false x y h k = k
 
-    top : (j : Bool) (turn : Turn) (go : ℤ → List ℤ → Transition) → ((v : ℤ) (rest : List ℤ) → P j turn (go v rest)) → P j turn (on_top s go)
+    top : (j : Bool) (turn : Turn) (go : ℤ → List ℤ → Transition) → ((v : ℤ) (rest : List ℤ) → P j turn (go v rest)) →
+        P j turn (on_top s go)
     top j turn go k = cases s.operands
       where
         cases : (ops : List ℤ) → P j turn (on_top (record s { operands = ops }) go)
         cases [] = moves.stuck j turn
         cases (v ∷ rest) = k v rest
 
-    two : (go : ℤ → ℤ → List ℤ → Transition) → ((v w : ℤ) (rest : List ℤ) → P false Goes (go v w rest)) → P false Goes (on_two s go)
+    two : (go : ℤ → ℤ → List ℤ → Transition) → ((v w : ℤ) (rest : List ℤ) → P false Goes (go v w rest)) →
+        P false Goes (on_two s go)
     two go k = cases s.operands
       where
         cases : (ops : List ℤ) → P false Goes (on_two (record s { operands = ops }) go)
@@ -57,13 +63,15 @@ module _ (code : Code) (s : State) (P : (joins : Bool) → Turn → Transition �
         cases (w ∷ []) = moves.stuck false Goes
         cases (w ∷ v ∷ rest) = k v w rest
 
-    on_it : {A : Type 0} (o : Option (Option A)) (go : A → Transition) → ((x : A) → P false Goes (go x)) → P false Goes (on_slot o go)
+    on_it : {A : Type 0} (o : Option (Option A)) (go : A → Transition) → ((x : A) → P false Goes (go x)) →
+        P false Goes (on_slot o go)
     on_it None go k = moves.stuck false Goes
     on_it (Some None) go k = moves.stuck false Goes
     on_it (Some (Some x)) go k = k x
 
     sets : (a line : ℕ) (rest : List ℤ) (make : ℤ → List ℤ) (r : Result) → P false Goes (set_array s a line rest make r)
-    sets a line rest make (Value v) = moves.local (s.place + 1) rest s.slots (slice_set s.arrays a (Some (make v))) [] []
+    sets a line rest make (Value v) =
+        moves.local (s.place + 1) rest s.slots (slice_set s.arrays a (Some (make v))) [] []
     sets a line rest make (Fails trap) = moves.stops false Goes trap line s.trace.lines
 
     operates : (line : ℕ) (rest : List ℤ) (r : Result) → P false Goes (operated s line rest r)
@@ -77,18 +85,21 @@ module _ (code : Code) (s : State) (P : (joins : Bool) → Turn → Transition �
     begin : (e : Entering) → P false (turn_call e.kind e.target e.taken) (begins s e)
     begin e = either false (turn_call e.kind e.target e.taken) (may_begin s e) (On (begun s e)) Stuck (moves.enters e) (moves.stuck false (turn_call e.kind e.target e.taken))
 
-    with_arrays : (turn : Turn) (o : Option (List (List ℤ))) (go : List (List ℤ) → Transition) → ((given : List (List ℤ)) → P false turn (go given)) → P false turn (on_arrays o go)
+    with_arrays : (turn : Turn) (o : Option (List (List ℤ))) (go : List (List ℤ) → Transition) →
+        ((given : List (List ℤ)) → P false turn (go given)) → P false turn (on_arrays o go)
     with_arrays turn None go k = moves.stuck false turn
     with_arrays turn (Some given) go k = k given
 
-    calls : (kind : CallKind) (c : Callee) (passed : List ℕ) (o : Option Func) → P false (turn_call kind c.target (map (λ a. Whole a) passed)) (enter s kind c passed o)
+    calls : (kind : CallKind) (c : Callee) (passed : List ℕ) (o : Option Func) →
+        P false (turn_call kind c.target (map (λ a. Whole a) passed)) (enter s kind c passed o)
     calls kind c passed None = moves.stuck false (turn_call kind c.target (map (λ a. Whole a) passed))
     calls kind c passed (Some f) =
         either false (turn_call kind c.target (map (λ a. Whole a) passed)) (nat_lt MOST_DEPTH (s.depth + 1)) (Stops trap.TooDeep c.line s.trace.lines) (on_arrays (arrays_in passed s.arrays) (λ given. begins s (call_of s kind c passed f given)))
         (moves.stops false (turn_call kind c.target (map (λ a. Whole a) passed)) trap.TooDeep c.line s.trace.lines)
         (with_arrays (turn_call kind c.target (map (λ a. Whole a) passed)) (arrays_in passed s.arrays) _ (λ given. begin (call_of s kind c passed f given)))
 
-    recurs : (kind : CallKind) (passed : List ℕ) (o : Option Func) → P false (turn_call kind None (map (λ a. Whole a) passed)) (recur s kind passed o)
+    recurs : (kind : CallKind) (passed : List ℕ) (o : Option Func) →
+        P false (turn_call kind None (map (λ a. Whole a) passed)) (recur s kind passed o)
     recurs kind passed None = moves.stuck false (turn_call kind None (map (λ a. Whole a) passed))
     recurs kind passed (Some f) = with_arrays (turn_call kind None (map (λ a. Whole a) passed)) (arrays_in passed s.arrays) _ (λ given. begin (record {
       kind = kind;
@@ -101,12 +112,15 @@ module _ (code : Code) (s : State) (P : (joins : Bool) → Turn → Transition �
       taken = map (λ a. Whole a) passed;
     }))
 
-    ranges : (arguments : List ℤ) (go : ℤ → ℤ → List ℤ → Transition) → ((low high : ℤ) (captured : List ℤ) → P false Goes (go low high captured)) → P false Goes (on_range arguments go)
+    ranges : (arguments : List ℤ) (go : ℤ → ℤ → List ℤ → Transition) →
+        ((low high : ℤ) (captured : List ℤ) → P false Goes (go low high captured)) →
+        P false Goes (on_range arguments go)
     ranges [] go k = moves.stuck false Goes
     ranges (low ∷ []) go k = moves.stuck false Goes
     ranges (low ∷ high ∷ captured) go k = k low high captured
 
-    loops : (line : ℕ) (passed : List ℕ) (f : Func) (given : List (List ℤ)) (low : ℤ) (captured : List ℤ) (r : Result) → P false Goes (looped s line passed f given low captured r)
+    loops : (line : ℕ) (passed : List ℕ) (f : Func) (given : List (List ℤ)) (low : ℤ) (captured : List ℤ) (r : Result) →
+        P false Goes (looped s line passed f given low captured r)
     loops line passed f given low captured (Fails trap) = moves.stops false Goes trap line s.trace.lines
     loops line passed f given low captured (Value n) = begin (record {
       kind = Plain;
@@ -143,7 +157,8 @@ module _ (code : Code) (s : State) (P : (joins : Bool) → Turn → Transition �
     uncuts (Caller w ∷ around) e = moves.stuck true Goes
     uncuts (Block o ∷ around) e = by_cut o.cut
       where
-        part : (x : Option (Option (List ℤ))) (go : List ℤ → Transition) → ((xs : List ℤ) → P true Goes (go xs)) → P true Goes (on_slot x go)
+        part : (x : Option (Option (List ℤ))) (go : List ℤ → Transition) → ((xs : List ℤ) → P true Goes (go xs)) →
+            P true Goes (on_slot x go)
         part None go k = moves.stuck true Goes
         part (Some None) go k = moves.stuck true Goes
         part (Some (Some xs)) go k = k xs
@@ -158,9 +173,11 @@ module _ (code : Code) (s : State) (P : (joins : Bool) → Turn → Transition �
     pub acts_by : (o : Option Instr) → P (joins o) (turn_of code o s.around) (act code s o)
     acts_by None = moves.stuck false Goes
     acts_by (Some (instr.Push v)) = moves.local (s.place + 1) (v ∷ s.operands) s.slots s.arrays [] []
-    acts_by (Some (instr.Load a)) = on_it (slice_get s.slots a) _ (λ v. moves.local (s.place + 1) (v ∷ s.operands) s.slots s.arrays [] [])
+    acts_by (Some (instr.Load a)) =
+        on_it (slice_get s.slots a) _ (λ v. moves.local (s.place + 1) (v ∷ s.operands) s.slots s.arrays [] [])
     acts_by (Some (instr.Store a)) = top false Goes _ (λ v rest. either false Goes (is_full (slice_get s.slots a)) _ Stuck (moves.local (s.place + 1) rest (slice_set s.slots a (Some v)) s.arrays [] []) (moves.stuck false Goes))
-    acts_by (Some (instr.Unary operator line)) = top false Goes _ (λ v rest. operates line rest (apply_unary operator v))
+    acts_by (Some (instr.Unary operator line)) =
+        top false Goes _ (λ v rest. operates line rest (apply_unary operator v))
     acts_by (Some (instr.Binary operator line)) = two _ (λ v w rest. operates line rest (apply operator v w))
     acts_by (Some (instr.Skip n)) = moves.local (s.place + 1 + n) s.operands s.slots s.arrays [] []
     acts_by (Some (instr.SkipIfZero n)) = top false Goes _ (λ v rest. moves.local (if is_zero v then s.place + 1 + n else s.place + 1) rest s.slots s.arrays [] [])
@@ -168,17 +185,21 @@ module _ (code : Code) (s : State) (P : (joins : Bool) → Turn → Transition �
     acts_by (Some (instr.Call kind c)) = calls kind c (passed_by code c.passed) (slice_get code.funcs c.function)
     acts_by (Some (instr.Recur kind c)) = recurs kind (passed_by code c.passed) (slice_get code.funcs c.function)
     acts_by (Some (instr.Start c line)) = starts line (passed_by code c.passed) (slice_get code.funcs c.function)
-    acts_by (Some (instr.NewArray a line)) = on_it (slice_get s.arrays a) _ (λ old. top false Goes _ (λ v rest. sets a line rest _ (new_length v)))
+    acts_by (Some (instr.NewArray a line)) =
+        on_it (slice_get s.arrays a) _ (λ old. top false Goes _ (λ v rest. sets a line rest _ (new_length v)))
     acts_by (Some (instr.Length a)) = on_it (slice_get s.arrays a) _ (λ xs. moves.local (s.place + 1) (pos (length xs) ∷ s.operands) s.slots s.arrays [] [])
     acts_by (Some (instr.Element a line)) = on_it (slice_get s.arrays a) _ (λ xs. top false Goes _ (λ v rest. operates line rest (in_bounds (element xs v))))
-    acts_by (Some (instr.SetElement a line)) = on_it (slice_get s.arrays a) _ (λ xs. two _ (λ i v rest. sets a line rest _ (written xs i v)))
-    acts_by (Some (instr.Cut h line)) = on_it (slice_get s.arrays h.array) _ (λ xs. top false Goes _ (λ v rest. cut_at h line xs rest (cut_place xs v)))
+    acts_by (Some (instr.SetElement a line)) =
+        on_it (slice_get s.arrays a) _ (λ xs. two _ (λ i v rest. sets a line rest _ (written xs i v)))
+    acts_by (Some (instr.Cut h line)) =
+        on_it (slice_get s.arrays h.array) _ (λ xs. top false Goes _ (λ v rest. cut_at h line xs rest (cut_place xs v)))
     acts_by (Some instr.EndCut) = uncuts s.around refl
     acts_by (Some instr.Sync) = moves.syncs
     acts_by (Some (instr.Open Scope)) = moves.opens s.operands s.arrays None None
     acts_by (Some (instr.Open (Region k))) = regions (slice_get code.tags k)
     acts_by (Some instr.Close) = closes s.around refl
-    acts_by (Some instr.Print) = top false Goes _ (λ v rest. moves.local (s.place + 1) rest s.slots s.arrays (v ∷ []) [])
+    acts_by (Some instr.Print) =
+        top false Goes _ (λ v rest. moves.local (s.place + 1) rest s.slots s.arrays (v ∷ []) [])
     acts_by (Some (instr.AddTo k)) = top false Goes _ (λ v rest. names (slice_get code.reducers k) v rest)
     acts_by (Some instr.ReturnValue) = top true (turn_in s.around) _ (λ v rest. moves.returns (Some v))
     acts_by (Some instr.Return) = moves.returns None

@@ -14,7 +14,8 @@ takes_none cost run later e same = record {
   short = λ m lt. absurd (omega (arith, e, lt));
 }
 
-pub takes_one : (cost : ℕ) (run later : ℕ → Came) → cost ≡ 1 → run 0 ≡ Beyond → ((n : ℕ) → run (suc n) ≡ later n) → Takes cost run later
+pub takes_one : (cost : ℕ) (run later : ℕ → Came) → cost ≡ 1 → run 0 ≡ Beyond → ((n : ℕ) → run (suc n) ≡ later n) →
+    Takes cost run later
 takes_one cost run later e none same = record {
   next = λ n. ap run (omega (arith, e)) ∙ same n;
   short = λ m lt. ap run (omega (arith, e, lt)) ∙ none;
@@ -36,19 +37,25 @@ takes_cost a b f g e t = subst (λ c. Takes c f g) e t
 abbrev pub Exact : (budget : ℕ) → (ℕ → Came) → Came → Type 0
 Exact budget run (Arrives frame t left) = (left ≤ budget) × Takes (budget - left) run (λ n. Arrives frame t n)
 Exact budget run (Returns v arrays t left) = (left ≤ budget) × Takes (budget - left) run (λ n. Returns v arrays t n)
-Exact budget run (Falls trap line lines left) = (left ≤ budget) × Takes (budget - left) run (λ n. Falls trap line lines n)
+Exact budget run (Falls trap line lines left) =
+    (left ≤ budget) × Takes (budget - left) run (λ n. Falls trap line lines n)
 Exact budget run Beyond = (m : ℕ) → m ≤ budget → run m ≡ Beyond
 Exact budget run Lost = Unit {0}
 
-after_one : (budget left : ℕ) (run run' later : ℕ → Came) → run' 0 ≡ Beyond → ((n : ℕ) → run' (suc n) ≡ run n) → (left ≤ budget) × Takes (budget - left) run later → (left ≤ suc budget) × Takes (suc budget - left) run' later
+after_one : (budget left : ℕ) (run run' later : ℕ → Came) → run' 0 ≡ Beyond → ((n : ℕ) → run' (suc n) ≡ run n) →
+    (left ≤ budget) × Takes (budget - left) run later → (left ≤ suc budget) × Takes (suc budget - left) run' later
 after_one budget left run run' later none same p =
     let le : left ≤ budget = p.0 in
     (omega (arith, le), takes_cost (1 + (budget - left)) (suc budget - left) run' later (omega (arith, le)) (takes_then 1 (budget - left) run' run later (takes_one 1 run' run refl none same) p.1))
 
-one_more : (budget : ℕ) (run run' : ℕ → Came) (c : Came) → run' 0 ≡ Beyond → ((n : ℕ) → run' (suc n) ≡ run n) → Exact budget run c → Exact (suc budget) run' c
-one_more budget run run' (Arrives frame t left) none same p = after_one budget left run run' (λ n. Arrives frame t n) none same p
-one_more budget run run' (Returns v arrays t left) none same p = after_one budget left run run' (λ n. Returns v arrays t n) none same p
-one_more budget run run' (Falls trap line lines left) none same p = after_one budget left run run' (λ n. Falls trap line lines n) none same p
+one_more : (budget : ℕ) (run run' : ℕ → Came) (c : Came) → run' 0 ≡ Beyond → ((n : ℕ) → run' (suc n) ≡ run n) →
+    Exact budget run c → Exact (suc budget) run' c
+one_more budget run run' (Arrives frame t left) none same p =
+    after_one budget left run run' (λ n. Arrives frame t n) none same p
+one_more budget run run' (Returns v arrays t left) none same p =
+    after_one budget left run run' (λ n. Returns v arrays t n) none same p
+one_more budget run run' (Falls trap line lines left) none same p =
+    after_one budget left run run' (λ n. Falls trap line lines n) none same p
 one_more budget run run' Beyond none same p = within
   where
     within : (m : ℕ) → m ≤ suc budget → run' m ≡ Beyond
@@ -64,11 +71,13 @@ module _ (x : Extent) (code : Code) where
   pub none_left : (s : State) → has_come x code s ≡ false → travel x code 0 s ≡ Beyond
   none_left s e = not_taken (has_come x code s) (Arrives (standing s) s.trace zero) Beyond e
 
-  pub go_one : (n : ℕ) (s : State) → has_come x code s ≡ false → travel x code (suc n) s ≡ moved (step code s) n (λ s'. travel x code n s')
+  pub go_one : (n : ℕ) (s : State) → has_come x code s ≡ false →
+      travel x code (suc n) s ≡ moved (step code s) n (λ s'. travel x code n s')
   go_one n s e = not_taken (has_come x code s) (Arrives (standing s) s.trace (suc n)) (moved (step code s) n (λ s'. travel x code n s')) e
 
   -- one instruction
-  pub takes_step : (s : State) (w : Transition) → has_come x code s ≡ false → step code s ≡ w → Takes 1 (λ n. travel x code n s) (λ n. moved w n (λ s'. travel x code n s'))
+  pub takes_step : (s : State) (w : Transition) → has_come x code s ≡ false → step code s ≡ w →
+      Takes 1 (λ n. travel x code n s) (λ n. moved w n (λ s'. travel x code n s'))
   takes_step s w e same = takes_one 1 (λ n. travel x code n s) (λ n. moved w n (λ s'. travel x code n s')) refl (none_left s e) (λ n. go_one n s e ∙ ap (λ w'. moved w' n (λ s'. travel x code n s')) same)
 
   pub exact : (budget : ℕ) (s : State) → Exact budget (λ n. travel x code n s) (travel x code budget s)
@@ -83,13 +92,17 @@ module _ (x : Extent) (code : Code) where
           (λ m le. ap (λ k. travel x code k s) (let z : m ≡ 0 = omega (arith, le) in z) ∙ none_left s e)
   exact (suc n) s = cases (has_come x code s) refl (λ s'. exact n s')
     where
-      cases : (c : Bool) → has_come x code s ≡ c → ((s' : State) → Exact n (λ k. travel x code k s') (travel x code n s')) → Exact (suc n) (λ k. travel x code k s) (travel x code (suc n) s)
+      cases : (c : Bool) → has_come x code s ≡ c →
+          ((s' : State) → Exact n (λ k. travel x code k s') (travel x code n s')) →
+          Exact (suc n) (λ k. travel x code k s) (travel x code (suc n) s)
       cases true e more =
           subst (λ c. Exact (suc n) (λ k. travel x code k s) c) (sym (come_at (suc n) s e))
           (omega arith, takes_none (suc n - suc n) (λ k. travel x code k s) (λ k. Arrives (standing s) s.trace k) (omega arith) (λ k. come_at k s e))
-      cases false e more = subst (λ c. Exact (suc n) (λ k. travel x code k s) c) (sym (go_one n s e)) (went (step code s) refl)
+      cases false e more =
+          subst (λ c. Exact (suc n) (λ k. travel x code k s) c) (sym (go_one n s e)) (went (step code s) refl)
         where
-          went : (w : Transition) → step code s ≡ w → Exact (suc n) (λ k. travel x code k s) (moved w n (λ s'. travel x code n s'))
+          went : (w : Transition) → step code s ≡ w →
+              Exact (suc n) (λ k. travel x code k s) (moved w n (λ s'. travel x code n s'))
           went (On s') same =
               one_more n (λ k. travel x code k s') (λ k. travel x code k s) (travel x code n s') (none_left s e)
               (λ k. go_one k s e ∙ ap (λ w'. moved w' k (λ s2. travel x code k s2)) same) (more s')
@@ -98,7 +111,8 @@ module _ (x : Extent) (code : Code) where
           went Stuck same = tt
 
 module _ (code : Code) (job : Job) where
-  came_so : (cost : ℕ) (later : ℕ → Came) → cost ≤ job.limit → Takes cost (course code job) later → course code job job.limit ≡ later (job.limit - cost)
+  came_so : (cost : ℕ) (later : ℕ → Came) → cost ≤ job.limit → Takes cost (course code job) later →
+      course code job job.limit ≡ later (job.limit - cost)
   came_so cost later le t = ap (course code job) (let e : job.limit ≡ cost + (job.limit - cost) = omega (arith, le) in e) ∙ t.next (job.limit - cost)
 
   back_again : (cost limit : ℕ) → cost ≤ limit → cost ≡ limit - (limit - cost)
