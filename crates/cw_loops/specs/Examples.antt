@@ -90,7 +90,8 @@ value_answered (Ended v lines sums t) = Some v
 value_answered _ = None
 
 abbrev pub CostsLowered : Program → ℕ → ℤ → Type 0
-CostsLowered program cost v = (value_answered (serial (lowered program) [] cost) ≡ Some v) × (serial (lowered program) [] (cost - 1) ≡ OverLimit)
+CostsLowered program cost v =
+    (value_answered (serial (lowered program) [] cost) ≡ Some v) × (serial (lowered program) [] (cost - 1) ≡ OverLimit)
 
 abbrev pub TrapsLowered : Program → (limit : ℕ) → Trap → Type 0
 TrapsLowered program limit trap = serial (lowered program) [] limit ≡ TrappedAt trap 1 []

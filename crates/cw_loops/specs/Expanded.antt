@@ -48,7 +48,8 @@ leaf l =
 
 -- what a call on one half is given: the ends, the captured integers and the parts of the arrays
 abbrev pub half : (from to : ℕ) → (ints arrays : List ℕ) → List Argument
-half from to ints arrays = Int (Variable from) ∷ Int (Variable to) ∷ (map (λ s. Int (Variable s)) ints ++ map Array arrays)
+half from to ints arrays =
+    Int (Variable from) ∷ Int (Variable to) ∷ (map (λ s. Int (Variable s)) ints ++ map Array arrays)
 
 -- both halves, by the function of this index
 abbrev pub both_halves : (callee : ℕ) → Loop → Block

@@ -120,7 +120,8 @@ abbrev mutual
   can_lower c ints arrays (Begin f from to taken over) = false
   can_lower c ints arrays Sync = true
   can_lower c ints arrays (If e b) = can_evaluate c e && can_lower_all c ints arrays b
-  can_lower c ints arrays (IfElse e b d) = can_evaluate c e && (can_lower_all c ints arrays b && can_lower_all c ints arrays d)
+  can_lower c ints arrays (IfElse e b d) =
+      can_evaluate c e && (can_lower_all c ints arrays b && can_lower_all c ints arrays d)
   can_lower c ints arrays (While e b) = can_evaluate c e && can_lower_all c ints arrays b
   can_lower c ints arrays (For x y z from to grain over b) =
       can_evaluate c from && (can_evaluate c to && (nat_le 1 grain && (can_loop c ints arrays x (captured x b) over

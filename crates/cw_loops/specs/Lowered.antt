@@ -139,14 +139,16 @@ abbrev mutual
   lower_stmt over k (Declare x e) = Declare x (lower_expr over e)
   lower_stmt over k (DeclareArray a e) = DeclareArray a (lower_expr over e)
   lower_stmt over k (Assign x e) = Assign x (lower_expr over e)
-  lower_stmt over k (AssignElement a i e) = AssignElement a (lower_index (is_among a over) (lower_expr over i)) (lower_expr over e)
+  lower_stmt over k (AssignElement a i e) =
+      AssignElement a (lower_index (is_among a over) (lower_expr over i)) (lower_expr over e)
   lower_stmt over k (AddTo s e) = AddTo s (lower_expr over e)
   lower_stmt over k (Call kind site target f es) = Call kind site target f (lower_exprs over es)
   lower_stmt over k (Start kind f es) = Start kind f es
   lower_stmt over k (Begin f from to ints arrays) = Begin f from to ints arrays
   lower_stmt over k Sync = Sync
   lower_stmt over k (If e b) = If (lower_expr over e) (lower_block over k b)
-  lower_stmt over k (IfElse e b c) = IfElse (lower_expr over e) (lower_block over k b) (lower_block over (k + loop_count_in b) c)
+  lower_stmt over k (IfElse e b c) =
+      IfElse (lower_expr over e) (lower_block over k b) (lower_block over (k + loop_count_in b) c)
   lower_stmt over k (While e b) = While (lower_expr over e) (lower_block over k b)
   lower_stmt over k (For x y z from to grain arrays b) =
       Begin (loop_name (k + loop_count_in b)) (lower_expr over from) (lower_expr over to) (captured x b) arrays

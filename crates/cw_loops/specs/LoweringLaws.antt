@@ -35,7 +35,8 @@ LoweredAnswersAsItsSource =
     (program : Program) → is_lowerable program ≡ true → MainTakesIntegers program → AnswersAsItsSource program
 
 abbrev pub LoweredIsAsLong : Type 0
-LoweredIsAsLong = (program : Program) → is_lowerable program ≡ true → static_size (lowered program) ≡ static_size program
+LoweredIsAsLong =
+    (program : Program) → is_lowerable program ≡ true → static_size (lowered program) ≡ static_size program
 
 -- no `cilk_for` is left
 abbrev pub LoweredHasNoLoop : Type 0
@@ -63,7 +64,8 @@ LoweringKeepsSize = (program : Program) → IsOwnedSource program → static_siz
 -- names and numbers of a derived program are those of its text
 abbrev pub DerivedIsSourceLike : Type 0
 DerivedIsSourceLike =
-    (text : List ℕ) (ts : List Token) (program : Program) → IsTokenCut text ts → Derives text ts program → is_source_like program ≡ true
+    (text : List ℕ) (ts : List Token) (program : Program) → IsTokenCut text ts → Derives text ts program →
+    is_source_like program ≡ true
 
 -- of a program that a text derives nothing more is asked
 abbrev pub LoweringKeepsDerivedAnswers : Type 0

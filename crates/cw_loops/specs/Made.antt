@@ -89,7 +89,8 @@ LoopsOfStmt here line s before after = map loop_of after.items ≡ (stmt_here he
 
 -- what a loop with this head and body becomes here
 abbrev pub for_here : Here → Vec Loop → (line : ℕ) → Head → List code_line.Line → spec.Made
-for_here here loops line head body = stmt_here here loops line (resolved.For (source.head_of head) (source.block_of body))
+for_here here loops line head body =
+    stmt_here here loops line (resolved.For (source.head_of head) (source.block_of body))
 
 -- the beginning of such a loop, in the place of the loop
 abbrev pub IsFor : Here → (line : ℕ) → Head → List code_line.Line → (before : Vec Loop) → Stmt → Type 0

@@ -118,7 +118,8 @@ moved_alone m (source.Assign u e) = Assign (moved_int m u.slot) (moved_expr m e)
 moved_alone m (source.AssignElement u i e) =
     AssignElement (moved_array m u.slot) (from_low (is_over m u.slot) (moved_expr m i)) (moved_expr m e)
 moved_alone m (source.AddTo s e) = AddTo s.index (moved_expr m e)
-moved_alone m (source.Call kind site target f es) = Call kind site (moved_target m target) f.index (map (moved_argument m) es)
+moved_alone m (source.Call kind site target f es) =
+    Call kind site (moved_target m target) f.index (map (moved_argument m) es)
 moved_alone m (source.Print e) = Print (moved_expr m e)
 moved_alone m (source.Return e) = Return (moved_return m e)
 moved_alone m _ = Sync
@@ -174,7 +175,8 @@ abbrev mutual
   made_stmt n m arrays loops line (source.IfElse e b c) =
       let first = made_block n m arrays loops b in
       around_one (IfElse (moved_expr m e) first.block) (made_block n m arrays first.loops c)
-  made_stmt n m arrays loops line (source.While e b) = around_one (While (moved_expr m e)) (made_block n m arrays loops b)
+  made_stmt n m arrays loops line (source.While e b) =
+      around_one (While (moved_expr m e)) (made_block n m arrays loops b)
   made_stmt n m arrays loops line (source.For head b) =
       around_loop n m line head (made_block n (moves_of head arrays) arrays loops b)
   made_stmt n m arrays loops line (source.Scope b) = around_one Scope (made_block n m arrays loops b)

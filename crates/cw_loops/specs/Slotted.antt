@@ -74,7 +74,8 @@ slotted_expr locals (model.Binary operator d e) = Binary operator (slotted_expr 
 
 -- a name alone is an array where an array is known by it
 abbrev pub slotted_name : Locals → Name → Argument
-slotted_name locals x = if is_among x locals.arrays then Array (slot_of x locals.arrays) else Int (Variable (slot_of x locals.ints))
+slotted_name locals x =
+    if is_among x locals.arrays then Array (slot_of x locals.arrays) else Int (Variable (slot_of x locals.ints))
 
 -- an argument with each name looked up
 abbrev pub slotted_argument : Locals → model.Expr → Argument
@@ -92,7 +93,8 @@ abbrev mutual
   slotted_stmt lists locals (model.AddTo s e) = AddTo (slot_of s lists.reducers) (slotted_expr locals e)
   slotted_stmt lists locals (model.Call kind site target f es) =
       Call kind site (option_map (λ x. slot_of x locals.ints) target) (slot_of f lists.functions) (map (slotted_argument locals) es)
-  slotted_stmt lists locals (model.Start kind f es) = Start kind (slot_of f lists.functions) (map (slotted_argument locals) es)
+  slotted_stmt lists locals (model.Start kind f es) =
+      Start kind (slot_of f lists.functions) (map (slotted_argument locals) es)
   slotted_stmt lists locals (model.Begin f from to captured over) =
       Begin (slot_of f lists.functions) (slotted_expr locals from) (slotted_expr locals to) (map (λ x. slot_of x locals.ints) captured) (map (λ a. slot_of a locals.arrays) over)
   slotted_stmt lists locals model.Sync = Sync

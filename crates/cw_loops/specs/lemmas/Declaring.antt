@@ -21,7 +21,8 @@ pub record HeadKept (program : Program) (known : Known) (x : Name) (from to : Ex
   pub some : nat_le 1 grain ≡ true
   pub arrays : list_all (λ a. is_array known a) over ≡ true
 
-pub head_kept : (program : Program) (known : Known) (x y z : Name) (from to : Expr) (grain : ℕ) (over : List Name) → is_head_of_loop program known x y z from to grain over ≡ true → HeadKept program known x from to grain over
+pub head_kept : (program : Program) (known : Known) (x y z : Name) (from to : Expr) (grain : ℕ) (over : List Name) →
+    is_head_of_loop program known x y z from to grain over ≡ true → HeadKept program known x from to grain over
 head_kept program known x y z from to grain over h =
     let a = both_true _ (list_all (λ a. is_array known a) over) h in
     let b = both_true _ (nat_le grain MOST_GRAIN) a.0 in
@@ -39,7 +40,8 @@ pub record CutKept (program : Program) (known : Known) (a : Name) (e : Expr) (l 
   pub right : is_new program known r ≡ true
   pub two : same_name l r ≡ false
 
-pub cut_kept : (program : Program) (known : Known) (a : Name) (e : Expr) (l r : Name) → is_cut program known a e l r ≡ true → CutKept program known a e l r
+pub cut_kept : (program : Program) (known : Known) (a : Name) (e : Expr) (l r : Name) →
+    is_cut program known a e l r ≡ true → CutKept program known a e l r
 cut_kept program known a e l r h =
     let p = both_true _ (not (same_name l r)) h in
     let q = both_true _ (is_new program known r) p.0 in
@@ -51,7 +53,8 @@ cut_kept program known a e l r h =
 pub unknown_before : (known : Known) (y x : Name) (kind : Bool) → Unknown ((y, kind) ∷ known) x → Unknown known x
 unknown_before known y x kind u = go (same_name x y) kind u.no_int u.no_array
   where
-    go : (s k : Bool) → (if s then not k else is_int known x) ≡ false → (if s then k else is_array known x) ≡ false → Unknown known x
+    go : (s k : Bool) → (if s then not k else is_int known x) ≡ false → (if s then k else is_array known x) ≡ false →
+        Unknown known x
     go true true h g = absurd cc
     go true false h g = absurd cc
     go false k h g = record { no_int = h; no_array = g }
@@ -64,12 +67,14 @@ module _ (program : Program) where
   abbrev BlockNew : Block → Type 0
   BlockNew b = (returns : Returns) (known : Known) → faults_in_block program returns known b ≡ [] → (x : Name) → is_among x (declared_in_block b) ≡ true → Unknown known x
 
-  for_new : (x y z : Name) (from to : Expr) (grain : ℕ) (over : List Name) (b : Block) → BlockNew b → StmtNew (For x y z from to grain over b)
+  for_new : (x y z : Name) (from to : Expr) (grain : ℕ) (over : List Name) (b : Block) → BlockNew b →
+      StmtNew (For x y z from to grain over b)
   for_new x y z from to grain over b more returns known line h v o =
       let head = head_kept program known x y z from to grain over (kept _ line (left_none _ _ h)) in
       go (placed v x (declared_in_block b) o) (new_unknown program known x head.new) (λ p. unknown_before known x v false (more Nowhere ((x, false) ∷ known) (right_none _ _ h) v p))
     where
-      go : Placed v x (declared_in_block b) → Unknown known x → (is_among v (declared_in_block b) ≡ true → Unknown known v) → Unknown known v
+      go : Placed v x (declared_in_block b) → Unknown known x →
+          (is_among v (declared_in_block b) ≡ true → Unknown known v) → Unknown known v
       go (at_front same) fresh inner = subst (Unknown known) (sym same) fresh
       go (after_it other p) fresh inner = inner p
 
@@ -79,11 +84,13 @@ module _ (program : Program) where
       go (placed v l (r ∷ declared_in_block b) o) (new_unknown program known l k.left) (new_unknown program known r k.right)
       (λ p. unknown_before known l v true (unknown_before ((l, true) ∷ known) r v true (more Nowhere ((r, true) ∷ (l, true) ∷ known) (right_none _ _ h) v p)))
     where
-      second : Placed v r (declared_in_block b) → Unknown known r → (is_among v (declared_in_block b) ≡ true → Unknown known v) → Unknown known v
+      second : Placed v r (declared_in_block b) → Unknown known r →
+          (is_among v (declared_in_block b) ≡ true → Unknown known v) → Unknown known v
       second (at_front same) fresh inner = subst (Unknown known) (sym same) fresh
       second (after_it other p) fresh inner = inner p
 
-      go : Placed v l (r ∷ declared_in_block b) → Unknown known l → Unknown known r → (is_among v (declared_in_block b) ≡ true → Unknown known v) → Unknown known v
+      go : Placed v l (r ∷ declared_in_block b) → Unknown known l → Unknown known r →
+          (is_among v (declared_in_block b) ≡ true → Unknown known v) → Unknown known v
       go (at_front same) fresh fresh' inner = subst (Unknown known) (sym same) fresh
       go (after_it other p) fresh fresh' inner = second (placed v r (declared_in_block b) p) fresh' inner
 
@@ -114,15 +121,19 @@ module _ (program : Program) where
       go (an_array a e same) = unknown_before known a v true (subst (λ t. Unknown (declares t known) v) same u)
       go (nothing same ints arrays owners) = subst (λ k. Unknown k v) (same known) u
 
-  by_side : (s : Stmt) (b : Block) (returns : Returns) (known : Known) (line : ℕ) → faults_in_block program returns known (Then line s b) ≡ [] → (v : Name) → Side v (declared_in s) (declared_in_block b) → StmtNew s → BlockNew b → Unknown known v
+  by_side : (s : Stmt) (b : Block) (returns : Returns) (known : Known) (line : ℕ) →
+      faults_in_block program returns known (Then line s b) ≡ [] → (v : Name) →
+      Side v (declared_in s) (declared_in_block b) → StmtNew s → BlockNew b → Unknown known v
   by_side s b returns known line h v (in_first o) here more = here returns known line (left_none _ _ h) v o
   by_side s b returns known line h v (in_second o) here more =
       before_it s known v (more returns (declares s known) (right_none (unless (not (surely_returns s) || ends_block b) line) _ (right_none (faults_in program returns known line s) _ h)) v o)
 
   mutual
     pub stmt_new : (s : Stmt) → StmtNew s
-    stmt_new (Declare x e) returns known line h v o = one_new known x v (both_true (is_fine known e) (is_new program known x) (kept _ line h)).1 o
-    stmt_new (DeclareArray x e) returns known line h v o = one_new known x v (both_true (is_fine known e) (is_new program known x) (kept _ line h)).1 o
+    stmt_new (Declare x e) returns known line h v o =
+        one_new known x v (both_true (is_fine known e) (is_new program known x) (kept _ line h)).1 o
+    stmt_new (DeclareArray x e) returns known line h v o =
+        one_new known x v (both_true (is_fine known e) (is_new program known x) (kept _ line h)).1 o
     stmt_new (Assign x e) returns known line h v o = absurd cc
     stmt_new (AssignElement a i e) returns known line h v o = absurd cc
     stmt_new (AddTo s e) returns known line h v o = absurd cc
@@ -131,9 +142,11 @@ module _ (program : Program) where
     stmt_new (Begin f from to captured over) returns known line h v o = absurd cc
     stmt_new Sync returns known line h v o = absurd cc
     stmt_new (If e b) returns known line h v o = block_new b returns known (right_none _ _ h) v o
-    stmt_new (IfElse e b d) returns known line h v o = choice_new e b d (block_new b) (block_new d) returns known line h v o
+    stmt_new (IfElse e b d) returns known line h v o =
+        choice_new e b d (block_new b) (block_new d) returns known line h v o
     stmt_new (While e b) returns known line h v o = block_new b returns known (right_none _ _ h) v o
-    stmt_new (For x y z from to grain over b) returns known line h v o = for_new x y z from to grain over b (block_new b) returns known line h v o
+    stmt_new (For x y z from to grain over b) returns known line h v o =
+        for_new x y z from to grain over b (block_new b) returns known line h v o
     stmt_new (Scope b) returns known line h v o = block_new b Nowhere known h v o
     stmt_new (Cut a e l r b) returns known line h v o = cut_new a e l r b (block_new b) returns known line h v o
     stmt_new (Region tag b) returns known line h v o = block_new b Nowhere known h v o
@@ -142,4 +155,5 @@ module _ (program : Program) where
 
     pub block_new : (b : Block) → BlockNew b
     block_new End returns known h v o = absurd cc
-    block_new (Then line s b) returns known h v o = by_side s b returns known line h v (side v (declared_in s) (declared_in_block b) o) (stmt_new s) (block_new b)
+    block_new (Then line s b) returns known h v o =
+        by_side s b returns known line h v (side v (declared_in s) (declared_in_block b) o) (stmt_new s) (block_new b)

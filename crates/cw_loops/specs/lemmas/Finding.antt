@@ -28,7 +28,8 @@ found_right fs (x ∷ xs) ys h = found_right fs xs ys h.1
 abbrev Skips : Name → List Function → Type 0
 Skips g pre = (rest : List Function) → function_named g (pre ++ rest) ≡ function_named g rest
 
-found_numbered : (made pre : List Function) (k : ℕ) → Numbered k made → ((j : ℕ) → k ≤ j → Skips (loop_name j) pre) → Found (pre ++ made) made
+found_numbered : (made pre : List Function) (k : ℕ) → Numbered k made → ((j : ℕ) → k ≤ j → Skips (loop_name j) pre) →
+    Found (pre ++ made) made
 found_numbered [] pre k h skips = tt
 found_numbered (f ∷ made) pre k h skips =
     let here : function_named f.name (f ∷ made) ≡ f = ap (λ b. if b then f else function_named f.name made) (same_itself f.name) in
@@ -39,7 +40,8 @@ found_numbered (f ∷ made) pre k h skips =
           ∙ ap (λ b. if b then f else function_named (loop_name j) rest) (ap (λ n. same_name (loop_name j) n) h.0 ∙ loops_apart j k (omega arith)))),
     )
 
-lowered_plain : (all0 fs : List Function) (k : ℕ) → list_all (can_lower_function all0) fs ≡ true → (j : ℕ) → Skips (loop_name j) (lower_functions k fs)
+lowered_plain : (all0 fs : List Function) (k : ℕ) → list_all (can_lower_function all0) fs ≡ true → (j : ℕ) →
+    Skips (loop_name j) (lower_functions k fs)
 lowered_plain all0 [] k h j rest = refl
 lowered_plain all0 (f ∷ fs) k h j rest =
     let p = both_true (can_lower_function all0 f) (list_all (can_lower_function all0) fs) h in
@@ -55,12 +57,15 @@ pub record Looked (all0 all fs : List Function) (g : Name) : Type 0 where
   pub can : can_lower_function all0 f ≡ true
   pub made : Found all (made_in number f.body)
 
-no_loop : (g : Name) → is_plain g ≡ true → (made : List Function) (k : ℕ) → Numbered k made → function_named g made ≡ no_function
+no_loop : (g : Name) → is_plain g ≡ true → (made : List Function) (k : ℕ) → Numbered k made →
+    function_named g made ≡ no_function
 no_loop g plain [] k h = refl
 no_loop g plain (f ∷ made) k h =
     ap (λ b. if b then f else function_named g made) (ap (λ n. same_name g n) h.0 ∙ plain_apart g (k ∷ []) plain) ∙ no_loop g plain made (k + 1) h.1
 
-looked_in : (all0 all : List Function) (g : Name) → is_plain g ≡ true → (fs : List Function) (k : ℕ) (rest : List Function) (j : ℕ) → Numbered j rest → list_all (can_lower_function all0) fs ≡ true → Found all (made_of k fs) →
+looked_in : (all0 all : List Function) (g : Name) → is_plain g ≡ true →
+    (fs : List Function) (k : ℕ) (rest : List Function) (j : ℕ) → Numbered j rest →
+    list_all (can_lower_function all0) fs ≡ true → Found all (made_of k fs) →
     function_named g all ≡ function_named g (lower_functions k fs ++ rest) → Looked all0 all fs g
 looked_in all0 all g plain [] k rest j num h found e = record { number = 0; f = no_function; is = refl; is' = e ∙ no_loop g plain rest j num; can = refl; made = tt }
 looked_in all0 all g plain (f ∷ fs) k rest j num h found e =

@@ -18,11 +18,13 @@ abbrev pub names_of : List Param → List Name
 names_of ps = map (λ p. p.name) ps
 
 -- a parameter is an integer or an array
-kind_among : (x : Name) (ps : List Param) → is_among x (names_of ps) ≡ (is_among x (integers_of ps) || is_among x (arrays_of ps))
+kind_among : (x : Name) (ps : List Param) →
+    is_among x (names_of ps) ≡ (is_among x (integers_of ps) || is_among x (arrays_of ps))
 kind_among x [] = refl
 kind_among x (p ∷ ps) = go p.is_array (same_name x p.name) refl (is_among x (integers_of ps)) refl (kind_among x ps)
   where
-    go : (k s : Bool) → same_name x p.name ≡ s → (i : Bool) → is_among x (integers_of ps) ≡ i → is_among x (names_of ps) ≡ (is_among x (integers_of ps) || is_among x (arrays_of ps)) →
+    go : (k s : Bool) → same_name x p.name ≡ s → (i : Bool) → is_among x (integers_of ps) ≡ i →
+        is_among x (names_of ps) ≡ (is_among x (integers_of ps) || is_among x (arrays_of ps)) →
         is_among x (p.name ∷ names_of ps) ≡ (is_among x (if k then integers_of ps else p.name ∷ integers_of ps) || is_among x (if k then p.name ∷ arrays_of ps else arrays_of ps))
     go true true e i f h = rw (e, f) (sym (either_right i true refl))
     go true false e i f h = rw (e) h
@@ -44,7 +46,8 @@ among_push : (x : Name) (ks : Known) (n : Name) (kind : Bool) → is_among x (ma
 among_push x [] n kind = refl
 among_push x (k ∷ ks) n kind = go (same_name x k.0) (same_name x n) (among_push x ks n kind)
   where
-    go : (s q : Bool) → is_among x (map (λ k. k.0) (ks ++ (n, kind) ∷ [])) ≡ (if q then true else is_among x (map (λ k. k.0) ks)) →
+    go : (s q : Bool) →
+        is_among x (map (λ k. k.0) (ks ++ (n, kind) ∷ [])) ≡ (if q then true else is_among x (map (λ k. k.0) ks)) →
         (if s then true else is_among x (map (λ k. k.0) (ks ++ (n, kind) ∷ []))) ≡ (if q then true else (if s then true else is_among x (map (λ k. k.0) ks)))
     go true true h = refl
     go true false h = refl
@@ -52,10 +55,12 @@ among_push x (k ∷ ks) n kind = go (same_name x k.0) (same_name x n) (among_pus
 
 heads_are : (x : Name) (ps : List Param) → is_among x (map (λ k. k.0) (known_of ps)) ≡ is_among x (names_of ps)
 heads_are x [] = refl
-heads_are x (p ∷ ps) = among_push x (known_of ps) p.name p.is_array ∙ ap (λ b. if same_name x p.name then true else b) (heads_are x ps)
+heads_are x (p ∷ ps) =
+    among_push x (known_of ps) p.name p.is_array ∙ ap (λ b. if same_name x p.name then true else b) (heads_are x ps)
 
 -- no parameter after the first has its name
-pub others_differ : (p : Param) (ps : List Param) → differ (names_of (p ∷ ps)) ≡ true → (is_among p.name (names_of ps) ≡ false) × (differ (names_of ps) ≡ true)
+pub others_differ : (p : Param) (ps : List Param) → differ (names_of (p ∷ ps)) ≡ true →
+    (is_among p.name (names_of ps) ≡ false) × (differ (names_of ps) ≡ true)
 others_differ p ps h = let d = both_true (not (is_among p.name (names_of ps))) (differ (names_of ps)) h in (not_true _ d.0, d.1)
 
 -- the newest parameter, or one before it
@@ -69,29 +74,34 @@ newest array p ps x alone = known_push array (known_of ps) p.name p.is_array x �
     go false e true h = refl
     go false e false h = sym (not_there array (known_of ps) x h)
 
-pub no_kind : (x : Name) (ps : List Param) → is_among x (names_of ps) ≡ false → (is_among x (integers_of ps) ≡ false) × (is_among x (arrays_of ps) ≡ false)
+pub no_kind : (x : Name) (ps : List Param) → is_among x (names_of ps) ≡ false →
+    (is_among x (integers_of ps) ≡ false) × (is_among x (arrays_of ps) ≡ false)
 no_kind x ps h = none_of (is_among x (integers_of ps)) (is_among x (arrays_of ps)) (sym (kind_among x ps) ∙ h)
 
-pub int_kind : (ps : List Param) → differ (names_of ps) ≡ true → (x : Name) → is_int (known_of ps) x ≡ is_among x (integers_of ps)
+pub int_kind : (ps : List Param) → differ (names_of ps) ≡ true → (x : Name) →
+    is_int (known_of ps) x ≡ is_among x (integers_of ps)
 int_kind [] h x = refl
 int_kind (p ∷ ps) h x =
     let d = others_differ p ps h in
     newest false p ps x d.0 ∙ go (same_name x p.name) refl p.is_array (int_kind ps d.1 x) (λ e. (no_kind x ps (ap (λ z. is_among z (names_of ps)) (same_are x p.name e) ∙ d.0)).0)
   where
-    go : (s : Bool) → same_name x p.name ≡ s → (k : Bool) → is_int (known_of ps) x ≡ is_among x (integers_of ps) → (same_name x p.name ≡ true → is_among x (integers_of ps) ≡ false) →
+    go : (s : Bool) → same_name x p.name ≡ s → (k : Bool) → is_int (known_of ps) x ≡ is_among x (integers_of ps) →
+        (same_name x p.name ≡ true → is_among x (integers_of ps) ≡ false) →
         (if s then not k else is_int (known_of ps) x) ≡ is_among x (if k then integers_of ps else p.name ∷ integers_of ps)
     go true e true h none = sym (none e)
     go true e false h none = rw (e) refl
     go false e true h none = h
     go false e false h none = rw (e) h
 
-pub array_kind : (ps : List Param) → differ (names_of ps) ≡ true → (x : Name) → is_array (known_of ps) x ≡ is_among x (arrays_of ps)
+pub array_kind : (ps : List Param) → differ (names_of ps) ≡ true → (x : Name) →
+    is_array (known_of ps) x ≡ is_among x (arrays_of ps)
 array_kind [] h x = refl
 array_kind (p ∷ ps) h x =
     let d = others_differ p ps h in
     newest true p ps x d.0 ∙ go (same_name x p.name) refl p.is_array (array_kind ps d.1 x) (λ e. (no_kind x ps (ap (λ z. is_among z (names_of ps)) (same_are x p.name e) ∙ d.0)).1)
   where
-    go : (s : Bool) → same_name x p.name ≡ s → (k : Bool) → is_array (known_of ps) x ≡ is_among x (arrays_of ps) → (same_name x p.name ≡ true → is_among x (arrays_of ps) ≡ false) →
+    go : (s : Bool) → same_name x p.name ≡ s → (k : Bool) → is_array (known_of ps) x ≡ is_among x (arrays_of ps) →
+        (same_name x p.name ≡ true → is_among x (arrays_of ps) ≡ false) →
         (if s then k else is_array (known_of ps) x) ≡ is_among x (if k then p.name ∷ arrays_of ps else arrays_of ps)
     go true e true h none = rw (e) refl
     go true e false h none = sym (none e)
@@ -99,7 +109,8 @@ array_kind (p ∷ ps) h x =
     go false e false h none = h
 
 -- the parameters are what is known
-pub parameters_known : (ps : List Param) → differ (names_of ps) ≡ true → (x : Name) → is_among x (names_of ps) ≡ (is_int (known_of ps) x || is_array (known_of ps) x)
+pub parameters_known : (ps : List Param) → differ (names_of ps) ≡ true → (x : Name) →
+    is_among x (names_of ps) ≡ (is_int (known_of ps) x || is_array (known_of ps) x)
 parameters_known ps h x = kind_among x ps ∙ sym (ap (λ b. b || is_among x (arrays_of ps)) (int_kind ps h x)) ∙ ap (λ b. is_int (known_of ps) x || b) (sym (array_kind ps h x))
 
 -- what the head of a function keeps

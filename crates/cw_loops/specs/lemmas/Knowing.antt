@@ -13,11 +13,13 @@ pub record Unknown (known : Known) (x : Name) : Type 0 where
   pub no_int : is_int known x ≡ false
   pub no_array : is_array known x ≡ false
 
-pub not_there : (array : Bool) (known : Known) (x : Name) → is_among x (map (λ k. k.0) known) ≡ false → is_known x array known ≡ false
+pub not_there : (array : Bool) (known : Known) (x : Name) → is_among x (map (λ k. k.0) known) ≡ false →
+    is_known x array known ≡ false
 not_there array [] x h = refl
 not_there array (k ∷ ks) x h = go (same_name x k.0) h (λ g. not_there array ks x g)
   where
-    go : (b : Bool) → (if b then true else is_among x (map (λ k. k.0) ks)) ≡ false → (is_among x (map (λ k. k.0) ks) ≡ false → is_known x array ks ≡ false) →
+    go : (b : Bool) → (if b then true else is_among x (map (λ k. k.0) ks)) ≡ false →
+        (is_among x (map (λ k. k.0) ks) ≡ false → is_known x array ks ≡ false) →
         (if b then (if array then k.1 else not k.1) else is_known x array ks) ≡ false
     go true g more = absurd cc
     go false g more = more g
@@ -32,7 +34,8 @@ pub not_both : (known : Known) (x : Name) → is_int known x ≡ true → is_arr
 not_both [] x h = absurd cc
 not_both (k ∷ ks) x h = go (same_name x k.0) k.1 h (λ g. not_both ks x g)
   where
-    go : (b array : Bool) → (if b then not array else is_int ks x) ≡ true → (is_int ks x ≡ true → is_array ks x ≡ false) → (if b then array else is_array ks x) ≡ false
+    go : (b array : Bool) → (if b then not array else is_int ks x) ≡ true →
+        (is_int ks x ≡ true → is_array ks x ≡ false) → (if b then array else is_array ks x) ≡ false
     go true array g more = not_true array g
     go false array g more = more g
 
@@ -40,7 +43,8 @@ not_both (k ∷ ks) x h = go (same_name x k.0) k.1 h (λ g. not_both ks x g)
 pub data Adds (s : Stmt) : Type 0 where
   an_int : (x : Name) (e : Expr) → s ≡ Declare x e → Adds s
   an_array : (a : Name) (e : Expr) → s ≡ DeclareArray a e → Adds s
-  nothing : ((known : Known) → declares s known ≡ known) → new_integers s ≡ [] → new_arrays s ≡ [] → ((owners : List Name) → known_after owners s ≡ owners) → Adds s
+  nothing : ((known : Known) → declares s known ≡ known) → new_integers s ≡ [] → new_arrays s ≡ [] →
+      ((owners : List Name) → known_after owners s ≡ owners) → Adds s
 
 pub adds : (s : Stmt) → Adds s
 adds (Declare x e) = an_int x e refl
@@ -63,14 +67,16 @@ adds (Print e) = nothing (λ k. refl) refl refl (λ o. refl)
 adds (Return e) = nothing (λ k. refl) refl refl (λ o. refl)
 
 -- the newest name is known
-pub known_more : (x y : Name) (owners : List Name) (i a : Bool) → is_among x owners ≡ (i || a) → is_among x (y ∷ owners) ≡ ((if same_name x y then true else i) || (if same_name x y then false else a))
+pub known_more : (x y : Name) (owners : List Name) (i a : Bool) → is_among x owners ≡ (i || a) →
+    is_among x (y ∷ owners) ≡ ((if same_name x y then true else i) || (if same_name x y then false else a))
 known_more x y owners i a h = go (same_name x y)
   where
     go : (s : Bool) → (if s then true else is_among x owners) ≡ ((if s then true else i) || (if s then false else a))
     go true = refl
     go false = h
 
-pub known_array_more : (x y : Name) (owners : List Name) (i a : Bool) → is_among x owners ≡ (i || a) → is_among x (y ∷ owners) ≡ ((if same_name x y then false else i) || (if same_name x y then true else a))
+pub known_array_more : (x y : Name) (owners : List Name) (i a : Bool) → is_among x owners ≡ (i || a) →
+    is_among x (y ∷ owners) ≡ ((if same_name x y then false else i) || (if same_name x y then true else a))
 known_array_more x y owners i a h = go (same_name x y)
   where
     go : (s : Bool) → (if s then true else is_among x owners) ≡ ((if s then false else i) || (if s then true else a))

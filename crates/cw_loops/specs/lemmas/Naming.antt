@@ -13,7 +13,8 @@ pub among_join : (x : Name) (xs ys : List Name) → is_among x (xs ++ ys) ≡ (i
 among_join x [] ys = refl
 among_join x (y ∷ xs) ys = go (same_name x y) (among_join x xs ys)
   where
-    go : (b : Bool) → is_among x (xs ++ ys) ≡ (is_among x xs || is_among x ys) → (if b then true else is_among x (xs ++ ys)) ≡ ((if b then true else is_among x xs) || is_among x ys)
+    go : (b : Bool) → is_among x (xs ++ ys) ≡ (is_among x xs || is_among x ys) →
+        (if b then true else is_among x (xs ++ ys)) ≡ ((if b then true else is_among x xs) || is_among x ys)
     go true h = refl
     go false h = h
 
@@ -56,10 +57,12 @@ side x xs ys h = go (is_among x xs) refl (sym (among_join x xs ys) ∙ h)
     go true e o = in_first e
     go false e o = in_second o
 
-pub neither_among : (x : Name) (xs ys : List Name) → is_among x (xs ++ ys) ≡ false → (is_among x xs ≡ false) × (is_among x ys ≡ false)
+pub neither_among : (x : Name) (xs ys : List Name) → is_among x (xs ++ ys) ≡ false →
+    (is_among x xs ≡ false) × (is_among x ys ≡ false)
 neither_among x xs ys h = none_of (is_among x xs) (is_among x ys) (sym (among_join x xs ys) ∙ h)
 
-pub none_among : (x : Name) (xs ys : List Name) → is_among x xs ≡ false → is_among x ys ≡ false → is_among x (xs ++ ys) ≡ false
+pub none_among : (x : Name) (xs ys : List Name) → is_among x xs ≡ false → is_among x ys ≡ false →
+    is_among x (xs ++ ys) ≡ false
 none_among x xs ys h g = among_join x xs ys ∙ ap (λ b. b || is_among x ys) h ∙ g
 
 pub same_turned : (x y : Name) → same_name x y ≡ same_name y x
@@ -72,17 +75,20 @@ same_turned x y = go (same_name x y) (same_name y x) refl refl
     go false true e f = sym e ∙ ap (λ z. same_name x z) (same_are y x f) ∙ same_itself x
 
 -- one name more at the end
-pub pushed : (x y : Name) (xs : List Name) (b : Bool) → b ≡ is_among x xs → (if same_name x y then true else b) ≡ is_among x (xs ++ y ∷ [])
+pub pushed : (x y : Name) (xs : List Name) (b : Bool) → b ≡ is_among x xs →
+    (if same_name x y then true else b) ≡ is_among x (xs ++ y ∷ [])
 pushed x y xs b h = go (same_name x y) refl (is_among x xs) refl ∙ sym (among_join x xs (y ∷ []))
   where
-    go : (s : Bool) → same_name x y ≡ s → (m : Bool) → is_among x xs ≡ m → (if s then true else b) ≡ (is_among x xs || (if s then true else false))
+    go : (s : Bool) → same_name x y ≡ s → (m : Bool) → is_among x xs ≡ m →
+        (if s then true else b) ≡ (is_among x xs || (if s then true else false))
     go true e true o = sym (ap (λ z. z || true) o)
     go true e false o = sym (ap (λ z. z || true) o)
     go false e true o = h ∙ o ∙ sym (ap (λ z. z || false) o)
     go false e false o = h ∙ o ∙ sym (ap (λ z. z || false) o)
 
 -- a name that is new is of the other kind only where it was
-pub passed : (x y : Name) (xs : List Name) (b : Bool) → b ≡ is_among x xs → is_among y xs ≡ false → (if same_name x y then false else b) ≡ is_among x xs
+pub passed : (x y : Name) (xs : List Name) (b : Bool) → b ≡ is_among x xs → is_among y xs ≡ false →
+    (if same_name x y then false else b) ≡ is_among x xs
 passed x y xs b h n = go (same_name x y) refl
   where
     go : (s : Bool) → same_name x y ≡ s → (if s then false else b) ≡ is_among x xs
@@ -95,42 +101,52 @@ pub each_of : (f : Name → Bool) (xs : List Name) → list_all f xs ≡ true �
 each_of f [] h x o = absurd cc
 each_of f (y ∷ xs) h x o = by (both_true (f y) (list_all f xs) h) (placed x y xs o) (λ g more. each_of f xs g x more)
   where
-    by : (f y ≡ true) × (list_all f xs ≡ true) → Placed x y xs → (list_all f xs ≡ true → is_among x xs ≡ true → f x ≡ true) → f x ≡ true
+    by : (f y ≡ true) × (list_all f xs ≡ true) → Placed x y xs →
+        (list_all f xs ≡ true → is_among x xs ≡ true → f x ≡ true) → f x ≡ true
     by n (at_front same) more = ap f same ∙ n.0
     by n (after_it other o) more = more n.1 o
 
-pub none_any : (f : Name → Bool) (xs : List Name) → list_any f xs ≡ false → (x : Name) → is_among x xs ≡ true → f x ≡ false
+pub none_any : (f : Name → Bool) (xs : List Name) → list_any f xs ≡ false → (x : Name) → is_among x xs ≡ true →
+    f x ≡ false
 none_any f [] h x o = absurd cc
 none_any f (y ∷ xs) h x o = by (none_of (f y) (list_any f xs) h) (placed x y xs o) (λ g more. none_any f xs g x more)
   where
-    by : (f y ≡ false) × (list_any f xs ≡ false) → Placed x y xs → (list_any f xs ≡ false → is_among x xs ≡ true → f x ≡ false) → f x ≡ false
+    by : (f y ≡ false) × (list_any f xs ≡ false) → Placed x y xs →
+        (list_any f xs ≡ false → is_among x xs ≡ true → f x ≡ false) → f x ≡ false
     by n (at_front same) more = ap f same ∙ n.0
     by n (after_it other o) more = more n.1 o
 
 -- names that are not known yet
 
-pub new_are_there : (x : Name) (xs known : List Name) → is_among x (new_names xs known) ≡ true → (is_among x xs ≡ true) × (is_among x known ≡ false)
+pub new_are_there : (x : Name) (xs known : List Name) → is_among x (new_names xs known) ≡ true →
+    (is_among x xs ≡ true) × (is_among x known ≡ false)
 new_are_there x [] known h = absurd cc
 new_are_there x (y ∷ xs) known h = go (is_among y known) refl h (λ k o. new_are_there x xs k o)
   where
-    go : (b : Bool) → is_among y known ≡ b → is_among x (if b then new_names xs known else y ∷ new_names xs (y ∷ known)) ≡ true →
-        ((k : List Name) → is_among x (new_names xs k) ≡ true → (is_among x xs ≡ true) × (is_among x k ≡ false)) → (is_among x (y ∷ xs) ≡ true) × (is_among x known ≡ false)
+    go : (b : Bool) → is_among y known ≡ b →
+        is_among x (if b then new_names xs known else y ∷ new_names xs (y ∷ known)) ≡ true →
+        ((k : List Name) → is_among x (new_names xs k) ≡ true → (is_among x xs ≡ true) × (is_among x k ≡ false)) →
+        (is_among x (y ∷ xs) ≡ true) × (is_among x known ≡ false)
     go true e o more = let m = more known o in (later_among x y xs m.0, m.1)
     go false e o more = by (placed x y (new_names xs (y ∷ known)) o)
       where
         by : Placed x y (new_names xs (y ∷ known)) → (is_among x (y ∷ xs) ≡ true) × (is_among x known ≡ false)
-        by (at_front same) = (ap (λ z. is_among z (y ∷ xs)) same ∙ front_among y xs, ap (λ z. is_among z known) same ∙ e)
+        by (at_front same) =
+            (ap (λ z. is_among z (y ∷ xs)) same ∙ front_among y xs, ap (λ z. is_among z known) same ∙ e)
         by (after_it other p) = let m = more (y ∷ known) p in (later_among x y xs m.0, not_later x y known m.1)
 
-pub new_are_all : (x : Name) (xs known : List Name) → is_among x xs ≡ true → is_among x known ≡ false → is_among x (new_names xs known) ≡ true
+pub new_are_all : (x : Name) (xs known : List Name) → is_among x xs ≡ true → is_among x known ≡ false →
+    is_among x (new_names xs known) ≡ true
 new_are_all x [] known h n = absurd cc
 new_are_all x (y ∷ xs) known h n = go (is_among y known) refl (placed x y xs h) (λ k o m. new_are_all x xs k o m)
   where
-    go : (b : Bool) → is_among y known ≡ b → Placed x y xs → ((k : List Name) → is_among x xs ≡ true → is_among x k ≡ false → is_among x (new_names xs k) ≡ true) →
+    go : (b : Bool) → is_among y known ≡ b → Placed x y xs →
+        ((k : List Name) → is_among x xs ≡ true → is_among x k ≡ false → is_among x (new_names xs k) ≡ true) →
         is_among x (if b then new_names xs known else y ∷ new_names xs (y ∷ known)) ≡ true
     go true e (at_front same) more = never (is_among y known) e (ap (λ z. is_among z known) (sym same) ∙ n)
     go true e (after_it other o) more = more known o n
-    go false e (at_front same) more = ap (λ z. is_among z (y ∷ new_names xs (y ∷ known))) same ∙ front_among y (new_names xs (y ∷ known))
+    go false e (at_front same) more =
+        ap (λ z. is_among z (y ∷ new_names xs (y ∷ known))) same ∙ front_among y (new_names xs (y ∷ known))
     go false e (after_it other o) more = later_among x y (new_names xs (y ∷ known)) (more (y ∷ known) o (ap (λ b. if b then true else is_among x known) other ∙ n))
 
 pub new_differ : (xs known : List Name) → differ (new_names xs known) ≡ true
@@ -140,6 +156,7 @@ new_differ (y ∷ xs) known = go (is_among y known) (λ k. new_differ xs k)
     fresh : is_among y (new_names xs (y ∷ known)) ≡ false
     fresh = refuted (is_among y (new_names xs (y ∷ known))) (λ o. never (is_among y (y ∷ known)) (front_among y known) (new_are_there y xs (y ∷ known) o).1)
 
-    go : (b : Bool) → ((k : List Name) → differ (new_names xs k) ≡ true) → differ (if b then new_names xs known else y ∷ new_names xs (y ∷ known)) ≡ true
+    go : (b : Bool) → ((k : List Name) → differ (new_names xs k) ≡ true) →
+        differ (if b then new_names xs known else y ∷ new_names xs (y ∷ known)) ≡ true
     go true more = more known
     go false more = all_of (not (is_among y (new_names xs (y ∷ known)))) (differ (new_names xs (y ∷ known))) (ap not fresh) (more (y ∷ known))

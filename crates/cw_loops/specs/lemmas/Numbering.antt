@@ -34,7 +34,8 @@ mutual
   made_stmt (If e b) line k = made_block b k
   made_stmt (IfElse e b c) line k = both_made k (loop_count_in b) (loop_count_in c) (made_in k b) (made_in (k + loop_count_in b) c) (made_block b k) (made_block c (k + loop_count_in b))
   made_stmt (While e b) line k = made_block b k
-  made_stmt (For x y z from to grain over b) line k = both_made k (loop_count_in b) 1 (made_in k b) _ (made_block b k) (record { many = refl; numbered = (refl, tt) })
+  made_stmt (For x y z from to grain over b) line k =
+      both_made k (loop_count_in b) 1 (made_in k b) _ (made_block b k) (record { many = refl; numbered = (refl, tt) })
   made_stmt (Scope b) line k = made_block b k
   made_stmt (Cut a e l r b) line k = made_block b k
   made_stmt (Region tag b) line k = made_block b k

@@ -30,7 +30,8 @@ pub record Seen (around : Around) (known : Known) (declared : List Name) (x : Na
   pub plain : is_plain x ≡ true
   pub place : Place around known declared x
 
-pub expr_seen : (known : Known) (e : Expr) → is_source_expr e ≡ true → is_fine known e ≡ true → (x : Name) → is_among x (read_by e) ≡ true → (is_plain x ≡ true) × (is_int known x ≡ true)
+pub expr_seen : (known : Known) (e : Expr) → is_source_expr e ≡ true → is_fine known e ≡ true → (x : Name) →
+    is_among x (read_by e) ≡ true → (is_plain x ≡ true) × (is_int known x ≡ true)
 expr_seen known (Number n) source fine x o = absurd cc
 expr_seen known (Variable y) source fine x o = go (placed x y [] o)
   where
@@ -46,7 +47,10 @@ expr_seen known (Binary operator d e) source fine x o =
     let f = both_true (is_fine known d) (is_fine known e) fine in
     go (side x (read_by d) (read_by e) o) (expr_seen known d s.0 f.0 x) (expr_seen known e s.1 f.1 x)
   where
-    go : Side x (read_by d) (read_by e) → (is_among x (read_by d) ≡ true → (is_plain x ≡ true) × (is_int known x ≡ true)) → (is_among x (read_by e) ≡ true → (is_plain x ≡ true) × (is_int known x ≡ true)) → (is_plain x ≡ true) × (is_int known x ≡ true)
+    go : Side x (read_by d) (read_by e) →
+        (is_among x (read_by d) ≡ true → (is_plain x ≡ true) × (is_int known x ≡ true)) →
+        (is_among x (read_by e) ≡ true → (is_plain x ≡ true) × (is_int known x ≡ true)) →
+        (is_plain x ≡ true) × (is_int known x ≡ true)
     go (in_first p) one other = one p
     go (in_second p) one other = other p
 
@@ -55,7 +59,8 @@ pub called_is : (f : Name) (fs : List Function) (g : Function) → called f fs �
 called_is f [] g h = absurd cc
 called_is f (k ∷ fs) g h = go (same_name f k.name) h (λ p. called_is f fs g p)
   where
-    go : (b : Bool) → (if b then Some k else called f fs) ≡ Some g → (called f fs ≡ Some g → function_named f fs ≡ g) → (if b then k else function_named f fs) ≡ g
+    go : (b : Bool) → (if b then Some k else called f fs) ≡ Some g → (called f fs ≡ Some g → function_named f fs ≡ g) →
+        (if b then k else function_named f fs) ≡ g
     go true p more = cc
     go false p more = more p
 
@@ -63,7 +68,8 @@ pub record CallKept (fs : List Function) (known : Known) (target : Option Name) 
   pub target_fine : is_target known (function_named f fs) target ≡ true
   pub arguments : are_arguments known (function_named f fs).params es ≡ true
 
-pub call_kept : (fs : List Function) (known : Known) (target : Option Name) (f : Name) (es : List Expr) → is_call known target (called f fs) es ≡ true → CallKept fs known target f es
+pub call_kept : (fs : List Function) (known : Known) (target : Option Name) (f : Name) (es : List Expr) →
+    is_call known target (called f fs) es ≡ true → CallKept fs known target f es
 call_kept fs known target f es h = go (called f fs) refl h
   where
     go : (o : Option Function) → called f fs ≡ o → is_call known target o es ≡ true → CallKept fs known target f es
@@ -74,7 +80,8 @@ call_kept fs known target f es h = go (called f fs) refl h
         let is = called_is f fs k same in
         record { target_fine = ap (λ w. is_target known w target) is ∙ q.0; arguments = ap (λ w. are_arguments known w.params es) is ∙ q.1 }
 
-pub inner_names : (around : Around) (xs : List Name) → are_inner around xs ≡ true → (x : Name) → is_among x xs ≡ true → is_outer around x ≡ false
+pub inner_names : (around : Around) (xs : List Name) → are_inner around xs ≡ true → (x : Name) → is_among x xs ≡ true →
+    is_outer around x ≡ false
 inner_names around xs h = none_any (is_outer around) xs (not_true _ h)
 
 abbrev pub AllInner : Around → List Name → Type 0
@@ -101,10 +108,13 @@ given_kept around taken fs target f es h =
 
 module _ (around : Around) (known : Known) (declared : List Name) where
   -- an expression of integers
-  fine_seen : (e : Expr) → is_source_expr e ≡ true → is_fine known e ≡ true → (x : Name) → is_among x (read_by e) ≡ true → Seen around known declared x
+  fine_seen : (e : Expr) → is_source_expr e ≡ true → is_fine known e ≡ true → (x : Name) →
+      is_among x (read_by e) ≡ true → Seen around known declared x
   fine_seen e source fine x o = let s = expr_seen known e source fine x o in record { plain = s.0; place = integer s.1 }
 
-  argument_seen : (array : Bool) (e : Expr) → is_source_expr e ≡ true → is_argument known array e ≡ true → AllInner around (if array then names_in e else []) → (x : Name) → is_among x (read_by e) ≡ true → Seen around known declared x
+  argument_seen : (array : Bool) (e : Expr) → is_source_expr e ≡ true → is_argument known array e ≡ true →
+      AllInner around (if array then names_in e else []) → (x : Name) → is_among x (read_by e) ≡ true →
+      Seen around known declared x
   argument_seen false e source fine inner' x o = fine_seen e source fine x o
   argument_seen true (Variable y) source fine inner' x o = go (placed x y [] o)
     where
@@ -118,7 +128,9 @@ module _ (around : Around) (known : Known) (declared : List Name) where
   argument_seen true (Not e) source fine inner' x o = absurd cc
   argument_seen true (Binary operator d e) source fine inner' x o = absurd cc
 
-  arguments_seen : (ps : List Param) (es : List Expr) → list_all is_source_expr es ≡ true → are_arguments known ps es ≡ true → AllInner around (arrays_given ps es) → (x : Name) → is_among x (read_by_all es) ≡ true → Seen around known declared x
+  arguments_seen : (ps : List Param) (es : List Expr) → list_all is_source_expr es ≡ true →
+      are_arguments known ps es ≡ true → AllInner around (arrays_given ps es) → (x : Name) →
+      is_among x (read_by_all es) ≡ true → Seen around known declared x
   arguments_seen [] [] source fine inner' x o = absurd cc
   arguments_seen [] (e ∷ es) source fine inner' x o = absurd cc
   arguments_seen (p ∷ ps) [] source fine inner' x o = absurd cc
@@ -129,7 +141,8 @@ module _ (around : Around) (known : Known) (declared : List Name) where
       (argument_seen p.is_array e s.0 f.0 (λ v q. inner' v (among_left v (if p.is_array then names_in e else []) (arrays_given ps es) q)) x)
       (arguments_seen ps es s.1 f.1 (λ v q. inner' v (among_right v (if p.is_array then names_in e else []) (arrays_given ps es) q)) x)
     where
-      go : Side x (read_by e) (read_by_all es) → (is_among x (read_by e) ≡ true → Seen around known declared x) → (is_among x (read_by_all es) ≡ true → Seen around known declared x) → Seen around known declared x
+      go : Side x (read_by e) (read_by_all es) → (is_among x (read_by e) ≡ true → Seen around known declared x) →
+          (is_among x (read_by_all es) ≡ true → Seen around known declared x) → Seen around known declared x
       go (in_first q) one more = one q
       go (in_second q) one more = more q
 
@@ -137,7 +150,8 @@ module _ (around : Around) (known : Known) (declared : List Name) where
 abbrev pub SameKnown : Known → List Name → Type 0
 SameKnown known owners = (x : Name) → is_among x owners ≡ (is_int known x || is_array known x)
 
-pub after_known : (s : Stmt) (known : Known) (owners : List Name) → SameKnown known owners → SameKnown (declares s known) (known_after owners s)
+pub after_known : (s : Stmt) (known : Known) (owners : List Name) → SameKnown known owners →
+    SameKnown (declares s known) (known_after owners s)
 after_known s known owners h = go (adds s)
   where
     go : Adds s → SameKnown (declares s known) (known_after owners s)
@@ -150,11 +164,13 @@ pub data Home (v : Name) (known : Known) (declared : List Name) (x : Name) : Typ
   declared_there : is_among x (v ∷ declared) ≡ true → Home v known declared x
   known_before : is_int known x ≡ true → Home v known declared x
 
-pub home : (v : Name) (known : Known) (owners : List Name) → SameKnown known owners → (over declared : List Name) (x : Name) →
+pub home : (v : Name) (known : Known) (owners : List Name) → SameKnown known owners →
+    (over declared : List Name) (x : Name) →
     Place (InLoop (v ∷ owners) v over) ((v, false) ∷ known) declared x → Home v known declared x
 home v known owners same over declared x s = by s
   where
-    of_array : (r : Bool) → same_name x v ≡ r → (if r then false else is_array known x) ≡ true → is_among x (v ∷ owners) ≡ false → Home v known declared x
+    of_array : (r : Bool) → same_name x v ≡ r → (if r then false else is_array known x) ≡ true →
+        is_among x (v ∷ owners) ≡ false → Home v known declared x
     of_array true e p out = absurd cc
     of_array false e p out = never (is_array known x) p (none_of (is_int known x) (is_array known x) (sym (same x) ∙ ap (λ r. if r then true else is_among x owners) (sym e) ∙ out)).1
 
@@ -169,7 +185,9 @@ home v known owners same over declared x s = by s
 
 -- a name read in a block, as seen from before it
 
-seen_more : (around : Around) (known : Known) (declared declared' : List Name) (x : Name) → (is_among x declared ≡ true → is_among x declared' ≡ true) → Seen around known declared x → Seen around known declared' x
+seen_more : (around : Around) (known : Known) (declared declared' : List Name) (x : Name) →
+    (is_among x declared ≡ true → is_among x declared' ≡ true) → Seen around known declared x →
+    Seen around known declared' x
 seen_more around known declared declared' x h s = record { plain = s.plain; place = go s.place }
   where
     go : Place around known declared x → Place around known declared' x
@@ -185,11 +203,13 @@ seen_before around known y kind declared declared' x h here s = record { plain =
     named : same_name x y ≡ true → Place around known declared' x
     named e = inner (ap (λ z. is_among z declared') (same_are x y e) ∙ here)
 
-    of_int : (b k : Bool) → same_name x y ≡ b → (if b then not k else is_int known x) ≡ true → Place around known declared' x
+    of_int : (b k : Bool) → same_name x y ≡ b → (if b then not k else is_int known x) ≡ true →
+        Place around known declared' x
     of_int true k e o = named e
     of_int false k e o = integer o
 
-    of_array : (b k : Bool) → same_name x y ≡ b → (if b then k else is_array known x) ≡ true → is_outer around x ≡ false → Place around known declared' x
+    of_array : (b k : Bool) → same_name x y ≡ b → (if b then k else is_array known x) ≡ true →
+        is_outer around x ≡ false → Place around known declared' x
     of_array true k e o out = named e
     of_array false k e o out = array o out
 
@@ -207,7 +227,8 @@ module _ (program : Program) (fs : List Function) (fs_is : program.functions ≡
   BlockSeen b = (returns : Returns) (known : Known) (owners : List Name) (around : Around) → SameKnown known owners → (depth : ℕ) (closing : Closing) (taken : Taken) (declared : Declared) → is_source_block b ≡ true →
       faults_in_block program returns known b ≡ [] → owner_faults_in fs around owners depth closing taken declared b ≡ [] → (x : Name) → is_among x (read_in_block b) ≡ true → Seen around known (declared_in_block b) x
 
-  call_seen : (kind : CallKind) (site : ℕ) (target : Option Name) (f : Name) (es : List Expr) → StmtSeen (Call kind site target f es)
+  call_seen : (kind : CallKind) (site : ℕ) (target : Option Name) (f : Name) (es : List Expr) →
+      StmtSeen (Call kind site target f es)
   call_seen kind site target f es returns known owners around same depth line taken source types owns x o =
       let s = both_true (is_source_target target) _ source in
       let t = both_true (is_plain f) (list_all is_source_expr es) s.1 in
@@ -215,7 +236,8 @@ module _ (program : Program) (fs : List Function) (fs_is : program.functions ≡
       let g = given_kept around taken fs target f es (kept _ line owns) in
       arguments_seen around known [] (function_named f fs).params es t.1 k.arguments g.arrays x o
 
-  tested_seen : (e : Expr) (b : Block) (returns : Returns) (known : Known) (around : Around) → is_source_expr e ≡ true → is_fine known e ≡ true → (x : Name) →
+  tested_seen : (e : Expr) (b : Block) (returns : Returns) (known : Known) (around : Around) → is_source_expr e ≡ true →
+      is_fine known e ≡ true → (x : Name) →
       (is_among x (read_in_block b) ≡ true → Seen around known (declared_in_block b) x) → is_among x (read_by e ++ read_in_block b) ≡ true → Seen around known (declared_in_block b) x
   tested_seen e b returns known around source fine x more o = go (side x (read_by e) (read_in_block b) o)
     where
@@ -223,7 +245,9 @@ module _ (program : Program) (fs : List Function) (fs_is : program.functions ≡
       go (in_first p) = fine_seen around known (declared_in_block b) e source fine x p
       go (in_second p) = more p
 
-  element_seen : (known : Known) (around : Around) (i e : Expr) → is_source_expr i ≡ true → is_source_expr e ≡ true → is_fine known i ≡ true → is_fine known e ≡ true → (x : Name) → is_among x (read_by i ++ read_by e) ≡ true → Seen around known [] x
+  element_seen : (known : Known) (around : Around) (i e : Expr) → is_source_expr i ≡ true → is_source_expr e ≡ true →
+      is_fine known i ≡ true → is_fine known e ≡ true → (x : Name) → is_among x (read_by i ++ read_by e) ≡ true →
+      Seen around known [] x
   element_seen known around i e si se fi fe x o = go (side x (read_by i) (read_by e) o)
     where
       go : Side x (read_by i) (read_by e) → Seen around known [] x
@@ -231,7 +255,8 @@ module _ (program : Program) (fs : List Function) (fs_is : program.functions ≡
       go (in_second p) = fine_seen around known [] e se fe x p
 
   choice_seen : (e : Expr) (b d : Block) → BlockSeen b → BlockSeen d → StmtSeen (IfElse e b d)
-  choice_seen e b d one other returns known owners around same depth line taken source types owns x o = go (side x (read_by e) (read_in_block b ++ read_in_block d) o)
+  choice_seen e b d one other returns known owners around same depth line taken source types owns x o =
+      go (side x (read_by e) (read_in_block b ++ read_in_block d) o)
     where
       s1 : (is_source_expr e ≡ true) × ((is_source_block b && is_source_block d) ≡ true)
       s1 = both_true (is_source_expr e) _ source
@@ -256,13 +281,16 @@ module _ (program : Program) (fs : List Function) (fs_is : program.functions ≡
       go (in_first p) = fine_seen around known declared e s1.0 (kept _ line (left_none _ _ types)) x p
       go (in_second p) = branch (side x (read_in_block b) (read_in_block d) p)
 
-  for_seen : (v y z : Name) (from to : Expr) (grain : ℕ) (over : List Name) (b : Block) → BlockSeen b → StmtSeen (For v y z from to grain over b)
-  for_seen v y z from to grain over b more returns known owners around same depth line taken source types owns x o = go (side x (read_by from) (read_by to ++ read_in_block b) o)
+  for_seen : (v y z : Name) (from to : Expr) (grain : ℕ) (over : List Name) (b : Block) → BlockSeen b →
+      StmtSeen (For v y z from to grain over b)
+  for_seen v y z from to grain over b more returns known owners around same depth line taken source types owns x o =
+      go (side x (read_by from) (read_by to ++ read_in_block b) o)
     where
       head : HeadKept program known v from to grain over
       head = head_kept program known v y z from to grain over (kept _ line (left_none (unless (is_head_of_loop program known v y z from to grain over) line) _ types))
 
-      s1 : (is_plain v ≡ true) × ((is_source_expr from && (is_source_expr to && (list_all is_plain over && is_source_block b))) ≡ true)
+      s1 : (is_plain v ≡ true) ×
+          ((is_source_expr from && (is_source_expr to && (list_all is_plain over && is_source_block b))) ≡ true)
       s1 = both_true (is_plain v) _ source
 
       s2 : (is_source_expr from ≡ true) × ((is_source_expr to && (list_all is_plain over && is_source_block b)) ≡ true)
@@ -301,7 +329,8 @@ module _ (program : Program) (fs : List Function) (fs_is : program.functions ≡
       go (in_second p) = late (side x (read_by to) (read_in_block b) p)
 
   cut_seen : (a : Name) (e : Expr) (l r : Name) (b : Block) → BlockSeen b → StmtSeen (Cut a e l r b)
-  cut_seen a e l r b more returns known owners around same depth line taken source types owns x o = go (side x (read_by e) (read_in_block b) o)
+  cut_seen a e l r b more returns known owners around same depth line taken source types owns x o =
+      go (side x (read_by e) (read_in_block b) o)
     where
       k : CutKept program known a e l r
       k = cut_kept program known a e l r (kept _ line (left_none _ _ types))
@@ -329,7 +358,8 @@ module _ (program : Program) (fs : List Function) (fs_is : program.functions ≡
           (more Nowhere ((r, true) ∷ (l, true) ∷ known) (r ∷ l ∷ owners) around inside_known (depth + 1) Joins ((a, CutOf) ∷ taken) [] s3.1 (right_none _ _ types) (right_none _ _ owns) x p))
 
   -- a statement before others
-  later_seen : (s : Stmt) (known : Known) (around : Around) (rest : List Name) (x : Name) → Seen around (declares s known) rest x → Seen around known (declared_in s ++ rest) x
+  later_seen : (s : Stmt) (known : Known) (around : Around) (rest : List Name) (x : Name) →
+      Seen around (declares s known) rest x → Seen around known (declared_in s ++ rest) x
   later_seen s known around rest x h = go (adds s)
     where
       go : Adds s → Seen around known (declared_in s ++ rest) x
@@ -340,7 +370,8 @@ module _ (program : Program) (fs : List Function) (fs_is : program.functions ≡
       go (nothing same ints arrays owners_same) = seen_more around known rest (declared_in s ++ rest) x (among_right x (declared_in s) rest) (subst (λ k. Seen around k rest x) (same known) h)
 
   then_seen : (line : ℕ) (s : Stmt) (b : Block) → StmtSeen s → BlockSeen b → BlockSeen (Then line s b)
-  then_seen line s b here more returns known owners around same depth closing taken declared source types owns x o = go (side x (read_in s) (read_in_block b) o)
+  then_seen line s b here more returns known owners around same depth closing taken declared source types owns x o =
+      go (side x (read_in s) (read_in_block b) o)
     where
       both : (is_source_stmt s ≡ true) × (is_source_block b ≡ true)
       both = both_true (is_source_stmt s) (is_source_block b) source
@@ -351,7 +382,8 @@ module _ (program : Program) (fs : List Function) (fs_is : program.functions ≡
           (more returns (declares s known) (known_after owners s) around (after_known s known owners same) depth closing (taken_after fs depth s taken) (declared_by line s declared) both.1
           (right_none (unless (not (surely_returns s) || ends_block b) line) _ (right_none (faults_in program returns known line s) _ types)) (right_none _ _ owns) x p)
 
-  returned_seen : (e : Expr) (returns : Returns) (known : Known) → may_return returns known (Some e) ≡ true → is_fine known e ≡ true
+  returned_seen : (e : Expr) (returns : Returns) (known : Known) → may_return returns known (Some e) ≡ true →
+      is_fine known e ≡ true
   returned_seen e WithInt known h = h
   returned_seen e Alone known h = absurd cc
   returned_seen e Nowhere known h = absurd cc
@@ -370,9 +402,11 @@ module _ (program : Program) (fs : List Function) (fs_is : program.functions ≡
         element_seen known around i e s.0 s.1 (both_true (is_array known a) (is_fine known i) f.0).1 f.1 x o
     stmt_seen (AddTo r e) returns known owners around same depth line taken source types owns x o =
         fine_seen around known [] e (both_true (is_plain r) (is_source_expr e) source).1 (both_true (is_reducer program r) (is_fine known e) (kept _ line types)).1 x o
-    stmt_seen (Call kind site target f es) returns known owners around same depth line taken source types owns x o = call_seen kind site target f es returns known owners around same depth line taken source types owns x o
+    stmt_seen (Call kind site target f es) returns known owners around same depth line taken source types owns x o =
+        call_seen kind site target f es returns known owners around same depth line taken source types owns x o
     stmt_seen (Start kind f es) returns known owners around same depth line taken source types owns x o = absurd cc
-    stmt_seen (Begin f from to captured over) returns known owners around same depth line taken source types owns x o = absurd cc
+    stmt_seen (Begin f from to captured over) returns known owners around same depth line taken source types owns x o =
+        absurd cc
     stmt_seen Sync returns known owners around same depth line taken source types owns x o = absurd cc
     stmt_seen (If e b) returns known owners around same depth line taken source types owns x o =
         let s = both_true (is_source_expr e) (is_source_block b) source in
@@ -383,12 +417,17 @@ module _ (program : Program) (fs : List Function) (fs_is : program.functions ≡
         tested_seen e b returns known around s.0 (kept _ line (left_none _ _ types)) x
         (block_seen b returns known owners around same depth Leaves (taken_after fs depth (While e b) taken) [] s.1 (right_none _ _ types) (right_none _ _ owns) x) o
     stmt_seen (For v y z from to grain over b) returns known owners around same depth line taken source types owns x o = for_seen v y z from to grain over b (block_seen b) returns known owners around same depth line taken source types owns x o
-    stmt_seen (Scope b) returns known owners around same depth line taken source types owns x o = block_seen b Nowhere known owners around same (depth + 1) Joins taken [] source types owns x o
-    stmt_seen (Cut a e l r b) returns known owners around same depth line taken source types owns x o = cut_seen a e l r b (block_seen b) returns known owners around same depth line taken source types owns x o
-    stmt_seen (Region tag b) returns known owners around same depth line taken source types owns x o = block_seen b Nowhere known owners around same (depth + 1) Joins taken [] source types owns x o
-    stmt_seen (Print e) returns known owners around same depth line taken source types owns x o = fine_seen around known [] e source (kept _ line types) x o
+    stmt_seen (Scope b) returns known owners around same depth line taken source types owns x o =
+        block_seen b Nowhere known owners around same (depth + 1) Joins taken [] source types owns x o
+    stmt_seen (Cut a e l r b) returns known owners around same depth line taken source types owns x o =
+        cut_seen a e l r b (block_seen b) returns known owners around same depth line taken source types owns x o
+    stmt_seen (Region tag b) returns known owners around same depth line taken source types owns x o =
+        block_seen b Nowhere known owners around same (depth + 1) Joins taken [] source types owns x o
+    stmt_seen (Print e) returns known owners around same depth line taken source types owns x o =
+        fine_seen around known [] e source (kept _ line types) x o
     stmt_seen (Return None) returns known owners around same depth line taken source types owns x o = absurd cc
-    stmt_seen (Return (Some e)) returns known owners around same depth line taken source types owns x o = fine_seen around known [] e source (returned_seen e returns known (kept _ line types)) x o
+    stmt_seen (Return (Some e)) returns known owners around same depth line taken source types owns x o =
+        fine_seen around known [] e source (returned_seen e returns known (kept _ line types)) x o
 
     pub block_seen : (b : Block) → BlockSeen b
     block_seen End returns known owners around same depth closing taken declared source types owns x o = absurd cc
