@@ -34,4 +34,5 @@ CutsRise = (text : List ℕ) (ts : List Token) → IsTokenCut text ts → AreRis
 
 -- each token of a cut is a part of the text that is not empty
 abbrev pub CutsAreWithin : Type 0
-CutsAreWithin = (text : List ℕ) (ts : List Token) → IsTokenCut text ts → All (λ t. (t.start < t.end) × (t.end ≤ length text)) ts
+CutsAreWithin =
+    (text : List ℕ) (ts : List Token) → IsTokenCut text ts → All (λ t. (t.start < t.end) × (t.end ≤ length text)) ts
