@@ -14,8 +14,11 @@ use std::alloc::Global;
 /// Two numbers, and how the blocks of the one met those of the other, which came.
 #[derive(Clone, Copy, Debug)]
 pub struct Pair {
+    /// The number of what was there, not 0.
     pub there: u32,
+    /// The number of what came, not 0.
     pub found: u32,
+    /// How their blocks meet.
     pub meeting: Meeting,
 }
 
