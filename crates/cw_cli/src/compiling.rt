@@ -35,10 +35,12 @@ pub fn compile(alloc: Global, bytes: &[u8]) -> Result<Verified, Fault>
     let source = Source::read(alloc, bytes)?;
     let tokens = lex(alloc, &source)?;
     let ast = parse(alloc, &source, tokens.as_slice())?;
+    drop(tokens);
     let typed = check(alloc, ast)?;
     let owned = own(alloc, typed)?;
     let core = lower(alloc, owned)?;
     let code = generate(alloc, &core)?;
+    drop(core);
     let verified = verify(alloc, code)?;
     Ok(verified)
 }

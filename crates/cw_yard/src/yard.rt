@@ -57,7 +57,7 @@ impl Yard {
     }
 
     /// Takes back the job of the newest ticket that was not spent, unless it was stolen: from the end of the deque at
-    /// which it was offered. Takes no memory and waits for nobody.
+    /// which it was offered. Waits for nobody, and takes no memory where each ticket is spent with the seat that it was got with.
     pub fn retake(&self, seat: &mut Seat, ticket: Ticket) -> Retaken
         requires seat { IsSeatOf self.now seat.old }
         requires ticket { IsTicketOf self.now ticket }
@@ -100,7 +100,8 @@ impl Yard {
         handoff::settle(&self.table.shared, duty, effect);
     }
 
-    /// Collects the effect of a job that was stolen, where it has come. Takes no memory and waits for nobody.
+    /// Collects the effect of a job that was stolen, where it has come. Waits for nobody, and takes no memory where each
+    /// ticket is spent with the seat that it was got with.
     pub fn collect(&self, seat: &mut Seat, ticket: Ticket) -> Collected
         requires seat { IsSeatOf self.now seat.old }
         requires ticket { IsTicketOf self.now ticket }
