@@ -1,1 +1,2 @@
 mod Misuse
+mod Walking

@@ -1,17 +1,65 @@
 -- A name that is misused in a part of an expression is misused in the whole.
-use Rattle.std.proofs.Common.{◌≡◌, ◌∷◌, []}
-use Rattle.std.proofs.lemmas.List.Elements.{Contains-append_right}
-use Rattle.cw_model.specs.declared.syntax.Operator.{Operator}
-use Rattle.cw_model.specs.Ownership.{names_in}
-use Rattle.cw_model.specs.Syntax.{Name, Expr, Element, Binary}
-use Rattle.cw_model.specs.Typing.{Known}
-use Rattle.cw_explain.specs.Reasons.{IsMisuseIn}
+use Rattle.std.proofs.Common.{◌≡◌, ◌∷◌, ◌++◌, List, [], refl, arith, ℕ, zero, suc, ◌<◌, length, get_or, flat_map, map, option_map, slice_get, Option, Some, sym, ap, ◌∙◌, true, false}
+use Rattle.std.proofs.lemmas.List.Elements.{Contains-append_left, Contains-append_right}
+use Rattle.cw_model.specs.Ownership.{names_in, target_names}
+use Rattle.cw_model.specs.Syntax.{Expr, Function, Name, Program}
+use Rattle.cw_model.specs.Typing.{called}
+use Rattle.cw_tree.specs.declared.syntax.Param.{Param as CodeParam}
+use Rattle.cw_explain.specs.Parts.{IsBrokenCall, IsBrokenList}
+use Rattle.cw_tree.specs.declared.syntax.Expr.{Expr as CodeExpr}
+use Rattle.cw_tree.specs.SyntaxView.{expr_of, exprs_of, param_of}
+use Rattle.cw_explain.specs.Places.{Declared}
+use Rattle.cw_explain.specs.Reasons.{IsMisuse, IsMisuseIn, IsNotNew, IsNotNewIn, Misused, Taken, Unfitting, Wrong, is_name}
 use Rattle.cw_explain.specs.declared.typing.IllTyped.{IllTyped}
 
-pub in_index : (known : Known) (a : Name) (e f : Expr) (r : IllTyped) → f ≡ Element a e → IsMisuseIn known e r → IsMisuseIn known f r
-in_index known a e f r same h =
-    rw same (record { name = h.name; there = Contains-append_right (a ∷ []) (names_in e) h.name h.there; misused = h.misused })
+pub in_left : (program : Program) (locals : List Declared) (xs ys zs : List Name) (r : IllTyped) → zs ≡ xs ++ ys →
+    IsMisuseIn program locals xs r → IsMisuseIn program locals zs r
+in_left program locals xs ys zs r same h =
+    rw same (record { name = h.name; there = Contains-append_left xs ys h.name h.there; misused = h.misused })
 
-pub in_right : (known : Known) (o : Operator) (d e f : Expr) (r : IllTyped) → f ≡ Binary o d e → IsMisuseIn known e r → IsMisuseIn known f r
-in_right known o d e f r same h =
-    rw same (record { name = h.name; there = Contains-append_right (names_in d) (names_in e) h.name h.there; misused = h.misused })
+pub in_right : (program : Program) (locals : List Declared) (xs ys zs : List Name) (r : IllTyped) → zs ≡ xs ++ ys →
+    IsMisuseIn program locals ys r → IsMisuseIn program locals zs r
+in_right program locals xs ys zs r same h =
+    rw same (record { name = h.name; there = Contains-append_right xs ys h.name h.there; misused = h.misused })
+
+pub in_rest : (program : Program) (locals : List Declared) (x : Name) (ys zs : List Name) (r : IllTyped) → zs ≡ x ∷ ys →
+    IsMisuseIn program locals ys r → IsMisuseIn program locals zs r
+in_rest program locals x ys zs r same h = in_right program locals (x ∷ []) ys zs r same h
+
+pub in_first : (program : Program) (locals : List Declared) (x : Name) (ys zs : List Name) (r : IllTyped) → zs ≡ x ∷ ys →
+    IsMisuse program locals x r → IsMisuseIn program locals zs r
+in_first program locals x ys zs r same h =
+    rw same (record { name = x; there = Contains-append_left (x ∷ []) ys x (0, omega arith, refl); misused = h })
+
+pub not_new_at : (program : Program) (locals : List Declared) (x : Name) (xs ys zs : List Name) (r : IllTyped) → zs ≡ xs ++ (x ∷ ys) →
+    IsNotNew program locals x r → IsNotNewIn program locals zs r
+not_new_at program locals x xs ys zs r same h =
+    rw same (record { name = x; there = Contains-append_right xs (x ∷ ys) x (Contains-append_left (x ∷ []) ys x (0, omega arith, refl)); not_new = h })
+
+pub in_arguments : (program : Program) (locals : List Declared) (es : List CodeExpr) (k : ℕ) (d : CodeExpr) (r : IllTyped) → k < length es →
+    IsMisuseIn program locals (names_in (expr_of (get_or es k d))) r → IsMisuseIn program locals (flat_map names_in (exprs_of es)) r
+in_arguments program locals [] k d r h m = absurd (omega (arith, h))
+in_arguments program locals (e ∷ es) zero d r h m =
+    in_left program locals (names_in (expr_of e)) (flat_map names_in (exprs_of es)) (flat_map names_in (exprs_of (e ∷ es))) r refl m
+in_arguments program locals (e ∷ es) (suc k) d r h m =
+    in_right program locals (names_in (expr_of e)) (flat_map names_in (exprs_of es)) (flat_map names_in (exprs_of (e ∷ es))) r refl
+    (in_arguments program locals es k d r (omega (arith, h)) m)
+
+pub param_at : (ps : List CodeParam) (k : ℕ) (d p : CodeParam) → k < length ps → p ≡ get_or ps k d → p.is_array ≡ true →
+    slice_get (map param_of ps) k ≡ Some (record { name = p.name; is_array = true })
+param_at [] k d p h e a = absurd (omega (arith, h))
+param_at (q ∷ ps) zero d p h e a = rw (sym e) (ap (λ b. Some (record { name = p.name; is_array = b })) a)
+param_at (q ∷ ps) (suc k) d p h e a = param_at ps k d p (omega (arith, h)) e a
+
+pub argument_at : (es : List CodeExpr) (k : ℕ) (d e : CodeExpr) → k < length es → e ≡ get_or es k d → is_name (expr_of e) ≡ false →
+    option_map is_name (slice_get (exprs_of es) k) ≡ Some false
+argument_at [] k d e h same a = absurd (omega (arith, h))
+argument_at (q ∷ es) zero d e h same a = ap Some (ap (λ x. is_name (expr_of x)) (sym same) ∙ a)
+argument_at (q ∷ es) (suc k) d e h same a = argument_at es k d e (omega (arith, h)) same a
+
+pub of_list : (program : Program) (locals : List Declared) (target : Option Name) (callee : Name) (f : Function) (es : List Expr) (r : IllTyped) →
+    called callee program.functions ≡ Some f → IsBrokenList program locals f es r → IsBrokenCall program locals target callee es r
+of_list program locals target callee f es r found (Misused m) =
+    Misused (in_right program locals (target_names target) (flat_map names_in es) (target_names target ++ flat_map names_in es) r refl m)
+of_list program locals target callee f es r found (Taken t) = Taken t
+of_list program locals target callee f es r found (Wrong w) = Wrong (Unfitting f found w)

@@ -1,3 +1,5 @@
 pub mod Lines
 pub mod Names
+pub mod Parts
+pub mod Places
 pub mod Reasons

@@ -1,10 +1,41 @@
 //! The local names that are known at a place, and where each is declared.
 
-ghost use Rattle.std.specs.Prelude.{◌≡◌, ◌∷◌, MatchOption, None, OnOk, Some, is_some, map};
-ghost use Rattle.cw_explain.specs.Names.{IsUnknown, known_as, name_view, names_of};
+ghost use Rattle.std.specs.Prelude.{
+  ◌≡◌,
+  ◌≤◌,
+  Contains,
+  IfOk,
+  IfSome,
+  MatchOption,
+  None,
+  OnOk,
+  Some,
+  [],
+  is_some,
+  length,
+  map,
+};
+ghost use Rattle.cw_explain.specs.Names.{IsUnknown, known_as, local_view, locals_of, names_of};
+ghost use Rattle.cw_explain.specs.Places.{
+  after_stmt,
+  kinds,
+  name_and_line,
+  newest,
+  oldest,
+  with_local,
+  with_params,
+};
 ghost use Rattle.cw_model.specs.Names.{is_among};
 ghost use Rattle.cw_model.specs.Typing.{called, is_reducer};
-ghost use Rattle.cw_tree.specs.SyntaxView.{function_of, program_of, reducer_of};
+ghost use Rattle.cw_model.specs.Typing as rule;
+ghost use Rattle.cw_tree.specs.SyntaxView.{
+  block_of,
+  function_of,
+  param_of,
+  program_of,
+  reducer_of,
+  stmt_of,
+};
 
 use crate::word::Word;
 use cw_tree::syntax::{Ast, Function, Line, Name, Reducer, Stmt};
@@ -26,7 +57,11 @@ pub struct Known<'a> {
 
 impl<'a> Known<'a> {
     /// The parameters of a function, at the line of its head.
-    pub fn of_params(alloc: Global, function: &'a Function) -> Result<Known<'a>, AllocError> {
+    pub fn of_params(alloc: Global, function: &'a Function) -> Result<Known<'a>, AllocError>
+        ensures { IfOk result (λ known.
+            locals_of known
+            ≡ with_params function.now.line (map param_of function.now.params.items) []) }
+    {
         let mut known = Known {
             locals: Vec::new(alloc),
         };
@@ -37,23 +72,25 @@ impl<'a> Known<'a> {
     }
 
     /// How many names are known.
-    pub fn len(&self) -> usize {
+    pub fn len(&self) -> usize
+        ensures { result ≡ length (locals_of self.now) }
+    {
         self.locals.len()
     }
 
     /// Leaves this many, the oldest.
-    pub fn leave(&mut self, count: usize) {
-        let newer = self.locals.len().saturating_sub(count);
-        for _ in 0..newer {
-            if !self.locals.is_empty() {
-                self.locals.remove(0);
-            }
+    pub fn leave(&mut self, count: usize)
+        ensures { locals_of self.new ≡ oldest count (locals_of self.old) }
+    {
+        while self.locals.len() > count {
+            self.locals.remove(0);
         }
     }
 
     /// One name more.
     pub fn add(&mut self, name: &'a Name, is_array: bool, line: u32) -> Result<(), AllocError>
-        ensures { OnOk result (names_of self.new ≡ (name.now, is_array) ∷ names_of self.old) }
+        ensures { OnOk result
+            (locals_of self.new ≡ with_local name.now is_array line (locals_of self.old)) }
     {
         self.locals.insert(
             0,
@@ -67,7 +104,11 @@ impl<'a> Known<'a> {
     }
 
     /// With what a statement of a line declares.
-    pub fn declare(&mut self, line: &'a Line) -> Result<(), AllocError> {
+    pub fn declare(&mut self, line: &'a Line) -> Result<(), AllocError>
+        ensures { OnOk result
+            (locals_of self.new
+            ≡ after_stmt line.now.line (stmt_of line.now.stmt) (locals_of self.old)) }
+    {
         match &line.stmt {
             Stmt::Declare(x, _) => self.add(x, false, line.line),
             Stmt::DeclareArray(a, _) => self.add(a, true, line.line),
@@ -77,8 +118,10 @@ impl<'a> Known<'a> {
 
     /// The newest of this spelling.
     pub fn newest(&self, name: &[u8]) -> Option<Local<'a>>
-        ensures { MatchOption result (IsUnknown name.now (names_of self.now))
+        ensures kinds { MatchOption result (IsUnknown name.now (names_of self.now))
             (λ local. known_as name.now local.is_array (names_of self.now)) }
+        ensures newest { MatchOption result (newest name.now (locals_of self.now) ≡ None)
+            (λ local. newest name.now (locals_of self.now) ≡ Some (local_view local)) }
     {
         newest_of(self.locals.as_slice(), name)
     }
@@ -97,8 +140,10 @@ impl<'a> Known<'a> {
 
 // The first of these names that is spelled so.
 fn newest_of<'a>(locals: &[Local<'a>], name: &[u8]) -> Option<Local<'a>>
-    ensures { MatchOption result (IsUnknown name.now (map name_view locals.now))
-        (λ local. known_as name.now local.is_array (map name_view locals.now)) }
+    ensures kinds { MatchOption result (IsUnknown name.now (kinds (map local_view locals.now)))
+        (λ local. known_as name.now local.is_array (kinds (map local_view locals.now))) }
+    ensures newest { MatchOption result (newest name.now (map local_view locals.now) ≡ None)
+        (λ local. newest name.now (map local_view locals.now) ≡ Some (local_view local)) }
 {
     for local in locals {
         if name == local.name.text {
@@ -111,7 +156,8 @@ fn newest_of<'a>(locals: &[Local<'a>], name: &[u8]) -> Option<Local<'a>>
 /// The first function of a name.
 pub fn function_named<'a>(ast: &'a Ast, name: &[u8]) -> Option<&'a Function>
     ensures { MatchOption result (called name.now (program_of ast.now).functions ≡ None)
-        (λ function. called name.now (program_of ast.now).functions ≡ Some (function_of function.now)) }
+        (λ function.
+        called name.now (program_of ast.now).functions ≡ Some (function_of function.now)) }
 {
     function_among(ast.functions.as_slice(), name)
 }
@@ -119,7 +165,8 @@ pub fn function_named<'a>(ast: &'a Ast, name: &[u8]) -> Option<&'a Function>
 // The first of these functions that has the name.
 fn function_among<'a>(functions: &'a [Function], name: &[u8]) -> Option<&'a Function>
     ensures { MatchOption result (called name.now (map function_of functions.now) ≡ None)
-        (λ function. called name.now (map function_of functions.now) ≡ Some (function_of function.now)) }
+        (λ function.
+        called name.now (map function_of functions.now) ≡ Some (function_of function.now)) }
 {
     for function in functions {
         if name == function.name.as_bytes() {
@@ -131,14 +178,21 @@ fn function_among<'a>(functions: &'a [Function], name: &[u8]) -> Option<&'a Func
 
 /// The first reducer of a name.
 pub fn reducer_named<'a>(ast: &'a Ast, name: &[u8]) -> Option<&'a Reducer>
-    ensures { is_some result ≡ is_reducer (program_of ast.now) name.now }
+    ensures there { is_some result ≡ is_reducer (program_of ast.now) name.now }
+    ensures of_line { IfSome result (λ reducer.
+        Contains (map name_and_line (program_of ast.now).reducers)
+        (name.now, reducer.now.line)) }
 {
     reducer_among(ast.reducers.as_slice(), name)
 }
 
 // The first of these reducers that has the name.
 fn reducer_among<'a>(reducers: &'a [Reducer], name: &[u8]) -> Option<&'a Reducer>
-    ensures { is_some result ≡ is_among name.now (map (λ r. r.name) (map reducer_of reducers.now)) }
+    ensures there { is_some result
+        ≡ is_among name.now (map (λ r. r.name) (map reducer_of reducers.now)) }
+    ensures of_line { IfSome result (λ reducer.
+        Contains (map name_and_line (map reducer_of reducers.now))
+        (name.now, reducer.now.line)) }
 {
     for reducer in reducers {
         if name == reducer.name.as_bytes() {
@@ -150,7 +204,9 @@ fn reducer_among<'a>(reducers: &'a [Reducer], name: &[u8]) -> Option<&'a Reducer
 
 /// Whether a statement is a return, or an if with two branches that surely return.
 #[cycle(returning)]
-pub fn surely_returns(stmt: &Stmt) -> bool {
+pub fn surely_returns(stmt: &Stmt) -> bool
+    ensures { result ≡ rule.surely_returns (stmt_of stmt.now) }
+{
     match stmt {
         Stmt::Return(_) => true,
         Stmt::IfElse(_, b, c) => {
@@ -158,13 +214,28 @@ pub fn surely_returns(stmt: &Stmt) -> bool {
             let second = block_returns(c);
             first && second
         }
-        _ => false,
+        Stmt::Declare(_, _)
+        | Stmt::DeclareArray(_, _)
+        | Stmt::Assign(_, _)
+        | Stmt::AssignElement(_, _, _)
+        | Stmt::AddTo(_, _)
+        | Stmt::Call(_)
+        | Stmt::Sync
+        | Stmt::If(_, _)
+        | Stmt::While(_, _)
+        | Stmt::For(_, _)
+        | Stmt::Scope(_)
+        | Stmt::Cut(_, _)
+        | Stmt::Region(_, _)
+        | Stmt::Print(_) => false,
     }
 }
 
 /// Whether the last statement of a block is such.
 #[cycle(returning)]
-pub fn block_returns(lines: &[Line]) -> bool {
+pub fn block_returns(lines: &[Line]) -> bool
+    ensures { result ≡ rule.block_returns (block_of lines.now) }
+{
     if lines.is_empty() {
         return false;
     }

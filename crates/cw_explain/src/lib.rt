@@ -8,6 +8,7 @@ mod limits;
 mod owning;
 mod reading;
 mod rules;
+mod statements;
 mod taken;
 mod traps;
 mod typing;

@@ -1,35 +1,18 @@
 //! Which rule of names and types a line breaks.
 
-ghost use Rattle.std.specs.Prelude.{◌≡◌, MatchOption, true};
-ghost use Rattle.cw_explain.specs.Names.{IsUnknown, names_of};
-ghost use Rattle.cw_explain.specs.Reasons.{IsMisuse, IsMisuseIn, IsNoReducer};
-ghost use Rattle.cw_model.specs.Typing as rule;
-ghost use Rattle.cw_tree.specs.SyntaxView.{expr_of, program_of};
-
-use crate::known::{Known, block_returns, function_named, reducer_named, surely_returns};
-use crate::typing::{IllTyped, Other};
+use crate::known::{Known, block_returns, function_named, surely_returns};
+use crate::statements::{MAIN, Returns, of_global, of_stmt};
+use crate::typing::IllTyped;
 use crate::word::Word;
-use cw_model::limits::MOST_GRAIN;
-use cw_tree::syntax::{Ast, Call, Cut, Expr, Function, Head, Line, Name, Param, Stmt};
+use cw_tree::syntax::{Ast, Function, Line, Stmt};
 use std::alloc::{AllocError, Global};
-
-// The name of the function that a run begins with.
-const MAIN: &[u8] = b"main";
 
 /// Where a rule is looked for: a program, the line that breaks one, and which returns may stand there.
 #[derive(Clone, Copy)]
 pub struct Place<'a> {
     pub ast: &'a Ast,
     pub line: u32,
-    returns: Returns,
-}
-
-// Which returns may stand in a block.
-#[derive(Clone, Copy)]
-enum Returns {
-    Nowhere,
-    WithInt,
-    Alone,
+    pub returns: Returns,
 }
 
 impl<'a> Place<'a> {
@@ -79,7 +62,8 @@ fn repeated<'a>(ast: &'a Ast, line: u32) -> Option<IllTyped<'a>> {
             }
         }
     }
-    repeated_reducer(ast, line)
+    let reason = repeated_reducer(ast, line)?;
+    Some(reason)
 }
 
 // A reducer of this line whose name an earlier one has.
@@ -120,6 +104,21 @@ fn in_function<'a>(
 
 // A rule that the head of a function breaks.
 fn of_head<'a>(ast: &'a Ast, function: &'a Function) -> Option<IllTyped<'a>> {
+    if let Some(reason) = of_params(ast, function) {
+        return Some(reason);
+    }
+    if function.gives_int && !block_returns(function.body.as_slice()) {
+        return Some(IllTyped::MayNotReturn(Word::of(&function.name)));
+    }
+    if function.name.as_bytes() == MAIN {
+        let reason = of_main(function)?;
+        return Some(reason);
+    }
+    None
+}
+
+// A rule that a parameter of a function breaks.
+fn of_params<'a>(ast: &'a Ast, function: &'a Function) -> Option<IllTyped<'a>> {
     let params = function.params.as_slice();
     for i in 0..params.len() {
         let name = &params[i].name;
@@ -131,12 +130,6 @@ fn of_head<'a>(ast: &'a Ast, function: &'a Function) -> Option<IllTyped<'a>> {
         if let Some(reason) = of_global(ast, name) {
             return Some(reason);
         }
-    }
-    if function.gives_int && !block_returns(function.body.as_slice()) {
-        return Some(IllTyped::MayNotReturn(Word::of(&function.name)));
-    }
-    if function.name.as_bytes() == MAIN {
-        return of_main(function);
     }
     None
 }
@@ -154,17 +147,6 @@ fn of_main(function: &Function) -> Option<IllTyped<'_>> {
     None
 }
 
-// A function or a reducer has the name.
-fn of_global<'a>(ast: &'a Ast, name: &'a Name) -> Option<IllTyped<'a>> {
-    if let Some(function) = function_named(ast, name.as_bytes()) {
-        return Some(IllTyped::Global(Word::of(name), Other::Function, function.line));
-    }
-    if let Some(reducer) = reducer_named(ast, name.as_bytes()) {
-        return Some(IllTyped::Global(Word::of(name), Other::Reducer, reducer.line));
-    }
-    None
-}
-
 // A rule that this line of a block breaks.
 #[cycle(walking)]
 fn in_block<'a>(
@@ -175,13 +157,8 @@ fn in_block<'a>(
     let before = known.len();
     for i in 0..lines.len() {
         let line = &lines[i];
-        if line.line == place.line {
-            if let Some(reason) = of_stmt(place, known, &line.stmt) {
-                return Ok(Some(reason));
-            }
-            if i + 1 < lines.len() && surely_returns(&line.stmt) {
-                return Ok(Some(IllTyped::NeverReached(lines[i + 1].line)));
-            }
+        if let Some(reason) = of_line(place, known, line, &lines[i + 1..]) {
+            return Ok(Some(reason));
         }
         if let Some(reason) = inside(place, known, line)? {
             return Ok(Some(reason));
@@ -190,6 +167,25 @@ fn in_block<'a>(
     }
     known.leave(before);
     Ok(None)
+}
+
+// A rule that a statement of this line breaks, the blocks in it aside, before those that follow it in its block.
+fn of_line<'a>(
+    place: Place<'a>,
+    known: &Known<'a>,
+    line: &'a Line,
+    behind: &'a [Line],
+) -> Option<IllTyped<'a>> {
+    if line.line != place.line {
+        return None;
+    }
+    if let Some(reason) = of_stmt(place.ast, place.returns, known, &line.stmt) {
+        return Some(reason);
+    }
+    if !behind.is_empty() && surely_returns(&line.stmt) {
+        return Some(IllTyped::NeverReached(behind[0].line));
+    }
+    None
 }
 
 // A rule that this line of a block in a statement breaks.
@@ -224,240 +220,5 @@ fn inside<'a>(
             Ok(found)
         }
         _ => Ok(None),
-    }
-}
-
-// A rule that a statement breaks, the blocks in it aside.
-fn of_stmt<'a>(place: Place<'a>, known: &Known<'a>, stmt: &'a Stmt) -> Option<IllTyped<'a>> {
-    match stmt {
-        Stmt::Declare(x, e) | Stmt::DeclareArray(x, e) => {
-            of_expr(place.ast, known, e).or(of_declared(place.ast, known, x))
-        }
-        Stmt::Assign(x, e) => of_use(place.ast, known, x, false).or(of_expr(place.ast, known, e)),
-        Stmt::AssignElement(a, i, e) => of_use(place.ast, known, a, true)
-            .or(of_expr(place.ast, known, i))
-            .or(of_expr(place.ast, known, e)),
-        Stmt::AddTo(s, e) => of_reducer(place.ast, s).or(of_expr(place.ast, known, e)),
-        Stmt::Call(call) => of_call(place.ast, known, call),
-        Stmt::If(e, _) | Stmt::IfElse(e, _, _) | Stmt::While(e, _) | Stmt::Print(e) => {
-            of_expr(place.ast, known, e)
-        }
-        Stmt::For(head, _) => of_loop(place.ast, known, head),
-        Stmt::Cut(cut, _) => of_cut(place.ast, known, cut),
-        Stmt::Return(value) => of_return(place, known, value),
-        Stmt::Sync | Stmt::Scope(_) | Stmt::Region(_, _) => None,
-    }
-}
-
-// A name stands where an integer or an array must, and is none.
-fn of_use<'a>(
-    ast: &'a Ast,
-    known: &Known<'a>,
-    name: &'a Name,
-    wants_array: bool,
-) -> Option<IllTyped<'a>>
-    ensures { MatchOption result (rule.is_known name.now wants_array (names_of known.now) ≡ true)
-        (IsMisuse (names_of known.now) name.now) }
-{
-    match known.newest(name.as_bytes()) {
-        None => Some(of_unknown(ast, name, wants_array)),
-        Some(local) => {
-            if local.is_array == wants_array {
-                return None;
-            }
-            if wants_array {
-                return Some(IllTyped::NotArray(Word::of(name), Other::Integer, local.line));
-            }
-            Some(IllTyped::NotInteger(Word::of(name), Other::Array, local.line))
-        }
-    }
-}
-
-// A name that no local has stands where an integer or an array must.
-fn of_unknown<'a>(ast: &'a Ast, name: &'a Name, wants_array: bool) -> IllTyped<'a>
-    ensures { (known : rule.Known) → IsUnknown name.now known → IsMisuse known name.now result }
-{
-    if let Some(function) = function_named(ast, name.as_bytes()) {
-        return misused(name, wants_array, Other::Function, function.line);
-    }
-    if let Some(reducer) = reducer_named(ast, name.as_bytes()) {
-        return misused(name, wants_array, Other::Reducer, reducer.line);
-    }
-    IllTyped::Unknown(Word::of(name))
-}
-
-// A name is something else than what must stand there.
-fn misused(name: &Name, wants_array: bool, other: Other, line: u32) -> IllTyped<'_>
-    ensures { (known : rule.Known) → IsUnknown name.now known → IsMisuse known name.now result }
-{
-    if wants_array {
-        return IllTyped::NotArray(Word::of(name), other, line);
-    }
-    IllTyped::NotInteger(Word::of(name), other, line)
-}
-
-// A name in an expression is not what must stand there.
-fn of_expr<'a>(ast: &'a Ast, known: &Known<'a>, e: &'a Expr) -> Option<IllTyped<'a>>
-    ensures { MatchOption result (rule.is_fine (names_of known.now) (expr_of e.now) ≡ true)
-        (IsMisuseIn (names_of known.now) (expr_of e.now)) }
-{
-    match e {
-        Expr::Number(_) => None,
-        Expr::Variable(x) => of_use(ast, known, x, false),
-        Expr::Length(a) => of_use(ast, known, a, true),
-        Expr::Negative(e) => {
-            let reason = of_expr(ast, known, e)?;
-            Some(reason)
-        }
-        Expr::Not(e) => {
-            let reason = of_expr(ast, known, e)?;
-            Some(reason)
-        }
-        Expr::Element(a, e) => {
-            if let Some(reason) = of_use(ast, known, a, true) {
-                return Some(reason);
-            }
-            let reason = of_expr(ast, known, e)?;
-            Some(reason)
-        }
-        Expr::Binary(_, d, e) => {
-            if let Some(reason) = of_expr(ast, known, d) {
-                return Some(reason);
-            }
-            let reason = of_expr(ast, known, e)?;
-            Some(reason)
-        }
-    }
-}
-
-// A name may not be declared.
-fn of_declared<'a>(ast: &'a Ast, known: &Known<'a>, name: &'a Name) -> Option<IllTyped<'a>> {
-    match known.newest(name.as_bytes()) {
-        Some(local) => Some(IllTyped::Known(Word::of(name), local.line)),
-        None => of_global(ast, name),
-    }
-}
-
-// A name is no reducer's.
-fn of_reducer<'a>(ast: &'a Ast, name: &'a Name) -> Option<IllTyped<'a>>
-    ensures { MatchOption result (rule.is_reducer (program_of ast.now) name.now ≡ true)
-        (IsNoReducer (program_of ast.now) name.now) }
-{
-    match reducer_named(ast, name.as_bytes()) {
-        Some(_) => None,
-        None => Some(IllTyped::NotReducer(Word::of(name))),
-    }
-}
-
-// A call does not fit its function.
-fn of_call<'a>(ast: &'a Ast, known: &Known<'a>, call: &'a Call) -> Option<IllTyped<'a>> {
-    let name = Word::of(&call.callee);
-    let Some(function) = function_named(ast, call.callee.as_bytes()) else {
-        return Some(IllTyped::NoFunction(name));
-    };
-    if name.is(MAIN) {
-        return Some(IllTyped::CallsMain);
-    }
-    if let Some(target) = &call.target {
-        if let Some(reason) = of_use(ast, known, target, false) {
-            return Some(reason);
-        }
-        if !function.gives_int {
-            return Some(IllTyped::GivesNothing(name, function.line));
-        }
-    }
-    of_arguments(ast, known, function, call.arguments.as_slice())
-}
-
-// Arguments do not fit the parameters.
-fn of_arguments<'a>(
-    ast: &'a Ast,
-    known: &Known<'a>,
-    function: &'a Function,
-    arguments: &'a [Expr],
-) -> Option<IllTyped<'a>> {
-    let name = Word::of(&function.name);
-    let params = function.params.as_slice();
-    if params.len() != arguments.len() {
-        return Some(IllTyped::Count(name, arguments.len(), params.len(), function.line));
-    }
-    for i in 0..params.len() {
-        if let Some(reason) = of_argument(ast, known, &params[i], &arguments[i]) {
-            return Some(reason);
-        }
-        if params[i].is_array && !is_name(&arguments[i]) {
-            let param = Word::of(&params[i].name);
-            return Some(IllTyped::ArgumentNotArray(i + 1, name, param, function.line));
-        }
-    }
-    None
-}
-
-// Whether an expression is a name alone.
-fn is_name(e: &Expr) -> bool {
-    match e {
-        Expr::Variable(_) => true,
-        _ => false,
-    }
-}
-
-// A name in an argument is not what must stand there.
-fn of_argument<'a>(
-    ast: &'a Ast,
-    known: &Known<'a>,
-    param: &Param,
-    e: &'a Expr,
-) -> Option<IllTyped<'a>> {
-    match e {
-        Expr::Variable(a) if param.is_array => of_use(ast, known, a, true),
-        _ if param.is_array => None,
-        _ => of_expr(ast, known, e),
-    }
-}
-
-// The head of a loop breaks a rule.
-fn of_loop<'a>(ast: &'a Ast, known: &Known<'a>, head: &'a Head) -> Option<IllTyped<'a>> {
-    let variable = Word::of(&head.variable);
-    for other in [&head.tested, &head.stepped] {
-        if !variable.is(other.as_bytes()) {
-            return Some(IllTyped::HeadNames(variable, Word::of(other)));
-        }
-    }
-    if head.grain < 1 || head.grain > MOST_GRAIN {
-        return Some(IllTyped::Grain(head.grain));
-    }
-    for a in head.over.as_slice() {
-        if let Some(reason) = of_use(ast, known, a, true) {
-            return Some(reason);
-        }
-    }
-    of_declared(ast, known, &head.variable)
-        .or(of_expr(ast, known, &head.from))
-        .or(of_expr(ast, known, &head.to))
-}
-
-// A cut breaks a rule.
-fn of_cut<'a>(ast: &'a Ast, known: &Known<'a>, cut: &'a Cut) -> Option<IllTyped<'a>> {
-    if cut.left.as_bytes() == cut.right.as_bytes() {
-        return Some(IllTyped::PartsAlike(Word::of(&cut.left)));
-    }
-    of_use(ast, known, &cut.array, true)
-        .or(of_expr(ast, known, &cut.at))
-        .or(of_declared(ast, known, &cut.left))
-        .or(of_declared(ast, known, &cut.right))
-}
-
-// A return may not stand here.
-fn of_return<'a>(
-    place: Place<'a>,
-    known: &Known<'a>,
-    value: &'a Option<Expr>,
-) -> Option<IllTyped<'a>> {
-    match (place.returns, value) {
-        (Returns::Nowhere, _) => Some(IllTyped::ReturnInside),
-        (Returns::WithInt, None) => Some(IllTyped::ReturnsNothing),
-        (Returns::Alone, Some(_)) => Some(IllTyped::ReturnsValue),
-        (Returns::WithInt, Some(e)) => of_expr(place.ast, known, e),
-        (Returns::Alone, None) => None,
     }
 }

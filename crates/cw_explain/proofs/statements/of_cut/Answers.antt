@@ -1,0 +1,20 @@
+use Rattle.std.proofs.Common.{◌∷◌, [], refl}
+use Rattle.cw_tree.specs.SyntaxView.{program_of}
+use Rattle.cw_explain.specs.Names.{locals_of}
+use Rattle.cw_explain.specs.Reasons.{Taken}
+use Rattle.cw_explain.proofs.Misuse.{not_new_at}
+use Rattle.cw_explain.proofs.statements.of_cut.Goals as goal
+
+pub returns-in-Some-of_declared : goal.returns-in-Some-of_declared
+returns-in-Some-of_declared c =
+    let x = c.args.cut.now.left in
+    let y = c.args.cut.now.right in
+    Taken (not_new_at (program_of c.args.ast.now) (locals_of c.args.known.now) x [] (y ∷ []) (x ∷ y ∷ []) c.in-Some-of_declared.reason
+    refl c.in-Some-of_declared.ensures)
+
+pub returns : goal.returns
+returns c =
+    let x = c.args.cut.now.left in
+    let y = c.args.cut.now.right in
+    Taken (not_new_at (program_of c.args.ast.now) (locals_of c.args.known.now) y (x ∷ []) [] (x ∷ y ∷ []) c.in_ok-reason.reason
+    refl c.in_ok-reason.ensures)

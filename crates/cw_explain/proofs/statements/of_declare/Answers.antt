@@ -1,0 +1,11 @@
+use Rattle.std.proofs.Common.{◌∷◌, [], refl}
+use Rattle.cw_tree.specs.SyntaxView.{program_of}
+use Rattle.cw_explain.specs.Names.{locals_of}
+use Rattle.cw_explain.specs.Reasons.{Taken}
+use Rattle.cw_explain.proofs.Misuse.{not_new_at}
+use Rattle.cw_explain.proofs.statements.of_declare.Goals as goal
+
+pub returns : goal.returns
+returns c =
+    let x = c.args.x.now in
+    Taken (not_new_at (program_of c.args.ast.now) (locals_of c.args.known.now) x [] [] (x ∷ []) c.in_ok-reason.reason refl c.in_ok-reason.ensures)
