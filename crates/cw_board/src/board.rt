@@ -94,7 +94,8 @@ fn settle(first: &mut Board, second: &mut Board, told: Told)
     requires { Tells first.old second.old told }
     ensures first { first.new ≡ lowered told.owed first.old }
     ensures second { second.new ≡ lowered told.owed second.old }
-    ensures lengths { (length first.new ≡ length first.old) × (length second.new ≡ length second.old) }
+    ensures lengths { (length first.new ≡ length first.old)
+        × (length second.new ≡ length second.old) }
 {
     if told.owed > 0 {
         first.lower(told.owed);
@@ -301,7 +302,8 @@ fn put_in_half(first: &mut Board, second: &mut Board, places: usize, place: usiz
     requires second { 1 ≤ length second.old }
     requires places { places ≡ length first.old }
     requires place { place < length first.old + length second.old }
-    ensures lengths { (length first.new ≡ length first.old) × (length second.new ≡ length second.old) }
+    ensures lengths { (length first.new ≡ length first.old)
+        × (length second.new ≡ length second.old) }
     ensures put { first.new ++ second.new ≡ slice_set (first.old ++ second.old) place (Some left) }
 {
     if place < places {
@@ -332,7 +334,8 @@ fn take_of_half(first: &mut Board, second: &mut Board, places: usize) -> usize
     requires places { places ≡ length first.old }
     requires fits { length first.old + length second.old < 2 ^ 64 }
     requires least { least_slot (first.old ++ second.old) ≡ Some 0 }
-    ensures lengths { (length first.new ≡ length first.old) × (length second.new ≡ length second.old) }
+    ensures lengths { (length first.new ≡ length first.old)
+        × (length second.new ≡ length second.old) }
     ensures place { slice_get (first.old ++ second.old) result ≡ Some (Some 0) }
     ensures taken { first.new ++ second.new ≡ slice_set (first.old ++ second.old) result None }
 {
@@ -386,7 +389,8 @@ fn run_half(first: &mut Board, second: &mut Board, processors: u64, steps: u64)
     requires first { 1 ≤ length first.old }
     requires second { 1 ≤ length second.old }
     requires room { RoomFor processors steps (first.old ++ second.old) }
-    ensures lengths { (length first.new ≡ length first.old) × (length second.new ≡ length second.old) }
+    ensures lengths { (length first.new ≡ length first.old)
+        × (length second.new ≡ length second.old) }
     ensures run { first.new ++ second.new ≡ run_slots processors steps (first.old ++ second.old) }
 {
     let ready = first.count();

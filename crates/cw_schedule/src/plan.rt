@@ -86,7 +86,9 @@ impl Planning {
     // A child ends, and its continuation begins.
     fn ended(&mut self) -> Result<(), AllocError>
         requires { HasSpawn self.old }
-        ensures { (spawns : List Open) (at : ℕ) (first : Bool) → self.old.spawns.items ≡ spawns ++ open_at at first ∷ [] → OnOk result (Continues self.old self.new spawns at first) }
+        ensures { (spawns : List Open) (at : ℕ) (first : Bool)
+            → self.old.spawns.items ≡ spawns ++ open_at at first ∷ []
+            → OnOk result (Continues self.old self.new spawns at first) }
     {
         let Some(top) = self.spawns.pop() else {
             unreachable!()
@@ -117,7 +119,8 @@ impl Planning {
     // The spawns of a sync block are joined, from the last one back to the first.
     fn joined(&mut self) -> Result<(), AllocError>
         requires { (end : List Frame × Block) × Joins end self.old }
-        ensures joined { (end : List Frame × Block) → Joins end self.old → OnOk result (Plans end.0 end.1 self.new) }
+        ensures joined { (end : List Frame × Block) → Joins end self.old
+            → OnOk result (Plans end.0 end.1 self.new) }
         ensures weight { OnOk result (self.new.last.weight ≡ 0) }
     {
         while let Some(top) = self.spawns.pop() {
@@ -132,8 +135,10 @@ impl Planning {
     // One code more.
     fn follow(&mut self, code: Code) -> Result<(), AllocError>
         requires fits { self.old.last.weight + instructions_of code < 2 ^ 64 }
-        requires makes { (block : Block) × ((later : List Code) × Makes block (code ∷ later) self.old) }
-        ensures makes { (block : Block) (later : List Code) → Makes block (code ∷ later) self.old → OnOk result (Makes block later self.new) }
+        requires makes { (block : Block)
+            × ((later : List Code) × Makes block (code ∷ later) self.old) }
+        ensures makes { (block : Block) (later : List Code)
+            → Makes block (code ∷ later) self.old → OnOk result (Makes block later self.new) }
         ensures weight { OnOk result (self.new.last.weight ≤ self.old.last.weight + instructions_of code) }
     {
         match code {
@@ -162,7 +167,8 @@ impl Planning {
 pub fn plan(alloc: Global, codes: &[Code]) -> Result<Vec<Strand>, AllocError>
     requires fits { instructions codes.now ≤ MOST_LIMIT }
     requires block { (block : Block) × (read codes.now [] (Last 0) ≡ Some block) }
-    ensures { (block : Block) → read codes.now [] (Last 0) ≡ Some block → IfOk result (λ strands. strands.items ≡ strands_of Start block) }
+    ensures { (block : Block) → read codes.now [] (Last 0) ≡ Some block
+        → IfOk result (λ strands. strands.items ≡ strands_of Start block) }
 {
     let mut plan = Planning {
         strands: Vec::new(alloc),

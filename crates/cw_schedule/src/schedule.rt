@@ -24,8 +24,11 @@ fn arrive(strands: &[Strand], flags: &mut [bool], board: &mut Board, join: usize
     requires join { join < length strands.now }
     requires flags { length flags.old ≡ length strands.now }
     requires board { length board.old ≡ length strands.now }
-    ensures first { flag_at flags.old join ≡ false → (board.new ≡ board.old) × (flags.new ≡ slice_set flags.old join true) }
-    ensures second { flag_at flags.old join ≡ true → (board.new ≡ slice_set board.old join (Some (strand_at strands.now join).weight)) × (flags.new ≡ slice_set flags.old join false) }
+    ensures first { flag_at flags.old join ≡ false → (board.new ≡ board.old)
+        × (flags.new ≡ slice_set flags.old join true) }
+    ensures second { flag_at flags.old join ≡ true
+        → (board.new ≡ slice_set board.old join (Some (strand_at strands.now join).weight))
+        × (flags.new ≡ slice_set flags.old join false) }
 {
     if flags[join] {
         flags[join] = false;
@@ -56,9 +59,11 @@ fn release(strands: &[Strand], flags: &mut [bool], board: &mut Board, next: usiz
 
 // Takes off a strand of which nothing is left.
 fn take(strands: &[Strand], flags: &mut [bool], board: &mut Board)
-    requires state { (block : Block) × ((g : Going) × Stands block g strands.now flags.old board.old) }
+    requires state { (block : Block)
+        × ((g : Going) × Stands block g strands.now flags.old board.old) }
     requires done { least_slot board.old ≡ Some 0 }
-    ensures { (block : Block) (g : Going) → Stands block g strands.now flags.old board.old → Takes block g strands.now flags.new board.new }
+    ensures { (block : Block) (g : Going) → Stands block g strands.now flags.old board.old
+        → Takes block g strands.now flags.new board.new }
 {
     let count = strands.len();
     let next = board.take() + 1;
@@ -71,7 +76,8 @@ fn take(strands: &[Strand], flags: &mut [bool], board: &mut Board)
 fn count_steps(strands: &[Strand], flags: &mut [bool], board: &mut Board, processors: u64) -> u64
     requires processors { 1 ≤ processors }
     requires begun { (block : Block) × Begun processors block strands.now flags.old board.old }
-    ensures { (block : Block) → Begun processors block strands.now flags.old board.old → result ≡ greedy_length processors (to_do (start block)) }
+    ensures { (block : Block) → Begun processors block strands.now flags.old board.old
+        → result ≡ greedy_length processors (to_do (start block)) }
 {
     lists_show_boards();
     rounds_keep_the_length();
@@ -86,10 +92,12 @@ fn count_steps(strands: &[Strand], flags: &mut [bool], board: &mut Board, proces
 // The number of steps in which so many processors run the strands of a tree.
 fn count_all(strands: &[Strand], flags: &mut [bool], board: &mut Board, processors: u64) -> u64
     requires processors { 1 ≤ processors }
-    requires tree { (t : Tree) × ((strands.now ≡ strands_of Start (block_of t)) × (work t ≤ MOST_LIMIT)) }
+    requires tree { (t : Tree)
+        × ((strands.now ≡ strands_of Start (block_of t)) × (work t ≤ MOST_LIMIT)) }
     requires flags { flags.old ≡ replicate (length strands.now) false }
     requires board { board.old ≡ nones (length strands.now) }
-    ensures { (t : Tree) → strands.now ≡ strands_of Start (block_of t) → work t ≤ MOST_LIMIT → result ≡ greedy_length processors t }
+    ensures { (t : Tree) → strands.now ≡ strands_of Start (block_of t) → work t ≤ MOST_LIMIT
+        → result ≡ greedy_length processors t }
 {
     rounds_keep_the_length();
     board.put(0, strands[0].weight);
@@ -107,8 +115,10 @@ fn count_all(strands: &[Strand], flags: &mut [bool], board: &mut Board, processo
 pub fn greedy(alloc: Global, kept: &Strands, processors: u64) -> Result<u64, AllocError>
     requires processors { 1 ≤ processors }
     requires kept { (t : Tree) × (IsRecordOf t kept.now × (work t ≤ MOST_LIMIT)) }
-    ensures length { (t : Tree) → IsRecordOf t kept.now → IfOk result (λ steps. steps ≡ greedy_length processors t) }
-    ensures bounds { (t : Tree) → IsRecordOf t kept.now → IfOk result (λ steps. IsWithin processors steps t) }
+    ensures length { (t : Tree) → IsRecordOf t kept.now
+        → IfOk result (λ steps. steps ≡ greedy_length processors t) }
+    ensures bounds { (t : Tree) → IsRecordOf t kept.now
+        → IfOk result (λ steps. IsWithin processors steps t) }
 {
     greedy_is_bounded();
     let strands = plan(alloc, kept.codes())?;

@@ -38,7 +38,8 @@ impl Model for Block {
 
     ghost view = { λ b. record { cells = b.kept.cells; spot = own_spot b.kept.ptr b.frees } };
 
-    ghost invariant = { λ b. Counts b.kept.cells b.out × MayFree b.frees b.kept.ptr b.alloc b.title };
+    ghost invariant = { λ b. Counts b.kept.cells b.out
+        × MayFree b.frees b.kept.ptr b.alloc b.title };
 }
 
 impl Block {

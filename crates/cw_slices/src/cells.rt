@@ -51,7 +51,10 @@ unsafe impl Send for Due {}
 // A span, to be read by all who have a part.
 pub(crate) fn freeze(ptr: *mut i64, len: usize, span: Span) -> (Cells, Due)
     requires { (span.at ≡ ptr) × (length span.items ≡ len) }
-    ensures { (result.0.ptr ≡ ptr) × (result.0.len ≡ len) × (result.0.items ≡ span.items) × (result.0.filled ≡ span.filled) × (result.0.halved ≡ 0) × (result.1.at ≡ ptr) × (result.1.items ≡ span.items) × (result.1.filled ≡ span.filled) × (result.0.frozen ≡ suc result.1.freeze) }
+    ensures { (result.0.ptr ≡ ptr) × (result.0.len ≡ len) × (result.0.items ≡ span.items)
+        × (result.0.filled ≡ span.filled) × (result.0.halved ≡ 0) × (result.1.at ≡ ptr)
+        × (result.1.items ≡ span.items) × (result.1.filled ≡ span.filled)
+        × (result.0.frozen ≡ suc result.1.freeze) }
 {
     let Span {} = span;
     (Cells { ptr, len }, Due {})
@@ -60,7 +63,8 @@ pub(crate) fn freeze(ptr: *mut i64, len: usize, span: Span) -> (Cells, Due)
 // The span, once all parts are one.
 pub(crate) fn thaw(cells: Cells, due: Due) -> (*mut i64, Span)
     requires { (cells.halved ≡ 0) × (cells.frozen ≡ suc due.freeze) × (due.at ≡ cells.ptr) }
-    ensures { (result.0 ≡ cells.ptr) × (result.1.at ≡ due.at) × (result.1.items ≡ due.items) × (result.1.filled ≡ due.filled) }
+    ensures { (result.0 ≡ cells.ptr) × (result.1.at ≡ due.at) × (result.1.items ≡ due.items)
+        × (result.1.filled ≡ due.filled) }
 {
     let Cells { ptr, len: _ } = cells;
     let Due {} = due;
@@ -71,7 +75,8 @@ impl Cells {
     // A span, as cells that are owned.
     pub(crate) fn own(ptr: *mut i64, len: usize, span: Span) -> Cells
         requires { (span.at ≡ ptr) × (length span.items ≡ len) }
-        ensures { (result.ptr ≡ ptr) × (result.len ≡ len) × (result.items ≡ span.items) × (result.filled ≡ span.filled) × (result.frozen ≡ 0) × (result.halved ≡ 0) }
+        ensures { (result.ptr ≡ ptr) × (result.len ≡ len) × (result.items ≡ span.items)
+            × (result.filled ≡ span.filled) × (result.frozen ≡ 0) × (result.halved ≡ 0) }
     {
         let Span {} = span;
         Cells { ptr, len }
@@ -80,7 +85,8 @@ impl Cells {
     // Cells that are owned, as a span.
     pub(crate) fn disown(self) -> (*mut i64, Span)
         requires { self.frozen ≡ 0 }
-        ensures { (result.0 ≡ self.ptr) × (result.1.at ≡ self.ptr) × (result.1.items ≡ self.items) × (result.1.filled ≡ self.filled) }
+        ensures { (result.0 ≡ self.ptr) × (result.1.at ≡ self.ptr)
+            × (result.1.items ≡ self.items) × (result.1.filled ≡ self.filled) }
     {
         let Cells { ptr, len: _ } = self;
         (ptr, Span {})
@@ -89,7 +95,10 @@ impl Cells {
     // Two halves of a part.
     pub(crate) fn split(self) -> (Cells, Cells)
         requires { 0 < self.frozen }
-        ensures { (result.0.ptr ≡ self.ptr) × (result.0.len ≡ self.len) × (result.0.items ≡ self.items) × (result.0.filled ≡ self.filled) × (result.0.frozen ≡ self.frozen) × (result.0.halved ≡ suc self.halved) × (result.1 ≡ result.0) }
+        ensures { (result.0.ptr ≡ self.ptr) × (result.0.len ≡ self.len)
+            × (result.0.items ≡ self.items) × (result.0.filled ≡ self.filled)
+            × (result.0.frozen ≡ self.frozen) × (result.0.halved ≡ suc self.halved)
+            × (result.1 ≡ result.0) }
     {
         let Cells { ptr, len } = self;
         (Cells { ptr, len }, Cells { ptr, len })
@@ -97,8 +106,11 @@ impl Cells {
 
     // Two halves of a part as the part.
     pub(crate) fn unite(self, other: Cells) -> Cells
-        requires { (0 < self.halved) × (other.halved ≡ self.halved) × (other.frozen ≡ self.frozen) × (0 < self.frozen) }
-        ensures { (result.ptr ≡ self.ptr) × (result.len ≡ self.len) × (result.items ≡ self.items) × (result.filled ≡ self.filled) × (result.frozen ≡ self.frozen) × (suc result.halved ≡ self.halved) }
+        requires { (0 < self.halved) × (other.halved ≡ self.halved)
+            × (other.frozen ≡ self.frozen) × (0 < self.frozen) }
+        ensures { (result.ptr ≡ self.ptr) × (result.len ≡ self.len)
+            × (result.items ≡ self.items) × (result.filled ≡ self.filled)
+            × (result.frozen ≡ self.frozen) × (suc result.halved ≡ self.halved) }
     {
         let Cells { ptr, len } = self;
         let Cells { ptr: _, len: _ } = other;
@@ -109,7 +121,10 @@ impl Cells {
     #[inline(always)]
     pub(crate) fn put(&mut self, place: usize, number: i64)
         requires { (self.old.frozen ≡ 0) × (place < self.old.len) }
-        ensures { (self.new.ptr ≡ self.old.ptr) × (self.new.len ≡ self.old.len) × (self.new.items ≡ slice_set self.old.items place number) × (self.new.filled ≡ slice_set self.old.filled place true) × (self.new.frozen ≡ 0) × (self.new.halved ≡ self.old.halved) }
+        ensures { (self.new.ptr ≡ self.old.ptr) × (self.new.len ≡ self.old.len)
+            × (self.new.items ≡ slice_set self.old.items place number)
+            × (self.new.filled ≡ slice_set self.old.filled place true) × (self.new.frozen ≡ 0)
+            × (self.new.halved ≡ self.old.halved) }
     {
         unsafe { self.ptr.add(place).write(number) }
     }
@@ -117,7 +132,9 @@ impl Cells {
     // The cells, to be read.
     #[inline(always)]
     pub(crate) fn row(&self) -> &Slots<i64>
-        ensures { (slots_ptr result.now ≡ self.now.ptr) × (slots_len result.now ≡ self.now.len) × (slots_items result.now ≡ self.now.items) × (slots_filled result.now ≡ self.now.filled) }
+        ensures { (slots_ptr result.now ≡ self.now.ptr) × (slots_len result.now ≡ self.now.len)
+            × (slots_items result.now ≡ self.now.items)
+            × (slots_filled result.now ≡ self.now.filled) }
     {
         unsafe { &*(self as *const Cells as *const Slots<i64>) }
     }

@@ -37,7 +37,11 @@ impl Model for Slice {
 
     ghost view = { λ s. record { items = s.cells.items; spot = record { ptr = s.cells.ptr; frees = s.frees; frozen = s.cells.frozen; halved = s.cells.halved } } };
 
-    ghost invariant = { λ s. (s.cells.filled ≡ replicate (length s.cells.items) true) × (length s.cells.items < 2 ^ 60) × (s.cells.frozen ≡ 0 → s.title.frees ≡ s.frees) × (s.cells.frozen ≡ 0 → 0 < s.frees → (s.title.heap ≡ s.alloc) × (s.title.at ≡ s.cells.ptr)) × (s.cells.frozen ≡ 0 → s.cells.halved ≡ 0) × (0 < s.cells.frozen → s.frees ≡ 2 ^ 60) × (s.cells.frozen ≡ 0 → s.frees < 2 ^ 60) };
+    ghost invariant = { λ s. (s.cells.filled ≡ replicate (length s.cells.items) true)
+        × (length s.cells.items < 2 ^ 60) × (s.cells.frozen ≡ 0 → s.title.frees ≡ s.frees)
+        × (s.cells.frozen ≡ 0 → 0 < s.frees → (s.title.heap ≡ s.alloc) × (s.title.at ≡ s.cells.ptr))
+        × (s.cells.frozen ≡ 0 → s.cells.halved ≡ 0) × (0 < s.cells.frozen → s.frees ≡ 2 ^ 60)
+        × (s.cells.frozen ≡ 0 → s.frees < 2 ^ 60) };
 }
 
 /// What the owner of a frozen slice keeps: the right to have it back. Dropped, it leaves the block
@@ -60,7 +64,10 @@ impl Model for Owed {
 
     ghost view = { λ o. record { slice = record { items = o.due.items; spot = record { ptr = o.due.at; frees = o.frees; frozen = 0; halved = 0 } }; freeze = o.due.freeze } };
 
-    ghost invariant = { λ o. (o.due.filled ≡ replicate (length o.due.items) true) × (length o.due.items < 2 ^ 60) × (o.title.frees ≡ o.frees) × (0 < o.frees → (o.title.heap ≡ o.alloc) × (o.title.at ≡ o.due.at)) × (o.frees < 2 ^ 60) };
+    ghost invariant = { λ o. (o.due.filled ≡ replicate (length o.due.items) true)
+        × (length o.due.items < 2 ^ 60) × (o.title.frees ≡ o.frees)
+        × (0 < o.frees → (o.title.heap ≡ o.alloc) × (o.title.at ≡ o.due.at))
+        × (o.frees < 2 ^ 60) };
 }
 
 // A slice with one owner, as its words, its cells and the right to free its block.
@@ -80,7 +87,8 @@ const FROZEN: usize = 1 << 60;
 // No cells.
 #[inline(always)]
 fn no_cells() -> Cells
-    ensures { (result.items ≡ []) × (result.filled ≡ []) × (result.frozen ≡ 0) × (result.halved ≡ 0) }
+    ensures { (result.items ≡ []) × (result.filled ≡ []) × (result.frozen ≡ 0)
+        × (result.halved ≡ 0) }
 {
     let near = 0;
     let (ptr, span) = nothing(&near);
@@ -90,8 +98,11 @@ fn no_cells() -> Cells
 // A row with zero in each place. The loop writes nothing else, so that it becomes a `memset`.
 #[tactic(auto, using(crate::proofs::Marks::set_same, crate::proofs::Marks::set_next, crate::proofs::Marks::all_set))]
 fn filled_with_zeros(mut row: Slots<i64>, count: usize) -> Slots<i64>
-    requires { (slots_len row ≡ count) × (slots_items row ≡ replicate count (pos 0)) × (slots_filled row ≡ replicate count false) }
-    ensures { (slots_ptr result ≡ slots_ptr row) × (slots_len result ≡ count) × (slots_items result ≡ replicate count (pos 0)) × (slots_filled result ≡ replicate count true) }
+    requires { (slots_len row ≡ count) × (slots_items row ≡ replicate count (pos 0))
+        × (slots_filled row ≡ replicate count false) }
+    ensures { (slots_ptr result ≡ slots_ptr row) × (slots_len result ≡ count)
+        × (slots_items result ≡ replicate count (pos 0))
+        × (slots_filled result ≡ replicate count true) }
 {
     let mut i = 0;
     while i < count {
