@@ -12,9 +12,13 @@ use std::alloc::{AllocError, Global};
 use std::sync::Arc;
 
 const FIRST: i64 = -1;
+
 const NEXT: i64 = -2;
+
 const ENDED: i64 = -3;
+
 const JOINED: i64 = -4;
+
 const CALLED: i64 = -5;
 
 // What is kept of a run, each code as a number; nothing where the strands are too many.
@@ -60,9 +64,9 @@ fn fib(rt: HostRuntime) -> Result<(), Fault> {
     let code = arrays::code_of(alloc, &[main_of(&main), fib], &[&[]])?;
     let found = kept(alloc, code)?;
     let hand = [
-        2, CALLED, 8, FIRST, 8, FIRST, 8, FIRST, 6, ENDED, 4, CALLED, 6, CALLED, JOINED, 5, ENDED, 4,
-        CALLED, 6, CALLED, JOINED, 5, ENDED, 4, CALLED, 8, FIRST, 6, ENDED, 4, CALLED, 6, CALLED,
-        JOINED, 5, CALLED, JOINED, 5, CALLED, 2,
+        2, CALLED, 8, FIRST, 8, FIRST, 8, FIRST, 6, ENDED, 4, CALLED, 6, CALLED, JOINED, 5, ENDED,
+        4, CALLED, 6, CALLED, JOINED, 5, ENDED, 4, CALLED, 8, FIRST, 6, ENDED, 4, CALLED, 6,
+        CALLED, JOINED, 5, CALLED, JOINED, 5, CALLED, 2,
     ];
     assert_eq!(rt; found.as_slice(), hand.as_slice());
     Ok(())
