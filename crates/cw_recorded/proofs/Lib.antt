@@ -1,0 +1,4 @@
+pub mod Merged
+pub mod Moves
+pub mod Normals
+pub mod Recordings
