@@ -30,15 +30,22 @@ onto-append (Called ∷ xs) ys later = ap (λ (l : List Code). Called ∷ l) (on
 
 -- instructions twice are their sum
 pub instructions_twice : (j k : ℕ) (codes : List Code) → instructions_before j (instructions_before k codes) ≡ instructions_before (j + k) codes
-instructions_twice zero k codes = refl
-instructions_twice (suc j) zero codes = let same : suc j ≡ suc j + 0 = omega arith in ap (λ n. instructions_before n codes) same
-instructions_twice (suc j) (suc k) [] = refl
+instructions_twice zero k codes = let e : k ≡ 0 + k = omega arith in ap (λ (n : ℕ). instructions_before n codes) e
+instructions_twice (suc j) zero codes = let e : suc j ≡ suc j + 0 = omega arith in ap (λ (n : ℕ). instructions_before n codes) e
+instructions_twice (suc j) (suc k) [] =
+    let e : suc (j + suc k) ≡ suc j + suc k = omega arith in ap (λ (m : ℕ). Instructions m ∷ []) (sym e) ∙ ap (λ (m : ℕ). instructions_before m []) e
 instructions_twice (suc j) (suc k) (Instructions n ∷ codes) =
-    let same : suc j + (suc k + n) ≡ suc j + suc k + n = omega arith in ap (λ (n : ℕ). Instructions n ∷ codes) same
-instructions_twice (suc j) (suc k) (Spawned first ∷ codes) = refl
-instructions_twice (suc j) (suc k) (Ended ∷ codes) = refl
-instructions_twice (suc j) (suc k) (Joined ∷ codes) = refl
-instructions_twice (suc j) (suc k) (Called ∷ codes) = refl
+    let e : suc (j + suc k) ≡ suc j + suc k = omega arith in
+    let same : suc j + (suc k + n) ≡ suc (j + suc k) + n = omega arith in
+    ap (λ (m : ℕ). Instructions m ∷ codes) same ∙ ap (λ (m : ℕ). instructions_before m (Instructions n ∷ codes)) e
+instructions_twice (suc j) (suc k) (Spawned first ∷ codes) =
+    let e : suc (j + suc k) ≡ suc j + suc k = omega arith in ap (λ (m : ℕ). Instructions m ∷ Spawned first ∷ codes) (sym e) ∙ ap (λ (m : ℕ). instructions_before m (Spawned first ∷ codes)) e
+instructions_twice (suc j) (suc k) (Ended ∷ codes) =
+    let e : suc (j + suc k) ≡ suc j + suc k = omega arith in ap (λ (m : ℕ). Instructions m ∷ Ended ∷ codes) (sym e) ∙ ap (λ (m : ℕ). instructions_before m (Ended ∷ codes)) e
+instructions_twice (suc j) (suc k) (Joined ∷ codes) =
+    let e : suc (j + suc k) ≡ suc j + suc k = omega arith in ap (λ (m : ℕ). Instructions m ∷ Joined ∷ codes) (sym e) ∙ ap (λ (m : ℕ). instructions_before m (Joined ∷ codes)) e
+instructions_twice (suc j) (suc k) (Called ∷ codes) =
+    let e : suc (j + suc k) ≡ suc j + suc k = omega arith in ap (λ (m : ℕ). Instructions m ∷ Called ∷ codes) (sym e) ∙ ap (λ (m : ℕ). instructions_before m (Called ∷ codes)) e
 
 -- one piece before others that are the same
 pub same_after : (a xs ys : List Code) → Same xs ys → Same (a ++ xs) (a ++ ys)

@@ -137,13 +137,9 @@ with_block : (os : List Open) (es fs : List Event) → IsOpen os → AreApart os
 with_block [] es fs open_ h g = absurd open_
 with_block (o ∷ os) es fs open_ h g = (g, h.1)
 
-round_apart : (o : Open) (os : List Open) (es : List Event) → AreApart (o ∷ os) es → StandApart o.outer
-round_apart o [] es h = h.1
-round_apart o (p ∷ os) es h = h.1.0
-
 begun_apart : (o : Open) (os : List Open) (es : List Event) → IsOpen os → o.outer ≡ ticked es → AreApart os es → AreApart (o ∷ os) []
 begun_apart o [] es open_ e h = absurd open_
-begun_apart o (p ∷ os) es open_ e h = (tt, subst StandApart (sym e) (ticked_apart es h.0), h.1)
+begun_apart o (p ∷ os) es open_ e h = (tt, (subst StandApart (sym e) (ticked_apart es h.0), h.1))
 
 -- a part that ended leaves the events round it such, or is the whole run
 whole_apart : (o : Open) (es : List Event) (after : List Event) → o.outer ≡ [] → o.spawned ≡ false → o.mark ≡ Some (Invocation 0) → StandApart es → AreApart [] (closed o es ++ after)
@@ -168,7 +164,7 @@ returned_apart o (p ∷ os) es main h = (call_apart o es h.1.0 h.0, h.1.1)
 -- once there are too many strands, no call does anything
 none_more : (since to : ℕ) (a b : List Code) (k : Recorded) → (IsSome k → ⊥) → cuts a ≤ cuts b → Keeps since a k → Keeps to b k
 none_more since to a b None none le h = omega (arith, le, h)
-none_more since to a b (Some kept) none le h = absurd (none tt)
+none_more since to a b (Some kept) none le h = absurd (none refl)
 
 -- an instruction that begins, ends and joins nothing
 pub ticks : Ticks

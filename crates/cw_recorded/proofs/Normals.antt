@@ -32,7 +32,7 @@ leaf_holds rest (suc k) (Par a b) = in_series rest (Leaf (suc k)) (Par a b)
 leaf_holds rest (suc k) (Marked m a) = in_series rest (Leaf (suc k)) (Marked m a)
 
 leaf_more : (k : ℕ) (later : Tree) → IsMore (leaf_before (suc k) later)
-leaf_more k (Leaf j) = tt
+leaf_more k (Leaf j) = let e : suc (k + j) ≡ suc k + j = omega arith in subst (λ (n : ℕ). IsMore (Leaf n)) e tt
 leaf_more k (Seq (Leaf j) t) = tt
 leaf_more k (Seq (Seq a b) t) = tt
 leaf_more k (Seq (Par a b) t) = tt

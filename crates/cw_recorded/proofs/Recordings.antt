@@ -19,16 +19,16 @@ use Rattle.cw_recorded.proofs.Merged.{onto-append, instructions_twice, same_befo
 -- merging keeps the cuts
 cuts_before : (n : ℕ) (codes : List Code) → cuts (instructions_before n codes) ≡ cuts codes
 cuts_before zero codes = refl
-cuts_before (suc n) [] = refl
+cuts_before (suc n) [] = omega arith
 cuts_before (suc n) (Instructions m ∷ codes) = refl
-cuts_before (suc n) (Spawned first ∷ codes) = refl
-cuts_before (suc n) (Ended ∷ codes) = refl
-cuts_before (suc n) (Joined ∷ codes) = refl
-cuts_before (suc n) (Called ∷ codes) = refl
+cuts_before (suc n) (Spawned first ∷ codes) = omega arith
+cuts_before (suc n) (Ended ∷ codes) = omega arith
+cuts_before (suc n) (Joined ∷ codes) = omega arith
+cuts_before (suc n) (Called ∷ codes) = omega arith
 
 cuts_onto : (xs later : List Code) → cuts (onto xs later) ≡ cuts xs + cuts later
-cuts_onto [] later = refl
-cuts_onto (Instructions n ∷ xs) later = cuts_before n (onto xs later) ∙ cuts_onto xs later
+cuts_onto [] later = omega arith
+cuts_onto (Instructions n ∷ xs) later = let a = cuts_before n (onto xs later) in omega (arith, a, cuts_onto xs later)
 cuts_onto (Spawned first ∷ xs) later = omega (arith, cuts_onto xs later)
 cuts_onto (Ended ∷ xs) later = omega (arith, cuts_onto xs later)
 cuts_onto (Joined ∷ xs) later = omega (arith, cuts_onto xs later)

@@ -147,8 +147,8 @@ pub record Notes (old new : Recorder) (count : ℕ) (codes : List Code) : Type 0
   pub parts : new.parts.items ≡ old.parts.items
 
 -- a part of this kind begins, of which a child of the block round it is out once it has ended, or none is
-pub record Stacks (old new : Recorder) (kind : PartKind) (out : Bool) : Type 0 where
-  pub pushed : new.parts.items ≡ old.parts.items ++ record { kind = kind; out = out } ∷ []
+pub record Stacks (old new : Recorder) (kind : PartKind) (after : Bool) : Type 0 where
+  pub pushed : new.parts.items ≡ old.parts.items ++ record { kind = kind; out = after } ∷ []
   pub out : new.out ≡ false
   pub kept : new.kept ≡ old.kept
   pub noted : new.noted ≡ old.noted
