@@ -25,6 +25,9 @@ use Rattle.cw_recorded.proofs.Merged.{onto-append, append-regroup, same_through,
 use Rattle.cw_recorded.proofs.Normals.{ticked_apart, synced_apart, call_apart, block_apart, tree_followed, marked_child}
 use Rattle.cw_recorded.proofs.Recordings.{same_cuts, keeps_as, keeps_later, keeps_cut, keeps_noted, spawned_more, codes_ticked, spawned_ticked, spawned_synced, codes_begun, codes_synced, codes_ended, codes_returned}
 
+pub never : true ≡ false → ⊥
+never e = cc
+
 -- what is noted
 pub noted_now : (old new : Recorder) (count : ℕ) → new.noted ≡ count → new.kept ≡ followed old.kept (Some (Instructions (count - old.noted) ∷ [])) → new.out ≡ old.out → new.parts.items ≡ old.parts.items → Notes old new count []
 noted_now old new count n k o p = record {

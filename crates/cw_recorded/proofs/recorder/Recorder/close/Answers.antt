@@ -16,7 +16,7 @@ returns-in-Call c =
     let old = c.args.self.now in
     let part = c.in-Some.part in
     let mid : Recorder = record { kept = old.kept; noted = old.noted; out = part.out; parts = c.pop.new.self } in
-    on_ok_weaker c.cut.result (λ n. call_closes old mid c.cut.new.self c.args.count part c.in-Call.is c.in-Some.ensures.items refl refl refl n) c.cut.ensures
+    on_ok_weaker c.cut-in-Call.result (λ n. call_closes old mid c.cut-in-Call.new.self c.args.count part c.in-Call.is c.in-Some.ensures.items refl refl refl n) c.cut-in-Call.ensures
 
 pub returns-in-Quiet : goal.returns-in-Quiet
 returns-in-Quiet c =
