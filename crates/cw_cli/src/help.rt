@@ -10,11 +10,11 @@ and programs to begin with in examples/. 'cilkwork COMMAND --help' tells of one
 command. Without a command the source on standard input is run, without ARGS.
 
 What is written to standard output:
-  check  'ok', where the source compiles
-  run    printed values, sums of reducers and the value of main, a line each
-  scale  a table of work, span and parallelism, of the run and of each tag
-  sites  a table of calls, work and span, of each call in the source
-  greedy a table of work, span and the steps that P processors take for the run
+  check   'ok', where the source compiles
+  run     printed values, sums of reducers and the value of main, a line each
+  scale   a table of work, span and parallelism, of the run and of each tag
+  sites   a table of calls, work and span, of each call in the source
+  greedy  a table of work, span and the steps of P processors for the run
 In a table commas stand between fields, and the first line names the columns.
 Work, span, limit and burden are counted in instructions.
 
