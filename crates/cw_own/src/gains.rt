@@ -168,15 +168,12 @@ fn after(known: &Row, stmt: &Stmt, here: Row, gains: &mut Gains) -> Row
             here.either(&gain)
         }
         Stmt::For(head, block) => {
-            let mut inner = *known;
-            inner.add_int(head.variable.slot);
+            let inner = known.with_int(head.variable.slot);
             after_all(inner, block, Row::none(), gains);
             here
         }
         Stmt::Cut(cut, block) => {
-            let mut inner = *known;
-            inner.add_array(cut.left.slot);
-            inner.add_array(cut.right.slot);
+            let inner = known.with_two(cut.left.slot, cut.right.slot);
             after_all(inner, block, Row::none(), gains);
             here
         }
@@ -184,12 +181,7 @@ fn after(known: &Row, stmt: &Stmt, here: Row, gains: &mut Gains) -> Row
             after_all(*known, block, Row::none(), gains);
             here
         }
-        Stmt::Declare(_, _)
-        | Stmt::DeclareArray(_, _)
-        | Stmt::Assign(_, _)
-        | Stmt::AssignElement(_, _, _)
-        | Stmt::AddTo(_, _)
-        | Stmt::Print(_) => here,
+        _ => here,
     }
 }
 

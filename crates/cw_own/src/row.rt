@@ -40,6 +40,28 @@ impl Row {
         self.arrays.add(slot);
     }
 
+    /// The row with one integer more.
+    pub fn with_int(&self, slot: u32) -> Row
+        requires { slot < MOST_DECLARED }
+        ensures { row_of result ≡ with_int slot (row_of self.now) }
+    {
+        let mut row = *self;
+        row.add_int(slot);
+        row
+    }
+
+    /// The row with two arrays more.
+    pub fn with_two(&self, left: u32, right: u32) -> Row
+        requires left { left < MOST_DECLARED }
+        requires right { right < MOST_DECLARED }
+        ensures { row_of result ≡ with_array right (with_array left (row_of self.now)) }
+    {
+        let mut row = *self;
+        row.add_array(left);
+        row.add_array(right);
+        row
+    }
+
     /// The locals of one of two rows.
     pub fn either(&self, other: &Row) -> Row
         ensures { row_of result ≡ either_row (row_of self.now) (row_of other.now) }

@@ -268,14 +268,11 @@ fn note_within(
             here: after_call(taken.here, call.kind, &call.target, &call.arguments),
             ..taken
         },
-        Stmt::Sync => taken.joined(),
-        Stmt::Return(_) => taken.joined(),
+        Stmt::Sync | Stmt::Return(_) => taken.joined(),
         Stmt::If(_, block) => {
             let branch = note_block(around, *known, taken, block, rest, least);
-            Taken {
-                here: known.both(&branch.here).either(&taken.here),
-                ..taken
-            }
+            let here = known.both(&branch.here).either(&taken.here);
+            Taken { here, ..taken }
         }
         Stmt::IfElse(_, block, _) => {
             let branch = note_block(around, *known, taken, block, rest, least);
@@ -288,23 +285,16 @@ fn note_within(
         }
         Stmt::For(head, block) => {
             let inner = Some(Loop::new(head, known));
-            let mut known = *known;
-            known.add_int(head.variable.slot);
+            let known = known.with_int(head.variable.slot);
             note_scope(&inner, known, taken, block, rest, least)
         }
-        Stmt::Scope(block) => note_scope(around, *known, taken, block, rest, least),
         Stmt::Cut(cut, block) => {
-            let mut known = *known;
-            known.add_array(cut.left.slot);
-            known.add_array(cut.right.slot);
+            let known = known.with_two(cut.left.slot, cut.right.slot);
             note_cut(around, known, taken, cut.array.slot, block, rest, least)
         }
-        Stmt::Region(_, block) => note_scope(around, *known, taken, block, rest, least),
-        Stmt::Declare(_, _)
-        | Stmt::DeclareArray(_, _)
-        | Stmt::Assign(_, _)
-        | Stmt::AssignElement(_, _, _)
-        | Stmt::AddTo(_, _)
-        | Stmt::Print(_) => taken,
+        Stmt::Scope(block) | Stmt::Region(_, block) => {
+            note_scope(around, *known, taken, block, rest, least)
+        }
+        _ => taken,
     }
 }
