@@ -5,17 +5,19 @@ use cw_jobs::call::Rest;
 use cw_slices::{Block, Slice};
 use std::mem;
 
-// The array that comes home to a slot, and the new one that was made in it, if one was.
-fn parted(slices: &mut Vec<Slice>, replaced: &mut Vec<Option<Slice>>, a: usize) -> (Slice, Option<Slice>) {
+// The array that comes home to a slot; a new one that was made in the slot stays in its place in `replaced`.
+fn home_of(slices: &mut Vec<Slice>, replaced: &mut Vec<Option<Slice>>, a: usize) -> Slice {
     let slice = slices[a].take();
-    if a < replaced.len() {
-        let own = mem::replace(&mut replaced[a], None);
-        match own {
-            Some(home) => (home, Some(slice)),
-            None => (slice, None),
+    if a >= replaced.len() {
+        return slice;
+    }
+    let own = mem::replace(&mut replaced[a], None);
+    match own {
+        Some(home) => {
+            replaced[a] = Some(slice);
+            home
         }
-    } else {
-        (slice, None)
+        None => slice,
     }
 }
 
@@ -32,12 +34,22 @@ impl Machine {
         };
     }
 
-    // The array of a slot comes home, and a new one that was made in it takes its place.
-    fn lay_slot(&mut self, a: usize, home: Slice, made: Option<Slice>) {
-        self.lay_home(a, home);
-        match made {
-            Some(slice) => self.lay_new(a, slice),
-            None => {}
+    // Each array comes home; `replaced` has the new ones now.
+    fn lay_homes(&mut self, slices: &mut Vec<Slice>, replaced: &mut Vec<Option<Slice>>) {
+        for a in 0..slices.len() {
+            let home = home_of(slices, replaced, a);
+            self.lay_home(a, home);
+        }
+    }
+
+    // Each new array becomes that of its slot.
+    fn lay_made(&mut self, made: &mut Vec<Option<Slice>>) {
+        for a in 0..made.len() {
+            let slot = mem::replace(&mut made[a], None);
+            match slot {
+                Some(slice) => self.lay_new(a, slice),
+                None => {}
+            }
         }
     }
 
@@ -67,10 +79,8 @@ impl Machine {
         replaced: &mut Vec<Option<Slice>>,
         target: Option<u32>,
     ) {
-        for a in 0..back.slices.len() {
-            let (home, made) = parted(&mut back.slices, replaced, a);
-            self.lay_slot(a, home, made);
-        }
+        self.lay_homes(&mut back.slices, replaced);
+        self.lay_made(replaced);
         self.lay_cells(&back.cells, target);
         self.place = back.place;
     }

@@ -16,9 +16,21 @@ fn standing(rt: &HostRuntime) -> Result<Machine, Fail> {
     blocks.push(Block::empty(alloc))?;
     blocks.push(Block::empty(alloc))?;
     let mut views = Vec::new(alloc);
-    views.push(View { block: 0, from: 0, len: 2 })?;
-    views.push(View { block: 0, from: 2, len: 3 })?;
-    views.push(View { block: 2, from: 0, len: 0 })?;
+    views.push(View {
+        block: 0,
+        from: 0,
+        len: 2,
+    })?;
+    views.push(View {
+        block: 0,
+        from: 2,
+        len: 3,
+    })?;
+    views.push(View {
+        block: 2,
+        from: 0,
+        len: 0,
+    })?;
     Ok(Machine {
         cells: Vec::from_slice(alloc, &[0, 5, 6, 7])?,
         views,
