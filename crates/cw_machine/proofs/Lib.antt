@@ -32,3 +32,4 @@ pub mod Effects
 pub mod Given
 pub mod Home
 pub mod GivesNumbers
+pub mod GivesMade
