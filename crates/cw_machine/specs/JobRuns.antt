@@ -57,3 +57,33 @@ pub record HoldsJob (v : Verified) (j : Job) (slices : List Placed) (m : Machine
 abbrev pub BeginsJob : Verified → Rest → Machine → Type 0
 BeginsJob v rest m =
     (is : IsFit v) (p : Parts) (j : Job) → p.rest ≡ rest → IsJob v is p j → HoldsJob v j rest.slices.items m
+
+-- a machine of a job can hand back what it made: its run's first call runs, it was given as many slices as the job has
+-- array slots, and nothing is out
+pub record CanEnd (m : Machine) (count : ℕ) : Type 0 where
+  pub code : Verified
+  pub ok : Ok code
+  pub state : State
+  pub shows : Shows code ok m state
+  pub outs : ok.outs ≡ []
+  pub as_many : length ok.given ≡ count
+  pub first : m.first_array ≡ count
+  pub lowest : m.first ≡ 0
+  pub slots : length state.arrays ≡ count
+
+-- what a machine of a job hands back, for each state that it held: the call as it stands, and the job's own slices
+-- where they lay, none of them replaced that must come back
+pub record Ends (v : Verified) (ok : Ok v) (s : State) (back : Rest) (replaced : List (Option Placed)) : Type 0 where
+  pub holds : HoldsFrame back (standing s)
+  pub homes : KeepsHomes ok.given back.slices.items replaced
+  pub fixed : KeepsFixed v ok.verified s.place replaced
+
+abbrev pub EndsJob : Machine → (count : ℕ) → Rest → List (Option Placed) → Type 0
+EndsJob m count back replaced =
+    (v : Verified) (ok : Ok v) (s : State) → Shows v ok m s → ok.outs ≡ [] → length ok.given ≡ count → m.first_array ≡ count →
+    m.first ≡ 0 → length s.arrays ≡ count → Ends v ok s back replaced
+
+-- the job's own slices of a machine that stopped, where they lay
+abbrev pub GivesUp : Machine → (count : ℕ) → List Placed → Type 0
+GivesUp m count back =
+    (v : Verified) (ok : Ok v) (s : State) → Shows v ok m s → ok.outs ≡ [] → length ok.given ≡ count → KeepsHomes ok.given back []
