@@ -71,6 +71,15 @@ pub record CanEnd (m : Machine) (count : ℕ) : Type 0 where
   pub lowest : m.first ≡ 0
   pub slots : length state.arrays ≡ count
 
+-- a machine of a job stopped, with nothing out
+pub record CanStop (m : Machine) (count : ℕ) : Type 0 where
+  pub code : Verified
+  pub ok : Ok code
+  pub state : State
+  pub shows : Shows code ok m state
+  pub outs : ok.outs ≡ []
+  pub as_many : length ok.given ≡ count
+
 -- what a machine of a job hands back, for each state that it held: the call as it stands, and the job's own slices
 -- where they lay, none of them replaced that must come back
 pub record Ends (v : Verified) (ok : Ok v) (s : State) (back : Rest) (replaced : List (Option Placed)) : Type 0 where
