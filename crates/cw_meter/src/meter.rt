@@ -215,7 +215,8 @@ impl Meter {
         sites: usize,
         tags: usize,
     ) -> Result<Measures, AllocError>
-        ensures { IfOk result (λ all. Reads self count sites tags all) }
+        ensures reads { IfOk result (λ all. Reads self count sites tags all) }
+        ensures counted { IfOk result (λ all. all.measure.work ≡ count) }
     {
         let mut tables = self.tables;
         tables.settle(count)?;

@@ -87,6 +87,7 @@ returns-in-Gave c =
       asked = requested code f args n burden c.func-f.ensures asked;
       tree = is.0;
       answer = is.1;
+      within = subst (λ k. k ≤ n) (sym end.counted ∙ rows.measure.work) c.go-stop.ensures.within;
       measure = subst (AreReadings burden is.0) (sym end.measure) rows.measure;
       numbers = ap (map (λ entry. entry.0)) end.sites ∙ numbers_are 0 end.all.sites.items ∙ ap (range_with_len 0) rows.sites.as_many;
       sites = subst (AreSiteRows (length code.sites + 1) is.0) (sym (ap (map (λ entry. entry.1)) end.sites ∙ rows_are 0 end.all.sites.items)) rows.sites;
