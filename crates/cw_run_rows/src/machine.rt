@@ -2,6 +2,7 @@
 
 mod arrays;
 mod measures;
+mod strands;
 
 use cw_code::code::{BlockKind, Callee, Code, Func, Instr, Site, UnaryOperator};
 use cw_machine::alone::{Ended, run_alone};
