@@ -3,18 +3,20 @@
 
     examples.py [--check]
 
-Beside NAME.cilk and NAME.args (an argument a line) stand NAME.out (what `cilkwork run` prints), NAME.scale.csv and
-NAME.sites.csv. All of them are also written as constants of tests, into crates/cw_rows/src/examples.
+Beside NAME.cilk and NAME.args (an argument a line) stand NAME.out (what `cilkwork run` prints), NAME.scale.csv,
+NAME.sites.csv and NAME.greedy.csv (of four processors). All of them are also written as constants of tests, into crates/cw_rows/src/examples.
 """
 import glob
 import os
 import sys
 
+import greedy
 import ref
 from ref import Program, Run, report
 from rules import broken
 
 TOP = os.path.normpath(os.path.join(os.path.dirname(os.path.abspath(__file__)), "..", ".."))
+PROCESSORS = 4
 MODES = [("run", ".out"), ("scale", ".scale.csv"), ("sites", ".sites.csv")]
 
 
@@ -41,8 +43,9 @@ def texts_of(name, path):
         raise SystemExit("%s.cilk: refused %d line %d: %s" % ((path,) + why))
     run = Run(Program(source), [int(word) for word in arguments], 1000000000)
     texts = {path + ending: report(mode, run, 15000)[1] for mode, ending in MODES}
+    texts[path + ".greedy.csv"] = greedy.report(run, PROCESSORS)[1]
     fields = [("words", " ".join([name + ".cilk"] + arguments)), ("source", source)]
-    fields += [(mode, texts[path + ending]) for mode, ending in MODES]
+    fields += [(mode, texts[path + ending]) for mode, ending in MODES + [("greedy", ".greedy.csv")]]
     texts[os.path.join(TOP, "crates", "cw_rows", "src", "examples", name + ".rt")] = constant(name, fields)
     return texts
 

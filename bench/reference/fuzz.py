@@ -3,10 +3,10 @@
 
     fuzz.py EXE START COUNT [no-loops]
 
-For each seed from START on, the program of that seed is checked, and run in the modes run, scale and sites: within a
-wide limit, within just what it costs, and within one instruction less. Exit status and both streams must be those that
-`ref.py` gives. Then three programs that differ from it in one statement are checked: each must be accepted, or refused
-in its line, as `rules.py` says.
+For each seed from START on, the program of that seed is checked, and run in the modes run, scale, sites and greedy:
+within a wide limit, within just what it costs, and within one instruction less. Exit status and both streams must be
+those that `ref.py` gives. Then three programs that differ from it in one statement are checked: each must be accepted,
+or refused in its line, as `rules.py` says.
 """
 import collections
 import os
@@ -15,12 +15,14 @@ import subprocess
 import sys
 import tempfile
 
+import greedy
 import ref
 from gen import Generator, mutant
 from ref import Program, Run, report
 from rules import broken
 
 WIDE = 200000
+PROCESSORS = (1, 2, 3, 1000000)
 OVER = (4, "", "over limit\n")
 
 
@@ -34,8 +36,10 @@ def answers(source, arguments, burden):
     """What the program is asked in each mode, and what it must answer."""
     run = Run(Program(source), arguments, WIDE)
     yield ["check"], (0, "ok\n", "")
-    for mode in ("run", "scale", "sites"):
-        wanted = report(mode, run, burden)
+    told = {mode: report(mode, run, burden) for mode in ("run", "scale", "sites")}
+    for processors in PROCESSORS:
+        told["greedy %d" % processors] = greedy.report(run, processors)
+    for mode, wanted in told.items():
         yield [mode, WIDE], wanted
         if not run.is_over:
             yield [mode, run.cost], wanted
@@ -45,9 +49,10 @@ def answers(source, arguments, burden):
 
 def asked(exe, path, words, arguments, burden):
     mode, *limit = words
-    command = [exe, mode, path]
+    command = [exe] + mode.split() + [path]
     if limit:
-        command += [str(value) for value in arguments] + ["--limit", str(limit[0]), "--burden", str(burden)]
+        command += [str(value) for value in arguments] + ["--limit", str(limit[0])]
+        command += [] if mode.startswith("greedy") else ["--burden", str(burden)]
     done = subprocess.run(command, capture_output=True, text=True)
     return done.returncode, done.stdout, done.stderr
 
@@ -59,7 +64,7 @@ def compare(exe, seed, with_loops, path, seen):
     arguments, burden = arguments_of(source, seed), [0, 1, 10, 100, 15000, 1000000000][seed % 6]
     for words, wanted in answers(source, arguments, burden):
         found = asked(exe, path, words, arguments, burden)
-        seen["%s %d" % (words[0], wanted[0])] += 1
+        seen["%s %d" % (words[0].split()[0], wanted[0])] += 1
         if found != wanted:
             bad += 1
             print("seed", seed, words, arguments, "burden", burden, "wanted", wanted, "answered", found)

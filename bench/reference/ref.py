@@ -2,6 +2,7 @@
 """Another implementation of the profile: meaning, costs, strand tree and reports, for expected values.
 
     ref.py run|scale|sites FILE [ARGS..] [--limit N] [--burden B]
+    ref.py greedy P FILE [ARGS..] [--limit N]
 
 It takes programs that `cilkwork check` accepts, and writes and answers what `cilkwork` should.
 """
@@ -10,6 +11,7 @@ import sys
 import threading
 
 sys.path.insert(0, os.path.dirname(os.path.abspath(__file__)))
+import greedy
 from syntax import Program
 from trees import Block, Mark, Rows, Tree, burdened_span
 
@@ -424,10 +426,12 @@ def main():
             burden = int(words.pop(0))
         else:
             positions.append(word)
-    mode, path, *arguments = positions
+    mode, *positions = positions
+    processors = int(positions.pop(0)) if mode == "greedy" else 1
+    path, *arguments = positions
     with open(path) as file:
         run = Run(Program(file.read()), [int(word) for word in arguments], limit)
-    status, out, err = report(mode, run, burden)
+    status, out, err = greedy.report(run, processors) if mode == "greedy" else report(mode, run, burden)
     sys.stdout.write(out)
     sys.stderr.write(err)
     return status

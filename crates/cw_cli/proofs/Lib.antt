@@ -3,11 +3,13 @@ mod Digits
 mod Texts
 mod Filled
 mod Reading
+mod Scheduling
 mod Taken
 mod Told
 mod Refusals
 mod Stages
 mod Rows
 mod Runs
+mod Schedules
 mod Tools
 pub mod ReadWords

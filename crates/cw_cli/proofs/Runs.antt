@@ -32,28 +32,29 @@ use Rattle.cw_cli.specs.Analyses as analyses
 use Rattle.cw_cli.specs.declared.asked.Mode.{Mode}
 use Rattle.cw_cli.specs.declared.asked.Mode.TheVariants as mode
 use Rattle.cw_cli.specs.declared.asked.Options.{Options}
-use Rattle.cw_cli.specs.Told.{told_of}
+use Rattle.cw_cli.specs.Requests.{FitMode}
+use Rattle.cw_cli.specs.Told.{IsCounted, told_of}
 use Rattle.cw_cli.proofs.Rows.{scale_is, sites_are}
 use Rattle.cw_model.specs.SiteLaw.{SitesAreNumbered}
 use Rattle.cw_model.specs.Sites.{call_sites, are_numbered}
 
-both : (a b : Bool) → (a && b) ≡ true → (a ≡ true) × (b ≡ true)
+pub both : (a b : Bool) → (a && b) ≡ true → (a ≡ true) × (b ≡ true)
 both true b h = (refl, h)
 both false b h = cc
 
-is_same : (a b : ℕ) → nat_eq a b ≡ true → a ≡ b
+pub is_same : (a b : ℕ) → nat_eq a b ≡ true → a ≡ b
 is_same a b h = grind (arith, nat_tests)
 
-is_most : (a b : ℕ) → nat_le a b ≡ true → a ≤ b
+pub is_most : (a b : ℕ) → nat_le a b ≡ true → a ≤ b
 is_most a b h = grind (arith, nat_tests)
 
-same_is : (a b : ℕ) → a ≡ b → nat_eq a b ≡ true
+pub same_is : (a b : ℕ) → a ≡ b → nat_eq a b ≡ true
 same_is a b h = grind (arith, nat_tests)
 
-most_is : (a b : ℕ) → a ≤ b → nat_le a b ≡ true
+pub most_is : (a b : ℕ) → a ≤ b → nat_le a b ≡ true
 most_is a b h = grind (arith, nat_tests)
 
-true_both : (a b : Bool) → a ≡ true → b ≡ true → (a && b) ≡ true
+pub true_both : (a b : Bool) → a ≡ true → b ≡ true → (a && b) ≡ true
 true_both true true p q = refl
 true_both true false p q = q
 true_both false b p q = p
@@ -64,15 +65,29 @@ named_lines [] sums = refl
 named_lines (r ∷ rs) [] = refl
 named_lines (r ∷ rs) (v ∷ vs) = ap (λ lines. codes "sum " ++ (r.name ++ (codes " = " ++ (value_line v ++ lines)))) (named_lines rs vs)
 
+-- the options have a burden, and it is asked to be in range
+abbrev pub Burdened : Mode → ℕ → Type 0
+Burdened m burden = (FitMode m burden → burden ≤ MOST_BURDEN) × (burden ≤ MOST_BURDEN → FitMode m burden)
+
+pub run_is_burdened : (m : Mode) (burden : ℕ) → m ≡ mode.Run → Burdened m burden
+run_is_burdened m burden is = subst (λ k. Burdened k burden) (sym is) ((λ h. h), (λ h. h))
+
+pub counted_is_burdened : (m : Mode) (burden : ℕ) → IsCounted m → Burdened m burden
+counted_is_burdened mode.Scale burden counted = ((λ h. h), (λ h. h))
+counted_is_burdened mode.Sites burden counted = ((λ h. h), (λ h. h))
+counted_is_burdened mode.Check burden counted = absurd counted
+counted_is_burdened mode.Run burden counted = absurd counted
+counted_is_burdened (mode.Greedy p) burden counted = absurd counted
+
 -- whether a run ended, as an analysis answers it
-abbrev result_of : {V : Type 0} → Result V Fault → Result (Unit {0}) Fault
+abbrev pub result_of : {V : Type 0} → Result V Fault → Result (Unit {0}) Fault
 result_of (Ok e) = Ok tt
 result_of (Err f) = Err f
 
-some_is : {A : Type 0} (a b : A) → Some a ≡ Some b → a ≡ b
+pub some_is : {A : Type 0} (a b : A) → Some a ≡ Some b → a ≡ b
 some_is a b e = cc
 
-false_true : false ≡ true → ⊥
+pub false_true : false ≡ true → ⊥
 false_true e = cc
 
 not_over : (a : Answer) → analyses.HasEnded a → a ≡ OverLimit → ⊥
@@ -89,20 +104,22 @@ values_are program code burden e tree g =
     (ap (λ names. sums_text names e.sums.items) g.reducers ∙ named_lines program.reducers e.sums.items)
 
 -- the report that is asked for of what is counted
-report_is : (m : Mode) (program : Program) (code : Code) (args : List ℤ) (n burden : ℕ) (e : run.Ended) (r : Runs code args n burden e) → m ≢ mode.Check → m ≢ mode.Run
+report_is : (m : Mode) (program : Program) (code : Code) (args : List ℤ) (n burden : ℕ) (e : run.Ended) (r : Runs code args n burden e) → IsCounted m
     → Generates program code → are_numbered 0 (call_sites program) ≡ true
-    → told_of m code (Ok e) ≡ report_text (analyses.mode_of m) program burden (Ended e.value e.lines.items e.sums.items r.tree)
-report_is mode.Check program code args n burden e r runs counts g numbered = absurd (runs refl)
-report_is mode.Run program code args n burden e r runs counts g numbered = absurd (counts refl)
-report_is mode.Scale program code args n burden e r runs counts g numbered = scale_is program code burden e r.tree g.tags r.tags r.measure r.regions
-report_is mode.Sites program code args n burden e r runs counts g numbered = sites_are program code e r.tree g.sites g.main_line numbered r.sites
+    → told_of m code (Ok e) ≡ analyses.text_in m program burden (Ended e.value e.lines.items e.sums.items r.tree)
+report_is mode.Check program code args n burden e r counted g numbered = absurd counted
+report_is mode.Run program code args n burden e r counted g numbered = absurd counted
+report_is (mode.Greedy p) program code args n burden e r counted g numbered = absurd counted
+report_is mode.Scale program code args n burden e r counted g numbered = scale_is program code burden e r.tree g.tags r.tags r.measure r.regions
+report_is mode.Sites program code args n burden e r counted g numbered = sites_are program code e r.tree g.sites g.main_line numbered r.sites
 
-printed_is : (m : Mode) (program : Program) (code : Code) (burden : ℕ) (trap : Trap) (line : ℕ) (lines : Vec ℤ) → m ≢ mode.Check → m ≢ mode.Run
-    → told_of m code (Err (fault.Trap trap line lines)) ≡ report_text (analyses.mode_of m) program burden (TrappedAt trap line lines.items)
-printed_is mode.Check program code burden trap line lines runs counts = absurd (runs refl)
-printed_is mode.Run program code burden trap line lines runs counts = absurd (counts refl)
-printed_is mode.Scale program code burden trap line lines runs counts = refl
-printed_is mode.Sites program code burden trap line lines runs counts = refl
+printed_is : (m : Mode) (program : Program) (code : Code) (burden : ℕ) (trap : Trap) (line : ℕ) (lines : Vec ℤ) → IsCounted m
+    → told_of m code (Err (fault.Trap trap line lines)) ≡ analyses.text_in m program burden (TrappedAt trap line lines.items)
+printed_is mode.Check program code burden trap line lines counted = absurd counted
+printed_is mode.Run program code burden trap line lines counted = absurd counted
+printed_is (mode.Greedy p) program code burden trap line lines counted = absurd counted
+printed_is mode.Scale program code burden trap line lines counted = refl
+printed_is mode.Sites program code burden trap line lines counted = refl
 
 -- of a run that did not start or passed its limit nothing is told
 over_is : (m : Mode) (code : Code) → told_of m code (Err fault.OverLimit) ≡ []
@@ -110,24 +127,27 @@ over_is mode.Check code = refl
 over_is mode.Run code = refl
 over_is mode.Scale code = refl
 over_is mode.Sites code = refl
+over_is (mode.Greedy p) code = refl
 
 memory_is : (m : Mode) (code : Code) → told_of m code (Err fault.Memory) ≡ []
 memory_is mode.Check code = refl
 memory_is mode.Run code = refl
 memory_is mode.Scale code = refl
 memory_is mode.Sites code = refl
+memory_is (mode.Greedy p) code = refl
 
 arguments_are : (m : Mode) (code : Code) → told_of m code (Err fault.Arguments) ≡ []
 arguments_are mode.Check code = refl
 arguments_are mode.Run code = refl
 arguments_are mode.Scale code = refl
 arguments_are mode.Sites code = refl
+arguments_are (mode.Greedy p) code = refl
 
 -- a sink that stayed as it was counts no further failed write
-no_part : {W : Type 0} (seen : W → Seen) (old new : W) (text : List ℕ) → new ≡ old → WritesPart (seen old) (seen new) text → ⊥
+pub no_part : {W : Type 0} (seen : W → Seen) (old new : W) (text : List ℕ) → new ≡ old → WritesPart (seen old) (seen new) text → ⊥
 no_part seen old new text same part = let e : (seen new).failures ≡ (seen old).failures = ap (λ w. (seen w).failures) same in omega (arith, e, part.failed)
 
-module _ (bytes : List ℕ) (args : List ℤ) (words : list_all fits args ≡ true) (options : Options) (code : Code) (compiled : IsCompiled bytes code) where
+module _ (bytes : List ℕ) (args : List ℤ) (words : list_all fits args ≡ true) (options : Options) (burdened : Burdened options.mode options.burden) (code : Code) (compiled : IsCompiled bytes code) where
   may : is_request code args options.limit options.burden ≡ true → analyses.MayRun compiled.program args options
   may h =
       let n = both (nat_eq (length args) (main_params code)) (nat_le 1 options.limit && (nat_le options.limit MOST_LIMIT && nat_le options.burden MOST_BURDEN)) h in
@@ -135,14 +155,14 @@ module _ (bytes : List ℕ) (args : List ℤ) (words : list_all fits args ≡ tr
       let b = both (nat_le options.limit MOST_LIMIT) (nat_le options.burden MOST_BURDEN) l.1 in
       record {
         count = is_same (length args) (main_params code) n.0 ∙ compiled.generates.params;
-        in_range = record { some_limit = is_most 1 options.limit l.0; limit = is_most options.limit MOST_LIMIT b.0; burden = is_most options.burden MOST_BURDEN b.1 };
+        in_range = record { some_limit = is_most 1 options.limit l.0; limit = is_most options.limit MOST_LIMIT b.0; others = burdened.1 (is_most options.burden MOST_BURDEN b.1) };
       }
 
   must : analyses.MayRun compiled.program args options → is_request code args options.limit options.burden ≡ true
   must m =
       true_both (nat_eq (length args) (main_params code)) _ (same_is (length args) (main_params code) (m.count ∙ sym compiled.generates.params))
       (true_both (nat_le 1 options.limit) _ (most_is 1 options.limit m.in_range.some_limit)
-      (true_both (nat_le options.limit MOST_LIMIT) _ (most_is options.limit MOST_LIMIT m.in_range.limit) (most_is options.burden MOST_BURDEN m.in_range.burden)))
+      (true_both (nat_le options.limit MOST_LIMIT) _ (most_is options.limit MOST_LIMIT m.in_range.limit) (most_is options.burden MOST_BURDEN (burdened.0 m.in_range.others))))
 
   run_of : analyses.MayRun compiled.program args options → analyses.IsRunOf bytes args options compiled.program
   run_of m = record { compiles = compiled.compiles; may = m }
@@ -152,7 +172,7 @@ module _ (bytes : List ℕ) (args : List ℤ) (words : list_all fits args ≡ tr
 
   -- the report of an answer, in the mode that is asked for
   abbrev pub report_of : Answer → List ℕ
-  report_of a = report_text (analyses.mode_of options.mode) compiled.program options.burden a
+  report_of a = analyses.text_in options.mode compiled.program options.burden a
 
   -- a run that ended: what the code means by it, and what is told of it
   pub record EndsAs (text : List ℕ) : Type 0 where
@@ -179,17 +199,17 @@ module _ (bytes : List ℕ) (args : List ℤ) (words : list_all fits args ≡ tr
       ended = tt;
       serial = r.answer;
       told = values_are compiled.program code options.burden e r.tree compiled.generates
-          ∙ ap (λ m. report_text (analyses.mode_of m) compiled.program options.burden (Ended e.value e.lines.items e.sums.items r.tree)) (sym is);
+          ∙ ap (λ m. analyses.text_in m compiled.program options.burden (Ended e.value e.lines.items e.sums.items r.tree)) (sym is);
     };
-    printed = λ trap line lines. ap (λ m. report_text (analyses.mode_of m) compiled.program options.burden (TrappedAt trap line lines.items)) (sym is);
+    printed = λ trap line lines. ap (λ m. analyses.text_in m compiled.program options.burden (TrappedAt trap line lines.items)) (sym is);
     over = refl;
     memory = refl;
     arguments = refl;
   }
 
   -- what is counted of a run
-  pub tables_tell : options.mode ≢ mode.Check → options.mode ≢ mode.Run → SitesAreNumbered → Tells (Runs code args options.limit options.burden) (told_of options.mode code)
-  tables_tell runs counts law =
+  pub tables_tell : IsCounted options.mode → SitesAreNumbered → Tells (Runs code args options.limit options.burden) (told_of options.mode code)
+  tables_tell counted law =
       let source = compiled.compiles.accepted.source in
       let numbered : are_numbered 0 (call_sites compiled.program) ≡ true = law bytes source.tokens compiled.program source.parsed.derived in
       record {
@@ -198,9 +218,9 @@ module _ (bytes : List ℕ) (args : List ℤ) (words : list_all fits args ≡ tr
           answer = Ended e.value e.lines.items e.sums.items r.tree;
           ended = tt;
           serial = r.answer;
-          told = report_is options.mode compiled.program code args options.limit options.burden e r runs counts compiled.generates numbered;
+          told = report_is options.mode compiled.program code args options.limit options.burden e r counted compiled.generates numbered;
         };
-        printed = λ trap line lines. printed_is options.mode compiled.program code options.burden trap line lines runs counts;
+        printed = λ trap line lines. printed_is options.mode compiled.program code options.burden trap line lines counted;
         over = over_is options.mode code;
         memory = memory_is options.mode code;
         arguments = arguments_are options.mode code;
@@ -300,7 +320,7 @@ module _ {W : Type 0} (seen : W → Seen) (old new : W) (bytes : List ℕ) (args
   in_mode m is r h = subst (λ k. analyses.IsAnalysedIn seen old new bytes args options k r) (sym is) h
 
   check_text_is : (program : Program) → options.mode ≡ mode.Check → check_text ≡ analyses.text_of program args options
-  check_text_is program is = ap (λ m. report_text (analyses.mode_of m) program options.burden (analyses.answer_to program args options)) (sym is)
+  check_text_is program is = ap (λ m. analyses.text_in m program options.burden (analyses.answer_to program args options)) (sym is)
 
   -- bytes that compile, and the text of a check
   pub checked : (code : Code) → IsCompiled bytes code → options.mode ≡ mode.Check → (r : Result (Unit {0}) Fault) → Writes (seen old) (seen new) check_text r → analyses.IsAnalysed seen old new bytes args options r
@@ -315,15 +335,24 @@ module _ {W : Type 0} (seen : W → Seen) (old new : W) (bytes : List ℕ) (args
     took = subst (λ text. WritesPart (seen old) (seen new) text) (check_text_is compiled.program is) h.1;
   }))
 
-  in_running_mode : (m : Mode) → m ≢ mode.Check → (r : Result (Unit {0}) Fault) → analyses.IsRun seen old new bytes args options r → analyses.IsAnalysedIn seen old new bytes args options m r
-  in_running_mode mode.Check runs r h = absurd (runs refl)
-  in_running_mode mode.Run runs r h = h
-  in_running_mode mode.Scale runs r h = h
-  in_running_mode mode.Sites runs r h = h
+  in_counted_mode : (m : Mode) → IsCounted m → (r : Result (Unit {0}) Fault) → analyses.IsRun seen old new bytes args options r → analyses.IsAnalysedIn seen old new bytes args options m r
+  in_counted_mode mode.Check counted r h = absurd counted
+  in_counted_mode mode.Run counted r h = absurd counted
+  in_counted_mode (mode.Greedy p) counted r h = absurd counted
+  in_counted_mode mode.Scale counted r h = h
+  in_counted_mode mode.Sites counted r h = h
 
-  -- what a run answers, where a run is asked for
-  pub run_is : options.mode ≢ mode.Check → (r : Result (Unit {0}) Fault) → analyses.IsRun seen old new bytes args options r → analyses.IsAnalysed seen old new bytes args options r
-  run_is runs r h = in_running_mode options.mode runs r h
+  -- what a run answers, where its tables are asked for
+  pub counted_is : IsCounted options.mode → (r : Result (Unit {0}) Fault) → analyses.IsRun seen old new bytes args options r → analyses.IsAnalysed seen old new bytes args options r
+  counted_is counted r h = in_counted_mode options.mode counted r h
+
+  -- where its values are
+  pub run_is : options.mode ≡ mode.Run → (r : Result (Unit {0}) Fault) → analyses.IsRun seen old new bytes args options r → analyses.IsAnalysed seen old new bytes args options r
+  run_is is r h = in_mode mode.Run is r h
+
+  -- and where its schedule is
+  pub greedy_is : (p : ℕ) → options.mode ≡ mode.Greedy p → (r : Result (Unit {0}) Fault) → analyses.IsGreedy seen old new bytes args options r → analyses.IsAnalysed seen old new bytes args options r
+  greedy_is p is r h = in_mode (mode.Greedy p) is r h
 
 -- ---- bytes that are refused
 
@@ -335,6 +364,15 @@ run_refusal seen old bytes args options (fault.Ownership p) h = record { refused
 run_refusal seen old bytes args options (fault.Size p) h = record { refused = h; untouched = refl }
 run_refusal seen old bytes args options fault.Memory h = refl
 run_refusal seen old bytes args options _ h = absurd h
+
+greedy_refusal : {W : Type 0} (seen : W → Seen) (old : W) (bytes : List ℕ) (args : List ℤ) (options : Options) (f : Fault) → IsRefused bytes f → analyses.IsUnscheduled seen old old bytes args options f
+greedy_refusal seen old bytes args options (fault.Lexical p) h = record { refused = h; untouched = refl }
+greedy_refusal seen old bytes args options (fault.Syntax p) h = record { refused = h; untouched = refl }
+greedy_refusal seen old bytes args options (fault.Types p) h = record { refused = h; untouched = refl }
+greedy_refusal seen old bytes args options (fault.Ownership p) h = record { refused = h; untouched = refl }
+greedy_refusal seen old bytes args options (fault.Size p) h = record { refused = h; untouched = refl }
+greedy_refusal seen old bytes args options fault.Memory h = refl
+greedy_refusal seen old bytes args options _ h = absurd h
 
 check_refusal : {W : Type 0} (seen : W → Seen) (old : W) (bytes : List ℕ) (args : List ℤ) (options : Options) (f : Fault) → IsRefused bytes f → analyses.IsUnchecked seen old old bytes args options f
 check_refusal seen old bytes args options (fault.Lexical p) h = record { refused = h; untouched = refl }
@@ -350,6 +388,7 @@ refused_in seen old bytes args options mode.Check f h = check_refusal seen old b
 refused_in seen old bytes args options mode.Run f h = run_refusal seen old bytes args options f h
 refused_in seen old bytes args options mode.Scale f h = run_refusal seen old bytes args options f h
 refused_in seen old bytes args options mode.Sites f h = run_refusal seen old bytes args options f h
+refused_in seen old bytes args options (mode.Greedy p) f h = greedy_refusal seen old bytes args options f h
 
 -- bytes that are refused, in any mode
 pub refusal : {W : Type 0} (seen : W → Seen) (old : W) (bytes : List ℕ) (args : List ℤ) (options : Options) (f : Fault) → IsRefused bytes f → (r : Result (Unit {0}) Fault) → IsErrAnd r (λ x. x ≡ f) → analyses.IsAnalysed seen old old bytes args options r

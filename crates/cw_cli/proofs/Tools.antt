@@ -108,6 +108,20 @@ module _ (bytes : List ℕ) (long : MOST_SOURCE_BYTES < length bytes) where
     unchecked_whole fault.Code h = absurd h.refused
     unchecked_whole fault.Strands h = absurd h.refused
 
+    unscheduled_whole : (f : Fault) → analyses.IsUnscheduled seen old new (take most_read bytes) args options f → analyses.IsUnscheduled seen old new bytes args options f
+    unscheduled_whole fault.OverLimit h = absurd (no_source h.run.compiles.accepted.source.has_tokens.text)
+    unscheduled_whole (fault.Trap trap line printed) h = absurd (no_source h.run.compiles.accepted.source.has_tokens.text)
+    unscheduled_whole fault.Memory h = h
+    unscheduled_whole fault.Write h = absurd (no_source h.run.compiles.accepted.source.has_tokens.text)
+    unscheduled_whole fault.Arguments h = absurd (no_source h.compiles.accepted.source.has_tokens.text)
+    unscheduled_whole fault.Strands h = absurd (no_source h.run.compiles.accepted.source.has_tokens.text)
+    unscheduled_whole (fault.Lexical p) h = refused_for (fault.Lexical p) h
+    unscheduled_whole (fault.Syntax p) h = refused_for (fault.Syntax p) h
+    unscheduled_whole (fault.Types p) h = refused_for (fault.Types p) h
+    unscheduled_whole (fault.Ownership p) h = refused_for (fault.Ownership p) h
+    unscheduled_whole (fault.Size p) h = refused_for (fault.Size p) h
+    unscheduled_whole fault.Code h = absurd h.refused
+
     run_whole : (r : Result (Unit {0}) Fault) → analyses.IsRun seen old new (take most_read bytes) args options r → analyses.IsRun seen old new bytes args options r
     run_whole (Ok done) h = absurd (no_source h.run.compiles.accepted.source.has_tokens.text)
     run_whole (Err f) h = unreported_whole f h
@@ -115,6 +129,8 @@ module _ (bytes : List ℕ) (long : MOST_SOURCE_BYTES < length bytes) where
     long_whole : (m : Mode) (r : Result (Unit {0}) Fault) → analyses.IsAnalysedIn seen old new (take most_read bytes) args options m r → analyses.IsAnalysedIn seen old new bytes args options m r
     long_whole mode.Check (Ok done) h = absurd (no_source h.compiles.accepted.source.has_tokens.text)
     long_whole mode.Check (Err f) h = unchecked_whole f h
+    long_whole (mode.Greedy p) (Ok done) h = absurd (no_source h.run.compiles.accepted.source.has_tokens.text)
+    long_whole (mode.Greedy p) (Err f) h = unscheduled_whole f h
     long_whole mode.Run r h = run_whole r h
     long_whole mode.Scale r h = run_whole r h
     long_whole mode.Sites r h = run_whole r h
@@ -162,6 +178,7 @@ module _ {W E : Type 0} (seen : W → Seen) (seen' : E → Seen) (old new : W) (
       untouched bytes mode.Run = same
       untouched bytes mode.Scale = same
       untouched bytes mode.Sites = same
+      untouched bytes (mode.Greedy p) = same
 
   module _ {D : Type 0} (remaining : D → Option (List ℕ)) (source inner : D) (limit : ℕ) (before read slice : List ℕ) (args : List ℤ) where
     -- what the bytes that were read come to is the answer on the source

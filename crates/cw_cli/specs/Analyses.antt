@@ -1,5 +1,5 @@
 -- What an analysis of bytes answers, and what it writes.
-use Rattle.std.specs.Prelude.{◌≡◌, ◌≢◌, ℕ, ℤ, List, length, Result, MatchResult}
+use Rattle.std.specs.Prelude.{◌≡◌, ◌≢◌, ◌≤◌, ◌<◌, ℕ, ℤ, List, length, Result, MatchResult}
 use Rattle.cw_model.specs.declared.trap.Trap.{Trap}
 use Rattle.cw_model.specs.Syntax.{Program}
 use Rattle.cw_model.specs.Meaning.{function_named}
@@ -10,20 +10,24 @@ use Rattle.cw_text.specs.declared.fault.Fault.{Fault}
 use Rattle.cw_text.specs.declared.fault.Fault.TheVariants as fault
 use Rattle.cw_report.specs.Seen.{Seen}
 use Rattle.cw_report.specs.Sinks.{WritesAll, WritesPart}
+use Rattle.cw_greedy.specs.declared.code.TheConstants.{MOST_STRANDS}
+use Rattle.cw_greedy.specs.Blocks.{strand_count}
+use Rattle.cw_cli.specs.Greedy.{greedy_text}
 use Rattle.cw_cli.specs.Requests.{AreInRange}
 use Rattle.cw_cli.specs.Sources.{Compiles, IsRefused}
 use Rattle.cw_cli.specs.declared.asked.Mode.{Mode}
 use Rattle.cw_cli.specs.declared.asked.Mode.TheVariants as mode
 use Rattle.cw_cli.specs.declared.asked.Options.{Options}
 
--- the report that a mode of the command line asks for
-abbrev pub mode_of : Mode → report.Mode
-mode_of mode.Check = report.Check
-mode_of mode.Run = report.Run
-mode_of mode.Scale = report.Scale
-mode_of mode.Sites = report.Sites
+-- the report that a mode of the command line asks for, of what a program answers
+abbrev pub text_in : Mode → Program → (burden : ℕ) → Answer → List ℕ
+text_in mode.Check program burden a = report_text report.Check program burden a
+text_in mode.Run program burden a = report_text report.Run program burden a
+text_in mode.Scale program burden a = report_text report.Scale program burden a
+text_in mode.Sites program burden a = report_text report.Sites program burden a
+text_in (mode.Greedy p) program burden a = greedy_text p a
 
--- main has so many parameters, and the limit and the burden are in range
+-- main has so many parameters, and the limit and the burden, or the processors, are in range
 pub record MayRun (program : Program) (args : List ℤ) (options : Options) : Type 0 where
   pub count : length args ≡ length (function_named main_name program.functions).params
   pub in_range : AreInRange options
@@ -40,12 +44,22 @@ answer_to program args options = serial_answer program args options.limit
 -- the report of a program; that of a check says nothing of what the program answers, and of a trap only a run writes what it
 -- printed before
 abbrev pub text_of : Program → List ℤ → Options → List ℕ
-text_of program args options = report_text (mode_of options.mode) program options.burden (answer_to program args options)
+text_of program args options = text_in options.mode program options.burden (answer_to program args options)
 
 -- the run ended with a value: it neither trapped nor passed its limit
 abbrev pub HasEnded : Answer → Type 0
 HasEnded (Ended v lines sums tree) = Unit {0}
 HasEnded _ = ⊥
+
+-- it ended, with as many strands as a schedule is made for
+abbrev pub HasFewStrands : Answer → Type 0
+HasFewStrands (Ended v lines sums tree) = strand_count tree ≤ MOST_STRANDS
+HasFewStrands _ = ⊥
+
+-- it ended, with more of them
+abbrev pub HasManyStrands : Answer → Type 0
+HasManyStrands (Ended v lines sums tree) = MOST_STRANDS < strand_count tree
+HasManyStrands _ = ⊥
 
 -- a sink goes from one state to another
 module _ {W : Type 0} (seen : W → Seen) (old new : W) where
@@ -112,7 +126,7 @@ module _ {W : Type 0} (seen : W → Seen) (old new : W) where
       pub within : answer_to program args options ≢ OverLimit
       pub took : TookPart (text_of program args options)
 
-    -- its main has another count of parameters, or the limit or the burden is out of range
+    -- its main has another count of parameters, or the limit, the burden or the processors are out of range
     pub record IsMisused : Type 0 where
       pub program : Program
       pub compiles : Compiles bytes program
@@ -132,9 +146,45 @@ module _ {W : Type 0} (seen : W → Seen) (old new : W) where
     abbrev pub IsRun : Result (Unit {0}) Fault → Type 0
     IsRun r = MatchResult r (λ _. IsReported) IsUnreported
 
+    -- it ended with few enough strands, and the sink took the report of its schedule
+    pub record IsScheduled : Type 0 where
+      pub program : Program
+      pub run : IsRunOf bytes args options program
+      pub few : HasFewStrands (answer_to program args options)
+      pub took : Took (text_of program args options)
+
+    -- it ended with few enough strands, and a write of the report failed
+    pub record IsScheduleCutShort : Type 0 where
+      pub program : Program
+      pub run : IsRunOf bytes args options program
+      pub few : HasFewStrands (answer_to program args options)
+      pub took : TookPart (text_of program args options)
+
+    -- it ended with too many strands
+    pub record HasTooManyStrands : Type 0 where
+      pub program : Program
+      pub run : IsRunOf bytes args options program
+      pub many : HasManyStrands (answer_to program args options)
+      pub untouched : new ≡ old
+
+    -- what must hold where a schedule is asked for and this fault is answered
+    abbrev pub IsUnscheduled : Fault → Type 0
+    IsUnscheduled fault.OverLimit = IsOverLimit
+    IsUnscheduled (fault.Trap trap line printed) = IsTrapped trap line printed.items
+    IsUnscheduled fault.Memory = new ≡ old
+    IsUnscheduled fault.Write = IsScheduleCutShort
+    IsUnscheduled fault.Arguments = IsMisused
+    IsUnscheduled fault.Strands = HasTooManyStrands
+    IsUnscheduled f = IsRefusedFor f
+
+    -- what the mode that makes a schedule answers
+    abbrev pub IsGreedy : Result (Unit {0}) Fault → Type 0
+    IsGreedy r = MatchResult r (λ _. IsScheduled) IsUnscheduled
+
     -- what an analysis in this mode answers
     abbrev pub IsAnalysedIn : Mode → Result (Unit {0}) Fault → Type 0
     IsAnalysedIn mode.Check r = MatchResult r (λ _. IsChecked) IsUnchecked
+    IsAnalysedIn (mode.Greedy p) r = IsGreedy r
     IsAnalysedIn m r = IsRun r
 
     -- what an analysis answers

@@ -4,6 +4,7 @@ pub mod Requests
 pub mod Rows
 pub mod Sources
 pub mod Compiled
+pub mod Greedy
 pub mod Analyses
 pub mod Told
 pub mod Tools

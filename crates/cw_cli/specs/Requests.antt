@@ -9,7 +9,9 @@ use Rattle.cw_model.specs.Pieces.{decimal_value}
 use Rattle.cw_text.specs.declared.fault.Fault.{Fault}
 use Rattle.cw_text.specs.declared.fault.Fault.TheVariants as fault
 use Rattle.cw_cli.specs.Numbers.{IsNumberWithin}
-use Rattle.cw_cli.specs.Command.{NumberRow, command_line, command_name, number_rows}
+use Rattle.cw_cli.specs.Command.{NumberRow, command_line, command_name, mode_by, number_rows}
+use Rattle.cw_scheduled.specs.declared.schedules.TheConstants.{MOST_PROCESSORS}
+use Rattle.cw_cli.specs.declared.command.Verb.{Verb}
 use Rattle.cw_cli.specs.declared.asked.Mode.{Mode}
 use Rattle.cw_cli.specs.declared.asked.Mode.TheVariants as mode
 use Rattle.cw_cli.specs.declared.asked.Options.{Options}
@@ -17,35 +19,40 @@ use Rattle.cw_cli.specs.declared.asked.Request.{Request}
 use Rattle.cw_cli.specs.declared.asked.Said.{Said}
 use Rattle.cw_cli.specs.declared.asked.Said.TheVariants as said
 
--- the limit and the burden are in range
+-- the processors of a schedule are in range, and the burden of any other run
+abbrev pub FitMode : Mode → (burden : ℕ) → Type 0
+FitMode (mode.Greedy p) burden = (1 ≤ p) × (p ≤ MOST_PROCESSORS)
+FitMode m burden = burden ≤ MOST_BURDEN
+
+-- the limit is in range, and the processors or the burden
 pub record AreInRange (options : Options) : Type 0 where
   pub some_limit : 1 ≤ options.limit
   pub limit : options.limit ≤ MOST_LIMIT
-  pub burden : options.burden ≤ MOST_BURDEN
+  pub others : FitMode options.mode options.burden
 
 -- the options of a run that is given none
 abbrev pub usual_options : Options
 usual_options = record { mode = mode.Run; limit = USUAL_LIMIT; burden = USUAL_BURDEN }
 
 -- the command of this name, if there is one
-abbrev pub IsModeNamed : Text → Option Mode → Type 0
-IsModeNamed name None = (m : Mode) → command_name m ≢ name
-IsModeNamed name (Some m) = command_name m ≡ name
+abbrev pub IsVerbNamed : Text → Option Verb → Type 0
+IsVerbNamed name None = (v : Verb) → command_name v ≢ name
+IsVerbNamed name (Some v) = command_name v ≡ name
 
 -- what is entered is no command
 abbrev pub NamesNoCommand : Option (Text × List Row) → Type 0
-NamesNoCommand entered = (m : Mode) (rows : List Row) → entered ≢ Some (command_name m, rows)
+NamesNoCommand entered = (v : Verb) (rows : List Row) → entered ≢ Some (command_name v, rows)
 
--- what a command's words are: its mode, its source, the arguments of main, and a word for each row of the table of numbers
+-- what a command's words are: what to do, its source, the arguments of main, and a word for each row of the table of numbers
 pub record Words : Type 0 where
-  pub mode : Mode
+  pub verb : Verb
   pub file : Text
   pub args : List Text
   pub numbers : List Text
 
--- the numbers of the options, in the order of the table
-abbrev pub option_numbers : Options → List ℕ
-option_numbers o = o.limit ∷ o.burden ∷ []
+-- so many processors and the numbers of the options, in the order of the table
+abbrev pub numbers_with : (processors : ℕ) → Options → List ℕ
+numbers_with p o = p ∷ o.limit ∷ o.burden ∷ []
 
 -- what the rows have for an argument that is given any number of times
 abbrev pub texts_of : List Row → Text → List Text
@@ -77,7 +84,7 @@ AreWithin [] [] = Unit {0}
 AreWithin (row ∷ rows) (text ∷ texts) = IsNumberWithin row.least row.most text × AreWithin rows texts
 AreWithin _ _ = ⊥
 
--- the arguments and the numbers of the options are numbers in range
+-- the arguments and the numbers are numbers in range
 abbrev pub AreNumbers : (args numbers : List Text) → Type 0
 AreNumbers args numbers = All IsArgument args × AreWithin number_rows numbers
 
@@ -86,17 +93,18 @@ pub record IsRequestOf (words : Words) (r : Request) : Type 0 where
   pub in_range : AreNumbers words.args words.numbers
   pub file_is : string_bytes r.file ≡ words.file
   pub args_are : r.args.items ≡ values_of words.args
-  pub mode_is : r.options.mode ≡ words.mode
-  pub numbers_are : option_numbers r.options ≡ map decimal_value words.numbers
+  pub processors : ℕ
+  pub mode_is : r.options.mode ≡ mode_by words.verb processors
+  pub numbers_are : numbers_with processors r.options ≡ map decimal_value words.numbers
 
 -- the words that the rows of a command have, of this source
-abbrev pub words_in : Mode → Text → List Row → Words
-words_in m file rows = record { mode = m; file = file; args = texts_of rows (codes "ARGS"); numbers = numbers_of rows }
+abbrev pub words_in : Verb → Text → List Row → Words
+words_in v file rows = record { verb = v; file = file; args = texts_of rows (codes "ARGS"); numbers = numbers_of rows }
 
 -- the request that the rows of a command make
-pub record IsAskedBy (m : Mode) (rows : List Row) (r : Request) : Type 0 where
+pub record IsAskedBy (v : Verb) (rows : List Row) (r : Request) : Type 0 where
   pub file : first_of (codes "FILE") rows ≡ Some (string_bytes r.file)
-  pub request : IsRequestOf (words_in m (string_bytes r.file) rows) r
+  pub request : IsRequestOf (words_in v (string_bytes r.file) rows) r
 
 -- the rows make a request
 abbrev pub AreProper : List Row → Type 0
@@ -107,13 +115,13 @@ abbrev pub faults : List Text → Kinds
 faults given = fault_of command_line given
 
 -- the words are taken, and have this command with these rows
-abbrev pub HaveCommand : List Text → Mode → List Row → Type 0
-HaveCommand given m rows = (faults given ≡ []) × (subcommand_of command_line given ≡ Some (command_name m, rows))
+abbrev pub HaveCommand : List Text → Verb → List Row → Type 0
+HaveCommand given v rows = (faults given ≡ []) × (subcommand_of command_line given ≡ Some (command_name v, rows))
 
 -- what is given is taken, and read as these words
 pub record AreRead (given : List Text) (words : Words) : Type 0 where
   pub rows : List Row
-  pub command : HaveCommand given words.mode rows
+  pub command : HaveCommand given words.verb rows
   pub file_is : first_of (codes "FILE") rows ≡ Some words.file
   pub args_are : texts_of rows (codes "ARGS") ≡ words.args
   pub numbers_are : numbers_of rows ≡ words.numbers
@@ -124,7 +132,7 @@ pub record Asks (given : List Text) (r : Request) : Type 0 where
   pub read : AreRead given words
   pub request : IsRequestOf words r
 
--- what is given is read, and an argument or a number of an option is no number or out of range
+-- what is given is read, and an argument or another number is no number or out of range
 pub record HaveBadNumber (given : List Text) : Type 0 where
   pub words : Words
   pub read : AreRead given words

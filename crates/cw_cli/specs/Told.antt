@@ -8,12 +8,19 @@ use Rattle.cw_report.specs.Texts.{scale_report, sites_of}
 use Rattle.cw_cli.specs.declared.asked.Mode.{Mode}
 use Rattle.cw_cli.specs.declared.asked.Mode.TheVariants as mode
 
--- the tables of a run; a check has none, and a run of values alone
+-- the tables of a run; a check has none, nor a run of values alone or for a schedule
 abbrev pub told_of : Mode → Code → Result Ended Fault → List ℕ
 told_of mode.Check code ended = []
 told_of mode.Run code ended = []
 told_of mode.Scale code ended = scale_report ended
 told_of mode.Sites code ended = sites_of code ended
+told_of (mode.Greedy p) code ended = []
+
+-- the modes with tables
+abbrev pub IsCounted : Mode → Type 0
+IsCounted mode.Scale = Unit {0}
+IsCounted mode.Sites = Unit {0}
+IsCounted m = ⊥
 
 -- the same of verified code
 abbrev pub told_in : Mode → Verified → Result Ended Fault → List ℕ

@@ -1,12 +1,12 @@
 //! From bytes to a report.
 
-ghost use Rattle.std.specs.Prelude.{◌≡◌, ◌≢◌, ◌<◌, ◌-◌, ◌^◌, ℕ, List, [], true};
+ghost use Rattle.std.specs.Prelude.{◌≡◌, ◌<◌, ◌-◌, ◌^◌, ℕ, List, [], true};
 ghost use Rattle.std.specs.List.{list_all};
 ghost use Rattle.cw_code.specs.Code.{code_view};
 ghost use Rattle.cw_cli.specs.declared.asked.Mode.TheVariants as mode;
 ghost use Rattle.cw_cli.specs.Compiled.{IsCompiled};
-ghost use Rattle.cw_cli.specs.Analyses.{IsAnalysed, IsRun};
-ghost use Rattle.cw_cli.specs.Told.{told_in};
+ghost use Rattle.cw_cli.specs.Analyses.{IsAnalysed, IsGreedy, IsRun};
+ghost use Rattle.cw_cli.specs.Told.{IsCounted, told_in};
 ghost use Rattle.cw_model.specs.Ints.{fits};
 ghost use Rattle.cw_report.specs.Answers.{AnswersText};
 
@@ -15,7 +15,8 @@ use crate::compiling::compile;
 use cw_machine::alone::{Ended, run_alone};
 use cw_machine::values::values_alone;
 use cw_model::laws::derived_sites_are_numbered;
-use cw_report::{Sink, answer, ok, scale, sites};
+use cw_report::{Sink, answer, ok, scale, schedule, sites};
+use cw_scheduled::schedules::schedule_alone;
 use cw_text::Fault;
 use cw_verify::verified::Verified;
 use std::alloc::Global;
@@ -28,7 +29,8 @@ use std::sync::Arc;
 /// and runs nothing, `Arguments` where the count of the arguments is not that of `main`'s
 /// parameters, or an option is out of range; `OverLimit` where the serial elision costs more than
 /// the limit, `Trap` where it traps: in mode `Run` after what it printed before was written, else
-/// with nothing written. `Write` where a write of the report failed, and `Memory` where memory ran
+/// with nothing written; in mode `Greedy` `Strands` where it ended with more than 1,000,000 strands.
+/// `Write` where a write of the report failed, and `Memory` where memory ran
 /// out: no byte was written then. Nothing is written at any other error but `Trap` and `Write`.
 ///
 /// Fewer than 2^64 - 1 writes to the sink failed before.
@@ -46,6 +48,7 @@ pub fn analyse_alone<W: Sink>(
     match options.mode {
         Mode::Check => ok(out),
         Mode::Run => run_plain(alloc, code, args, options, out),
+        Mode::Greedy(processors) => run_greedy(alloc, code, args, options, processors, out),
         _ => run(alloc, code, args, options, out),
     }
 }
@@ -71,6 +74,28 @@ fn run_plain<W: Sink>(
     Ok(())
 }
 
+// Runs code and writes how long so many processors take for it.
+fn run_greedy<W: Sink>(
+    alloc: Global,
+    code: Verified,
+    args: &[i64],
+    options: Options,
+    processors: u64,
+    out: &mut W,
+) -> Result<(), Fault>
+    requires { (W.seen out.old).failures < 2 ^ 64 - 1 }
+    ensures { (bytes : List ℕ) → options.mode ≡ mode.Greedy processors
+        → IsCompiled bytes (code_view code.code)
+        → IsGreedy W.seen out.old out.new bytes args.now options result }
+{
+    are_words(args);
+    let code = Arc::new(alloc, code)?;
+    let made = schedule_alone(alloc, code, args, options.limit, processors);
+    schedule(alloc, &made, out)?;
+    made?;
+    Ok(())
+}
+
 // Runs code and writes what is counted of the run.
 fn run<W: Sink>(
     alloc: Global,
@@ -80,8 +105,7 @@ fn run<W: Sink>(
     out: &mut W,
 ) -> Result<(), Fault>
     requires { (W.seen out.old).failures < 2 ^ 64 - 1 }
-    ensures { (bytes : List ℕ) → options.mode ≢ mode.Check → options.mode ≢ mode.Run
-        → IsCompiled bytes (code_view code.code)
+    ensures { (bytes : List ℕ) → IsCounted options.mode → IsCompiled bytes (code_view code.code)
         → IsRun W.seen out.old out.new bytes args.now options result }
 {
     derived_sites_are_numbered();
@@ -108,7 +132,7 @@ fn is_word(word: i64)
     ensures { fits word ≡ true }
 {}
 
-// Writes what the mode tells of what is counted of a run. A check and a run of values alone tell nothing of it.
+// Writes what the mode tells of what is counted of a run. A check, a run of values alone and a schedule tell nothing of it.
 fn report<W: Sink>(
     alloc: Global,
     mode: Mode,
@@ -125,5 +149,6 @@ fn report<W: Sink>(
         Mode::Run => Ok(()),
         Mode::Scale => scale(alloc, ended, out),
         Mode::Sites => sites(alloc, code, ended, out),
+        Mode::Greedy(_) => Ok(()),
     }
 }

@@ -18,17 +18,20 @@ pub enum Mode {
     Scale,
     /// Calls, work and span of each call site.
     Sites,
+    /// Work, span, and how long a greedy schedule on so many processors takes, from 1 to 1,000,000.
+    Greedy(u64),
 }
 
 /// How to analyse a program. A check uses neither the limit nor the burden; `Run` and `Sites` take the
-/// burden and do not use it.
+/// burden and do not use it, and `Greedy` does not look at it.
 #[derive(Clone, Copy, Debug, PartialEq, Eq)]
 pub struct Options {
     /// What to write.
     pub mode: Mode,
     /// The greatest cost of the run in instructions, from 1 to 2^62.
     pub limit: u64,
-    /// What each spawn's continuation is charged in instructions, from 0 to 1,000,000,000.
+    /// What each spawn's continuation is charged in instructions, from 0 to 1,000,000,000, but for a
+    /// schedule, where any number is taken.
     pub burden: u64,
 }
 

@@ -4,19 +4,33 @@ ghost use Rattle.std.specs.Prelude.{◌≡◌, IfOk, false};
 ghost use Rattle.clap.specs.Words.{app_of, rule_of};
 ghost use Rattle.cw_cli.specs.Command.{
   IsCommandOf,
+  args_rule,
   command_line,
-  file_rule,
   line_of,
   number_rule,
   running_line,
+  word_rule,
 };
-ghost use Rattle.cw_cli.specs.declared.asked.Mode.TheVariants as mode;
+ghost use Rattle.cw_cli.specs.declared.command.Verb.TheVariants as verb;
 ghost use Rattle.cw_cli.specs.Rows.{row_of};
 
-use crate::help::{OF_CHECK, OF_PROGRAM, OF_RUN, OF_SCALE, OF_SITES};
-use crate::number::{BURDEN, LIMIT, NumberOption};
+use crate::help::{OF_CHECK, OF_GREEDY, OF_PROGRAM, OF_RUN, OF_SCALE, OF_SITES};
+use crate::number::{BURDEN, LIMIT, NumberOption, PROCESSORS};
 use clap::{Arg, ArgAction, Command};
 use std::alloc::{AllocError, Global};
+
+/// The word that says what to do.
+#[derive(Clone, Copy, Debug, PartialEq, Eq)]
+pub enum Verb {
+    Check,
+    Run,
+    Scale,
+    Sites,
+    Greedy,
+}
+
+// What the help says of the source.
+const FILE_HELP: &str = "The program's source";
 
 /// What the program's words are read by.
 pub fn command<'a>(alloc: Global) -> Result<Command<'a>, AllocError>
@@ -41,6 +55,7 @@ pub fn command<'a>(alloc: Global) -> Result<Command<'a>, AllocError>
         "Runs a program and writes its work and span by call",
         OF_SITES,
     )?;
+    let greedy = greedy_command(alloc)?;
     let command = Command::new(alloc, "cilkwork")
         .bin_name("cilkwork")?
         .about("Tells how much parallelism a Cilk program has, and where it is lost")
@@ -50,17 +65,18 @@ pub fn command<'a>(alloc: Global) -> Result<Command<'a>, AllocError>
         .subcommand(check)?
         .subcommand(run)?
         .subcommand(scale)?
-        .subcommand(sites)?;
+        .subcommand(sites)?
+        .subcommand(greedy)?;
     Ok(command)
 }
 
 fn check_command<'a>(alloc: Global) -> Result<Command<'a>, AllocError>
-    ensures { IfOk result (IsCommandOf (line_of mode.Check)) }
+    ensures { IfOk result (IsCommandOf (line_of verb.Check)) }
 {
     let command = Command::new(alloc, "check")
         .about("Compiles a program and writes 'ok'")
         .after_help(OF_CHECK)
-        .arg(file(alloc))?;
+        .arg(word(alloc, "FILE", FILE_HELP))?;
     Ok(command)
 }
 
@@ -73,29 +89,50 @@ fn running_command<'a>(
 ) -> Result<Command<'a>, AllocError>
     ensures { IfOk result (IsCommandOf (running_line name.now)) }
 {
-    let args = Arg::new(alloc, "ARGS")
-        .num_args(0..)
-        .action(ArgAction::Append)
-        .help("The arguments of main");
     let command = Command::new(alloc, name)
         .about(about)
         .after_help(help)
-        .arg(file(alloc))?
-        .arg(args)?
+        .arg(word(alloc, "FILE", FILE_HELP))?
+        .arg(main_args(alloc))?
         .arg(number(alloc, LIMIT))?
         .arg(number(alloc, BURDEN))?;
     Ok(command)
 }
 
-// The source, which each command takes.
-fn file<'a>(alloc: Global) -> Arg<'a>
-    ensures rule { rule_of result ≡ file_rule }
+// The command that makes a schedule: the processors stand before the source, and a spawn costs nothing.
+fn greedy_command<'a>(alloc: Global) -> Result<Command<'a>, AllocError>
+    ensures { IfOk result (IsCommandOf (line_of verb.Greedy)) }
+{
+    let command = Command::new(alloc, "greedy")
+        .about("Runs a program and writes how long so many processors take")
+        .after_help(OF_GREEDY)
+        .arg(word(alloc, PROCESSORS.name, PROCESSORS.help))?
+        .arg(word(alloc, "FILE", FILE_HELP))?
+        .arg(main_args(alloc))?
+        .arg(number(alloc, LIMIT))?;
+    Ok(command)
+}
+
+// A word that has to be there.
+fn word<'a>(alloc: Global, name: &'static str, help: &'static str) -> Arg<'a>
+    ensures rule { rule_of result ≡ word_rule name.now }
     ensures local { result.global ≡ false }
 {
-    Arg::new(alloc, "FILE")
+    Arg::new(alloc, name)
         .required(true)
         .action(ArgAction::Set)
-        .help("The program's source")
+        .help(help)
+}
+
+// The arguments of main, any number of them.
+fn main_args<'a>(alloc: Global) -> Arg<'a>
+    ensures rule { rule_of result ≡ args_rule }
+    ensures local { result.global ≡ false }
+{
+    Arg::new(alloc, "ARGS")
+        .num_args(0..)
+        .action(ArgAction::Append)
+        .help("The arguments of main")
 }
 
 // An option that takes a number.

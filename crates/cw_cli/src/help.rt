@@ -10,10 +10,11 @@ and programs to begin with in examples/. 'cilkwork COMMAND --help' tells of one
 command. Without a command the source on standard input is run, without ARGS.
 
 What is written to standard output:
-  check  'ok', where the source compiles
-  run    printed values, sums of reducers and the value of main, a line each
-  scale  a table of work, span and parallelism, of the run and of each tag
-  sites  a table of calls, work and span, of each call in the source
+  check   'ok', where the source compiles
+  run     printed values, sums of reducers and the value of main, a line each
+  scale   a table of work, span and parallelism, of the run and of each tag
+  sites   a table of calls, work and span, of each call in the source
+  greedy  a table of work, span and the steps of P processors for the run
 In a table commas stand between fields, and the first line names the columns.
 Work, span, limit and burden are counted in instructions.
 
@@ -29,6 +30,7 @@ A number is one or more decimal digits; zeros in front are allowed:
             may take some seconds
   --burden  from 0 to 1000000000; what a path is charged at each spawn where it
             goes on behind it, as if another processor had stolen that
+  P         of greedy, from 1 to 1000000
 
 Exit status and standard error (L is a line of the source):
   0                     the report is on standard output
@@ -42,6 +44,7 @@ Exit status and standard error (L is a line of the source):
   3  trap C line L      C is 1 for overflow, 2 division by 0, 3 index, 4 length,
                         5 turns of a loop, 6 depth of calls
   4  over limit         the run costs more than its limit
+  4  too many strands   a run for greedy has more than 1000000 strands
   5  arguments          not as many arguments as main takes, a number that is
                         none or out of range, or words that are no text
   5  file               the source cannot be opened or read
@@ -101,6 +104,24 @@ In work and span a call inside another one of the same site is not counted
 again. The own work of all sites adds up to the work of the run, and their own
 span to its span. --burden changes nothing here.
 How to read them: docs/GUIDE.md.
+
+--explain tells why a source is refused or a run traps. What ARGS and numbers
+may be, and the exit statuses: 'cilkwork --help'.";
+
+/// Of `greedy`, below its options.
+pub const OF_GREEDY: &str = "\
+Writes a table with commas between fields, and none of what the program prints.
+The first line names the columns, the second is of the run.
+  processors  P
+  work        instructions that were executed
+  span        instructions on a longest path
+  greedy      the steps of a greedy schedule on P processors: in each step the
+              first P strands that are ready, in the order of the serial run, do
+              one instruction each, or all of them where they are fewer
+A strand is the instructions between two places where calls begin, end or join.
+A run of more than 1000000 strands is not scheduled: 'too many strands'. A spawn
+costs nothing more here, so there is no --burden.
+How to read it: docs/GUIDE.md.
 
 --explain tells why a source is refused or a run traps. What ARGS and numbers
 may be, and the exit statuses: 'cilkwork --help'.";

@@ -7,6 +7,7 @@ ghost use Rattle.cw_model.specs.Pieces.{is_digit, decimal_value};
 ghost use Rattle.cw_cli.specs.Numbers.{IsNumber, IsNumberWithin};
 
 use cw_model::limits::{MOST_BURDEN, MOST_LIMIT};
+use cw_scheduled::schedules::MOST_PROCESSORS;
 
 /// An option that takes a number.
 #[derive(Clone, Copy)]
@@ -30,6 +31,15 @@ pub const LIMIT: NumberOption = NumberOption {
     most: MOST_LIMIT,
     usual: "1000000000",
     help: "The most that the run may cost",
+};
+
+/// The processors of a schedule, which stand as a word of their own; a run of another kind has one.
+pub const PROCESSORS: NumberOption = NumberOption {
+    name: "P",
+    least: 1,
+    most: MOST_PROCESSORS,
+    usual: "1",
+    help: "The processors, from 1 to 1000000",
 };
 
 /// The burden of a spawn.

@@ -17,24 +17,24 @@ ghost use Rattle.std.specs.Prelude.{
 };
 ghost use Rattle.clap.specs.Words.{FailsBy, kind_of, rows_of, found_of, subcommand_of, subcommand_rows_of};
 ghost use Rattle.cw_model.specs.Pieces.{decimal_value};
-ghost use Rattle.cw_cli.specs.Command.{command_line, command_name};
+ghost use Rattle.cw_cli.specs.Command.{command_line, command_name, mode_by};
 ghost use Rattle.cw_cli.specs.Requests.{
   AreProper,
   Asks,
   IsArgument,
   IsAskedBy,
   IsFaultUnless,
-  IsModeNamed,
   IsSaidAt,
   IsSaidOf,
+  IsVerbNamed,
   NamesNoCommand,
   faults,
 };
 ghost use Rattle.cw_cli.specs.Rows.{IsGivenNumber};
 
 use crate::asked::{Mode, Options, Request, Said};
-use crate::command::command;
-use crate::number::{BURDEN, LIMIT, NumberOption, read_number};
+use crate::command::{Verb, command};
+use crate::number::{BURDEN, LIMIT, NumberOption, PROCESSORS, read_number};
 use clap::error::ErrorKind;
 use clap::{ArgMatches, Error};
 use cw_model::limits::MOST_NUMBER;
@@ -45,7 +45,7 @@ use std::alloc::Global;
 /// the request explains nothing.
 ///
 /// The error is what to say in place of a run: the help, what is wrong with the words, `Arguments`
-/// where the limit, the burden or an argument of `main` is no number or out of range, or `Memory`.
+/// where the processors, the limit, the burden or an argument of `main` is no number or out of range, or `Memory`.
 pub fn request(alloc: Global, words: &[String]) -> Result<Request, Said>
     ensures ok { IfOk result (Asks (map string_bytes words.now)) }
     ensures why { IfErr result (IsSaidOf (map string_bytes words.now)) }
@@ -54,32 +54,33 @@ pub fn request(alloc: Global, words: &[String]) -> Result<Request, Said>
         Ok(matches) => matches,
         Err(error) => return Err(said_of(alloc, &error)),
     };
-    let Some((mode, given)) = command_given(&matches) else {
+    let Some((verb, given)) = command_given(&matches) else {
         return Err(Said::Fault(Fault::Arguments));
     };
-    let request = asked_by(alloc, mode, given)?;
+    let request = asked_by(alloc, verb, given)?;
     Ok(request)
 }
 
 // The command that is given, with the matches of its words.
-fn command_given<'a, 'b>(words: &'b ArgMatches<'a>) -> Option<(Mode, &'b ArgMatches<'a>)>
+fn command_given<'a, 'b>(words: &'b ArgMatches<'a>) -> Option<(Verb, &'b ArgMatches<'a>)>
     ensures { MatchOption result (NamesNoCommand (subcommand_rows_of words.now))
         (λ p. subcommand_rows_of words.now ≡ Some (command_name p.0, rows_of (found_of p.1.now))) }
 {
     let (name, given) = words.subcommand()?;
-    let mode = mode_named(name)?;
-    Some((mode, given))
+    let verb = verb_named(name)?;
+    Some((verb, given))
 }
 
 // The command of this name, if there is one.
-fn mode_named(name: &str) -> Option<Mode>
-    ensures { IsModeNamed name.now result }
+fn verb_named(name: &str) -> Option<Verb>
+    ensures { IsVerbNamed name.now result }
 {
     match name {
-        "check" => Some(Mode::Check),
-        "run" => Some(Mode::Run),
-        "scale" => Some(Mode::Scale),
-        "sites" => Some(Mode::Sites),
+        "check" => Some(Verb::Check),
+        "run" => Some(Verb::Run),
+        "scale" => Some(Verb::Scale),
+        "sites" => Some(Verb::Sites),
+        "greedy" => Some(Verb::Greedy),
         _ => None,
     }
 }
@@ -93,12 +94,13 @@ fn matches_of<'a>(alloc: Global, words: &'a [String]) -> Result<ArgMatches<'a>, 
     Ok(matches)
 }
 
-fn asked_by(alloc: Global, mode: Mode, given: &ArgMatches<'_>) -> Result<Request, Fault>
-    ensures ok { IfOk result (IsAskedBy mode (rows_of (found_of given.now))) }
+fn asked_by(alloc: Global, verb: Verb, given: &ArgMatches<'_>) -> Result<Request, Fault>
+    ensures ok { IfOk result (IsAskedBy verb (rows_of (found_of given.now))) }
     ensures why { IfErr result (IsFaultUnless (AreProper (rows_of (found_of given.now)))) }
 {
-    let (Some(file), Some(limit), Some(burden)) = (
+    let (Some(file), Some(processors), Some(limit), Some(burden)) = (
         given.get_str("FILE"),
+        number_of(given, PROCESSORS),
         number_of(given, LIMIT),
         number_of(given, BURDEN),
     ) else {
@@ -107,7 +109,7 @@ fn asked_by(alloc: Global, mode: Mode, given: &ArgMatches<'_>) -> Result<Request
     let args = args_of(alloc, given.get_strs("ARGS").unwrap_or(&[]))?;
     let file = String::from_str(alloc, file)?;
     let options = Options {
-        mode,
+        mode: mode_of(verb, processors),
         limit,
         burden,
     };
@@ -117,6 +119,19 @@ fn asked_by(alloc: Global, mode: Mode, given: &ArgMatches<'_>) -> Result<Request
         options,
         explain: false,
     })
+}
+
+// What the word asks to be written; a schedule is for these processors.
+fn mode_of(verb: Verb, processors: u64) -> Mode
+    ensures { result ≡ mode_by verb processors }
+{
+    match verb {
+        Verb::Check => Mode::Check,
+        Verb::Run => Mode::Run,
+        Verb::Scale => Mode::Scale,
+        Verb::Sites => Mode::Sites,
+        Verb::Greedy => Mode::Greedy(processors),
+    }
 }
 
 // The number that is given for an option, or the usual one.

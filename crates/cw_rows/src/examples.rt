@@ -33,6 +33,7 @@ pub struct Example {
     pub run: &'static str,
     pub scale: &'static str,
     pub sites: &'static str,
+    pub greedy: &'static str,
 }
 
 const EXAMPLES: [Example; 11] = [
@@ -73,6 +74,7 @@ fn beside(example: &Example, mode: &str) -> &'static str {
     match mode {
         "run" => example.run,
         "scale" => example.scale,
+        "greedy 4" => example.greedy,
         _ => example.sites,
     }
 }
@@ -115,7 +117,8 @@ fn the_examples_report_as_beside_them(rt: HostRuntime) -> Result<(), Fail> {
     all_are_accepted(&rt, rt.alloc(), examples)?;
     all_answer(&rt, rt.alloc(), "run", examples)?;
     all_answer(&rt, rt.alloc(), "scale", examples)?;
-    all_answer(&rt, rt.alloc(), "sites", examples)
+    all_answer(&rt, rt.alloc(), "sites", examples)?;
+    all_answer(&rt, rt.alloc(), "greedy 4", examples)
 }
 
 #[test]
@@ -124,5 +127,6 @@ fn those_with_loops_report_as_beside_them(rt: HostRuntime) -> Result<(), Fail> {
     all_are_accepted(&rt, rt.alloc(), examples)?;
     all_answer(&rt, rt.alloc(), "run", examples)?;
     all_answer(&rt, rt.alloc(), "scale", examples)?;
-    all_answer(&rt, rt.alloc(), "sites", examples)
+    all_answer(&rt, rt.alloc(), "sites", examples)?;
+    all_answer(&rt, rt.alloc(), "greedy 4", examples)
 }

@@ -85,6 +85,20 @@ fn reads_requests(rt: HostRuntime) -> Result<(), Fail> {
             1_000_000_000,
             7,
         ),
+        (
+            "greedy 1 f.cilk",
+            Mode::Greedy(1),
+            [].as_slice(),
+            1_000_000_000,
+            15_000,
+        ),
+        (
+            "greedy 1000000 f.cilk 3 --limit 9",
+            Mode::Greedy(1_000_000),
+            [3].as_slice(),
+            9,
+            15_000,
+        ),
     ] {
         let asked = asked(alloc, line)?;
         let options = Options {
@@ -116,6 +130,10 @@ const REFUSED: &[(&str, &str)] = &[
     ("scale f 9223372036854775808", "arguments\n"),
     ("sites f --limit 0", "arguments\n"),
     ("sites f 1 x", "arguments\n"),
+    ("greedy 0 f", "arguments\n"),
+    ("greedy 1000001 f", "arguments\n"),
+    ("greedy +1 f", "arguments\n"),
+    ("greedy f 1", "arguments\n"),
     // words
     ("run f -1", "error: unexpected argument '-1' found\n"),
     (
@@ -154,6 +172,18 @@ const REFUSED: &[(&str, &str)] = &[
     (
         "sites f --burden",
         "error: a value is required for '--burden <N>'",
+    ),
+    (
+        "greedy",
+        "error: the following required arguments were not provided:\n",
+    ),
+    (
+        "greedy 2",
+        "error: the following required arguments were not provided:\n",
+    ),
+    (
+        "greedy 2 f --burden 9",
+        "error: unexpected argument '--burden' found\n",
     ),
     ("scales f", "error: unrecognized subcommand 'scales'\n"),
     ("walk f", "error: unrecognized subcommand 'walk'\n"),
@@ -229,12 +259,25 @@ const HELPED: &[(&str, &str, &str)] = &[
     ("scale --help", "Runs a program", "'cilkwork --help'"),
     ("sites --help", "Runs a program", "  own_span  "),
     ("help sites", "Runs a program", "docs/GUIDE.md"),
+    ("greedy --help", "Runs a program", "  processors  P"),
+    ("greedy --help", "Runs a program", "'too many strands'"),
+    (
+        "--help",
+        "Tells how much parallelism a Cilk program",
+        "  4  too many strands ",
+    ),
 ];
 
 // The one table of exit statuses stands in the help of the program, and 'default' is said of numbers alone.
 #[test]
 fn tells_each_thing_once(rt: HostRuntime) -> Result<(), Fail> {
-    for line in ["check --help", "run --help", "scale --help", "sites --help"] {
+    for line in [
+        "check --help",
+        "run --help",
+        "scale --help",
+        "sites --help",
+        "greedy --help",
+    ] {
         let (_, out, _) = answer(rt.alloc(), line, b"")?;
         let help = String::from_utf8(out).map_err(|_| Fail::from("no text"))?;
         assert!(rt; !help.as_str().contains("write failed"), "{line}");
