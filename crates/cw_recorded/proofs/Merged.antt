@@ -70,9 +70,9 @@ nothing_behind a = λ later. onto-append a (Instructions 0 ∷ []) later
 behind : (a xs ys zs ws : List Code) → Same (xs ++ ys) (zs ++ ws) → Same ((a ++ xs) ++ ys) ((a ++ zs) ++ ws)
 behind a xs ys zs ws h =
     λ later.
-        onto-append (a ++ xs) ys later ∙ onto-append a xs (onto ys later)
-        ∙ ap (onto a) (sym (onto-append xs ys later) ∙ h later ∙ onto-append zs ws later)
-        ∙ sym (onto-append a zs (onto ws later)) ∙ sym (onto-append (a ++ zs) ws later)
+    onto-append (a ++ xs) ys later ∙ onto-append a xs (onto ys later)
+    ∙ ap (onto a) (sym (onto-append xs ys later) ∙ h later ∙ onto-append zs ws later)
+    ∙ sym (onto-append a zs (onto ws later)) ∙ sym (onto-append (a ++ zs) ws later)
 
 pub append-regroup : (a b c : List Code) → (a ++ b) ++ c ≡ a ++ (b ++ c)
 append-regroup [] b c = refl
@@ -88,8 +88,8 @@ mutual
       let rest = codes_of AsRest (parts_of es).0 in
       let more = codes_of InSeries (parts_of es).1 in
       λ later. ap (λ (l : List Code). Spawned true ∷ l)
-        (behind child (Ended ∷ record_of true es) (to_join (out_after true es)) (Ended ∷ (rest ++ Joined ∷ [])) more
-          (λ later. ap (λ (l : List Code). Ended ∷ l) (of_out es later ∙ ap (λ l. onto l later) (sym (append-regroup rest (Joined ∷ []) more)))) later)
+      (behind child (Ended ∷ record_of true es) (to_join (out_after true es)) (Ended ∷ (rest ++ Joined ∷ [])) more
+      (λ later. ap (λ (l : List Code). Ended ∷ l) (of_out es later ∙ ap (λ l. onto l later) (sym (append-regroup rest (Joined ∷ []) more)))) later)
   of_free (Join ∷ es) = λ later. of_free es later
 
   of_out : (es : List Event) → Same (record_of true es ++ to_join (out_after true es)) (codes_of AsRest (parts_of es).0 ++ Joined ∷ codes_of InSeries (parts_of es).1)
@@ -101,8 +101,8 @@ mutual
       let rest = codes_of AsRest (parts_of es).0 in
       let more = codes_of InSeries (parts_of es).1 in
       λ later. ap (λ (l : List Code). Spawned false ∷ l)
-        (behind child (Ended ∷ record_of true es) (to_join (out_after true es)) (Ended ∷ rest) (Joined ∷ more)
-          (λ later. ap (λ (l : List Code). Ended ∷ l) (of_out es later)) later)
+      (behind child (Ended ∷ record_of true es) (to_join (out_after true es)) (Ended ∷ rest) (Joined ∷ more)
+      (λ later. ap (λ (l : List Code). Ended ∷ l) (of_out es later)) later)
   of_out (Join ∷ es) = λ later. ap (λ (l : List Code). Joined ∷ l) (of_free es later)
 
 -- what is noted of a block, and its join where a child is still out, is what its tree comes to

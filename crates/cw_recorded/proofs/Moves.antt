@@ -81,8 +81,8 @@ cut_here old new count code codes s le h =
     let all = s.keeps count codes le (omega arith) h in (
       omega (arith, n),
       subst (λ (n : ℕ). Keeps n (codes ++ code ∷ []) new.kept) zero_left
-      (keeps_as 0 (codes ++ Instructions (count - count) ∷ code ∷ []) (codes ++ code ∷ []) new.kept
-      (λ l. ap (λ (n : ℕ). onto (codes ++ Instructions n ∷ code ∷ []) l) none ∙ nothing_between codes (code ∷ []) l) all),
+          (keeps_as 0 (codes ++ Instructions (count - count) ∷ code ∷ []) (codes ++ code ∷ []) new.kept
+          (λ l. ap (λ (n : ℕ). onto (codes ++ Instructions n ∷ code ∷ []) l) none ∙ nothing_between codes (code ∷ []) l) all),
     )
 
 -- a cut after an instruction more
@@ -94,7 +94,7 @@ cut_next old new count code codes s le h =
     let all = s.keeps count codes le (omega arith) h in (
       omega (arith, n),
       subst (λ (n : ℕ). Keeps n (codes ++ Instructions 1 ∷ code ∷ []) new.kept) zero_left
-      (subst (λ (n : ℕ). Keeps 0 (codes ++ Instructions n ∷ code ∷ []) new.kept) one all),
+          (subst (λ (n : ℕ). Keeps 0 (codes ++ Instructions n ∷ code ∷ []) new.kept) one all),
     )
 
 -- an instruction more
@@ -258,7 +258,7 @@ block_ends old mid new count joins out same closes some o os es quiet small open
     let d = ending_in o os in
     let i = Instructions 1 ∷ [] in
     let regroup : ((a ++ to_join old.out) ++ d) ++ i ≡ a ++ (to_join (has_spawned es) ++ (d ++ i)) =
-      append-regroup (a ++ to_join old.out) d i ∙ append-regroup a (to_join old.out) (d ++ i) ∙ ap (λ (b : Bool). a ++ (to_join b ++ (d ++ i))) p.out in
+    append-regroup (a ++ to_join old.out) d i ∙ append-regroup a (to_join old.out) (d ++ i) ∙ ap (λ (b : Bool). a ++ (to_join b ++ (d ++ i))) p.out in
     record {
       goes_on = omega (arith, c.0);
       keeps = keeps_as (count + 1 - new.noted) (a ++ (to_join (has_spawned es) ++ (d ++ i))) (codes_in os (ticked (closed o es))) new.kept (codes_ended o os es h.from_main)
@@ -279,7 +279,7 @@ call_ends old mid new count next joins out same ends some sat o os es small open
     let i = Instructions 1 ∷ [] in
     let c = closes ((a ++ to_join old.out) ++ i) o os (synced es) h.from_main out (subst (λ (l : List Part). AreParts (o ∷ os) (reverse l)) (sym same) p.parts) (omega (arith, j.0)) later in
     let regroup : ((a ++ to_join old.out) ++ i) ++ d ≡ a ++ (to_join (has_spawned es) ++ Instructions 1 ∷ d) =
-      append-regroup (a ++ to_join old.out) i d ∙ append-regroup a (to_join old.out) (Instructions 1 ∷ d) ∙ ap (λ (b : Bool). a ++ (to_join b ++ Instructions 1 ∷ d)) p.out in
+    append-regroup (a ++ to_join old.out) i d ∙ append-regroup a (to_join old.out) (Instructions 1 ∷ d) ∙ ap (λ (b : Bool). a ++ (to_join b ++ Instructions 1 ∷ d)) p.out in
     record {
       goes_on = c.0;
       keeps = keeps_as (count + 1 - new.noted) (a ++ (to_join (has_spawned es) ++ Instructions 1 ∷ d)) (codes_in os (closed o (synced es))) new.kept (codes_returned o os es h.from_main)
@@ -368,7 +368,7 @@ pub nothing_closes : (old new : Recorder) (count : ℕ) → old.parts.items ≡ 
 nothing_closes old new count none none' out noted kept codes o [] es main joined parts le h =
     let at_new = subst (λ (x : ℕ). Keeps (count - x) codes new.kept) (sym noted) (subst (λ (k : Recorded). Keeps (count - old.noted) codes k) (sym kept) h) in
     let spawned : has_spawned (closed o es) ≡ false =
-      spawned_closed o es ∙ ap (λ (b : Bool). out_behind b (has_spawned o.outer)) main.1 ∙ ap (λ (x : List Event). has_spawned x) main.0 in (
+    spawned_closed o es ∙ ap (λ (b : Bool). out_behind b (has_spawned o.outer)) main.1 ∙ ap (λ (x : List Event). has_spawned x) main.0 in (
       omega (arith, le, noted),
       subst (λ (l : List Code). Keeps (count - new.noted) l new.kept) (sym (nothing_more codes)) at_new,
       record { out = out ∙ joined ∙ sym spawned; parts = subst (λ (l : List Part). AreParts [] (reverse l)) (sym none') tt },
