@@ -1,5 +1,5 @@
 -- Codes that are the same once merged.
-use Rattle.std.specs.Prelude.{ℕ, zero, suc, ◌+◌, ◌≡◌, Bool, true, false, List, [], ◌∷◌, ◌++◌, refl}
+use Rattle.std.specs.Prelude.{ℕ, zero, suc, ◌+◌, ◌≡◌, true, false, List, [], ◌∷◌, ◌++◌, refl}
 use Rattle.std.proofs.Common.{arith, ap, sym, ◌∙◌}
 use Rattle.cw_model.specs.Trees.{Event, Work, Series, Join, parts_of, tree_of}
 use Rattle.cw_model.specs.Trees as e

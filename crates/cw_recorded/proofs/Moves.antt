@@ -1,27 +1,24 @@
 -- What each call on a recorder does.
-use Rattle.std.specs.Prelude.{ℕ, zero, suc, ◌+◌, ◌-◌, ◌≡◌, ◌≤◌, ◌<◌, Bool, true, false, not, Option, Some, None, IsSome, List, [], ◌∷◌, ◌++◌, reverse, refl}
+use Rattle.std.specs.Prelude.{ℕ, ◌+◌, ◌-◌, ◌≡◌, ◌≤◌, ◌<◌, Bool, true, false, not, Option, Some, None, IsSome, List, [], ◌∷◌, ◌++◌, reverse, refl}
 use Rattle.std.proofs.Common.{arith, ap, sym, ◌∙◌, subst}
 use Rattle.std.proofs.lemmas.List.{reverse-append}
 use Rattle.cw_model.specs.declared.limits.TheConstants.{MOST_LIMIT}
-use Rattle.cw_model.specs.Trees.{Tree, Marked, Mark, Invocation, Execution, Event, Work, Series, Join, normal, tree_of}
-use Rattle.cw_model.specs.Trees as e
-use Rattle.cw_measure.specs.OpenParts.{Open, has_spawned, has_spawned_from, spawned_after, marked, part_of, closed}
+use Rattle.cw_model.specs.Trees.{Tree, Marked, Mark, Invocation, Execution, Event, Work, normal, tree_of}
+use Rattle.cw_measure.specs.OpenParts.{Open, has_spawned, spawned_after, marked, part_of, closed}
 use Rattle.cw_meter.specs.Meters.{ticked, synced, begun}
 use Rattle.cw_greedy.specs.declared.code.Code.{Code}
 use Rattle.cw_greedy.specs.declared.code.Code.TheVariants.{Instructions, Spawned, Ended, Joined, Called}
-use Rattle.cw_greedy.specs.declared.code.TheConstants.{MOST_STRANDS}
 use Rattle.cw_greedy.specs.Recorded.{Recorded, cuts, followed}
 use Rattle.cw_greedy.specs.RecordLaws.{cuts-append}
-use Rattle.cw_greedy.specs.Records.{merged}
-use Rattle.cw_greedy.specs.Blocks.{AsChild, codes_of, strand_count}
+use Rattle.cw_greedy.specs.Blocks.{AsChild, codes_of}
 use Rattle.cw_recorded.specs.declared.recorder.PartKind.{PartKind}
 use Rattle.cw_recorded.specs.declared.recorder.PartKind.TheVariants as kind
 use Rattle.cw_recorded.specs.declared.recorder.Part.{Part}
 use Rattle.cw_recorded.specs.declared.recorder.Recorder.{Recorder}
 use Rattle.cw_recorded.specs.Merging.{onto, Same, to_join}
-use Rattle.cw_recorded.specs.Normal.{StandApart, AreOpenApart, AreApart, IsChild}
-use Rattle.cw_recorded.specs.Recording.{opening, ending, ending_in, codes_in, IsOfKind, out_behind, AreParts, Keeps, KeepsParts, IsFromMain, RecordsIn, IsOpen, IsQuiet, BeginsChild, BeginsCall, BeginsQuiet, Ends, Returns, Syncs, Ticks, Notes, Stacks, Joins, Closes, IsKept, Reads}
-use Rattle.cw_recorded.proofs.Merged.{onto-append, append-regroup, same_through, same_back, same_merged, nothing_behind}
+use Rattle.cw_recorded.specs.Normal.{StandApart, AreApart, IsChild}
+use Rattle.cw_recorded.specs.Recording.{opening, ending, ending_in, codes_in, IsOfKind, out_behind, AreParts, Keeps, IsFromMain, RecordsIn, IsOpen, IsQuiet, BeginsChild, BeginsCall, BeginsQuiet, Ends, Returns, Syncs, InstructionsNeedNoCall, Notes, Stacks, Joins, Closes, IsKept, Reads}
+use Rattle.cw_recorded.proofs.Merged.{onto-append, append-regroup, same_merged, nothing_behind}
 use Rattle.cw_recorded.proofs.Normals.{ticked_apart, synced_apart, call_apart, block_apart, tree_followed, marked_child}
 use Rattle.cw_recorded.proofs.Recordings.{same_cuts, keeps_as, keeps_later, keeps_cut, keeps_noted, spawned_more, codes_ticked, spawned_ticked, spawned_synced, codes_begun, codes_synced, codes_ended, codes_returned}
 
@@ -170,7 +167,7 @@ none_more since to a b None none le h = omega (arith, le, h)
 none_more since to a b (Some kept) none le h = absurd (none refl)
 
 -- an instruction that begins, ends and joins nothing
-pub ticks : Ticks
+pub ticks : InstructionsNeedNoCall
 ticks r count os es small open_ h = record {
   goes_on = omega (arith, h.goes_on);
   keeps = subst (λ (l : List Code). Keeps (count + 1 - r.noted) l r.kept) (sym (codes_ticked os es)) (one_later r.noted count (codes_in os es) r.kept h.goes_on h.keeps);

@@ -11,7 +11,7 @@ use Rattle.cw_greedy.specs.Records.{instructions_before}
 use Rattle.cw_greedy.specs.Blocks.{Stands, InSeries, AsChild, AsRest, last_stands, call_codes, fork_codes, codes_of}
 use Rattle.cw_recorded.specs.Merging.{onto, Same}
 use Rattle.cw_recorded.specs.Normal.{stands, IsMore, Enough, Holds, IsApart, IsFollowed, StandsBefore, IsChild, StandApart}
-use Rattle.cw_recorded.proofs.Merged.{onto-append, instructions_twice, same_after, same_before, same_both, nothing_behind, append-regroup}
+use Rattle.cw_recorded.proofs.Merged.{instructions_twice, same_after, same_before, same_both, nothing_behind, append-regroup}
 
 stays : (rest : Bool) → last_stands (stands rest) ≡ stands rest
 stays true = refl

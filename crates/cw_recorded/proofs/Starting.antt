@@ -1,6 +1,6 @@
 -- A recorder that has been told of nothing.
 use Rattle.std.specs.Prelude.{ℕ, ◌-◌, ◌≡◌, false, Some, List, [], reverse, refl}
-use Rattle.std.proofs.Common.{arith, ap, sym, ◌∙◌, subst}
+use Rattle.std.proofs.Common.{arith, sym, subst}
 use Rattle.cw_meter.specs.Origins.{main_open}
 use Rattle.cw_greedy.specs.Recorded.{Recorded}
 use Rattle.cw_recorded.specs.declared.recorder.Part.{Part}

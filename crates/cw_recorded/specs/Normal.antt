@@ -1,9 +1,8 @@
 -- Events whose codes are kept where their tree is brought into normal form.
-use Rattle.std.specs.Prelude.{ℕ, zero, suc, ◌≡◌, Bool, true, false, List, [], ◌∷◌, ◌++◌}
+use Rattle.std.specs.Prelude.{zero, suc, Bool, true, false, List, [], ◌∷◌, ◌++◌}
 use Rattle.cw_model.specs.Trees.{Tree, Leaf, Seq, Par, Marked, Event, Work, Series, Join, before, normal}
 use Rattle.cw_model.specs.Trees as e
 use Rattle.cw_measure.specs.OpenParts.{Open}
-use Rattle.cw_greedy.specs.declared.code.Code.{Code}
 use Rattle.cw_greedy.specs.Blocks.{Stands, InSeries, AsChild, AsRest, codes_of}
 use Rattle.cw_recorded.specs.Merging.{Same}
 
@@ -27,7 +26,8 @@ Enough false later = Unit {0}
 
 -- a part's codes stand before those of what comes after it
 abbrev pub Holds : (rest : Bool) → Tree → Tree → Type 0
-Holds rest t later = Same (codes_of (stands rest) (before t later)) (codes_of InSeries t ++ codes_of (stands rest) later)
+Holds rest t later =
+    Same (codes_of (stands rest) (before t later)) (codes_of InSeries t ++ codes_of (stands rest) later)
 
 -- so it is whatever comes after it, or where that is enough
 abbrev pub IsApart : Tree → Type 0

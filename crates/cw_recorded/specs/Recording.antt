@@ -8,7 +8,7 @@ use Rattle.cw_meter.specs.Meters.{ticked, synced, begun}
 use Rattle.cw_meter.specs.Origins.{main_open}
 use Rattle.cw_greedy.specs.Records.{IsRecordOf}
 use Rattle.cw_greedy.specs.declared.code.Code.{Code}
-use Rattle.cw_greedy.specs.declared.code.Code.TheVariants.{Instructions, Spawned, Ended, Joined, Called}
+use Rattle.cw_greedy.specs.declared.code.Code.TheVariants.{Instructions, Spawned, Ended, Called}
 use Rattle.cw_greedy.specs.declared.code.TheConstants.{MOST_STRANDS}
 use Rattle.cw_greedy.specs.Recorded.{Recorded, cuts}
 use Rattle.cw_greedy.specs.Blocks.{AsChild, codes_of, record_of, strand_count}
@@ -46,7 +46,8 @@ of_whole (Join ∷ es) = record_of false es
 abbrev pub codes_in : List Open → List Event → List Code
 codes_in [] es = of_whole es
 codes_in (o ∷ []) es = record_of false es
-codes_in (o ∷ p ∷ os) es = codes_in (p ∷ os) o.outer ++ (opening o.spawned o.mark (has_spawned o.outer) ++ record_of false es)
+codes_in (o ∷ p ∷ os) es =
+    codes_in (p ∷ os) o.outer ++ (opening o.spawned o.mark (has_spawned o.outer) ++ record_of false es)
 
 -- the cut with which the innermost part ends, round which these are open
 abbrev pub ending_in : Open → List Open → List Code
@@ -71,7 +72,8 @@ AreParts [] (p ∷ ps) = ⊥
 AreParts (o ∷ []) [] = Unit {0}
 AreParts (o ∷ []) (p ∷ ps) = ⊥
 AreParts (o ∷ q ∷ os) [] = ⊥
-AreParts (o ∷ q ∷ os) (p ∷ ps) = IsOfKind o p.kind × (p.out ≡ out_behind o.spawned (has_spawned o.outer)) × AreParts (q ∷ os) ps
+AreParts (o ∷ q ∷ os) (p ∷ ps) =
+    IsOfKind o p.kind × (p.out ≡ out_behind o.spawned (has_spawned o.outer)) × AreParts (q ∷ os) ps
 
 -- these codes are kept, but for so many instructions behind them
 abbrev pub Keeps : (since : ℕ) → List Code → Recorded → Type 0
@@ -104,7 +106,8 @@ IsOpen (o ∷ os) = Unit {0}
 
 -- what a recorder keeps goes from one run so far to another
 abbrev pub Tells : (old new : Recorder) → (count : ℕ) → (os os' : List Open) → (es es' : List Event) → Type 0
-Tells old new count os os' es es' = count < MOST_LIMIT → IsOpen os → RecordsIn count os es old → RecordsIn (count + 1) os' es' new
+Tells old new count os os' es es' =
+    count < MOST_LIMIT → IsOpen os → RecordsIn count os es old → RecordsIn (count + 1) os' es' new
 
 -- no call of a call statement
 abbrev pub IsQuiet : Option Mark → Type 0
@@ -114,35 +117,44 @@ IsQuiet (Some (Invocation site)) = ⊥
 
 -- a spawned part begins, a call in place, or any other part in place
 abbrev pub BeginsChild : (old new : Recorder) → (count : ℕ) → Type 0
-BeginsChild old new count = (mark : Option Mark) (os : List Open) (es : List Event) → Tells old new count os (begun true mark es os) es []
+BeginsChild old new count =
+    (mark : Option Mark) (os : List Open) (es : List Event) → Tells old new count os (begun true mark es os) es []
 
 abbrev pub BeginsCall : (old new : Recorder) → (count : ℕ) → Type 0
-BeginsCall old new count = (site : ℕ) (os : List Open) (es : List Event) → Tells old new count os (begun false (Some (Invocation site)) es os) es []
+BeginsCall old new count =
+    (site : ℕ) (os : List Open) (es : List Event)
+    → Tells old new count os (begun false (Some (Invocation site)) es os) es []
 
 abbrev pub BeginsQuiet : (old new : Recorder) → (count : ℕ) → Type 0
-BeginsQuiet old new count = (mark : Option Mark) (os : List Open) (es : List Event) → IsQuiet mark → Tells old new count os (begun false mark es os) es []
+BeginsQuiet old new count =
+    (mark : Option Mark) (os : List Open) (es : List Event) → IsQuiet mark
+    → Tells old new count os (begun false mark es os) es []
 
 -- a scope, a cut or a region joins and ends, and its end is an instruction of the block round it
 abbrev pub Ends : (old new : Recorder) → (count : ℕ) → Type 0
-Ends old new count = (o : Open) (os : List Open) (es : List Event) → o.spawned ≡ false → Tells old new count (o ∷ os) os es (ticked (closed o es))
+Ends old new count =
+    (o : Open) (os : List Open) (es : List Event) → o.spawned ≡ false
+    → Tells old new count (o ∷ os) os es (ticked (closed o es))
 
 -- a call joins and ends, by an instruction of its own
 abbrev pub Returns : (old new : Recorder) → (count : ℕ) → Type 0
-Returns old new count = (o : Open) (os : List Open) (es : List Event) → Tells old new count (o ∷ os) os es (closed o (synced es))
+Returns old new count =
+    (o : Open) (os : List Open) (es : List Event) → Tells old new count (o ∷ os) os es (closed o (synced es))
 
 -- the block that runs joins
 abbrev pub Syncs : (old new : Recorder) → (count : ℕ) → Type 0
 Syncs old new count = (os : List Open) (es : List Event) → Tells old new count os os es (synced es)
 
 -- an instruction that begins, ends and joins nothing needs no call
-abbrev pub Ticks : Type 0
-Ticks = (r : Recorder) (count : ℕ) (os : List Open) (es : List Event) → Tells r r count os os es (ticked es)
+abbrev pub InstructionsNeedNoCall : Type 0
+InstructionsNeedNoCall =
+    (r : Recorder) (count : ℕ) (os : List Open) (es : List Event) → Tells r r count os os es (ticked es)
 
 -- all up to this count is noted, and then these codes; nothing else changes
 pub record Notes (old new : Recorder) (count : ℕ) (codes : List Code) : Type 0 where
   pub noted : old.noted ≤ count → new.noted ≡ count
-  pub keeps : (from : ℕ) (before : List Code) → old.noted ≤ from → from ≤ count → Keeps (from - old.noted) before old.kept
-      → Keeps 0 (before ++ Instructions (count - from) ∷ codes) new.kept
+  pub keeps : (from : ℕ) (before : List Code) → old.noted ≤ from → from ≤ count
+      → Keeps (from - old.noted) before old.kept → Keeps 0 (before ++ Instructions (count - from) ∷ codes) new.kept
   pub out : new.out ≡ old.out
   pub parts : new.parts.items ≡ old.parts.items
 
@@ -162,9 +174,11 @@ Joins old new count =
 -- the innermost part ends, whose block has joined
 abbrev pub Closes : (old new : Recorder) → (count : ℕ) → Type 0
 Closes old new count =
-    (codes : List Code) (o : Open) (os : List Open) (es : List Event) → IsFromMain (o ∷ os) → old.out ≡ false → AreParts (o ∷ os) (reverse old.parts.items)
+    (codes : List Code) (o : Open) (os : List Open) (es : List Event) → IsFromMain (o ∷ os)
+    → old.out ≡ false → AreParts (o ∷ os) (reverse old.parts.items)
     → old.noted ≤ count → Keeps (count - old.noted) codes old.kept
-    → (new.noted ≤ count) × Keeps (count - new.noted) (codes ++ ending_in o os) new.kept × KeepsParts os (closed o es) new
+    → (new.noted ≤ count) × Keeps (count - new.noted) (codes ++ ending_in o os) new.kept
+    × KeepsParts os (closed o es) new
 
 -- the recorder of a run that begins
 abbrev pub Starts : Recorder → Type 0

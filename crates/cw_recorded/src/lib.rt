@@ -11,11 +11,12 @@
 //! | a scope, a cut or a region joins and ends | `end(count)` | `Joined`, where a child is out |
 //! | a call, or a function of a loop, joins and ends | `give_back(count)` | `Joined`, where a child is out |
 //! | a join of the block that runs | `sync(count)` | `Joined`, where a child is out |
-//! | any other | none | none |
+//! | any other | none (`laws::instructions_need_no_call`) | none |
 //!
 //! Once the strands are too many, no call does anything.
 #![tactic(auto)]
 
+pub mod laws;
 mod recorder;
 
 pub use recorder::Recorder;
