@@ -24,6 +24,8 @@ pub mod Going
 pub mod Additions
 pub mod Told
 pub mod Metering
+pub mod Keeping
+pub mod Strands
 pub mod Keyed
 pub mod FromMain
 pub mod Inside
