@@ -85,9 +85,9 @@ strands_prop : (kept : Recorded) (t : Tree) → IsProp (KeepsStrands kept t)
 strands_prop None t = hlevel le_prop
 strands_prop (Some kept) t = let same = same_codes_prop (merged kept) (merged (codes_of AsChild t)) in hlevel (le_prop, same)
 
-is_kept : (kept : Recorded) (t : Tree) → KeepsStrands kept t → IsKept t kept
-is_kept None t h = h
-is_kept (Some kept) t h = (h.0, codes_are (merged kept) (merged (codes_of AsChild t)) h.1)
+kept_is : (kept : Recorded) (t : Tree) → KeepsStrands kept t → IsKept t kept
+kept_is None t h = h
+kept_is (Some kept) t h = (h.0, codes_are (merged kept) (merged (codes_of AsChild t)) h.1)
 
 kept_as : (kept : Recorded) (t : Tree) → IsKept t kept → KeepsStrands kept t
 kept_as None t h = h
@@ -114,7 +114,7 @@ pub record WasRecorded (kept : Recorded) (o : Option Answer) : Type 0 where
   pub is_kept : IsKept tree kept
 
 pub was_recorded : (kept : Recorded) (o : Option Answer) → IsRecorded kept o → WasRecorded kept o
-was_recorded kept (Some (Ended w shown totals tree)) h = record { value = w; lines = shown; sums = totals; tree = tree; answer = refl; is_kept = is_kept kept tree h }
+was_recorded kept (Some (Ended w shown totals tree)) h = record { value = w; lines = shown; sums = totals; tree = tree; answer = refl; is_kept = kept_is kept tree h }
 was_recorded kept (Some (TrappedAt trap line shown)) h = absurd h
 was_recorded kept (Some OverLimit) h = absurd h
 was_recorded kept None h = absurd h
