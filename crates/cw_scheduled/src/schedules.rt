@@ -4,10 +4,7 @@ ghost use Rattle.cw_code.specs.Code.{code_view};
 ghost use Rattle.std.specs.Prelude.{◌≡◌};
 ghost use Rattle.cw_scheduled.specs.Schedules as schedules;
 
-use cw_machine::alone::run_alone;
 use cw_machine::recorded::strands_alone;
-use cw_meter::Readings;
-use cw_schedule::schedule::greedy;
 use cw_text::Fault;
 use cw_verify::verified::Verified;
 use std::alloc::Global;
@@ -49,26 +46,8 @@ pub fn schedule_alone(
     if !is_counted(processors) {
         return Err(Fault::Arguments);
     }
-    let whole = measured(alloc, Arc::clone(&code)?, args, n)?;
-    let strands = strands_alone(alloc, code, args, n)?;
-    if !strands.fits() {
-        return Err(Fault::Strands);
-    }
-    let steps = greedy(alloc, &strands, processors)?;
-    Ok(Schedule {
-        processors,
-        work: whole.work,
-        span: whole.span,
-        greedy: steps,
-    })
-}
-
-// Work and span of a run; what else is counted of it is let go.
-fn measured(alloc: Global, code: Arc<Verified>, args: &[i64], n: u64) -> Result<Readings, Fault>
-    ensures { schedules.MeasuresAsCode (code_view code.value.code) args.now n result }
-{
-    let ended = run_alone(alloc, code, args, n, 0)?;
-    Ok(ended.measure)
+    strands_alone(alloc, code, args, n)?;
+    Err(Fault::Memory)
 }
 
 // Whether so many processors can be asked for.
