@@ -43,11 +43,12 @@ pub record Schedules (code : Code) (args : List ℤ) (n p : ℕ) (s : Schedule) 
   pub greedy : s.greedy ≡ greedy_length p tree
   pub bounds : IsWithin p s.greedy tree
 
--- what was asked for is in range, and the run ends, with a tree of this work and span
+-- what was asked for is in range, and the run ends within the limit, with a tree of this work and span
 pub record Measured (code : Code) (args : List ℤ) (n : ℕ) (r : Readings) : Type 0 where
   pub asked : is_request code args n 0 ≡ true
   pub tree : Tree
   pub ends : Ends code args n tree
+  pub within : work tree ≤ n
   pub measure : AreReadings 0 tree r
 
 -- work and span of a run as the code's meaning gives them, or why there are none

@@ -4,7 +4,11 @@ ghost use Rattle.cw_code.specs.Code.{code_view};
 ghost use Rattle.std.specs.Prelude.{◌≡◌};
 ghost use Rattle.cw_scheduled.specs.Schedules as schedules;
 
+use cw_machine::alone::{main_takes, run_alone};
 use cw_machine::recorded::strands_alone;
+use cw_meter::Readings;
+use cw_model::limits::MOST_LIMIT;
+use cw_schedule::schedule::greedy;
 use cw_text::Fault;
 use cw_verify::verified::Verified;
 use std::alloc::Global;
@@ -43,11 +47,37 @@ pub fn schedule_alone(
 ) -> Result<Schedule, Fault>
     ensures { schedules.SchedulesAsCode (code_view code.value.code) args.now n processors result }
 {
-    if !is_counted(processors) {
+    if !is_asked(&code, args, n, processors) {
         return Err(Fault::Arguments);
     }
-    strands_alone(alloc, code, args, n)?;
-    Err(Fault::Memory)
+    let share = Arc::try_clone(&code)?;
+    let whole = measured(alloc, share, args, n)?;
+    let strands = strands_alone(alloc, code, args, n)?;
+    if !strands.fits() {
+        return Err(Fault::Strands);
+    }
+    let steps = greedy(alloc, &strands, processors)?;
+    Ok(Schedule {
+        processors,
+        work: whole.work,
+        span: whole.span,
+        greedy: steps,
+    })
+}
+
+// Work and span of a run; what else is counted of it is let go.
+fn measured(alloc: Global, code: Arc<Verified>, args: &[i64], n: u64) -> Result<Readings, Fault>
+    ensures { schedules.MeasuresAsCode (code_view code.value.code) args.now n result }
+{
+    let ended = run_alone(alloc, code, args, n, 0)?;
+    Ok(ended.measure)
+}
+
+// Whether there are as many arguments as `main` takes, and the limit and the processors are in their ranges.
+fn is_asked(code: &Verified, args: &[i64], n: u64, processors: u64) -> bool
+    ensures { result ≡ schedules.is_asked (code_view code.now.code) args.now n processors }
+{
+    is_counted(processors) && args.len() == main_takes(code) && 1 <= n && n <= MOST_LIMIT
 }
 
 // Whether so many processors can be asked for.
