@@ -2,6 +2,7 @@
 
 mod arrays;
 mod measures;
+mod schedules;
 mod strands;
 
 use cw_code::code::{BlockKind, Callee, Code, Func, Instr, Site, UnaryOperator};
