@@ -1,6 +1,6 @@
 -- What is told together of one run by what measures it and by what keeps its strands.
 use Rattle.std.proofs.Common.{◌≡◌, ◌≤◌, ◌<◌, ℕ, ℤ, Bool, true, false, ◌&&◌, Some, None, List, refl, sym, ap, ◌∙◌, subst, arith}
-use Rattle.std.specs.Prelude.{IsSome, nat_le, nat_eq, length}
+use Rattle.std.specs.Prelude.{IsErrAnd, IsSome, MatchResult, Ok, Err, Result, nat_le, nat_eq, length}
 use Rattle.std.proofs.lemmas.Bool.Decides.{nat_tests}
 use Rattle.cw_model.specs.declared.limits.TheConstants.{MOST_LIMIT, MOST_BURDEN}
 use Rattle.cw_model.specs.Trees.{Tree, work}
@@ -29,6 +29,11 @@ second_true false b h = cc
 
 le_of : (a b : ℕ) → nat_le a b ≡ true → a ≤ b
 le_of a b h = grind (arith, nat_tests)
+
+-- a fault that is handed on
+pub handed_on : {A : Type 0} (Q : A → Type 0) (P : Fault → Type 0) (e : Fault) (r : Result A Fault) → P e → IsErrAnd r (λ x. x ≡ e) → MatchResult r Q P
+handed_on Q P e (Ok x) p h = absurd h
+handed_on Q P e (Err x) p h = subst P (sym h) p
 
 -- a schedule is asked for of a run that can be asked for
 pub requested : (code : Code) (args : List ℤ) (n processors : ℕ) → is_asked code args n processors ≡ true → is_request code args n 0 ≡ true
