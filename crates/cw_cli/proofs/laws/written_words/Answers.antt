@@ -13,8 +13,10 @@ usual =
     let burden : decimal_value burden_row.usual ≡ USUAL_BURDEN = refl in (
       (
         ((refl, omega arith, omega (arith, one)), omega (arith, one), omega (arith, one)),
-        ((refl, omega arith, omega (arith, limit)), omega (arith, limit), omega (arith, limit)),
-        (((refl, omega arith, omega (arith, burden)), omega (arith, burden), omega (arith, burden)), tt),
+        (
+          ((refl, omega arith, omega (arith, limit)), omega (arith, limit), omega (arith, limit)),
+          (((refl, omega arith, omega (arith, burden)), omega (arith, burden), omega (arith, burden)), tt),
+        ),
       ),
       refl,
     )
