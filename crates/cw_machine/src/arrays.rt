@@ -192,6 +192,11 @@ impl Machine {
         };
         let left = self.first_array + h.left as usize;
         let right = self.first_array + h.right as usize;
+        let array = self.first_array + h.array as usize;
+        match self.cuts.push(array) {
+            Ok(()) => {}
+            Err(_) => return Moved::NoMemory,
+        }
         self.set_view(left, v.block, v.from, k);
         let from = beyond(v.from, k);
         self.set_view(right, v.block, from, v.len - k);
@@ -210,6 +215,7 @@ impl Machine {
         let right = self.first_array + h.right as usize;
         self.set_view(left, left, 0, 0);
         self.set_view(right, right, 0, 0);
+        let _cut = self.cuts.pop();
         self.place += 1;
         Moved::On
     }

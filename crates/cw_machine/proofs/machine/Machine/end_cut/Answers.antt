@@ -1,8 +1,9 @@
-use Rattle.std.proofs.Common.{arith, ◌+◌, ◌<◌, ◌^◌, length, refl, ap, ◌∙◌}
-use Rattle.std.specs.Prelude.{slice_set}
+use Rattle.std.proofs.Common.{arith, ◌+◌, ◌<◌, ◌^◌, [], ◌∷◌, length, length-append, refl, ap, ◌∙◌}
+use Rattle.std.specs.Prelude.{take, slice_set}
 use Rattle.std.specs.Coded.{le_prop}
 use Rattle.std.proofs.Math.Logic.{∥∥₁_elim}
 use Rattle.cw_machine.proofs.Moves as moves
+use Rattle.cw_machine.proofs.Order.{but_last}
 use Rattle.std.proofs.lemmas.List.{length-set}
 use Rattle.cw_machine.proofs.machine.Machine.end_cut.Goals as goal
 
@@ -40,4 +41,6 @@ returns c = λ ok s is shows may.
     let rest' = c.set_view-2.ensures.rest in
     let e_views = c.set_view-2.ensures.views ∙ ap (λ l. slice_set l (q + c.args.h.now.right) (record { block = q + c.args.h.now.right; from = 0; len = 0 })) c.set_view.ensures.views in
     moves.end_follows c.args.code.now ok c.args.self.now s shows c.args.h.now _ is may e_views
-    (moves.kept c.args.code.now ok c.args.self.now s shows _ c.args.self.now.cells.items (c.args.self.now.place + 1) (rest'.cells ∙ rest.cells) (ap (λ p. p + 1) (rest'.place ∙ rest.place)) (record { first = rest'.first ∙ rest.first; frames = rest'.frames ∙ rest.frames; lines = rest'.lines ∙ rest.lines; views = refl; blocks = c.set_view-2.ensures.blocks ∙ c.set_view.ensures.blocks; first_array = rest'.first_array ∙ rest.first_array; depth = rest'.depth ∙ rest.depth; sums = rest'.sums ∙ rest.sums }))
+    (λ cells x e. (let n = c.set_view-2.new.self.cuts.ok.0 in let m = ap length (rest'.cuts ∙ rest.cuts ∙ e) in let l = length-append cells (x ∷ []) in
+    c.pop.ensures.rest ∙ ap (λ z. take _ z) (rest'.cuts ∙ rest.cuts ∙ e) ∙ but_last cells x _ (omega (arith, n, m, l))))
+    (moves.kept c.args.code.now ok c.args.self.now s shows _ c.args.self.now.cells.items (c.args.self.now.place + 1) (rest'.cells ∙ rest.cells) (ap (λ p. p + 1) (rest'.place ∙ rest.place)) (record { first = rest'.first ∙ rest.first; frames = rest'.frames ∙ rest.frames; lines = rest'.lines ∙ rest.lines; views = refl; blocks = c.set_view-2.ensures.blocks ∙ c.set_view.ensures.blocks; first_array = rest'.first_array ∙ rest.first_array; depth = rest'.depth ∙ rest.depth; sums = rest'.sums ∙ rest.sums; cuts = refl }))
