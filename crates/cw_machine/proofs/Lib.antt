@@ -31,3 +31,5 @@ pub mod Pieces
 pub mod Effects
 pub mod Given
 pub mod Home
+pub mod GivesNumbers
+pub mod GivesMade
