@@ -36,6 +36,7 @@ fn standing(rt: &HostRuntime) -> Result<Machine, Fail> {
         views,
         blocks,
         frames: Vec::new(alloc),
+        cuts: Vec::new(alloc),
         place: 3,
         first: 1,
         first_array: 0,
