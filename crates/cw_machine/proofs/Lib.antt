@@ -33,3 +33,7 @@ pub mod Given
 pub mod Home
 pub mod GivesNumbers
 pub mod GivesMade
+pub mod GivesSlots
+pub mod GivesHomes
+pub mod GivesCells
+pub mod GivesBack
