@@ -35,5 +35,6 @@ pub mod GivesNumbers
 pub mod GivesMade
 pub mod GivesSlots
 pub mod GivesHomes
+pub mod GivesNew
 pub mod GivesCells
 pub mod GivesBack

@@ -1,6 +1,6 @@
 //! A rest that ran elsewhere comes back, and the machine goes on from where it came to.
 
-ghost use Rattle.std.specs.Prelude.{◌≡◌, ◌≢◌, ◌+◌, ◌<◌, ◌≤◌, length, Some, slice_get, MatchBool};
+ghost use Rattle.std.specs.Prelude.{◌≡◌, ◌≢◌, ℕ, ◌+◌, ◌<◌, ◌≤◌, length, Some, slice_get, MatchBool};
 ghost use Rattle.std.specs.Option.{option_flatten};
 ghost use Rattle.cw_slices.specs.Placed.{IsOwn};
 ghost use Rattle.cw_jobs.specs.Jobs as jobs;
