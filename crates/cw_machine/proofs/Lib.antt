@@ -31,5 +31,3 @@ pub mod Pieces
 pub mod Effects
 pub mod Given
 pub mod Home
-pub mod GivesNumbers
-pub mod GivesMade

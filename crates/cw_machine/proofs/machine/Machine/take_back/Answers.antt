@@ -1,5 +1,4 @@
 use Rattle.std.proofs.Common.{arith, ◌<◌, ◌≤◌, length}
-use Rattle.cw_machine.proofs.GivesNumbers.{shows_renumbered}
 use Rattle.cw_machine.proofs.Home.{get_here, home_gap, home_more, home_bare, home_all}
 use Rattle.cw_machine.proofs.machine.Machine.take_back.Goals as goal
 
