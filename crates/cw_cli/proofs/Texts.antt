@@ -66,3 +66,4 @@ unless_weaker P Q fault.Code w h = h
 unless_weaker P Q fault.OverLimit w h = h
 unless_weaker P Q (fault.Trap t l o) w h = h
 unless_weaker P Q fault.Write w h = h
+unless_weaker P Q fault.Strands w h = h

@@ -46,6 +46,7 @@ fn faults_have_numbers_statuses_and_texts(rt: HostRuntime) -> Result<(), Fail> {
         (Fault::Memory, 9, 6, "memory"),
         (Fault::Write, 10, 7, "write failed"),
         (Fault::Arguments, 11, 5, "arguments"),
+        (Fault::Strands, 12, 4, "too many strands"),
     ] {
         assert_eq!(rt; fault.number(), number, "{text}");
         assert_eq!(rt; fault.status(), status, "{text}");

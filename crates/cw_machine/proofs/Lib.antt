@@ -7,8 +7,11 @@ pub mod Order
 pub mod Running
 pub mod Stepping
 pub mod Blocks
+pub mod Still
+pub mod Under
 pub mod Rows
 pub mod Moves
+pub mod Whole
 pub mod Returns
 pub mod Lends
 pub mod Back
@@ -25,9 +28,6 @@ pub mod Keyed
 pub mod FromMain
 pub mod Inside
 pub mod Pieces
-pub mod Slices
-pub mod Ahead
-pub mod Rests
 pub mod Effects
 pub mod Given
-pub mod MeteredRests
+pub mod Home

@@ -1,14 +1,15 @@
 //! What instructions on arrays do.
 
-ghost use Rattle.std.specs.Prelude.{◌≡◌, ◌+◌, ◌<◌, ◌^◌, [], length, Some, OnOk, slice_set, slice_index_or};
+ghost use Rattle.std.specs.Prelude.{◌≡◌, ◌+◌, ◌<◌, ◌^◌, ℤ, length, Some, IfOk, OnOk};
 ghost use Rattle.cw_verify.specs.declared.op.Op.TheVariants as op;
 ghost use Rattle.cw_machine.specs.Arrays as arrays;
-ghost use Rattle.cw_machine.specs.Shows.{blocks_of, HasRenewed, HasReviewed, StaysBut, IsAt, Does};
+ghost use Rattle.cw_machine.specs.Shows.{HasRenewed, HasReviewed, StaysBut, IsAt, Does};
 
 use crate::machine::{Machine, Moved, View};
 use cw_code::code::Halves;
 use cw_model::limits::MOST_ELEMENTS;
 use cw_model::trap::Trap;
+use cw_slices::Block;
 use cw_verify::verified::Verified;
 use std::alloc::AllocError;
 
@@ -26,7 +27,8 @@ fn is_within(i: i64, len: usize) -> bool
 // The length of a new array, or why there is none.
 #[inline(always)]
 fn new_length(n: i64) -> Result<usize, Trap>
-    ensures { arrays.IsNewLength n result }
+    ensures length { arrays.IsNewLength n result }
+    ensures small { IfOk result (λ len. len < 2 ^ 60) }
 {
     if n < 0 || n > GREATEST_LENGTH {
         return Err(Trap::BadLength);
@@ -67,21 +69,21 @@ impl Machine {
     // What a place of a block has.
     #[inline(always)]
     fn at(&self, block: usize, k: usize) -> i64
-        requires { k < length (slice_index_or (blocks_of self.now) block []) }
-        ensures { arrays.found (blocks_of self.now) block k ≡ Some result }
+        requires { (x : ℤ) × arrays.found self.now.blocks.items block k ≡ Some x }
+        ensures { arrays.found self.now.blocks.items block k ≡ Some result }
     {
-        self.blocks[block][k]
+        self.blocks[block].get(k)
     }
 
     // A value, into a place of a block.
     #[inline(always)]
     fn set_at(&mut self, block: usize, k: usize, x: i64)
-        requires { k < length (slice_index_or (blocks_of self.old) block []) }
-        ensures blocks { blocks_of self.new ≡ arrays.put (blocks_of self.old) block k x }
+        requires { (y : ℤ) × arrays.found self.old.blocks.items block k ≡ Some y }
+        ensures blocks { self.new.blocks.items ≡ arrays.put self.old.blocks.items block k x }
         ensures views { self.new.views.items ≡ self.old.views.items }
         ensures rest { StaysBut self.old self.new }
     {
-        self.blocks[block][k] = x;
+        self.blocks[block].set(k, x);
     }
 
     // Another view for a cell.
@@ -95,27 +97,15 @@ impl Machine {
         self.views[cell] = View { block, from, len };
     }
 
-    // Another block for a cell.
-    fn set_block(&mut self, cell: usize, block: Vec<i64>)
-        requires { cell < length self.old.blocks.items }
-        ensures blocks { blocks_of self.new ≡ slice_set (blocks_of self.old) cell block.items }
-        ensures views { self.new.views.items ≡ self.old.views.items }
-        ensures rest { StaysBut self.old self.new }
-    {
-        self.blocks[cell] = block;
-    }
-
-    // A block of so many zeros for a cell. The one that it had is let go first, so that there are never two.
-    fn renew_block(&mut self, cell: usize, len: usize) -> Result<(), AllocError>
-        requires { cell < length self.old.blocks.items }
-        ensures blocks { OnOk result (HasRenewed self.old cell len self.new) }
-        ensures views { self.new.views.items ≡ self.old.views.items }
-        ensures rest { StaysBut self.old self.new }
+    // So many zeros as the block of a cell. The old one is let go first, so that there are never both.
+    fn renew(&mut self, cell: usize, len: usize) -> Result<(), AllocError>
+        requires there { cell < length self.old.blocks.items }
+        requires small { len < 2 ^ 60 }
+        ensures { OnOk result (HasRenewed self.old cell len self.new) }
     {
         let alloc = *self.blocks.allocator();
-        self.set_block(cell, Vec::new(alloc));
-        let zeros = Vec::from_elem(alloc, 0i64, len)?;
-        self.set_block(cell, zeros);
+        self.blocks[cell] = Block::empty(alloc);
+        self.blocks[cell] = Block::zeros(alloc, len)?;
         Ok(())
     }
 
@@ -131,7 +121,7 @@ impl Machine {
             Err(trap) => return Moved::Trapped(trap, line),
         };
         let at = self.first_array + a as usize;
-        match self.renew_block(at, len) {
+        match self.renew(at, len) {
             Ok(()) => {
                 self.set_view(at, at, 0, len);
                 self.place += 1;

@@ -2,7 +2,6 @@
 
 mod arrays;
 mod measures;
-mod rests;
 
 use cw_code::code::{BlockKind, Callee, Code, Func, Instr, Site, UnaryOperator};
 use cw_machine::alone::{Ended, run_alone};

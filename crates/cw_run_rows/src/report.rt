@@ -209,6 +209,7 @@ fn tells_faults(rt: HostRuntime) -> Result<(), Fail> {
         (Fault::Memory, "memory\n"),
         (Fault::Write, "write failed\n"),
         (Fault::Arguments, "arguments\n"),
+        (Fault::Strands, "too many strands\n"),
     ] {
         let mut sink = Counted::new(Vec::new(alloc));
         let answer = write_fault(&mut sink, &fault);

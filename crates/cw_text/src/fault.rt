@@ -54,12 +54,14 @@ pub enum Fault {
     Write,
     /// Arguments, or a limit or a burden, that are not those that were asked for.
     Arguments,
+    /// A run that ended whose strands are more than are kept for a schedule.
+    Strands,
 }
 
 impl Fault {
     ghost use Rattle.cw_text.specs.Faults.{fault_number, fault_status};
 
-    /// The number of the fault, from 1 to 11.
+    /// The number of the fault, from 1 to 12.
     pub fn number(&self) -> u8
         ensures { result ≡ fault_number self.now }
     {
@@ -75,11 +77,13 @@ impl Fault {
             Fault::Memory => 9,
             Fault::Write => 10,
             Fault::Arguments => 11,
+            Fault::Strands => 12,
         }
     }
 
     /// The exit status of a program that ends with this fault: 2 for what is refused, 3 for a
-    /// trap, 4 over the limit, 5 for arguments, 6 for memory, and 7 for a failed write.
+    /// trap, 4 over the limit and for too many strands, 5 for arguments, 6 for memory, and 7 for a
+    /// failed write.
     pub fn status(&self) -> u8
         ensures { result ≡ fault_status self.now }
     {
@@ -91,7 +95,7 @@ impl Fault {
             | Fault::Size(_)
             | Fault::Code => 2,
             Fault::Trap { .. } => 3,
-            Fault::OverLimit => 4,
+            Fault::OverLimit | Fault::Strands => 4,
             Fault::Arguments => 5,
             Fault::Memory => 6,
             Fault::Write => 7,
@@ -121,6 +125,7 @@ impl fmt::Display for Fault {
             Fault::Memory => write!(f, "memory"),
             Fault::Write => write!(f, "write failed"),
             Fault::Arguments => write!(f, "arguments"),
+            Fault::Strands => write!(f, "too many strands"),
         }
     }
 }

@@ -3,10 +3,8 @@
 use crate::machine::arrays::{Part, calls, fill, halves, halving, looping, main_of};
 use crate::machine::{arrays, code_of, spawned};
 use cw_code::code::{BlockKind, Code, Instr};
-use cw_machine::alone::{Ended, main_takes, run_alone};
-use cw_machine::apart::{Pause, Piece, Stop};
-use cw_machine::metered::MeteredPiece;
-use cw_meter::{Measures, Meter, Readings};
+use cw_machine::alone::{Ended, run_alone};
+use cw_meter::Readings;
 use cw_model::syntax::{CallKind, Operator};
 use cw_regions::RegionRow;
 use cw_sites::table::SiteRow;
@@ -83,91 +81,6 @@ fn fib_body() -> [Instr; 19] {
         Instr::Binary(Operator::Plus, 1),
         Instr::ReturnValue,
     ]
-}
-
-// Main up to its first spawn, the rest of that block run up to its join by a meter of its own, main's child, and then by
-// hand what is left of main after the join: a load and the return.
-fn with_a_rest(alloc: Global, parts: &[Part]) -> Result<Option<Measures>, Fault> {
-    let code = verify(alloc, arrays::code_of(alloc, parts, &[&[]])?)?;
-    if main_takes(&code) != 0 {
-        return Err(Fault::Arguments);
-    }
-    let mut strand = MeteredPiece {
-        piece: Piece::root(alloc, &code, &[])?,
-        meter: Meter::new(alloc, 10)?,
-    };
-    let (stop, before) = strand.go(&code, 0, 1_000, Pause::Spawn);
-    let Stop::Paused = stop else {
-        return Ok(None);
-    };
-    let site = strand.meter.site();
-    let Some(piece) = strand.piece.machine.apart(alloc, &code)? else {
-        return Ok(None);
-    };
-    let mut rest = MeteredPiece::new(alloc, piece, site, 10);
-    let (stop, cost) = rest.run(&code, 1_000);
-    let Stop::Joined = stop else {
-        return Ok(None);
-    };
-    let (stop, spawn) = strand.go(&code, before, 1, Pause::Never);
-    let Stop::Over = stop else {
-        return Ok(None);
-    };
-    let (stop, child) = strand.go(&code, before + spawn, 1_000, Pause::Inside(0));
-    let Stop::Paused = stop else {
-        return Ok(None);
-    };
-    let MeteredPiece { piece: _, meter } = strand;
-    let MeteredPiece {
-        piece: _,
-        meter: theirs,
-    } = rest;
-    let mut meter = meter;
-    let count = before + spawn + child;
-    meter.rest(count, theirs, cost)?;
-    let joined = count.wrapping_add(cost);
-    meter.sync(joined)?;
-    meter.give_back(joined.wrapping_add(2))?;
-    let sites = code.code.sites.len() + 1;
-    let all = meter.finish(alloc, joined.wrapping_add(3), sites, 0)?;
-    Ok(Some(all))
-}
-
-// Main spawns fib(4) and calls fib(3) beside it: with the rest run apart the measures are those of the serial run.
-#[test]
-fn a_rest_with_a_meter(rt: HostRuntime) -> Result<(), Fault> {
-    let alloc = rt.alloc();
-    let body = fib_body();
-    let fib = Part {
-        gives_int: true,
-        params: 1,
-        slots: 3,
-        array_params: 0,
-        arrays: 0,
-        body: &body,
-    };
-    let main = [
-        Instr::Push(4),
-        calls(CallKind::Spawned, 1, Some(0), 0),
-        Instr::Push(3),
-        calls(CallKind::Plain, 1, Some(1), 0),
-        Instr::Sync,
-        Instr::Load(0),
-        Instr::ReturnValue,
-    ];
-    let parts = [main_of(&main), fib];
-    let serial = ended(alloc, arrays::code_of(alloc, &parts, &[&[]])?, &[])?;
-    match with_a_rest(alloc, &parts)? {
-        Some(all) => {
-            // work 98 of fib(4) and 52 of fib(3), and 7 of main; spans 49 and 2 + 36 beside one another; with burdens 60 and
-            // 10 + 2 + 46
-            assert_eq!(rt; all.measure, readings(157, 54, 65));
-            assert_eq!(rt; all.measure, serial.measure);
-            assert_eq!(rt; all.sites.as_slice(), serial.sites.values().as_slice());
-        }
-        None => assert!(rt; false),
-    }
-    Ok(())
 }
 
 #[test]

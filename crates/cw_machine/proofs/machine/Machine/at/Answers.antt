@@ -1,9 +1,15 @@
-use Rattle.std.proofs.Common.{rules, ◌≡◌, ℤ, Some, sym, ap, ◌∙◌, w64, of_z, to_z}
+use Rattle.std.proofs.Common.{rules, ◌≡◌, ℤ, Some, sym, ap, arith, ◌∙◌, w64, of_z, to_z}
 use Rattle.std.proofs.lemmas.Int.{to_z-of_z}
 use Rattle.cw_machine.proofs.Blocks as blocks
 use Rattle.cw_machine.proofs.machine.Machine.at.Goals as goal
 
+pub index-requires : goal.index-requires
+index-requires c = let lt = blocks.block_there c.args.self.now.blocks.items c.args.block c.args.k c.requires.0 c.requires.1 in omega (arith, lt, c.args.self.now.blocks.ok.0)
+
+pub get-requires : goal.get-requires
+get-requires c = record { there = (c.requires.0, blocks.in_block c.args.self.now.blocks.items c.args.block c.args.k c.index.result.now c.requires.0 c.index.ensures c.requires.1) }
+
 pub returns : goal.returns
 returns c =
-    let same : to_z w64 (of_z w64 c.index-2.result.now) ≡ c.index-2.result.now = search (rules, to_z-of_z) in
-    blocks.at_block (λ b. b.items) c.args.self.now.blocks.items c.args.block c.args.k c.index.result.now c.index-2.result.now c.index.ensures c.index-2.ensures c.requires ∙ ap (λ (z : ℤ). Some z) (sym same)
+    let same : to_z w64 (of_z w64 c.get.result) ≡ c.get.result = search (rules, to_z-of_z) in
+    blocks.got_is c.args.self.now.blocks.items c.args.block c.args.k c.index.result.now c.requires.0 c.get.result c.index.ensures c.requires.1 c.get.ensures ∙ ap (λ (z : ℤ). Some z) (sym same)

@@ -34,10 +34,10 @@ overflow_add-self c =
     omega (arith, next, same, same')
 
 pub returns : goal.returns
-returns c = λ ok s is shows.
+returns c = λ ok s is shows may.
     let q = c.args.self.now.first_array in
     let rest = c.set_view.ensures.rest in
     let rest' = c.set_view-2.ensures.rest in
     let e_views = c.set_view-2.ensures.views ∙ ap (λ l. slice_set l (q + c.args.h.now.right) (record { block = q + c.args.h.now.right; from = 0; len = 0 })) c.set_view.ensures.views in
-    moves.end_follows c.args.code.now ok c.args.self.now s shows c.args.h.now _ is e_views
+    moves.end_follows c.args.code.now ok c.args.self.now s shows c.args.h.now _ is may e_views
     (moves.kept c.args.code.now ok c.args.self.now s shows _ c.args.self.now.cells.items (c.args.self.now.place + 1) (rest'.cells ∙ rest.cells) (ap (λ p. p + 1) (rest'.place ∙ rest.place)) (record { first = rest'.first ∙ rest.first; frames = rest'.frames ∙ rest.frames; lines = rest'.lines ∙ rest.lines; views = refl; blocks = c.set_view-2.ensures.blocks ∙ c.set_view.ensures.blocks; first_array = rest'.first_array ∙ rest.first_array; depth = rest'.depth ∙ rest.depth; sums = rest'.sums ∙ rest.sums }))

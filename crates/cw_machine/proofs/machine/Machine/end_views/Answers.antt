@@ -6,4 +6,4 @@ pub returns-then-len-first_array-clause-views : goal.returns-then-len-first_arra
 returns-then-len-first_array-clause-views c = blocks.take_all c.args.first_array c.args.self.now.views.items (omega (arith, c.if-len-first_array.true, c.len.ensures, c.args.self.now.views.ok.0))
 
 pub returns-then-len-first_array-clause-blocks : goal.returns-then-len-first_array-clause-blocks
-returns-then-len-first_array-clause-blocks c = blocks.map_all (λ b. b.items) c.args.first_array c.args.self.now.blocks.items (let le = c.requires in omega (arith, le, c.if-len-first_array.true, c.len.ensures, c.args.self.now.views.ok.0))
+returns-then-len-first_array-clause-blocks c = blocks.take_all c.args.first_array c.args.self.now.blocks.items (let le = c.requires in omega (arith, le, c.if-len-first_array.true, c.len.ensures, c.args.self.now.views.ok.0))

@@ -5,7 +5,6 @@ use Rattle.std.proofs.Math.Logic.{∥∥₁_elim}
 use Rattle.std.proofs.lemmas.Int.{to_z_pos}
 use Rattle.cw_machine.specs.declared.machine.View.{View}
 use Rattle.cw_machine.specs.Arrays.{view}
-use Rattle.cw_machine.proofs.Blocks as blocks
 use Rattle.cw_machine.proofs.Moves as moves
 use Rattle.cw_machine.proofs.machine.Machine.length.Goals as goal
 
@@ -14,8 +13,7 @@ view-v-requires c = ∥∥₁_elim c.requires le_prop (λ r. moves.length_within
 
 pub overflow_cast-v : goal.overflow_cast-v
 overflow_cast-v c =
-    let block = blocks.block_small (λ b. b.items) (2 ^ 63) (λ b. omega (arith, b.ok, b.small)) (omega arith) c.args.self.now.blocks.items (view c.args.self.now.views.items (c.args.self.now.first_array + c.args.a)).block in
-    let small : (view c.args.self.now.views.items (c.args.self.now.first_array + c.args.a)).len < 2 ^ 63 = ∥∥₁_elim c.requires le_prop (λ r. moves.length_small c.args.code.now r.running.ok c.args.self.now r.running.state r.running.shows c.args.d c.args.a (2 ^ 63) r.is block) in
+    let small : (view c.args.self.now.views.items (c.args.self.now.first_array + c.args.a)).len < 2 ^ 63 = ∥∥₁_elim c.requires le_prop (λ r. moves.length_small c.args.code.now r.running.ok c.args.self.now r.running.state r.running.shows c.args.d c.args.a r.is) in
     let is = ap (λ (w : View). w.len) c.view-v.ensures in
     let lt : c.view-v.result.len < 2 ^ 63 = omega (arith, small, is) in
     search rules
@@ -27,9 +25,8 @@ pub put-requires-clause-next : goal.put-requires-clause-next
 put-requires-clause-next c = ∥∥₁_elim c.requires le_prop (λ r. moves.length_next c.args.code.now r.running.ok c.args.self.now r.running.state r.running.shows c.args.d c.args.a r.is)
 
 pub returns : goal.returns
-returns c = λ ok s is shows.
-    let block = blocks.block_small (λ b. b.items) (2 ^ 63) (λ b. omega (arith, b.ok, b.small)) (omega arith) c.args.self.now.blocks.items (view c.args.self.now.views.items (c.args.self.now.first_array + c.args.a)).block in
-    let small = moves.length_small c.args.code.now ok c.args.self.now s shows c.args.d c.args.a (2 ^ 63) is block in
+returns c = λ ok s is shows may.
+    let small = moves.length_small c.args.code.now ok c.args.self.now s shows c.args.d c.args.a is in
     let len = ap (λ (w : View). w.len) c.view-v.ensures in
     let lt : c.view-v.result.len < 2 ^ 63 = omega (arith, small, len) in
     let same = ap (λ (z : ℤ). slice_set c.args.self.now.cells.items (c.args.self.now.first + c.args.d) z) (to_z_pos w64 c.view-v.result.len lt) in

@@ -1,11 +1,11 @@
-use Rattle.std.proofs.Common.{rules, arith, ◌≡◌, ◌+◌, ◌<◌, ◌^◌, [], true, false, length, refl, sym, ap, ◌∙◌, w64, of_z, to_z}
-use Rattle.std.specs.Prelude.{nat_abs, slice_index_or}
+use Rattle.std.proofs.Common.{rules, arith, ◌≡◌, ◌+◌, ◌<◌, ◌^◌, true, false, length, refl, sym, ap, ◌∙◌, w64, of_z, to_z}
+use Rattle.std.specs.Prelude.{nat_abs}
 use Rattle.std.specs.Coded.{le_prop}
-use Rattle.std.proofs.Math.Logic.{∥∥₁_elim}
+use Rattle.std.proofs.Math.Logic.{∥∥₁_elim, ∥∥₁_map}
 use Rattle.std.proofs.lemmas.Int.{to_z-of_z}
 use Rattle.cw_model.specs.Ints.{natural}
 use Rattle.cw_machine.specs.declared.machine.View.{View}
-use Rattle.cw_machine.specs.Arrays.{view, put, is_index}
+use Rattle.cw_machine.specs.Arrays.{view, found, put, is_index}
 use Rattle.cw_machine.specs.Shows.{blocks_of}
 use Rattle.cw_machine.proofs.Blocks as blocks
 use Rattle.cw_machine.proofs.Moves as moves
@@ -28,7 +28,7 @@ pub view-v-requires : goal.view-v-requires
 view-v-requires c = ∥∥₁_elim c.requires le_prop (λ r. moves.set_within c.args.code.now r.running.ok c.args.self.now r.running.state r.running.shows c.args.d c.args.a c.args.line r.is)
 
 pub returns-then-not-is_within : goal.returns-then-not-is_within
-returns-then-not-is_within c = λ ok s is shows.
+returns-then-not-is_within c = λ ok s is shows may.
     let same_i : to_z w64 (of_z w64 c.get-i.result) ≡ c.get-i.result = search (rules, to_z-of_z) in
     let len = ap (λ (w : View). w.len) c.view-v.ensures in
     let out : is_index c.get-i.result (view c.args.self.now.views.items (c.args.self.now.first_array + c.args.a)).len ≡ false = sym (ap (λ z. is_index z (view c.args.self.now.views.items (c.args.self.now.first_array + c.args.a)).len) same_i) ∙ sym (ap (λ l. is_index (to_z w64 (of_z w64 c.get-i.result)) l) len) ∙ sym c.is_within.ensures ∙ c.if-not-is_within.true in
@@ -41,9 +41,9 @@ overflow_add-v c =
     let within : is_index c.get-i.result (view c.args.self.now.views.items (c.args.self.now.first_array + c.args.a)).len ≡ true = sym (ap (λ z. is_index z (view c.args.self.now.views.items (c.args.self.now.first_array + c.args.a)).len) same_i) ∙ sym (ap (λ l. is_index (to_z w64 (of_z w64 c.get-i.result)) l) len) ∙ sym c.is_within.ensures ∙ c.if-not-is_within.false in
     let abs = ap nat_abs same_i ∙ blocks.abs_is c.get-i.result (view c.args.self.now.views.items (c.args.self.now.first_array + c.args.a)).len within in
     let from = ap (λ (w : View). w.from) c.view-v.ensures in
-    let block = blocks.block_small (λ b. b.items) (2 ^ 63) (λ b. omega (arith, b.ok, b.small)) (omega arith) c.args.self.now.blocks.items (view c.args.self.now.views.items (c.args.self.now.first_array + c.args.a)).block in
-    let there : (view c.args.self.now.views.items (c.args.self.now.first_array + c.args.a)).from + natural c.get-i.result < length (slice_index_or (blocks_of c.args.self.now) (view c.args.self.now.views.items (c.args.self.now.first_array + c.args.a)).block []) = ∥∥₁_elim c.requires le_prop (λ r. moves.set_place c.args.code.now r.running.ok c.args.self.now r.running.state r.running.shows c.args.d c.args.a c.args.line c.get-i.result r.is within) in
-    omega (arith, block, there, abs, from)
+    let there = blocks.plainly (found (blocks_of c.args.self.now) (view c.args.self.now.views.items (c.args.self.now.first_array + c.args.a)).block ((view c.args.self.now.views.items (c.args.self.now.first_array + c.args.a)).from + natural c.get-i.result)) (∥∥₁_map c.requires (λ r. moves.set_place c.args.code.now r.running.ok c.args.self.now r.running.state r.running.shows r.running.above c.args.d c.args.a c.args.line c.get-i.result r.is within)) in
+    let small = (blocks.found_is (blocks_of c.args.self.now) (view c.args.self.now.views.items (c.args.self.now.first_array + c.args.a)).block ((view c.args.self.now.views.items (c.args.self.now.first_array + c.args.a)).from + natural c.get-i.result) there.0 there.1).0 in
+    omega (arith, small, abs, from)
 
 pub set_at-requires : goal.set_at-requires
 set_at-requires c =
@@ -52,9 +52,8 @@ set_at-requires c =
     let within : is_index c.get-i.result (view c.args.self.now.views.items (c.args.self.now.first_array + c.args.a)).len ≡ true = sym (ap (λ z. is_index z (view c.args.self.now.views.items (c.args.self.now.first_array + c.args.a)).len) same_i) ∙ sym (ap (λ l. is_index (to_z w64 (of_z w64 c.get-i.result)) l) len) ∙ sym c.is_within.ensures ∙ c.if-not-is_within.false in
     let abs = ap nat_abs same_i ∙ blocks.abs_is c.get-i.result (view c.args.self.now.views.items (c.args.self.now.first_array + c.args.a)).len within in
     let from = ap (λ (w : View). w.from) c.view-v.ensures in
-    let there : (view c.args.self.now.views.items (c.args.self.now.first_array + c.args.a)).from + natural c.get-i.result < length (slice_index_or (blocks_of c.args.self.now) (view c.args.self.now.views.items (c.args.self.now.first_array + c.args.a)).block []) = ∥∥₁_elim c.requires le_prop (λ r. moves.set_place c.args.code.now r.running.ok c.args.self.now r.running.state r.running.shows c.args.d c.args.a c.args.line c.get-i.result r.is within) in
-    let same = ap (λ (w : View). length (slice_index_or (blocks_of c.args.self.now) w.block [])) c.view-v.ensures in
-    omega (arith, there, abs, from, same)
+    let there = blocks.plainly (found (blocks_of c.args.self.now) (view c.args.self.now.views.items (c.args.self.now.first_array + c.args.a)).block ((view c.args.self.now.views.items (c.args.self.now.first_array + c.args.a)).from + natural c.get-i.result)) (∥∥₁_map c.requires (λ r. moves.set_place c.args.code.now r.running.ok c.args.self.now r.running.state r.running.shows r.running.above c.args.d c.args.a c.args.line c.get-i.result r.is within)) in
+    (there.0, ap (λ k. found (blocks_of c.args.self.now) c.view-v.result.block (c.view-v.result.from + k)) abs ∙ ap (λ (w : View). found (blocks_of c.args.self.now) w.block (w.from + natural c.get-i.result)) c.view-v.ensures ∙ there.1)
 
 pub overflow_add-self : goal.overflow_add-self
 overflow_add-self c =
@@ -63,7 +62,7 @@ overflow_add-self c =
     omega (arith, next, same)
 
 pub returns : goal.returns
-returns c = λ ok s is shows.
+returns c = λ ok s is shows may.
     let same_i : to_z w64 (of_z w64 c.get-i.result) ≡ c.get-i.result = search (rules, to_z-of_z) in
     let len = ap (λ (w : View). w.len) c.view-v.ensures in
     let within : is_index c.get-i.result (view c.args.self.now.views.items (c.args.self.now.first_array + c.args.a)).len ≡ true = sym (ap (λ z. is_index z (view c.args.self.now.views.items (c.args.self.now.first_array + c.args.a)).len) same_i) ∙ sym (ap (λ l. is_index (to_z w64 (of_z w64 c.get-i.result)) l) len) ∙ sym c.is_within.ensures ∙ c.if-not-is_within.false in
@@ -74,5 +73,5 @@ returns c = λ ok s is shows.
     let e_blocks =
     c.set_at.ensures.blocks ∙ ap (λ z. put (blocks_of c.args.self.now) c.view-v.result.block (c.view-v.result.from + nat_abs (to_z w64 (of_z w64 c.get-i.result))) z) same_x
     ∙ ap (λ k. put (blocks_of c.args.self.now) c.view-v.result.block (c.view-v.result.from + k) c.get-x.result) abs ∙ ap (λ (w : View). put (blocks_of c.args.self.now) w.block (w.from + natural c.get-i.result) c.get-x.result) c.view-v.ensures in
-    moves.set_follows c.args.code.now ok c.args.self.now s shows c.args.d c.args.a c.args.line c.get-i.result c.get-x.result _ is c.get-i.ensures c.get-x.ensures within e_blocks
+    moves.set_follows c.args.code.now ok c.args.self.now s shows may c.args.d c.args.a c.args.line c.get-i.result c.get-x.result _ is c.get-i.ensures c.get-x.ensures within e_blocks
     (moves.kept c.args.code.now ok c.args.self.now s shows _ c.args.self.now.cells.items (c.args.self.now.place + 1) rest.cells (ap (λ p. p + 1) rest.place) (record { first = rest.first; frames = rest.frames; lines = rest.lines; views = c.set_at.ensures.views; blocks = refl; first_array = rest.first_array; depth = rest.depth; sums = rest.sums }))

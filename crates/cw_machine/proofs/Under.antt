@@ -1,0 +1,256 @@
+-- The blocks of a machine under those that its state is shown in, after a change of both.
+use Rattle.std.proofs.Common.{◌≡◌, ◌≢◌, ◌⊎◌, inl, inr, ⊎_elim, ℕ, zero, suc, ◌+◌, ◌^◌, ◌<◌, ◌≤◌, ℤ, Bool, Option, Some, None, List, [], ◌∷◌, ◌++◌, length, refl, sym, ap, ◌∙◌, subst, arith, length-append}
+use Rattle.std.specs.Prelude.{take, is_some, slice_get, slice_set}
+use Rattle.std.proofs.lemmas.List.{length-set, length-map, get_or-set_other, get_or-set_same}
+use Rattle.std.proofs.lemmas.Option.{slice_get_within}
+use Rattle.cw_slices.specs.Placed.{Spot}
+use Rattle.cw_slices.specs.Blocks.{Lodged, ins}
+use Rattle.cw_machine.specs.declared.machine.View.{View}
+use Rattle.cw_machine.specs.Arrays.{Out, view, no_block, block, found, put, kept_of, Memory, Has, AreAway, Floored, IsOut, LiesUnder}
+use Rattle.cw_machine.proofs.Blocks.{found_is, is_found}
+use Rattle.cw_machine.proofs.Order.{some_same}
+use Rattle.cw_machine.proofs.Places.{same_or}
+use Rattle.cw_machine.proofs.Still.{kept_put}
+use Rattle.cw_machine.proofs.Writes.{cell_put_other, cell_put_same}
+
+never : (x : Option ℤ) → None ≡ Some x → ⊥
+never x e = cc
+
+never_in : (x : ℤ) → Some (Some x) ≡ Some None → ⊥
+never_in x e = cc
+
+-- what is out has its view below a cell
+pub out_low : (m : Memory) (first round : ℕ) (outs : List Out) (b k : ℕ) → Floored outs first → AreAway m first round outs → IsOut m.views outs b k → b < first
+out_low m first round outs b k floors away o =
+    let f = floors o.index o.out o.is_out in
+    let lt = o.within in
+    let low = ((away o.index o.out o.is_out).each o.slot o.slice o.is_slice (omega (arith, lt))).low in
+    let e = o.in_block in
+    omega (arith, f, low, e)
+
+-- a place of an array of the call that runs is not out
+pub out_owned : (m : Memory) (first round : ℕ) (outs : List Out) (b k : ℕ) → Floored outs first → AreAway m first round outs → IsOut m.views outs b k → m.owner b k < first
+out_owned m first round outs b k floors away o =
+    let f = floors o.index o.out o.is_out in
+    let lt = o.within in
+    let x = away o.index o.out o.is_out in
+    let ends = x.ends in
+    let slot = slice_get_within o.out.slices o.slot o.slice o.is_slice in
+    let own = (x.each o.slot o.slice o.is_slice (omega (arith, lt))).has.own o.at o.within in
+    let e : m.owner b k ≡ o.out.first + o.slot = ap (λ c. m.owner c k) o.in_block ∙ ap (m.owner (view m.views (o.out.first + o.slot)).block) o.in_place ∙ own in
+    omega (arith, f, ends, slot, e)
+
+out_views : (m : Memory) (views' : List View) (first round : ℕ) (outs : List Out) (b k : ℕ) → Floored outs first → AreAway m first round outs → ((c : ℕ) → c < first → view views' c ≡ view m.views c) → IsOut m.views outs b k → IsOut views' outs b k
+out_views m views' first round outs b k floors away same o =
+    let f = floors o.index o.out o.is_out in
+    let ends = (away o.index o.out o.is_out).ends in
+    let slot = slice_get_within o.out.slices o.slot o.slice o.is_slice in
+    let is = same (o.out.first + o.slot) (omega (arith, f, ends, slot)) in
+    record { index = o.index; out = o.out; slot = o.slot; slice = o.slice; at = o.at; is_out = o.is_out; is_slice = o.is_slice; within = o.within; in_block = o.in_block ∙ ap (λ (w : View). w.block) (sym is); in_place = o.in_place ∙ ap (λ (w : View). w.from + o.at) (sym is) }
+
+out_back : (m : Memory) (views' : List View) (first round : ℕ) (outs : List Out) (b k : ℕ) → Floored outs first → AreAway m first round outs → ((c : ℕ) → c < first → view views' c ≡ view m.views c) → IsOut views' outs b k → IsOut m.views outs b k
+out_back m views' first round outs b k floors away same o =
+    let f = floors o.index o.out o.is_out in
+    let ends = (away o.index o.out o.is_out).ends in
+    let slot = slice_get_within o.out.slices o.slot o.slice o.is_slice in
+    let is = same (o.out.first + o.slot) (omega (arith, f, ends, slot)) in
+    record { index = o.index; out = o.out; slot = o.slot; slice = o.slice; at = o.at; is_out = o.is_out; is_slice = o.is_slice; within = o.within; in_block = o.in_block ∙ ap (λ (w : View). w.block) is; in_place = o.in_place ∙ ap (λ (w : View). w.from + o.at) is }
+
+-- other views above what is out
+pub under_views : (m : Memory) (views' : List View) (real blocks : List Lodged) (first round : ℕ) (outs : List Out) → Floored outs first → AreAway m first round outs → ((c : ℕ) → c < first → view views' c ≡ view m.views c) → LiesUnder outs m.views real blocks → LiesUnder outs views' real blocks
+under_views m views' real blocks first round outs floors away same u = record {
+  as_many = u.as_many;
+  spots = u.spots;
+  as_long = u.as_long;
+  same = u.same;
+  missing = λ b k e. out_views m views' first round outs b k floors away same (u.missing b k e);
+  gone = λ b k o. u.gone b k (out_back m views' first round outs b k floors away same o);
+}
+
+-- what is found in a block is found in the one that it lies under
+pub found_under : (outs : List Out) (views : List View) (real blocks : List Lodged) (b k : ℕ) (x : ℤ) → LiesUnder outs views real blocks → found real b k ≡ Some x → found blocks b k ≡ Some x
+found_under outs views real blocks b k x u e = let f = found_is real b k x e in is_found blocks b k x f.0 (u.same b k x f.1)
+
+-- and the other way round where it is not out
+pub found_in : (m : Memory) (real : List Lodged) (first round : ℕ) (outs : List Out) (b k : ℕ) (x : ℤ) → Floored outs first → AreAway m first round outs → LiesUnder outs m.views real m.blocks → first ≤ m.owner b k → found m.blocks b k ≡ Some x → found real b k ≡ Some x
+found_in m real first round outs b k x floors away u le e = at (slice_get (block real b).cells k) refl
+  where
+    f : (k < 2 ^ 60) × (slice_get (block m.blocks b).cells k ≡ Some (Some x))
+    f = found_is m.blocks b k x e
+
+    at : (o : Option (Option ℤ)) → slice_get (block real b).cells k ≡ o → found real b k ≡ Some x
+    at None is = absurd (short (block real b).cells (block m.blocks b).cells k (u.as_long b) is f.1)
+      where
+        short : (cs ds : List (Option ℤ)) (k : ℕ) → length cs ≡ length ds → slice_get cs k ≡ None → slice_get ds k ≡ Some (Some x) → ⊥
+        short [] [] k n e e' = never (Some x) e'
+        short [] (d ∷ ds) k n e e' = absurd (omega (arith, n))
+        short (c ∷ cs) [] k n e e' = absurd (omega (arith, n))
+        short (c ∷ cs) (d ∷ ds) zero n e e' = cc
+        short (c ∷ cs) (d ∷ ds) (suc k) n e e' = short cs ds k (omega (arith, n)) e e'
+    at (Some None) is = absurd (let lt = out_owned m first round outs b k floors away (u.missing b k is) in omega (arith, lt, le))
+    at (Some (Some y)) is = is_found real b k x f.0 (is ∙ ap (λ z. Some z) (some_same (Some y) (Some x) (sym (u.same b k y is) ∙ f.1)))
+
+-- an array of the call that runs lies in the machine's own blocks
+pub has_in : (m : Memory) (real : List Lodged) (first round : ℕ) (outs : List Out) (c : ℕ) (xs : List ℤ) → Floored outs first → AreAway m first round outs → LiesUnder outs m.views real m.blocks → first ≤ c → Has m c xs → Has (record { views = m.views; blocks = real; owner = m.owner }) c xs
+has_in m real first round outs c xs floors away u le h = record {
+  len = h.len;
+  lies = λ i x e.
+      let lt = slice_get_within xs i x e in
+      let own = h.own i lt in
+      found_in m real first round outs (view m.views c).block ((view m.views c).from + i) x floors away u (omega (arith, own, le)) (h.lies i x e);
+  own = h.own;
+}
+
+-- a number is written
+pub under_put : (outs : List Out) (views : List View) (real blocks : List Lodged) (b k : ℕ) (x y : ℤ) → found real b k ≡ Some y → LiesUnder outs views real blocks → LiesUnder outs views (put real b k x) (put blocks b k x)
+under_put outs views real blocks b k x y e u =
+    let f = found_is real b k y e in
+    let e' = found_under outs views real blocks b k y u e in
+    let here = cell_put_same real b k x y f.1 in
+    let there = cell_put_same blocks b k x y (u.same b k y f.1) in
+    let other : (c j : ℕ) → (c ≡ b → j ≢ k) → slice_get (block (put real b k x) c).cells j ≡ slice_get (block real c).cells j = λ c j n. cell_put_other real b k x c j n in
+    record {
+      as_many = length-set real b _ ∙ u.as_many ∙ sym (length-set blocks b _);
+      spots = λ c. ap (λ (q : Spot × List Bool). q.0) (kept_put real b k x y e c) ∙ u.spots c ∙ sym (ap (λ (q : Spot × List Bool). q.0) (kept_put blocks b k x y e' c));
+      as_long = λ c. long real c (kept_put real b k x y e c) ∙ u.as_long c ∙ sym (long blocks c (kept_put blocks b k x y e' c));
+      same = λ c j z is. ⊎_elim
+          (λ at. subst (λ i. slice_get (block (put blocks b k x) i).cells j ≡ Some (Some z)) (sym at.0) (ap (λ i. slice_get (block (put blocks b k x) b).cells i) at.1 ∙ there ∙ sym here ∙ sym (ap (λ i. slice_get (block (put real b k x) i).cells j) at.0 ∙ ap (λ i. slice_get (block (put real b k x) b).cells i) at.1) ∙ is))
+          (λ n. cell_put_other blocks b k x c j n ∙ u.same c j z (sym (other c j n) ∙ is))
+          (place_or c j);
+      missing = λ c j is. ⊎_elim
+          (λ at. absurd (never_in x (sym here ∙ sym (ap (λ i. slice_get (block (put real b k x) i).cells j) at.0 ∙ ap (λ i. slice_get (block (put real b k x) b).cells i) at.1) ∙ is)))
+          (λ n. u.missing c j (sym (other c j n) ∙ is))
+          (place_or c j);
+      gone = λ c j o. ⊎_elim
+          (λ at. absurd (never_in y (sym f.1 ∙ sym (ap (λ i. slice_get (block real i).cells j) at.0 ∙ ap (λ i. slice_get (block real b).cells i) at.1) ∙ u.gone c j o)))
+          (λ n. other c j n ∙ u.gone c j o)
+          (place_or c j);
+    }
+  where
+    long : (blocks : List Lodged) (c : ℕ) → kept_of (put blocks b k x) c ≡ kept_of blocks c → length (block (put blocks b k x) c).cells ≡ length (block blocks c).cells
+    long blocks c e = sym (length-map (block (put blocks b k x) c).cells is_some) ∙ ap (λ (q : Spot × List Bool). length q.1) e ∙ length-map (block blocks c).cells is_some
+
+    place_or : (c j : ℕ) → ((c ≡ b) × (j ≡ k)) ⊎ (c ≡ b → j ≢ k)
+    place_or c j = ⊎_elim (λ e. ⊎_elim (λ e'. inl (e, e')) (λ n. inr (λ _. n)) (same_or j k)) (λ n. inr (λ e. absurd (n e))) (same_or c b)
+
+-- more blocks, which are empty
+more_cells : (blocks more : List Lodged) (c : ℕ) → ((k : ℕ) → (block more k).cells ≡ []) → (block (blocks ++ more) c).cells ≡ (block blocks c).cells
+more_cells [] more c none = none c
+more_cells (w ∷ blocks) more zero none = refl
+more_cells (w ∷ blocks) more (suc c) none = more_cells blocks more c none
+
+more_spots : (real blocks more : List Lodged) (c : ℕ) → length real ≡ length blocks → ((b : ℕ) → (block real b).spot ≡ (block blocks b).spot) → (block (real ++ more) c).spot ≡ (block (blocks ++ more) c).spot
+more_spots [] [] more c n e = refl
+more_spots [] (w ∷ blocks) more c n e = absurd (omega (arith, n))
+more_spots (w ∷ real) [] more c n e = absurd (omega (arith, n))
+more_spots (w ∷ real) (w' ∷ blocks) more zero n e = e 0
+more_spots (w ∷ real) (w' ∷ blocks) more (suc c) n e = more_spots real blocks more c (omega (arith, n)) (λ b. e (suc b))
+
+pub under_more : (outs : List Out) (views : List View) (real blocks more : List Lodged) → ((k : ℕ) → (block more k).cells ≡ []) → LiesUnder outs views real blocks → LiesUnder outs views (real ++ more) (blocks ++ more)
+under_more outs views real blocks more none u =
+    let r : (c : ℕ) → (block (real ++ more) c).cells ≡ (block real c).cells = λ c. more_cells real more c none in
+    let s : (c : ℕ) → (block (blocks ++ more) c).cells ≡ (block blocks c).cells = λ c. more_cells blocks more c none in
+    record {
+      as_many = length-append real more ∙ ap (λ n. n + length more) u.as_many ∙ sym (length-append blocks more);
+      spots = λ c. more_spots real blocks more c u.as_many u.spots;
+      as_long = λ c. ap length (r c) ∙ u.as_long c ∙ sym (ap length (s c));
+      same = λ c k x is. ap (λ l. slice_get l k) (s c) ∙ u.same c k x (sym (ap (λ l. slice_get l k) (r c)) ∙ is);
+      missing = λ c k is. u.missing c k (sym (ap (λ l. slice_get l k) (r c)) ∙ is);
+      gone = λ c k o. ap (λ l. slice_get l k) (r c) ∙ u.gone c k o;
+    }
+
+-- a new block, all in, at a cell of the call that runs
+pub under_set : (m : Memory) (views' : List View) (real : List Lodged) (first round : ℕ) (outs : List Out) (c : ℕ) (w : Lodged) (xs : List ℤ) → w.cells ≡ ins xs → first ≤ c → Floored outs first → AreAway m first round outs → ((d : ℕ) → d < first → view views' d ≡ view m.views d) → LiesUnder outs m.views real m.blocks → LiesUnder outs views' (slice_set real c w) (slice_set m.blocks c w)
+under_set m views' real first round outs c w xs all le floors away same u = under_views m views' (slice_set real c w) (slice_set m.blocks c w) first round outs floors away same (record {
+  as_many = length-set real c w ∙ u.as_many ∙ sym (length-set m.blocks c w);
+  spots = λ b. both (λ v v'. v.spot ≡ v'.spot) real m.blocks c b u.as_many (λ d. u.spots d) refl;
+  as_long = λ b. both (λ v v'. length v.cells ≡ length v'.cells) real m.blocks c b u.as_many (λ d. u.as_long d) refl;
+  same = λ b k x. both (λ v v'. slice_get v.cells k ≡ Some (Some x) → slice_get v'.cells k ≡ Some (Some x)) real m.blocks c b u.as_many (λ d. u.same d k x) (λ e. e);
+  missing = λ b k is. ⊎_elim
+      (λ e. ⊎_elim (λ lt. absurd (all_in xs k (sym (ap (λ l. slice_get l k) all) ∙ sym (ap (λ (v : Lodged). slice_get v.cells k) (get_or-set_same real c w no_block lt)) ∙ sym (ap (λ i. slice_get (block (slice_set real c w) i).cells k) e) ∙ is))) (λ ge. absurd (past (slice_set real c w) b k (let n = length-set real c w in omega (arith, n, ge, e)) is)) (lt_or c (length real)))
+      (λ n. u.missing b k (sym (ap (λ (v : Lodged). slice_get v.cells k) (get_or-set_other real c b w no_block n)) ∙ is))
+      (same_or b c);
+  gone = λ b k o. ap (λ (v : Lodged). slice_get v.cells k) (get_or-set_other real c b w no_block (λ e. (let lt = out_low m first round outs b k floors away o in omega (arith, lt, le, e)))) ∙ u.gone b k o;
+})
+  where
+    both : (P : Lodged → Lodged → Type 0) (real blocks : List Lodged) (c b : ℕ) → length real ≡ length blocks → ((d : ℕ) → P (block real d) (block blocks d)) → P w w → P (block (slice_set real c w) b) (block (slice_set blocks c w) b)
+    both P [] [] c b n h same = h b
+    both P [] (v ∷ blocks) c b n h same = absurd (omega (arith, n))
+    both P (v ∷ real) [] c b n h same = absurd (omega (arith, n))
+    both P (v ∷ real) (v' ∷ blocks) zero zero n h same = same
+    both P (v ∷ real) (v' ∷ blocks) zero (suc b) n h same = h (suc b)
+    both P (v ∷ real) (v' ∷ blocks) (suc c) zero n h same = h 0
+    both P (v ∷ real) (v' ∷ blocks) (suc c) (suc b) n h same = both P real blocks c b (omega (arith, n)) (λ d. h (suc d)) same
+
+    all_in : (xs : List ℤ) (k : ℕ) → slice_get (ins xs) k ≡ Some None → ⊥
+    all_in [] k e = cc
+    all_in (x ∷ xs) zero e = cc
+    all_in (x ∷ xs) (suc k) e = all_in xs k e
+
+    past : (bs : List Lodged) (b k : ℕ) → length bs ≤ b → slice_get (block bs b).cells k ≡ Some None → ⊥
+    past [] b k le e = cc
+    past (v ∷ bs) zero k le e = absurd (omega (arith, le))
+    past (v ∷ bs) (suc b) k le e = past bs b k (omega (arith, le)) e
+
+    lt_or : (a b : ℕ) → (a < b) ⊎ (b ≤ a)
+    lt_or zero zero = inr (omega arith)
+    lt_or zero (suc b) = inl (omega arith)
+    lt_or (suc a) zero = inr (omega arith)
+    lt_or (suc a) (suc b) = ⊎_elim (λ e. inl (omega (arith, e))) (λ e. inr (omega (arith, e))) (lt_or a b)
+
+-- fewer blocks
+block_take : (bs : List Lodged) (n c : ℕ) → c < n → block (take n bs) c ≡ block bs c
+block_take [] zero c lt = refl
+block_take [] (suc n) c lt = refl
+block_take (w ∷ bs) zero c lt = absurd (omega (arith, lt))
+block_take (w ∷ bs) (suc n) zero lt = refl
+block_take (w ∷ bs) (suc n) (suc c) lt = block_take bs n c (omega (arith, lt))
+
+block_past : (bs : List Lodged) (n c : ℕ) → n ≤ c → block (take n bs) c ≡ no_block
+block_past [] zero c le = refl
+block_past [] (suc n) c le = refl
+block_past (w ∷ bs) zero c le = refl
+block_past (w ∷ bs) (suc n) zero le = absurd (omega (arith, le))
+block_past (w ∷ bs) (suc n) (suc c) le = block_past bs n c (omega (arith, le))
+
+view_kept : (views : List View) (n c : ℕ) → c < n → view (take n views) c ≡ view views c
+view_kept [] zero c lt = refl
+view_kept [] (suc n) c lt = refl
+view_kept (w ∷ views) zero c lt = absurd (omega (arith, lt))
+view_kept (w ∷ views) (suc n) zero lt = refl
+view_kept (w ∷ views) (suc n) (suc c) lt = view_kept views n c (omega (arith, lt))
+
+either : (a b : ℕ) → (a < b) ⊎ (b ≤ a)
+either zero zero = inr (omega arith)
+either zero (suc b) = inl (omega arith)
+either (suc a) zero = inr (omega arith)
+either (suc a) (suc b) = ⊎_elim (λ e. inl (omega (arith, e))) (λ e. inr (omega (arith, e))) (either a b)
+
+pub under_take : (m : Memory) (real : List Lodged) (first round : ℕ) (outs : List Out) → Floored outs first → AreAway m first round outs → LiesUnder outs m.views real m.blocks → LiesUnder outs (take first m.views) (take first real) (take first m.blocks)
+under_take m real first round outs floors away u = under_views m (take first m.views) (take first real) (take first m.blocks) first round outs floors away (λ c lt. view_kept m.views first c lt) (record {
+  as_many = many real m.blocks first u.as_many;
+  spots = λ b. both (λ v v'. v.spot ≡ v'.spot) b (u.spots b) refl;
+  as_long = λ b. both (λ v v'. length v.cells ≡ length v'.cells) b (u.as_long b) refl;
+  same = λ b k x. both (λ v v'. slice_get v.cells k ≡ Some (Some x) → slice_get v'.cells k ≡ Some (Some x)) b (u.same b k x) (λ e. e);
+  missing = λ b k is. ⊎_elim
+      (λ lt. u.missing b k (sym (ap (λ (v : Lodged). slice_get v.cells k) (block_take real first b lt)) ∙ is))
+      (λ le. absurd (nowhere k (sym (ap (λ (v : Lodged). slice_get v.cells k) (block_past real first b le)) ∙ is)))
+      (either b first);
+  gone = λ b k o. ap (λ (v : Lodged). slice_get v.cells k) (block_take real first b (out_low m first round outs b k floors away o)) ∙ u.gone b k o;
+})
+  where
+    nowhere : (k : ℕ) → slice_get no_block.cells k ≡ Some None → ⊥
+    nowhere k e = cc
+
+    many : (real blocks : List Lodged) (n : ℕ) → length real ≡ length blocks → length (take n real) ≡ length (take n blocks)
+    many [] [] n e = refl
+    many [] (v ∷ blocks) n e = absurd (omega (arith, e))
+    many (v ∷ real) [] n e = absurd (omega (arith, e))
+    many (v ∷ real) (v' ∷ blocks) zero e = refl
+    many (v ∷ real) (v' ∷ blocks) (suc n) e = ap suc (many real blocks n (omega (arith, e)))
+
+    both : (P : Lodged → Lodged → Type 0) (b : ℕ) → P (block real b) (block m.blocks b) → P no_block no_block → P (block (take first real) b) (block (take first m.blocks) b)
+    both P b h none = ⊎_elim
+        (λ lt. subst (λ v. P v (block (take first m.blocks) b)) (sym (block_take real first b lt)) (subst (P (block real b)) (sym (block_take m.blocks first b lt)) h))
+        (λ le. subst (λ v. P v (block (take first m.blocks) b)) (sym (block_past real first b le)) (subst (P no_block) (sym (block_past m.blocks first b le)) none))
+        (either b first)

@@ -1,0 +1,12 @@
+use Rattle.std.proofs.Common.{refl}
+use Rattle.cw_machine.proofs.Blocks.{set_twice}
+use Rattle.cw_machine.proofs.machine.Machine.renew.Goals as goal
+
+pub returns : goal.returns
+returns c = record {
+  zeros = c.in_ok-self.field-0;
+  are = c.in_ok-self.ensures;
+  blocks = set_twice c.args.self.now.blocks.items c.args.cell c.empty.result c.in_ok-self.field-0;
+  views = refl;
+  rest = record { cells = refl; place = refl; first = refl; frames = refl; lines = refl; first_array = refl; depth = refl; sums = refl };
+}

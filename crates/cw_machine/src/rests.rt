@@ -1,0 +1,41 @@
+//! Arrays of a call that are out while it waits, and come home.
+
+ghost use Rattle.std.specs.Prelude.{◌≡◌, ◌+◌, length};
+ghost use Rattle.cw_machine.specs.Rests.{MayTake, TakesBack, AreBare, MayLay, HasLaid};
+
+use crate::machine::Machine;
+use cw_jobs::call::Rest;
+use cw_slices::Slice;
+
+impl Machine {
+    // A slice goes home to the array in a slot of the call that runs; one without numbers has none.
+    #[inline(always)]
+    fn lay_home(&mut self, a: usize, slice: Slice)
+        requires { MayLay self.old (self.old.first_array + a) slice }
+        ensures { HasLaid self.old (self.old.first_array + a) slice.items self.new }
+    {
+        if slice.len() == 0 {
+            return;
+        }
+        let v = self.views[self.first_array + a];
+        self.blocks[v.block].give_back(v.from, slice);
+    }
+
+    /// Takes back the arrays that were handed out with a rest of the call that runs, in the slots that they were of:
+    /// the machine goes on as if they had never been out. The rest keeps slices without numbers; its cells are not
+    /// looked at. It takes no memory and cannot fail.
+    pub fn take_back(&mut self, rest: &mut Rest)
+        requires { ∥ MayTake self.old rest.old.slices.items ∥₁ }
+        ensures shows { TakesBack self.old rest.old.slices.items self.new }
+        ensures bare { AreBare rest.new.slices.items }
+        ensures as_many { length rest.new.slices.items ≡ length rest.old.slices.items }
+        ensures cells { rest.new.cells.items ≡ rest.old.cells.items }
+        ensures place { rest.new.place ≡ rest.old.place }
+        ensures depth { rest.new.depth ≡ rest.old.depth }
+    {
+        for a in 0..rest.slices.len() {
+            let slice = rest.slices[a].take();
+            self.lay_home(a, slice);
+        }
+    }
+}
