@@ -50,7 +50,8 @@ owed_more None owed by = owed
 owed_more (Some k) owed by = owed + by
 
 abbrev pub owing : Told → (by : ℕ) → Told
-owing told by = record { places = told.places; count = told.count; least = told.least; owed = owed_more told.least told.owed by }
+owing told by =
+    record { places = told.places; count = told.count; least = told.least; owed = owed_more told.least told.owed by }
 
 abbrev pub slots_of : Node → Slots
 slots_of Free = None ∷ []
@@ -75,4 +76,5 @@ IsBoard (Halves l r told) = Tells l.value r.value told
 -- steps until of a ready strand nothing is left
 pub data Advances (processors steps : ℕ) (slots slots' : Slots) : Type 0 where
   stays : steps ≡ 0 → slots' ≡ slots → Advances processors steps slots slots'
-  runs : EachLeft slots → RoomFor processors steps slots → slots' ≡ run_slots processors steps slots → Advances processors steps slots slots'
+  runs : EachLeft slots → RoomFor processors steps slots → slots' ≡ run_slots processors steps slots
+      → Advances processors steps slots slots'

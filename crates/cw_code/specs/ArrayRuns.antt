@@ -45,7 +45,9 @@ cut_source = record {
         line = 1;
         gives_int = true;
         params = record { name = a_name; is_array = true } ∷ [];
-        body = in_line 1 (source.AssignElement a_name (source.Number (pos 0)) (source.Number (pos 7))) (in_line 1 (source.Return (Some (source.Length a_name))) End);
+        body =
+            in_line 1 (source.AssignElement a_name (source.Number (pos 0)) (source.Number (pos 7)))
+            (in_line 1 (source.Return (Some (source.Length a_name))) End);
       }
       ∷ record {
         name = main_name;
@@ -68,8 +70,10 @@ abbrev pub cut_code : Code
 cut_code = record {
   instrs =
       Push (pos 0) ∷ Push (pos 7) ∷ SetElement 0 1 ∷ Length 0 ∷ ReturnValue
-      ∷ Push (pos 3) ∷ NewArray 0 2 ∷ Push (pos 0) ∷ Store 0 ∷ Push (pos 1) ∷ Cut (record { array = 0; left = 1; right = 2 }) 2
-      ∷ Call Spawned (record { function = 0; site = 1; line = 2; target = Some 0; passed = 0 }) ∷ Push (pos 0) ∷ Push (pos 5) ∷ SetElement 1 2 ∷ EndCut
+      ∷ Push (pos 3) ∷ NewArray 0 2 ∷ Push (pos 0) ∷ Store 0 ∷ Push (pos 1)
+      ∷ Cut (record { array = 0; left = 1; right = 2 }) 2
+      ∷ Call Spawned (record { function = 0; site = 1; line = 2; target = Some 0; passed = 0 }) ∷ Push (pos 0)
+      ∷ Push (pos 5) ∷ SetElement 1 2 ∷ EndCut
       ∷ Push (pos 1) ∷ Element 0 2 ∷ Load 0 ∷ Binary Plus 2 ∷ ReturnValue ∷ [];
   funcs =
       record { start = 0; end = 5; gives_int = true; params = 0; slots = 0; array_params = 1; arrays = 1 }
@@ -113,7 +117,8 @@ loop_code = record {
       ∷ Load 0 ∷ Load 2 ∷ Recur Spawned (record { function = 0; passed = 0 })
       ∷ Load 2 ∷ Load 1 ∷ Recur Plain (record { function = 0; passed = 1 })
       ∷ EndCut ∷ Return
-      ∷ Push (pos 3) ∷ NewArray 0 1 ∷ Push (pos 1) ∷ Push (pos 3) ∷ Start (record { function = 0; passed = 2 }) 1 ∷ Push (pos 2) ∷ Element 0 1 ∷ ReturnValue ∷ [];
+      ∷ Push (pos 3) ∷ NewArray 0 1 ∷ Push (pos 1) ∷ Push (pos 3) ∷ Start (record { function = 0; passed = 2 }) 1
+      ∷ Push (pos 2) ∷ Element 0 1 ∷ ReturnValue ∷ [];
   funcs =
       record { start = 0; end = 45; gives_int = false; params = 2; slots = 3; array_params = 1; arrays = 3 }
       ∷ record { start = 45; end = 53; gives_int = true; params = 0; slots = 0; array_params = 0; arrays = 1 } ∷ [];

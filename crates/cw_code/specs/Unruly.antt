@@ -11,7 +11,8 @@ use Rattle.cw_code.specs.Code.{CodeSite, Code}
 
 -- a function of no parameter and no name that gives a value
 abbrev pub nameless : (start end : ℕ) → Func
-nameless start end = record { start = start; end = end; gives_int = true; params = 0; slots = 0; array_params = 0; arrays = 0 }
+nameless start end =
+    record { start = start; end = end; gives_int = true; params = 0; slots = 0; array_params = 0; arrays = 0 }
 
 -- the call of function 1, at site 1
 abbrev pub call_it : Callee
@@ -40,7 +41,9 @@ falling = two_functions 1 Plain (Sync ∷ Push (pos 1) ∷ ReturnValue ∷ [])
 
 -- main spawns with an operand that is no argument
 abbrev pub crowded : Code
-crowded = two_functions 5 Spawned (Push (pos 7) ∷ Call Spawned call_it ∷ Sync ∷ Push (pos 0) ∷ ReturnValue ∷ Push (pos 1) ∷ ReturnValue ∷ [])
+crowded =
+    two_functions 5 Spawned
+    (Push (pos 7) ∷ Call Spawned call_it ∷ Sync ∷ Push (pos 0) ∷ ReturnValue ∷ Push (pos 1) ∷ ReturnValue ∷ [])
 
 -- main joins with an operand
 abbrev pub littered : Code
@@ -48,4 +51,5 @@ littered = two_functions 3 Plain (Push (pos 7) ∷ Sync ∷ ReturnValue ∷ Push
 
 -- main spawns at the site of a plain call
 abbrev pub mistaken : Code
-mistaken = two_functions 4 Plain (Call Spawned call_it ∷ Sync ∷ Push (pos 0) ∷ ReturnValue ∷ Push (pos 1) ∷ ReturnValue ∷ [])
+mistaken =
+    two_functions 4 Plain (Call Spawned call_it ∷ Sync ∷ Push (pos 0) ∷ ReturnValue ∷ Push (pos 1) ∷ ReturnValue ∷ [])

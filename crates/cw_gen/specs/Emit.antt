@@ -25,8 +25,10 @@ most_jump = 2 ^ 32 - 1
 abbrev pub distance : ℕ → ℕ
 distance n = min n most_jump
 
--- the lists of array slots: the first one, which is no call's, is empty; then each call site has one, at its number; and
--- from the number `first` on each function has three: that of its first call where it is a loop's, and those of its calls
+-- the lists of array slots: the first one, which is no call's, is empty; then each call site has one, at its number;
+-- and
+-- from the number `first` on each function has three: that of its first call where it is a loop's, and those of its
+-- calls
 -- on the left and on the right half
 abbrev pub whole_list : (first callee : ℕ) → ℕ
 whole_list first callee = distance (first + 3 * callee)
@@ -68,7 +70,8 @@ passed_in (Array u ∷ es) = u ∷ passed_in es
 
 -- what the instruction of a call carries; its list of array slots is the one at the number of its site
 abbrev pub callee_of : (line site : ℕ) → Option ℕ → (callee : ℕ) → Callee
-callee_of line site target callee = record { function = callee; site = site; line = line; target = target; passed = site }
+callee_of line site target callee =
+    record { function = callee; site = site; line = line; target = target; passed = site }
 
 -- what the first call of a loop's function carries, and what a call on one half
 abbrev pub whole_of : (first callee : ℕ) → Inner
@@ -108,7 +111,8 @@ emitted_cut line h body = instr.Cut h line ∷ (body ++ instr.EndCut ∷ [])
 -- the first call of a loop's function: the ends of its range, the integers that it takes along, and its instruction
 abbrev pub emitted_begin : (first line callee : ℕ) → (from to : Expr) → (captured : List ℕ) → List Instr
 emitted_begin first line callee from to captured =
-    emitted_expr line from ++ (emitted_expr line to ++ (emitted_loads captured ++ instr.Start (whole_of first callee) line ∷ []))
+    emitted_expr line from
+    ++ (emitted_expr line to ++ (emitted_loads captured ++ instr.Start (whole_of first callee) line ∷ []))
 
 -- the instructions of a statement of a line with no block in it and no return; an index comes before its value
 abbrev pub emitted_alone : (first line : ℕ) → Stmt → List Instr
@@ -237,7 +241,8 @@ emitted_funcs first start (f ∷ fs) =
 
 -- the call site of a call of a line
 abbrev pub site_of : (line : ℕ) → CallKind → (site : ℕ) → Listed → CodeSite
-site_of line kind site f = record { told = record { number = site; kind = Of kind; line = line; callee = f.name }; function = f.index }
+site_of line kind site f =
+    record { told = record { number = site; kind = Of kind; line = line; callee = f.name }; function = f.index }
 
 abbrev mutual
   -- the call sites in a statement of a line of the source, by place

@@ -23,8 +23,10 @@ use Rattle.cw_code.specs.Fits.{main_params, Fits}
 abbrev pub main_count : Program → ℕ
 main_count program = length (function_named main_name program.functions).params
 
--- on all arguments of 64 bits and within all limits the code gives the serial answer of the program, tree included; it fits, it
--- takes the arguments of the program's main, it carries the program's call statements, the line of main's head, reducers and tags, and the
+-- on all arguments of 64 bits and within all limits the code gives the serial answer of the program, tree included; it
+-- fits, it
+-- takes the arguments of the program's main, it carries the program's call statements, the line of main's head,
+-- reducers and tags, and the
 -- program is small enough
 pub record Generates (program : Program) (code : Code) : Type 0 where
   pub serial : (args : List ℤ) → list_all ints.fits args ≡ true → length args ≡ main_count program → (n : ℕ) →

@@ -91,7 +91,12 @@ functions_with functions bodies = with_bodies (map function_of functions) (block
 
 -- a function of the source with its body
 abbrev pub function_with : code.Function → List Line → Function
-function_with f body = record { gives_int = (function_of f).gives_int; params = map (λ p. p.is_array) (function_of f).params; body = block_of body }
+function_with f body =
+    record {
+      gives_int = (function_of f).gives_int;
+      params = map (λ p. p.is_array) (function_of f).params;
+      body = block_of body;
+    }
 
 -- the instructions of functions of the source with their bodies, and of one
 abbrev pub code_with : (first : ℕ) → List code.Function → List (Vec Line) → List Instr
@@ -100,7 +105,8 @@ code_with first functions bodies = emitted_instrs first (functions_with function
 abbrev pub code_of : (first : ℕ) → code.Function → List Line → List Instr
 code_of first f body = emitted_function first (function_with f body)
 
--- what the code keeps of functions whose instructions come behind these stands behind what stood there before, where memory
+-- what the code keeps of functions whose instructions come behind these stands behind what stood there before, where
+-- memory
 -- did not run out
 abbrev pub AddsFuncs : {R E : Type 0} → (first : ℕ) → Vec Instr → (old new : Vec Func) → List code.Function →
     List (Vec Line) → Result R E → Type 0
@@ -165,7 +171,9 @@ written_turn start instrs first lines = emitted_turn (length instrs.items - star
 
 -- a call of a line, the beginning of a loop, and a cut with its block
 abbrev pub written_call : (line : ℕ) → Call → List Instr
-written_call line c = emitted_args line (map argument_of c.arguments.items) ++ instr.Call c.kind (callee_of line c.site c.target c.callee) ∷ []
+written_call line c =
+    emitted_args line (map argument_of c.arguments.items)
+    ++ instr.Call c.kind (callee_of line c.site c.target c.callee) ∷ []
 
 abbrev pub written_begin : (first line : ℕ) → Begin → List Instr
 written_begin first line b = emitted_begin first line b.callee (expr_of b.from) (expr_of b.to) b.captured.items
@@ -199,18 +207,21 @@ written_node first index l = emitted_block first (node index l)
 -- the variable's next value, into its slot
 abbrev pub written_step : Loop → List Instr
 written_step l =
-    instr.Load (turn_slot l.captured) ∷ instr.Push (pos 1) ∷ instr.Binary Plus l.line ∷ instr.Store (turn_slot l.captured) ∷ []
+    instr.Load (turn_slot l.captured) ∷ instr.Push (pos 1) ∷ instr.Binary Plus l.line
+    ∷ instr.Store (turn_slot l.captured) ∷ []
 
 -- the middle of the range, into its slot
 abbrev pub written_middle : Loop → List Instr
 written_middle l =
-    instr.Load low ∷ instr.Load high ∷ instr.Load low ∷ instr.Binary Minus l.line ∷ instr.Push (pos 2) ∷ instr.Binary Divide l.line ∷ instr.Binary Plus l.line ∷ instr.Store (turn_slot l.captured) ∷ []
+    instr.Load low ∷ instr.Load high ∷ instr.Load low ∷ instr.Binary Minus l.line ∷ instr.Push (pos 2)
+    ∷ instr.Binary Divide l.line ∷ instr.Binary Plus l.line ∷ instr.Store (turn_slot l.captured) ∷ []
 
 -- the cuts of arrays in the middle, each inside the one before it
 abbrev pub written_cuts : Loop → (arrays : List ℕ) → List Instr
 written_cuts l [] = []
 written_cuts l (n ∷ arrays) =
-    instr.Load (turn_slot l.captured) ∷ instr.Load low ∷ instr.Binary Minus l.line ∷ instr.Cut (halves_of n (left_slot l.over n) (right_slot l.over n)) l.line ∷ written_cuts l arrays
+    instr.Load (turn_slot l.captured) ∷ instr.Load low ∷ instr.Binary Minus l.line
+    ∷ instr.Cut (halves_of n (left_slot l.over n) (right_slot l.over n)) l.line ∷ written_cuts l arrays
 
 -- the cuts of all arrays of a loop
 abbrev pub cuts_of : lowered.Loop → List Instr

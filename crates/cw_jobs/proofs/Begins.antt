@@ -2,7 +2,7 @@
 use Rattle.std.proofs.Common.{◌≡◌, ℕ, zero, suc, ◌+◌, ◌-◌, ◌<◌, ◌≤◌, ℤ, pos, true, Option, Some, None, List, [], ◌∷◌, ◌++◌, length, refl, sym, ap, ◌∙◌, subst, arith}
 use Rattle.std.specs.Prelude.{replicate, slice_get}
 use Rattle.std.proofs.lemmas.List.{length-map, length-replicate}
-use Rattle.std.proofs.lemmas.Option.{slice_get_within}
+use Rattle.std.proofs.lemmas.Option.{slice_get_within, get_or_from_slice_get}
 use Rattle.std.proofs.lemmas.Bool.Decides.{nat_tests}
 use Rattle.cw_model.specs.declared.limits.TheConstants.{MOST_LIMIT, MOST_BURDEN}
 use Rattle.cw_code.specs.declared.code.Func.{Func}
@@ -14,8 +14,10 @@ use Rattle.cw_strands.specs.Jobs.{root_job}
 use Rattle.cw_jobs.specs.declared.call.Extent.TheVariants as extent
 use Rattle.cw_jobs.specs.declared.call.Parts.{Parts}
 use Rattle.cw_jobs.specs.declared.call.Rest.{Rest}
-use Rattle.cw_jobs.specs.Calls.{cell, Keeps, HasArrays, HoldsCall}
-use Rattle.cw_jobs.specs.Jobs.{Ok, IsJob, IsSound, is_asked, is_request, IsRoot, IsFirst, code_of}
+use Rattle.cw_slices.specs.Placed.{IsOwn}
+use Rattle.cw_jobs.specs.Calls.{cell, Keeps, nowhere, HasArrays, HoldsCall}
+use Rattle.cw_jobs.specs.Cuts.{AreOwn}
+use Rattle.cw_jobs.specs.Jobs.{Ok, IsJob, IsSound, is_asked, IsRoot, IsFirst, code_of}
 
 some_same : {A : Type 0} (x y : A) → Some x ≡ Some y → x ≡ y
 some_same x y e = cc
@@ -85,6 +87,11 @@ module _ (v : Verified) (f : Func) (args : List ℤ) (r : Rest) (ok : Ok v) (fou
       let at = first.empty a g.0 in
       (at.0 ∙ g.1, at.1)
 
+  owned : AreOwn r.slices.items
+  owned a p e =
+      let lt : a < length r.slices.items = slice_get_within r.slices.items a p e in
+      subst (λ q. IsOwn q) (get_or_from_slice_get r.slices.items a p nowhere e) (first.empty a (omega (arith, lt, first.as_many))).1
+
   holds : (n : ℕ) → HoldsCall r (root_job f args n)
   holds n = record {
     at = first.at;
@@ -105,6 +112,11 @@ module _ (v : Verified) (f : Func) (args : List ℤ) (r : Rest) (ok : Ok v) (fou
     begins = refl;
     blocks = tt;
     good = ok.begins v.code.main f args [] found count (sym none_taken);
+    own = subst (λ (q : Rest). AreOwn q.slices.items) (sym same) owned;
+    bare = λ k a slice e there. cc;
+    cuts = λ seat. tt;
+    there = (tt, tt, tt);
+    outermost = λ e. record { around = refl; results = refl; arrived = refl };
   }
 
 -- the parts of the job of a whole run

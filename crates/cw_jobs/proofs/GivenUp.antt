@@ -9,4 +9,4 @@ use Rattle.cw_jobs.specs.Means.{MeansIt}
 
 -- want of memory means any job
 pub given_up : (v : Verified) (ok : Ok v) (p : Parts) (j : Job) → MeansIt v ok p (effect.Memory p.rest.slices) j
-given_up v ok p j = record { effect = Memory; means = Short refl; tells = tt; counts = tt; homes = (refl, λ a. (refl, refl)) }
+given_up v ok p j = record { effect = Memory; means = Short refl; tells = tt; counts = tt; homes = tt }

@@ -21,7 +21,8 @@ use Rattle.cw_jobs.specs.declared.call.Parts.{Parts}
 use Rattle.cw_jobs.specs.declared.call.Rest.{Rest as Frame}
 use Rattle.cw_text.specs.declared.fault.Fault.{Fault}
 use Rattle.cw_text.specs.declared.fault.Fault.TheVariants as fault
-use Rattle.cw_jobs.specs.Calls.{placed, LiesAs, HoldsCall}
+use Rattle.cw_jobs.specs.Calls.{cell, placed, LiesAs, HoldsCall}
+use Rattle.cw_jobs.specs.Cuts.{cut_slots, CutsStand, AreNone, AreOwn, AreThere, RoundThere}
 
 -- code that fits, and its instructions stand for it
 abbrev pub Ok : Verified → Type 0
@@ -50,7 +51,15 @@ AreBlocks [] = Unit {0}
 AreBlocks (Caller w ∷ around) = ⊥
 AreBlocks (Block o ∷ around) = AreBlocks around
 
--- a job is one of the definitions: its call holds the job's, and over some block in which what waits for the empty slots has come the run of the job begins well
+-- nothing stands round a state, and nothing waits for its join
+pub record IsOutermost (s : State) : Type 0 where
+  pub around : s.around ≡ []
+  pub results : s.results ≡ []
+  pub arrived : s.arrived ≡ []
+
+-- a job is one of the definitions: its call holds the job's, and over some block in which what waits for the empty
+-- slots has come the run of the job begins well. Each slice has one owner; an array that is cut is in its parts alone;
+-- and nothing stands round a whole call
 pub record IsJob (v : Verified) (ok : Ok v) (p : Parts) (j : Job) : Type 0 where
   pub extent : j.extent ≡ extent_of p.extent
   pub limit : j.limit ≡ p.limit
@@ -60,6 +69,13 @@ pub record IsJob (v : Verified) (ok : Ok v) (p : Parts) (j : Job) : Type 0 where
   pub begins : base.trace ≡ quiet
   pub blocks : AreBlocks base.around
   pub good : GoodState (code_view v.code) ok.fits (under base (job_start j))
+  pub own : AreOwn p.rest.slices.items
+  pub bare : AreNone p.rest.slices.items (cut_slots base.around)
+  pub cuts : (seat : Seat (code_view v.code) ok.fits j.place) →
+      CutsStand (length j.arrays) seat.func.array_params base.around
+  pub there : AreThere (length j.slots) base.results × AreThere (length j.arrays) base.arrived
+      × RoundThere (length j.slots) (length j.arrays) base.around
+  pub outermost : j.extent ≡ WholeCall → IsOutermost base
 
 -- the slot has a part of the array of this cut
 abbrev pub IsPartOf : ℕ → Option Halves → Type 0
@@ -73,7 +89,8 @@ IsPartIn a (o ∷ outer) = IsPartOf a o.cut ⊎ IsPartIn a outer
 
 -- an array that must come back where it lay: that of a parameter, or a part of an open cut
 abbrev pub IsFixed : (v : Verified) → Ok v → (place slot : ℕ) → Type 0
-IsFixed v ok place a = (seat : Seat (code_view v.code) ok.fits place) × ((a < seat.func.array_params) ⊎ IsPartIn a seat.shape.outer)
+IsFixed v ok place a =
+    (seat : Seat (code_view v.code) ok.fits place) × ((a < seat.func.array_params) ⊎ IsPartIn a seat.shape.outer)
 
 -- the array of a slot that comes home: the job's own, where a new one was made in the slot
 abbrev pub own_or : Option (Option Placed) → Placed → Placed
@@ -86,11 +103,19 @@ home_of back replaced a = own_or (slice_get replaced a) (placed back a)
 
 -- what comes back of a job's arrays lies where it lay
 abbrev pub KeepsHomes : (slices back : List Placed) → (replaced : List (Option Placed)) → Type 0
-KeepsHomes slices back replaced = (length back ≡ length slices) × ((a : ℕ) → LiesAs (home_of back replaced a) (placed slices a))
+KeepsHomes slices back replaced =
+    (length back ≡ length slices) × ((a : ℕ) → LiesAs (home_of back replaced a) (placed slices a))
 
 -- no new array is made in a slot
 abbrev pub IsOwnIn : List (Option Placed) → (slot : ℕ) → Type 0
 IsOwnIn replaced a = (p : Placed) → slice_get replaced a ≢ Some (Some p)
+
+-- the slots that are empty in a job have what they had, and where they had it
+pub record KeepsEmpty (j : Job) (r back : Frame) (replaced : List (Option Placed)) : Type 0 where
+  pub cells : (a : ℕ) → slice_get j.slots a ≡ Some None → cell back.cells.items a ≡ cell r.cells.items a
+  pub slices : (a : ℕ) → slice_get j.arrays a ≡ Some None →
+      (placed back.slices.items a).items ≡ (placed r.slices.items a).items
+  pub own : (a : ℕ) → slice_get j.arrays a ≡ Some None → IsOwnIn replaced a
 
 -- no new array is made in a slot whose array must come back where it lay
 abbrev pub KeepsFixed : (v : Verified) → Ok v → (place : ℕ) → (replaced : List (Option Placed)) → Type 0
@@ -107,7 +132,8 @@ pub record IsSound (p : Parts) : Type 0 where
 
 -- as many arguments as there are parameters, and a limit and a burden in their ranges
 abbrev pub is_asked : (params count n burden : ℕ) → Bool
-is_asked params count n burden = nat_eq count params && (nat_le 1 n && (nat_le n MOST_LIMIT && nat_le burden MOST_BURDEN))
+is_asked params count n burden =
+    nat_eq count params && (nat_le 1 n && (nat_le n MOST_LIMIT && nat_le burden MOST_BURDEN))
 
 -- the code can be asked for this run
 abbrev pub is_request : Code → List ℤ → (n burden : ℕ) → Bool
@@ -119,7 +145,8 @@ pub record IsRoot (v : Verified) (args : List ℤ) (n b : ℕ) (p : Parts) : Typ
   pub code : code_of p ≡ v
   pub burden : p.burden ≡ b
   pub whole : p.extent ≡ extent.WholeCall
-  pub is : (ok : Ok v) (f : Func) → slice_get (code_view v.code).funcs v.code.main ≡ Some f → IsJob v ok p (root_job f args n)
+  pub is : (ok : Ok v) (f : Func) → slice_get (code_view v.code).funcs v.code.main ≡ Some f
+      → IsJob v ok p (root_job f args n)
 
 -- why there is no such job: what was asked for is out of range, or memory ran out
 abbrev pub IsRefused : Code → List ℤ → (n burden : ℕ) → Fault → Type 0

@@ -1,6 +1,5 @@
 -- When an effect means a job.
-use Rattle.std.specs.Prelude.{◌≡◌, ℕ, List, [], Option, Some, None}
-use Rattle.cw_slices.specs.Placed.{Placed}
+use Rattle.std.specs.Prelude.{◌≡◌, ℕ, []}
 use Rattle.cw_model.specs.Outcome.{Trace}
 use Rattle.cw_code.specs.Code.{Code, code_view}
 use Rattle.cw_verify.specs.declared.verified.Verified.{Verified}
@@ -15,8 +14,8 @@ use Rattle.cw_jobs.specs.declared.call.Rest.{Rest}
 use Rattle.cw_jobs.specs.declared.effect.Effect.{Effect}
 use Rattle.cw_jobs.specs.declared.effect.Effect.TheVariants as effect
 use Rattle.cw_jobs.specs.declared.job.Job.{Job}
-use Rattle.cw_jobs.specs.Calls.{HoldsFrame, KeepsEmpty, HoldsSums}
-use Rattle.cw_jobs.specs.Jobs.{Ok, code_of, IsJob, KeepsHomes, KeepsFixed}
+use Rattle.cw_jobs.specs.Calls.{HoldsFrame, HoldsSums}
+use Rattle.cw_jobs.specs.Jobs.{Ok, code_of, IsJob, KeepsHomes, KeepsEmpty, KeepsFixed}
 
 -- what a run has shown, as so many instructions
 pub record HasShown (code : Code) (shown : Shown) (t : Trace) (count : ℕ) : Type 0 where
@@ -26,26 +25,34 @@ pub record HasShown (code : Code) (shown : Shown) (t : Trace) (count : ℕ) : Ty
 
 -- an effect tells one of the definitions
 abbrev pub Tells : (code : Code) → jobs.Job → Rest → Effect → jobs.Effect → Type 0
-Tells code j r (effect.Ended value shown) (jobs.Ended x arrays t cost) = (j.extent ≡ jobs.WholeCall) × (value ≡ x) × HasShown code shown t cost
-Tells code j r (effect.Joined back replaced shown) (jobs.Joined frame t cost) = HoldsFrame back frame × KeepsEmpty j r back × HasShown code shown t cost
-Tells code j r (effect.Trapped c l lines n back) (jobs.TrapIn trap line lines' cost) = (c ≡ trap) × (l ≡ line) × (lines.items ≡ lines') × (n ≡ cost)
+Tells code j r (effect.Ended value shown) (jobs.Ended x arrays t cost) =
+    (j.extent ≡ jobs.WholeCall) × (value ≡ x) × HasShown code shown t cost
+Tells code j r (effect.Joined back replaced shown) (jobs.Joined frame t cost) =
+    HoldsFrame back frame × KeepsEmpty j r back replaced.items × HasShown code shown t cost
+Tells code j r (effect.Trapped c l lines n back) (jobs.TrapIn trap line lines' cost) =
+    (c ≡ trap) × (l ≡ line) × (lines.items ≡ lines') × (n ≡ cost)
 Tells code j r (effect.OverLimit back) jobs.OverLimit = Unit {0}
 Tells code j r (effect.Memory back) jobs.Memory = Unit {0}
 Tells code j r _ _ = ⊥
 
--- the meter of an effect tells of what the effect shows: that of a whole run with the call of main as its one event, that of a rest with the events of its block
+-- the meter of an effect tells of what the effect shows: that of a whole run with the call of main as its one event,
+-- that of a rest with the events of its block
 abbrev pub Counts : (code : Code) → (burden site : ℕ) → Effect → jobs.Effect → Type 0
-Counts code burden site (effect.Ended value shown) (jobs.Ended v arrays t cost) = (g : Gauge code) → g.burden ≡ burden → Meters g.burden g.tags Main cost [] (whole t) shown.meter
-Counts code burden site (effect.Joined back replaced shown) (jobs.Joined frame t cost) = CountsEffect code burden site (jobs.Joined frame t cost) shown.meter
+Counts code burden site (effect.Ended value shown) (jobs.Ended v arrays t cost) =
+    (g : Gauge code) → g.burden ≡ burden → Meters g.burden g.tags Main cost [] (whole t) shown.meter
+Counts code burden site (effect.Joined back replaced shown) (jobs.Joined frame t cost) =
+    CountsEffect code burden site (jobs.Joined frame t cost) shown.meter
 Counts code burden site _ _ = Unit {0}
 
--- the arrays that an effect gives back come home; those of a whole call are its own
+-- the arrays that an effect gives back come home; those of a whole call are its own, and of a run for which memory was
+-- wanting nothing is said of them
 abbrev pub ComeHome : (v : Verified) → Ok v → jobs.Job → Rest → Effect → Type 0
 ComeHome v ok j r (effect.Ended value shown) = Unit {0}
-ComeHome v ok j r (effect.Joined back replaced shown) = KeepsHomes r.slices.items back.slices.items replaced.items × KeepsFixed v ok j.place replaced.items
+ComeHome v ok j r (effect.Joined back replaced shown) =
+    KeepsHomes r.slices.items back.slices.items replaced.items × KeepsFixed v ok j.place replaced.items
 ComeHome v ok j r (effect.Trapped c l lines n back) = KeepsHomes r.slices.items back.items []
 ComeHome v ok j r (effect.OverLimit back) = KeepsHomes r.slices.items back.items []
-ComeHome v ok j r (effect.Memory back) = KeepsHomes r.slices.items back.items []
+ComeHome v ok j r (effect.Memory back) = Unit {0}
 
 -- an effect of the definitions means the job, and this one tells it, with its measures, and gives the job's arrays back
 pub record MeansIt (v : Verified) (ok : Ok v) (p : Parts) (e : Effect) (j : jobs.Job) : Type 0 where
@@ -57,4 +64,6 @@ pub record MeansIt (v : Verified) (ok : Ok v) (p : Parts) (e : Effect) (j : jobs
 
 -- AN EFFECT MEANS A JOB, whichever of the definitions the job is: in the job's own code, of the values of the two alone
 unfoldable pub IsMeaningOf : Job → Effect → Type 0
-IsMeaningOf job e = (ok : Ok (code_of job.parts.value)) (j : jobs.Job) → IsJob (code_of job.parts.value) ok job.parts.value j → ∥ MeansIt (code_of job.parts.value) ok job.parts.value e j ∥₁
+IsMeaningOf job e =
+    (ok : Ok (code_of job.parts.value)) (j : jobs.Job) → IsJob (code_of job.parts.value) ok job.parts.value j
+    → ∥ MeansIt (code_of job.parts.value) ok job.parts.value e j ∥₁

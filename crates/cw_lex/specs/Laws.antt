@@ -9,7 +9,9 @@ HasOneCut = (text : List ℕ) (ts us : List Token) → IsTokenCut text ts → Is
 
 -- a text that has a fault, in whatever line, has no token cut
 abbrev pub FaultsExcludeCuts : Type 0
-FaultsExcludeCuts = (text : List ℕ) (line : ℕ) (ts : List Token) → HasLexicalFault text line ⊎ HasNameFault text line → IsTokenCut text ts → ⊥
+FaultsExcludeCuts =
+    (text : List ℕ) (line : ℕ) (ts : List Token) → HasLexicalFault text line ⊎ HasNameFault text line
+    → IsTokenCut text ts → ⊥
 
 -- a text has faults of one kind at most, in whatever lines
 abbrev pub FaultsExcludeOneAnother : Type 0

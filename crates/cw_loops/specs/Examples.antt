@@ -21,7 +21,13 @@ abbrev pub nested : ℕ → Program
 nested trap_at = record {
   reducers = record { name = example.s; line = 1 } ∷ [];
   functions =
-      record { name = example.f; line = 2; gives_int = true; params = record { name = example.n; is_array = false } ∷ []; body = example.block (Return (Some (Binary Times (Variable example.n) (Variable example.n))) ∷ []) }
+      record {
+        name = example.f;
+        line = 2;
+        gives_int = true;
+        params = record { name = example.n; is_array = false } ∷ [];
+        body = example.block (Return (Some (Binary Times (Variable example.n) (Variable example.n))) ∷ []);
+      }
       ∷ record {
         name = example.main;
         line = 3;
@@ -51,7 +57,8 @@ abbrev pub turns_program : (turns grain : ℕ) → Program
 turns_program turns grain =
     example.with_sum (
     example.main_of (
-    For example.i example.i example.i (Number (pos 0)) (Number (pos turns)) grain [] (example.block (AddTo example.s (Variable example.i) ∷ []))
+    For example.i example.i example.i (Number (pos 0)) (Number (pos turns)) grain []
+    (example.block (AddTo example.s (Variable example.i) ∷ []))
     ∷ Return (Some (Number (pos 0))) ∷ [])
     ∷ [])
 

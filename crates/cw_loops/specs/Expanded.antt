@@ -64,7 +64,8 @@ both_halves callee l =
 abbrev pub in_cuts : Loop → (arrays : List ℕ) → Block → Block
 in_cuts l [] inside = inside
 in_cuts l (n ∷ arrays) inside =
-    on_line l.line (Cut n (Binary Minus (Variable (turn_slot l.captured)) (Variable low)) (left_slot l.over n) (right_slot l.over n) (in_cuts l arrays inside))
+    on_line l.line (Cut n (Binary Minus (Variable (turn_slot l.captured)) (Variable low)) (left_slot l.over n)
+    (right_slot l.over n) (in_cuts l arrays inside))
 
 -- a node
 abbrev pub node : (callee : ℕ) → Loop → Block

@@ -8,8 +8,10 @@ use Rattle.cw_model.specs.Captured.{captured}
 use Rattle.cw_model.specs.Meaning.{function_named}
 use Rattle.cw_loops.specs.Lowered.{is_plain, low, high}
 
--- what stands outside the turn of the innermost loop around: the integers of the source's frame, those of the function's
--- and those of both, the arrays of the source's frame, the loop's arrays, those of all loops around, the loop's variable;
+-- what stands outside the turn of the innermost loop around: the integers of the source's frame, those of the
+-- function's
+-- and those of both, the arrays of the source's frame, the loop's arrays, those of all loops around, the loop's
+-- variable;
 -- whether a return may stand here; and the functions of the program
 pub record Surroundings : Type 0 where
   pub outer : List Name
@@ -25,7 +27,17 @@ pub record Surroundings : Type 0 where
 -- outside all loops
 abbrev pub nothing_around : List Function → Surroundings
 nothing_around fs =
-    record { outer = []; given = []; shared = []; arrays = []; over = []; sliced = []; variable = []; returns = true; functions = fs }
+    record {
+      outer = [];
+      given = [];
+      shared = [];
+      arrays = [];
+      over = [];
+      sliced = [];
+      variable = [];
+      returns = true;
+      functions = fs;
+    }
 
 -- neither frame has it from outside
 abbrev pub can_write : Surroundings → Name → Bool
@@ -115,7 +127,8 @@ abbrev mutual
       (if is_among a c.over then is_variable c i else (is_local c a && can_evaluate c i)) && can_evaluate c e
   can_lower c ints arrays (AddTo s e) = can_evaluate c e
   can_lower c ints arrays (Call kind site target f es) =
-      is_plain f && (length es == length (function_named f c.functions).params && (can_target c target && can_pass_all c es))
+      is_plain f
+      && (length es == length (function_named f c.functions).params && (can_target c target && can_pass_all c es))
   can_lower c ints arrays (Start kind f es) = false
   can_lower c ints arrays (Begin f from to taken over) = false
   can_lower c ints arrays Sync = true

@@ -81,7 +81,8 @@ leaf_turn line x body = Then line (Scope body) (on_line line (Assign x (Binary P
 
 abbrev pub leaf_block : ℕ → (x : Name) → Block → Block
 leaf_block line x body =
-    Then line (Declare x (Variable low)) (on_line line (While (Binary Less (Variable x) (Variable high)) (leaf_turn line x body)))
+    Then line (Declare x (Variable low))
+    (on_line line (While (Binary Less (Variable x) (Variable high)) (leaf_turn line x body)))
 
 -- the arguments of the calls on both halves
 abbrev pub left_arguments : (ints over : List Name) → List Expr
@@ -97,7 +98,8 @@ both_halves line name lefts rights = Then line (Start Spawned name lefts) (on_li
 abbrev pub in_cuts : ℕ → List Name → Block → Block
 in_cuts line [] inside = inside
 in_cuts line (a ∷ rest) inside =
-    on_line line (Cut a (Binary Minus (Variable middle) (Variable low)) (left_part a) (right_part a) (in_cuts line rest inside))
+    on_line line
+    (Cut a (Binary Minus (Variable middle) (Variable low)) (left_part a) (right_part a) (in_cuts line rest inside))
 
 abbrev pub range : Expr
 range = Binary Minus (Variable high) (Variable low)
@@ -113,8 +115,12 @@ loop_function name line x grain ints over body = record {
   name = name;
   line = line;
   gives_int = false;
-  params = record { name = low; is_array = false } ∷ record { name = high; is_array = false } ∷ (int_params ints ++ array_params over);
-  body = on_line line (IfElse (Binary AtMost range (Number (pos grain))) (leaf_block line x body) (node_block line name ints over));
+  params =
+      record { name = low; is_array = false } ∷ record { name = high; is_array = false }
+      ∷ (int_params ints ++ array_params over);
+  body =
+      on_line line
+      (IfElse (Binary AtMost range (Number (pos grain))) (leaf_block line x body) (node_block line name ints over));
 }
 
 abbrev mutual
@@ -169,7 +175,9 @@ abbrev mutual
   made_by line k (IfElse e b c) = made_in k b ++ made_in (k + loop_count_in b) c
   made_by line k (While e b) = made_in k b
   made_by line k (For x y z from to grain over b) =
-      made_in k b ++ loop_function (loop_name (k + loop_count_in b)) line x grain (captured x b) over (lower_block over k b) ∷ []
+      made_in k b
+      ++ loop_function (loop_name (k + loop_count_in b)) line x grain (captured x b) over (lower_block over k b)
+      ∷ []
   made_by line k (Scope b) = made_in k b
   made_by line k (Cut a e l r b) = made_in k b
   made_by line k (Region tag b) = made_in k b
@@ -181,7 +189,8 @@ abbrev mutual
 
 -- a function with its loops lowered
 abbrev pub lower_function : ℕ → Function → Function
-lower_function k f = record { name = f.name; line = f.line; gives_int = f.gives_int; params = f.params; body = lower_block [] k f.body }
+lower_function k f =
+    record { name = f.name; line = f.line; gives_int = f.gives_int; params = f.params; body = lower_block [] k f.body }
 
 abbrev pub lower_functions : ℕ → List Function → List Function
 lower_functions k [] = []

@@ -132,7 +132,13 @@ moved_head m callee head =
 -- the function of a loop of a line, with its body where it went
 abbrev pub loop_with : ℕ → source.Head → Block → Loop
 loop_with line head body =
-    record { line = line; grain = head.grain; captured = slot (length head.captured); over = slot (length head.over); body = body }
+    record {
+      line = line;
+      grain = head.grain;
+      captured = slot (length head.captured);
+      over = slot (length head.over);
+      body = body;
+    }
 
 -- the index of the next loop's function, behind the functions of the source and the loops so far
 abbrev pub loop_index : (functions loops : ℕ) → ℕ
@@ -162,7 +168,8 @@ around_loop functions m line head inner = record {
 -- a cut around a block
 abbrev pub moved_cut : Moves → source.Parts → Block → Stmt
 moved_cut m parts body =
-    Cut (moved_array m parts.array.slot) (moved_expr m parts.at) (moved_array m parts.left.slot) (moved_array m parts.right.slot) body
+    Cut (moved_array m parts.array.slot) (moved_expr m parts.at) (moved_array m parts.left.slot)
+    (moved_array m parts.right.slot) body
 
 -- a statement before a block
 abbrev pub followed : ℕ → Stmt → MadeAll → MadeAll

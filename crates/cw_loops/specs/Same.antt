@@ -108,7 +108,8 @@ abbrev mutual
 -- the same loop
 abbrev pub same_loop : Loop → Loop → Bool
 same_loop l m =
-    (l.line == m.line) && ((l.grain == m.grain) && ((l.captured == m.captured) && ((l.over == m.over) && same_block l.body m.body)))
+    (l.line == m.line)
+    && ((l.grain == m.grain) && ((l.captured == m.captured) && ((l.over == m.over) && same_block l.body m.body)))
 
 -- the same loops
 abbrev pub same_loops : List Loop → List Loop → Bool

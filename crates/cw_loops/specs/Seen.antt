@@ -14,12 +14,14 @@ use Rattle.cw_loops.specs.Lowers.{bodies_of, made_of_tree}
 use Rattle.cw_loops.specs.Same.{same_bodies}
 use Rattle.cw_loops.specs.Expanded.{expanded}
 
--- the functions of a lowered tree, over the tree of its source: those of the source first, then those of the loops, each
+-- the functions of a lowered tree, over the tree of its source: those of the source first, then those of the loops,
+-- each
 -- of them written out
 abbrev pub functions_of : source_code.Tree → Tree → List Function
 functions_of source tree = expanded (resolved_of source) (bodies_of tree)
 
--- a lowered tree is seen as the lowered program, each name looked up, where the program has the names and the numbers of
+-- a lowered tree is seen as the lowered program, each name looked up, where the program has the names and the numbers
+-- of
 -- a source, as every derived program has
 abbrev pub IsLowered : source_code.Tree → Tree → Type 0
 IsLowered source tree =

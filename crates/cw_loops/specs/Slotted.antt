@@ -92,11 +92,13 @@ abbrev mutual
       AssignElement (slot_of a locals.arrays) (slotted_expr locals i) (slotted_expr locals e)
   slotted_stmt lists locals (model.AddTo s e) = AddTo (slot_of s lists.reducers) (slotted_expr locals e)
   slotted_stmt lists locals (model.Call kind site target f es) =
-      Call kind site (option_map (λ x. slot_of x locals.ints) target) (slot_of f lists.functions) (map (slotted_argument locals) es)
+      Call kind site (option_map (λ x. slot_of x locals.ints) target) (slot_of f lists.functions)
+      (map (slotted_argument locals) es)
   slotted_stmt lists locals (model.Start kind f es) =
       Start kind (slot_of f lists.functions) (map (slotted_argument locals) es)
   slotted_stmt lists locals (model.Begin f from to captured over) =
-      Begin (slot_of f lists.functions) (slotted_expr locals from) (slotted_expr locals to) (map (λ x. slot_of x locals.ints) captured) (map (λ a. slot_of a locals.arrays) over)
+      Begin (slot_of f lists.functions) (slotted_expr locals from) (slotted_expr locals to)
+      (map (λ x. slot_of x locals.ints) captured) (map (λ a. slot_of a locals.arrays) over)
   slotted_stmt lists locals model.Sync = Sync
   slotted_stmt lists locals (model.If e b) = If (slotted_expr locals e) (slotted_block lists locals b)
   slotted_stmt lists locals (model.IfElse e b c) =

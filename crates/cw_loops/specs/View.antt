@@ -68,4 +68,5 @@ block_of ls = block_from (map line_of ls)
 
 -- a loop of the code as one of the definitions
 abbrev pub loop_of : Loop → moved.Loop
-loop_of l = record { line = l.line; grain = l.grain; captured = l.captured; over = l.over; body = block_of l.body.items }
+loop_of l =
+    record { line = l.line; grain = l.grain; captured = l.captured; over = l.over; body = block_of l.body.items }

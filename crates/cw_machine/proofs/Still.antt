@@ -4,8 +4,10 @@ use Rattle.std.specs.Prelude.{map, take, is_some, slice_get, slice_set}
 use Rattle.std.proofs.lemmas.List.{get_or-set_other}
 use Rattle.cw_slices.specs.Placed.{Spot, Placed, after}
 use Rattle.cw_slices.specs.Blocks.{Lodged}
+use Rattle.cw_code.specs.Run.{Around, Caller, Block}
+use Rattle.cw_machine.specs.declared.machine.Frame.{Frame}
 use Rattle.cw_machine.specs.declared.machine.View.{View}
-use Rattle.cw_machine.specs.Arrays.{Out, view, no_block, block, found, put, kept_of, Memory, AreAway, AllAbove, Floored, AreGiven}
+use Rattle.cw_machine.specs.Arrays.{Out, view, no_block, block, found, put, kept_of, Memory, AreAway, AllAbove, Floored, AllFrom, OutsAt, AreGiven}
 use Rattle.std.proofs.lemmas.Option.{slice_get_within}
 use Rattle.cw_machine.proofs.Blocks.{found_is}
 use Rattle.cw_machine.proofs.Places.{Steady, has_steady}
@@ -13,6 +15,17 @@ use Rattle.cw_machine.proofs.Places.{Steady, has_steady}
 -- all that is out is so below the call that runs
 pub floored : (m : Memory) (first round : ℕ) (outs : List Out) → AllAbove outs round → AreAway m first round outs → Floored outs first
 floored m first round outs above away = λ j o e. (away j o e).floor (above j o e)
+
+-- none is of a call with more blocks and calls round it
+pub none_up : (m : Memory) (first round first' : ℕ) (outs : List Out) → AreAway m first round outs → AllFrom outs (suc round) first'
+none_up m first round first' outs away j o e is = absurd (let le = (away j o e).level in omega (arith, le, is))
+
+-- what is out of the call that runs has its cells
+pub outs_here : (outs : List Out) (first : ℕ) (frames : List Frame) (around : List Around) → OutsAt outs first frames around → AllFrom outs (length around) first
+outs_here outs first frames [] h = h
+outs_here outs first frames (Block o ∷ around) h = h.0
+outs_here outs first [] (Caller w ∷ around) h = absurd h
+outs_here outs first (f ∷ frames) (Caller w ∷ around) h = h.0
 
 -- what is out is so still where arrays and blocks below the call are as they were
 pub away_on : (m m' : Memory) (first first' round round' : ℕ) (outs : List Out) → Floored outs first

@@ -11,7 +11,9 @@ use Rattle.cw_machine.specs.Shows.{Shows, StaysBut}
 
 -- the same run, with these arrays out
 abbrev pub with_outs : {v : Verified} → Ok v → List Out → Ok v
-with_outs ok outs = record { verified = ok.verified; outer = ok.outer; given = ok.given; outs = outs }
+with_outs ok outs =
+    record
+    { verified = ok.verified; outer = ok.outer; params = ok.params; home = ok.home; given = ok.given; outs = outs }
 
 -- the same run, with arrays of one call more out
 abbrev pub lending : {v : Verified} → Ok v → Out → Ok v
@@ -23,7 +25,6 @@ pub record IsLending (v : Verified) (ok : Ok v) (o : Out) (m : Machine) (s : Sta
   pub shows : Shows v (lending ok o) m s
   pub above : AllAbove ok.outs (length s.around)
   pub level : o.level ≡ length s.around
-  pub first : o.first ≡ m.first_array
   pub are : o.slices ≡ slices
 
 -- a machine holds some state while these slices of the call that runs are out

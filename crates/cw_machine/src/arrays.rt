@@ -111,11 +111,10 @@ impl Machine {
 
     // An array of zeros, into a slot.
     #[inline(always)]
-    pub(crate) fn new_array(&mut self, code: &Verified, d: usize, a: u32, line: u32) -> Moved
-        requires { ∥ IsAt code.now self.old (op.NewArray d a line) ∥₁ }
-        ensures { Does code.now self.old (op.NewArray d a line) result self.new }
+    pub(crate) fn new_array(&mut self, _code: &Verified, d: usize, a: u32, line: u32) -> Moved
+        requires { ∥ IsAt _code.now self.old (op.NewArray d a line) ∥₁ }
+        ensures { Does _code.now self.old (op.NewArray d a line) result self.new }
     {
-        let _code = code;
         let len = match new_length(self.get(d)) {
             Ok(len) => len,
             Err(trap) => return Moved::Trapped(trap, line),
@@ -133,11 +132,10 @@ impl Machine {
 
     // The count of the elements of an array, into a cell.
     #[inline(always)]
-    pub(crate) fn length(&mut self, code: &Verified, d: usize, a: u32) -> Moved
-        requires { ∥ IsAt code.now self.old (op.Length d a) ∥₁ }
-        ensures { Does code.now self.old (op.Length d a) result self.new }
+    pub(crate) fn length(&mut self, _code: &Verified, d: usize, a: u32) -> Moved
+        requires { ∥ IsAt _code.now self.old (op.Length d a) ∥₁ }
+        ensures { Does _code.now self.old (op.Length d a) result self.new }
     {
-        let _code = code;
         let v = self.view(a);
         self.put(d, v.len as i64);
         Moved::On
@@ -145,11 +143,10 @@ impl Machine {
 
     // An element of an array, into the cell that had its index.
     #[inline(always)]
-    pub(crate) fn element(&mut self, code: &Verified, d: usize, a: u32, line: u32) -> Moved
-        requires { ∥ IsAt code.now self.old (op.Element d a line) ∥₁ }
-        ensures { Does code.now self.old (op.Element d a line) result self.new }
+    pub(crate) fn element(&mut self, _code: &Verified, d: usize, a: u32, line: u32) -> Moved
+        requires { ∥ IsAt _code.now self.old (op.Element d a line) ∥₁ }
+        ensures { Does _code.now self.old (op.Element d a line) result self.new }
     {
-        let _code = code;
         let i = self.get(d);
         let v = self.view(a);
         if !is_within(i, v.len) {
@@ -162,11 +159,10 @@ impl Machine {
 
     // The value of the cell after one with an index, into that element of an array.
     #[inline(always)]
-    pub(crate) fn set_element(&mut self, code: &Verified, d: usize, a: u32, line: u32) -> Moved
-        requires { ∥ IsAt code.now self.old (op.SetElement d a line) ∥₁ }
-        ensures { Does code.now self.old (op.SetElement d a line) result self.new }
+    pub(crate) fn set_element(&mut self, _code: &Verified, d: usize, a: u32, line: u32) -> Moved
+        requires { ∥ IsAt _code.now self.old (op.SetElement d a line) ∥₁ }
+        ensures { Does _code.now self.old (op.SetElement d a line) result self.new }
     {
-        let _code = code;
         let i = self.get(d);
         let x = self.get(d + 1);
         let v = self.view(a);
@@ -180,11 +176,10 @@ impl Machine {
 
     // An array is cut: its parts go into two slots.
     #[inline(always)]
-    pub(crate) fn cut(&mut self, code: &Verified, d: usize, h: &Halves, line: u32) -> Moved
-        requires { ∥ IsAt code.now self.old (op.Cut d h.now line) ∥₁ }
-        ensures { Does code.now self.old (op.Cut d h.now line) result self.new }
+    pub(crate) fn cut(&mut self, _code: &Verified, d: usize, h: &Halves, line: u32) -> Moved
+        requires { ∥ IsAt _code.now self.old (op.Cut d h.now line) ∥₁ }
+        ensures { Does _code.now self.old (op.Cut d h.now line) result self.new }
     {
-        let _code = code;
         let v = self.view(h.array);
         let k = match cut_place(self.get(d), v.len) {
             Ok(k) => k,
@@ -192,6 +187,11 @@ impl Machine {
         };
         let left = self.first_array + h.left as usize;
         let right = self.first_array + h.right as usize;
+        let array = self.first_array + h.array as usize;
+        match self.cuts.push(array) {
+            Ok(()) => {}
+            Err(_) => return Moved::NoMemory,
+        }
         self.set_view(left, v.block, v.from, k);
         let from = beyond(v.from, k);
         self.set_view(right, v.block, from, v.len - k);
@@ -201,15 +201,15 @@ impl Machine {
 
     // A cut ends: the elements of its parts lie in the array already.
     #[inline(always)]
-    pub(crate) fn end_cut(&mut self, code: &Verified, h: &Halves) -> Moved
-        requires { ∥ IsAt code.now self.old (op.EndCut h.now) ∥₁ }
-        ensures { Does code.now self.old (op.EndCut h.now) result self.new }
+    pub(crate) fn end_cut(&mut self, _code: &Verified, h: &Halves) -> Moved
+        requires { ∥ IsAt _code.now self.old (op.EndCut h.now) ∥₁ }
+        ensures { Does _code.now self.old (op.EndCut h.now) result self.new }
     {
-        let _code = code;
         let left = self.first_array + h.left as usize;
         let right = self.first_array + h.right as usize;
         self.set_view(left, left, 0, 0);
         self.set_view(right, right, 0, 0);
+        let _cut = self.cuts.pop();
         self.place += 1;
         Moved::On
     }

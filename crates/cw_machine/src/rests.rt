@@ -10,7 +10,7 @@ use cw_slices::Slice;
 impl Machine {
     // A slice goes home to the array in a slot of the call that runs; one without numbers has none.
     #[inline(always)]
-    fn lay_home(&mut self, a: usize, slice: Slice)
+    pub(crate) fn lay_home(&mut self, a: usize, slice: Slice)
         requires { MayLay self.old (self.old.first_array + a) slice }
         ensures { HasLaid self.old (self.old.first_array + a) slice.items self.new }
     {

@@ -4,7 +4,8 @@ use Rattle.cw_model.specs.Trees.{Tree, Leaf, Seq, Par, Marked, Event, Work, Seri
 use Rattle.cw_measure.specs.OpenParts.{Open, work_in}
 use Rattle.cw_measure.specs.Outermost.{Meters}
 
--- with no child since the last join, the path so far; else the path into the longest child, and that of the strand that runs
+-- with no child since the last join, the path so far; else the path into the longest child, and that of the strand that
+-- runs
 pub data BlockWeight : Type 0 where
   Straight : (now : ℕ) → BlockWeight
   Split : (longest now : ℕ) → BlockWeight
@@ -71,12 +72,14 @@ burden_if false burden = 0
 -- that of a run so far
 abbrev pub burdened_work_in : (burden : ℕ) → List Open → List Event → ℕ
 burdened_work_in burden [] es = burdened_work burden (tree_of es)
-burdened_work_in burden (o ∷ os) es = burdened_work burden (tree_of es) + (burden_if o.spawned burden + burdened_work_in burden os o.outer)
+burdened_work_in burden (o ∷ os) es =
+    burdened_work burden (tree_of es) + (burden_if o.spawned burden + burdened_work_in burden os o.outer)
 
 -- what is kept of a block adds the burdened span of its tree to what came before
 abbrev pub BlocksWeighTheirSpans : Type 0
 BlocksWeighTheirSpans =
-    (burden before : ℕ) (es : List Event) → top_of (after_all burden (Straight before) es) ≡ before + burdened_span burden (tree_of es)
+    (burden before : ℕ) (es : List Event)
+    → top_of (after_all burden (Straight before) es) ≡ before + burdened_span burden (tree_of es)
 
 -- the work of a run and the weight of a strand's path grow along each part, whose block has joined, by the part's own
 pub record WorkAndWeightAreMetered : Type 0 where

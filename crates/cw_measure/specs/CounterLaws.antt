@@ -6,24 +6,34 @@ use Rattle.cw_measure.specs.Counters.{Sum, exactly, Counters, Unsynced, Synced, 
 use Rattle.cw_measure.specs.SumLaws.{IsSum, exactly_is, later-later, later-max, later-under}
 
 -- the longest of two pieces and of a third
-longest_regroup : (add : Sum) (S : IsSum add) (l l1 l2 k k1 : ℕ) → max (max l (later add k l1)) (later add (add k k1) l2) ≡ max l (later add k (max l1 (later add k1 l2)))
-longest_regroup add S l l1 l2 k k1 = let one = later-later add S k k1 l2 in let two = later-max add S k l1 (later add k1 l2) in omega arith
+longest_regroup : (add : Sum) (S : IsSum add) (l l1 l2 k k1 : ℕ)
+    → max (max l (later add k l1)) (later add (add k k1) l2) ≡ max l (later add k (max l1 (later add k1 l2)))
+longest_regroup add S l l1 l2 k k1 =
+    let one = later-later add S k k1 l2 in let two = later-max add S k l1 (later add k1 l2) in omega arith
 
 -- what closes after two pieces
-closed_regroup : (add : Sum) (S : IsSum add) (l l1 k k1 p2 : ℕ) → max (max l (later add k l1)) (add (add k k1) p2) ≡ max l (add k (max l1 (add k1 p2)))
-closed_regroup add S l l1 k k1 p2 = let one = later-under add S k l1 l (add k1 p2) in let two = S.regroup k k1 p2 in omega arith
+closed_regroup : (add : Sum) (S : IsSum add) (l l1 k k1 p2 : ℕ)
+    → max (max l (later add k l1)) (add (add k k1) p2) ≡ max l (add k (max l1 (add k1 p2)))
+closed_regroup add S l l1 k k1 p2 =
+    let one = later-under add S k l1 l (add k1 p2) in let two = S.regroup k k1 p2 in omega arith
 
-pub onward-assoc : (add : Sum) (S : IsSum add) (a b c : Counters) → onward add (onward add a b) c ≡ onward add a (onward add b c)
-onward-assoc add S (Unsynced l k) (Unsynced l1 k1) (Unsynced l2 k2) = let left = longest_regroup add S l l1 l2 k k1 in let right = S.regroup k k1 k2 in cc
-onward-assoc add S (Unsynced l k) (Unsynced l1 k1) (Synced p2 l2 k2) = let left = closed_regroup add S l l1 k k1 p2 in cc
+pub onward-assoc : (add : Sum) (S : IsSum add) (a b c : Counters)
+    → onward add (onward add a b) c ≡ onward add a (onward add b c)
+onward-assoc add S (Unsynced l k) (Unsynced l1 k1) (Unsynced l2 k2) =
+    let left = longest_regroup add S l l1 l2 k k1 in let right = S.regroup k k1 k2 in cc
+onward-assoc add S (Unsynced l k) (Unsynced l1 k1) (Synced p2 l2 k2) =
+    let left = closed_regroup add S l l1 k k1 p2 in cc
 onward-assoc add S (Unsynced l k) (Synced p1 l1 k1) (Unsynced l2 k2) = refl
 onward-assoc add S (Unsynced l k) (Synced p1 l1 k1) (Synced p2 l2 k2) = refl
-onward-assoc add S (Synced p l k) (Unsynced l1 k1) (Unsynced l2 k2) = let left = longest_regroup add S l l1 l2 k k1 in let right = S.regroup k k1 k2 in cc
-onward-assoc add S (Synced p l k) (Unsynced l1 k1) (Synced p2 l2 k2) = let left = closed_regroup add S l l1 k k1 p2 in cc
+onward-assoc add S (Synced p l k) (Unsynced l1 k1) (Unsynced l2 k2) =
+    let left = longest_regroup add S l l1 l2 k k1 in let right = S.regroup k k1 k2 in cc
+onward-assoc add S (Synced p l k) (Unsynced l1 k1) (Synced p2 l2 k2) =
+    let left = closed_regroup add S l l1 k k1 p2 in cc
 onward-assoc add S (Synced p l k) (Synced p1 l1 k1) (Unsynced l2 k2) =
     let closed = max l (add k p1) in
     let one = later-later add S closed k1 l2 in let two = later-max add S closed l1 (later add k1 l2) in
-    let left : max (later add closed l1) (later add (add closed k1) l2) ≡ later add closed (max l1 (later add k1 l2)) = cc in
+    let left : max (later add closed l1) (later add (add closed k1) l2) ≡ later add closed (max l1 (later add k1 l2)) =
+    cc in
     let right = S.regroup closed k1 k2 in cc
 onward-assoc add S (Synced p l k) (Synced p1 l1 k1) (Synced p2 l2 k2) =
     let closed = max l (add k p1) in
@@ -38,7 +48,8 @@ onward-assoc add S (Synced p l k) (Synced p1 l1 k1) (Synced p2 l2 k2) =
 
 pub onward-fresh_first : (add : Sum) (S : IsSum add) (a : Counters) → onward add fresh a ≡ a
 onward-fresh_first add S (Unsynced zero k) = let e = S.first k in cc
-onward-fresh_first add S (Unsynced (suc l) k) = let e = S.first k in let f = S.first (suc l) in let g : max 0 (suc l) ≡ suc l = omega arith in cc
+onward-fresh_first add S (Unsynced (suc l) k) =
+    let e = S.first k in let f = S.first (suc l) in let g : max 0 (suc l) ≡ suc l = omega arith in cc
 onward-fresh_first add S (Synced p l k) = let e = S.first p in let g : max 0 p ≡ p = omega arith in cc
 
 pub onward-fresh_last : (add : Sum) (S : IsSum add) (a : Counters) → onward add a fresh ≡ a
@@ -50,7 +61,8 @@ pub ticked_onward : (add : Sum) (n : ℕ) (c : Counters) → ticked add n c ≡ 
 ticked_onward add n (Unsynced l k) = let f : max l 0 ≡ l = omega arith in cc
 ticked_onward add n (Synced p l k) = let f : max l 0 ≡ l = omega arith in cc
 
-pub forked_onward : (add : Sum) (burden child : ℕ) (c : Counters) → forked add burden child c ≡ onward add c (Unsynced child burden)
+pub forked_onward : (add : Sum) (burden child : ℕ) (c : Counters)
+    → forked add burden child c ≡ onward add c (Unsynced child burden)
 forked_onward add burden child (Unsynced l k) = refl
 forked_onward add burden child (Synced p l k) = refl
 
@@ -59,42 +71,61 @@ synced_onward add S (Unsynced l k) = let e = S.last k in cc
 synced_onward add S (Synced p l k) = let e = S.last k in let f = S.last (max l k) in cc
 
 -- events in two pieces
-pub of_events-append : (burden : ℕ) (a b : List Event) → of_events burden (a ++ b) ≡ onward exactly (of_events burden a) (of_events burden b)
+pub of_events-append : (burden : ℕ) (a b : List Event)
+    → of_events burden (a ++ b) ≡ onward exactly (of_events burden a) (of_events burden b)
 of_events-append burden [] b = sym (onward-fresh_first exactly exactly_is (of_events burden b))
-of_events-append burden (e ∷ a) b = ap (onward exactly (of_event burden e)) (of_events-append burden a b) ∙ sym (onward-assoc exactly exactly_is (of_event burden e) (of_events burden a) (of_events burden b))
+of_events-append burden (e ∷ a) b =
+    ap (onward exactly (of_event burden e)) (of_events-append burden a b) ∙ sym
+    (onward-assoc exactly exactly_is (of_event burden e) (of_events burden a) (of_events burden b))
 
 -- what counters say of the two parts of a tree
 abbrev pub Reads : Counters → (first second : ℕ) → Type 0
 Reads (Unsynced l k) first second = (max l k ≡ first) × (0 ≡ second)
 Reads (Synced p l k) first second = (p ≡ first) × (max l k ≡ second)
 
-reads_work : (w first second : ℕ) (c : Counters) → Reads c first second → Reads (onward exactly (Unsynced 0 w) c) (w + first) second
+reads_work : (w first second : ℕ) (c : Counters) → Reads c first second
+    → Reads (onward exactly (Unsynced 0 w) c) (w + first) second
 reads_work w first second (Unsynced zero k) h = (omega arith, h.1)
 reads_work w first second (Unsynced (suc l) k) h = (omega arith, h.1)
 reads_work w first second (Synced p l k) h = (omega arith, h.1)
 
-reads_fork : (s burden first second : ℕ) (c : Counters) → Reads c first second → Reads (onward exactly (Unsynced s burden) c) (max s (burden + first)) second
+reads_fork : (s burden first second : ℕ) (c : Counters) → Reads c first second
+    → Reads (onward exactly (Unsynced s burden) c) (max s (burden + first)) second
 reads_fork s burden first second (Unsynced zero k) h = (omega arith, h.1)
 reads_fork s burden first second (Unsynced (suc l) k) h = (omega arith, h.1)
 reads_fork s burden first second (Synced p l k) h = (omega arith, h.1)
 
-reads_join : (first second : ℕ) (c : Counters) → Reads c first second → Reads (onward exactly (Synced 0 0 0) c) 0 (first + second)
+reads_join : (first second : ℕ) (c : Counters) → Reads c first second
+    → Reads (onward exactly (Synced 0 0 0) c) 0 (first + second)
 reads_join first second (Unsynced zero k) h = (refl, omega arith)
 reads_join first second (Unsynced (suc l) k) h = (refl, omega arith)
 reads_join first second (Synced p zero k) h = (refl, omega arith)
 reads_join first second (Synced p (suc l) k) h = (refl, omega arith)
 
-reads_parts : (burden : ℕ) (events : List Event) → Reads (of_events burden events) (burdened_span burden (parts_of events).0) (burdened_span burden (parts_of events).1)
+reads_parts : (burden : ℕ) (events : List Event)
+    → Reads (of_events burden events) (burdened_span burden (parts_of events).0)
+    (burdened_span burden (parts_of events).1)
 reads_parts burden [] = (refl, refl)
-reads_parts burden (Work k ∷ events) = reads_work k (burdened_span burden (parts_of events).0) (burdened_span burden (parts_of events).1) (of_events burden events) (reads_parts burden events)
-reads_parts burden (Series t ∷ events) = reads_work (burdened_span burden t) (burdened_span burden (parts_of events).0) (burdened_span burden (parts_of events).1) (of_events burden events) (reads_parts burden events)
-reads_parts burden (Fork t ∷ events) = reads_fork (burdened_span burden t) burden (burdened_span burden (parts_of events).0) (burdened_span burden (parts_of events).1) (of_events burden events) (reads_parts burden events)
-reads_parts burden (Join ∷ events) = reads_join (burdened_span burden (parts_of events).0) (burdened_span burden (parts_of events).1) (of_events burden events) (reads_parts burden events)
+reads_parts burden (Work k ∷ events) =
+    reads_work k (burdened_span burden (parts_of events).0) (burdened_span burden (parts_of events).1)
+    (of_events burden events) (reads_parts burden events)
+reads_parts burden (Series t ∷ events) =
+    reads_work (burdened_span burden t) (burdened_span burden (parts_of events).0)
+    (burdened_span burden (parts_of events).1) (of_events burden events) (reads_parts burden events)
+reads_parts burden (Fork t ∷ events) =
+    reads_fork (burdened_span burden t) burden (burdened_span burden (parts_of events).0)
+    (burdened_span burden (parts_of events).1) (of_events burden events) (reads_parts burden events)
+reads_parts burden (Join ∷ events) =
+    reads_join (burdened_span burden (parts_of events).0) (burdened_span burden (parts_of events).1)
+    (of_events burden events) (reads_parts burden events)
 
 reads_reading : (c : Counters) (first second : ℕ) → Reads c first second → heaviest exactly c ≡ first + second
 reads_reading (Unsynced l k) first second h = omega arith
 reads_reading (Synced p l k) first second h = omega arith
 
 -- the counters read the span of the tree of the events so far
-pub heaviest-of_events : (burden : ℕ) (events : List Event) → heaviest exactly (of_events burden events) ≡ burdened_span burden (tree_of events)
-heaviest-of_events burden events = reads_reading (of_events burden events) (burdened_span burden (parts_of events).0) (burdened_span burden (parts_of events).1) (reads_parts burden events)
+pub heaviest-of_events : (burden : ℕ) (events : List Event)
+    → heaviest exactly (of_events burden events) ≡ burdened_span burden (tree_of events)
+heaviest-of_events burden events =
+    reads_reading (of_events burden events) (burdened_span burden (parts_of events).0)
+    (burdened_span burden (parts_of events).1) (reads_parts burden events)

@@ -2,7 +2,8 @@
 use Rattle.std.specs.Prelude.{◌≡◌, ℕ, zero, suc, ◌+◌, max, min, List, [], ◌∷◌, ◌++◌, Option, Some, None}
 use Rattle.cw_model.specs.Trees.{Event, Work, Series, Fork, Join, burdened_span, tree_of}
 
--- the path into the longest child, which is 0 where there is none, and the continuation; after a join what the first join closed too
+-- the path into the longest child, which is 0 where there is none, and the continuation; after a join what the first
+-- join closed too
 pub data Counters : Type 0 where
   Unsynced : (longest continuation : ℕ) → Counters
   Synced : (prefix longest continuation : ℕ) → Counters
@@ -32,7 +33,8 @@ abbrev pub onward : Sum → Counters → Counters → Counters
 onward add (Unsynced l k) (Unsynced l' k') = Unsynced (max l (later add k l')) (add k k')
 onward add (Unsynced l k) (Synced p l' k') = Synced (max l (add k p)) l' k'
 onward add (Synced p l k) (Unsynced l' k') = Synced p (max l (later add k l')) (add k k')
-onward add (Synced p l k) (Synced p' l' k') = let closed = max l (add k p') in Synced p (later add closed l') (add closed k')
+onward add (Synced p l k) (Synced p' l' k') =
+    let closed = max l (add k p') in Synced p (later add closed l') (add closed k')
 
 -- an empty piece
 abbrev pub fresh : Counters
@@ -76,5 +78,7 @@ of_events burden (e ∷ events) = onward exactly (of_event burden e) (of_events 
 
 -- exact counters read the span of the tree of their events, and those of two pieces make those of the whole
 pub record CountersReadSpans : Type 0 where
-  pub reads : (burden : ℕ) (es : List Event) → heaviest exactly (of_events burden es) ≡ burdened_span burden (tree_of es)
-  pub pieces : (burden : ℕ) (es fs : List Event) → of_events burden (es ++ fs) ≡ onward exactly (of_events burden es) (of_events burden fs)
+  pub reads : (burden : ℕ) (es : List Event)
+      → heaviest exactly (of_events burden es) ≡ burdened_span burden (tree_of es)
+  pub pieces : (burden : ℕ) (es fs : List Event)
+      → of_events burden (es ++ fs) ≡ onward exactly (of_events burden es) (of_events burden fs)

@@ -19,14 +19,22 @@ pub record Measured : Type 0 where
 -- what is held of events, at a burden for each spawn
 abbrev pub measure_of : (burden : ℕ) → List Event → Measured
 measure_of burden events =
-    record { work = min most (work (tree_of events)); plain = held most (of_events 0 events); burdened = held most_burdened (of_events burden events) }
+    record {
+      work = min most (work (tree_of events));
+      plain = held most (of_events 0 events);
+      burdened = held most_burdened (of_events burden events);
+    }
 
 abbrev pub nothing : Measured
 nothing = record { work = 0; plain = fresh; burdened = fresh }
 
 abbrev pub joined : Measured → Measured → Measured
 joined a b =
-    record { work = up_to most a.work b.work; plain = onward (up_to most) a.plain b.plain; burdened = onward (up_to most_burdened) a.burdened b.burdened }
+    record {
+      work = up_to most a.work b.work;
+      plain = onward (up_to most) a.plain b.plain;
+      burdened = onward (up_to most_burdened) a.burdened b.burdened;
+    }
 
 -- the readings
 abbrev pub span_read : Measured → ℕ
@@ -38,17 +46,29 @@ burdened_read m = heaviest (up_to most_burdened) m.burdened
 -- so many instructions more
 abbrev pub after_work : ℕ → Measured → Measured
 after_work n m =
-    record { work = up_to most m.work n; plain = ticked (up_to most) n m.plain; burdened = ticked (up_to most_burdened) n m.burdened }
+    record {
+      work = up_to most m.work n;
+      plain = ticked (up_to most) n m.plain;
+      burdened = ticked (up_to most_burdened) n m.burdened;
+    }
 
 -- a part in series, which is measured
 abbrev pub after_part : Measured → Measured → Measured
 after_part part m =
-    record { work = up_to most m.work part.work; plain = ticked (up_to most) (span_read part) m.plain; burdened = ticked (up_to most_burdened) (burdened_read part) m.burdened }
+    record {
+      work = up_to most m.work part.work;
+      plain = ticked (up_to most) (span_read part) m.plain;
+      burdened = ticked (up_to most_burdened) (burdened_read part) m.burdened;
+    }
 
 -- a spawned child, which is measured
 abbrev pub after_child : (burden : ℕ) → Measured → Measured → Measured
 after_child burden child m =
-    record { work = up_to most m.work child.work; plain = forked (up_to most) 0 (span_read child) m.plain; burdened = forked (up_to most_burdened) burden (burdened_read child) m.burdened }
+    record {
+      work = up_to most m.work child.work;
+      plain = forked (up_to most) 0 (span_read child) m.plain;
+      burdened = forked (up_to most_burdened) burden (burdened_read child) m.burdened;
+    }
 
 abbrev pub after_join : Measured → Measured
 after_join m = record { work = m.work; plain = synced m.plain; burdened = synced m.burdened }
@@ -69,15 +89,18 @@ AddsEvent old new e = (burden : ℕ) (es : List Event) → Measures burden old e
 
 abbrev pub AddsPart : Measured → Measured → (part : Measured) → Type 0
 AddsPart old new part =
-    (burden : ℕ) (es : List Event) (t : Tree) → Measures burden old es → ReadsTree burden part t → Measures burden new (es ++ Series t ∷ [])
+    (burden : ℕ) (es : List Event) (t : Tree) → Measures burden old es → ReadsTree burden part t
+    → Measures burden new (es ++ Series t ∷ [])
 
 abbrev pub AddsChild : (burden : ℕ) → Measured → Measured → (child : Measured) → Type 0
 AddsChild burden old new child =
-    (es : List Event) (t : Tree) → Measures burden old es → ReadsTree burden child t → Measures burden new (es ++ Fork t ∷ [])
+    (es : List Event) (t : Tree) → Measures burden old es → ReadsTree burden child t
+    → Measures burden new (es ++ Fork t ∷ [])
 
 abbrev pub JoinsEvents : Measured → Measured → (whole : Measured) → Type 0
 JoinsEvents left right whole =
-    (burden : ℕ) (es fs : List Event) → Measures burden left es → Measures burden right fs → Measures burden whole (es ++ fs)
+    (burden : ℕ) (es fs : List Event) → Measures burden left es → Measures burden right fs
+    → Measures burden whole (es ++ fs)
 
 -- the readings are those of the tree of the events so far
 abbrev pub ReadsEvents : Measured → Type 0
@@ -86,4 +109,5 @@ ReadsEvents m = (burden : ℕ) (es : List Event) → Measures burden m es → Re
 -- the measure of events reads their tree, and those of two pieces join to that of the whole
 pub record MeasuresReadTrees : Type 0 where
   pub reads : (burden : ℕ) (es : List Event) → ReadsTree burden (measure_of burden es) (tree_of es)
-  pub pieces : (burden : ℕ) (es fs : List Event) → measure_of burden (es ++ fs) ≡ joined (measure_of burden es) (measure_of burden fs)
+  pub pieces : (burden : ℕ) (es fs : List Event)
+      → measure_of burden (es ++ fs) ≡ joined (measure_of burden es) (measure_of burden fs)

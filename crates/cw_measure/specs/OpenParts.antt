@@ -2,7 +2,8 @@
 use Rattle.std.specs.Prelude.{◌≡◌, ℕ, ◌+◌, ◌-◌, ◌≤◌, Bool, true, false, List, [], ◌∷◌, ◌++◌, Option, Some, None}
 use Rattle.cw_model.specs.Trees.{Mark, Tree, Marked, Event, Work, Series, Fork, Join, tree_of, work}
 
--- an open part of a run: whether it is spawned, what it is a run of, and the events so far of the block that it stands in
+-- an open part of a run: whether it is spawned, what it is a run of, and the events so far of the block that it stands
+-- in
 pub record Open : Type 0 where
   pub spawned : Bool
   pub mark : Option Mark

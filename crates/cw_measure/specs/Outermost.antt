@@ -26,7 +26,8 @@ outer_sum f picks (suc n) t = 0
 -- the sum over those that have ended and lie in no other one, ended or open
 abbrev pub outer_in : (Tree → ℕ) → (Mark → Bool) → (busy : ℕ) → List Open → List Event → ℕ
 outer_in f picks busy [] es = outer_sum f picks busy (tree_of es)
-outer_in f picks busy (o ∷ os) es = outer_sum f picks (active_in picks busy (o ∷ os)) (tree_of es) + outer_in f picks busy os o.outer
+outer_in f picks busy (o ∷ os) es =
+    outer_sum f picks (active_in picks busy (o ∷ os)) (tree_of es) + outer_in f picks busy os o.outer
 
 -- a number that is read off a run so far
 abbrev pub Reading : Type 0
@@ -36,7 +37,8 @@ Reading = List Open → List Event → ℕ
 pub record Meters (f : Tree → ℕ) (read : Reading) : Type 0 where
   pub in_mark : (m : Mark) (t : Tree) → f (Marked m t) ≡ f t
   pub at_begin : (mark : Option Mark) (os : List Open) (es : List Event) → read (in_series mark es os) [] ≡ read os es
-  pub at_end : (o : Open) (os : List Open) (es : List Event) → has_spawned es ≡ false → read (o ∷ os) es ≡ read (o ∷ os) [] + f (tree_of es)
+  pub at_end : (o : Open) (os : List Open) (es : List Event) → has_spawned es ≡ false
+      → read (o ∷ os) es ≡ read (o ∷ os) [] + f (tree_of es)
 
 -- the reading as the outermost open one began, where there is one
 abbrev pub BeganAt : (counted : Bool) → (active : ℕ) → (here before : Type 0) → Type 0
@@ -47,7 +49,8 @@ BeganAt false n here before = before
 abbrev pub Began : Reading → (Mark → Bool) → (busy : ℕ) → List Open → (began : ℕ) → Type 0
 Began read picks busy [] began = Unit {0}
 Began read picks busy (o ∷ os) began =
-    BeganAt (is_counted picks o.mark) (active_in picks busy os) (began ≡ read (o ∷ os) []) (Began read picks busy os began)
+    BeganAt (is_counted picks o.mark) (active_in picks busy os) (began ≡ read (o ∷ os) [])
+    (Began read picks busy os began)
 
 -- the sum over those that ended, how many are open, and the reading as the outermost of these began
 pub record Tally : Type 0 where
@@ -72,20 +75,29 @@ abbrev pub ended : (reading : ℕ) → Tally → Tally
 ended reading t = ended_at (t.active == 1) reading t
 
 -- a tally counts a run so far
-pub record Counts (f : Tree → ℕ) (read : Reading) (picks : Mark → Bool) (busy : ℕ) (os : List Open) (es : List Event) (t : Tally) : Type 0 where
+pub record Counts (f : Tree → ℕ) (read : Reading) (picks : Mark → Bool) (busy : ℕ) (os : List Open) (es : List Event)
+    (t : Tally) : Type 0 where
   pub sum_is : t.sum ≡ outer_in f picks busy os es
   pub active_is : t.active ≡ active_in picks busy os
   pub began_is : Began read picks busy os t.began
 
 -- the calls of a run keep a tally so, whatever is measured and whichever marks are counted
 pub record TalliesKeep (f : Tree → ℕ) (read : Reading) (picks : Mark → Bool) (busy : ℕ) : Type 0 where
-  pub work : (os : List Open) (es : List Event) (t : Tally) (k : ℕ) → Counts f read picks busy os es t → Counts f read picks busy os (es ++ Work k ∷ []) t
-  pub join : (os : List Open) (es : List Event) (t : Tally) → Counts f read picks busy os es t → Counts f read picks busy os (es ++ Join ∷ []) t
-  pub other_begins : (o : Open) (os : List Open) (t : Tally) → is_counted picks o.mark ≡ false → Counts f read picks busy os o.outer t → Counts f read picks busy (o ∷ os) [] t
-  pub other_ends : (o : Open) (os : List Open) (es : List Event) (t : Tally) → is_counted picks o.mark ≡ false → Counts f read picks busy (o ∷ os) es t → Counts f read picks busy os (closed o es) t
-  pub begins : (o : Open) (os : List Open) (t : Tally) → is_counted picks o.mark ≡ true → Counts f read picks busy os o.outer t → Counts f read picks busy (o ∷ os) [] (begun (read (o ∷ os) []) t)
-  pub ends : (o : Open) (os : List Open) (es : List Event) (t : Tally) → is_counted picks o.mark ≡ true → has_spawned es ≡ false → Counts f read picks busy (o ∷ os) es t → Counts f read picks busy os (closed o es) (ended (read (o ∷ os) es) t)
-  pub reads : (es : List Event) (t : Tally) → busy ≡ 0 → Counts f read picks busy [] es t → t.sum ≡ sum_by f (outermost picks (tree_of es))
+  pub work : (os : List Open) (es : List Event) (t : Tally) (k : ℕ) → Counts f read picks busy os es t
+      → Counts f read picks busy os (es ++ Work k ∷ []) t
+  pub join : (os : List Open) (es : List Event) (t : Tally) → Counts f read picks busy os es t
+      → Counts f read picks busy os (es ++ Join ∷ []) t
+  pub other_begins : (o : Open) (os : List Open) (t : Tally) → is_counted picks o.mark ≡ false
+      → Counts f read picks busy os o.outer t → Counts f read picks busy (o ∷ os) [] t
+  pub other_ends : (o : Open) (os : List Open) (es : List Event) (t : Tally) → is_counted picks o.mark ≡ false
+      → Counts f read picks busy (o ∷ os) es t → Counts f read picks busy os (closed o es) t
+  pub begins : (o : Open) (os : List Open) (t : Tally) → is_counted picks o.mark ≡ true
+      → Counts f read picks busy os o.outer t → Counts f read picks busy (o ∷ os) [] (begun (read (o ∷ os) []) t)
+  pub ends : (o : Open) (os : List Open) (es : List Event) (t : Tally) → is_counted picks o.mark ≡ true
+      → has_spawned es ≡ false → Counts f read picks busy (o ∷ os) es t
+      → Counts f read picks busy os (closed o es) (ended (read (o ∷ os) es) t)
+  pub reads : (es : List Event) (t : Tally) → busy ≡ 0 → Counts f read picks busy [] es t
+      → t.sum ≡ sum_by f (outermost picks (tree_of es))
 
 -- so much more, unless counted parts are open
 abbrev pub unless_at : (none : Bool) → ℕ → ℕ
@@ -95,14 +107,18 @@ unless_at false more = 0
 abbrev pub unless_open : (active more : ℕ) → ℕ
 unless_open active more = unless_at (active == 0) more
 
--- a tally, and that of a piece that ran apart and of which no counted part is open: where some are open here, those of the piece
+-- a tally, and that of a piece that ran apart and of which no counted part is open: where some are open here, those of
+-- the piece
 -- lie in them, and its sum is left out
 abbrev pub joined_tally : Tally → Tally → Tally
 joined_tally t u = record { sum = t.sum + unless_open t.active u.sum; active = t.active; began = t.began }
 
--- a piece that ran apart is told nothing of what is open round it; its tally is then joined on, as that of further events of the block
+-- a piece that ran apart is told nothing of what is open round it; its tally is then joined on, as that of further
+-- events of the block
 -- that runs
 abbrev pub PiecesTally : Type 0
 PiecesTally =
-    (f : Tree → ℕ) (read there : Reading) (picks : Mark → Bool) (busy : ℕ) (os : List Open) (es fs : List Event) (t u : Tally)
-    → Counts f read picks busy os es t → Counts f there picks 0 [] fs u → Counts f read picks busy os (es ++ fs) (joined_tally t u)
+    (f : Tree → ℕ) (read there : Reading) (picks : Mark → Bool) (busy : ℕ) (os : List Open) (es fs : List Event)
+    (t u : Tally)
+    → Counts f read picks busy os es t → Counts f there picks 0 [] fs u
+    → Counts f read picks busy os (es ++ fs) (joined_tally t u)

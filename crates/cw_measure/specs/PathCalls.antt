@@ -13,8 +13,12 @@ EndsWithin old new burden = Fits (strand_weight old) burden → strand_weight ne
 
 -- the block that runs has a way of this weight into a child that has ended
 abbrev pub Lengthens : BurdenedPath → BurdenedPath → (first : Bool) → (longest : ℕ) → Type 0
-Lengthens old new first longest = strand_weight new ≡ record { now = old.weight; blocks = lengthened first longest old.weight (strand_weight old).blocks }
+Lengthens old new first longest =
+    strand_weight new
+    ≡ record { now = old.weight; blocks = lengthened first longest old.weight (strand_weight old).blocks }
 
 -- a piece is joined on, where its paths fit behind the path so far
 abbrev pub AppendsWithin : BurdenedPath → (piece : BurdenedPath) → BurdenedPath → (first : Bool) → Type 0
-AppendsWithin old piece new first = FitsPiece (strand_weight piece) (strand_weight old) → strand_weight new ≡ appends first (strand_weight piece) (strand_weight old)
+AppendsWithin old piece new first =
+    FitsPiece (strand_weight piece) (strand_weight old)
+    → strand_weight new ≡ appends first (strand_weight piece) (strand_weight old)

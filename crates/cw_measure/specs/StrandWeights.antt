@@ -25,7 +25,8 @@ goes_on k v = record { now = v.now + k; blocks = v.blocks }
 -- the path has gone on by the instructions since the count that was noted, where its weight fits
 abbrev pub HasGoneOn : BurdenedPath → BurdenedPath → (count : ℕ) → Type 0
 HasGoneOn old new count =
-    old.noted ≤ count → old.weight + (count - old.noted) < 2 ^ 128 → strand_weight new ≡ goes_on (count - old.noted) (strand_weight old)
+    old.noted ≤ count → old.weight + (count - old.noted) < 2 ^ 128
+    → strand_weight new ≡ goes_on (count - old.noted) (strand_weight old)
 
 -- a block's first spawn since its last join, and a further one
 abbrev pub begins : StrandWeight → StrandWeight
@@ -48,7 +49,9 @@ ends burden v = at v.now v.blocks
   where
     at : ℕ → List BurdenedBlock → StrandWeight
     at n [] = record { now = n; blocks = [] }
-    at n (b ∷ bs) = record { now = b.saved + burden; blocks = record { longest = max b.longest (b.saved + n); saved = b.saved } ∷ bs }
+    at n (b ∷ bs) =
+        record
+        { now = b.saved + burden; blocks = record { longest = max b.longest (b.saved + n); saved = b.saved } ∷ bs }
 
 -- the block joins
 abbrev pub joins : StrandWeight → StrandWeight
@@ -58,7 +61,8 @@ joins v = at v.now v.blocks
     at n [] = record { now = n; blocks = [] }
     at n (b ∷ bs) = record { now = max b.longest n; blocks = bs }
 
--- a piece of the block that runs is joined on, of which nothing is open: its way into a child lies behind the path so far
+-- a piece of the block that runs is joined on, of which nothing is open: its way into a child lies behind the path so
+-- far
 abbrev pub lengthened : (first : Bool) → (longest now : ℕ) → List BurdenedBlock → List BurdenedBlock
 lengthened true l n bs = record { longest = l; saved = n } ∷ bs
 lengthened false l n [] = []
@@ -66,7 +70,8 @@ lengthened false l n (b ∷ bs) = record { longest = max b.longest l; saved = b.
 
 abbrev pub appends_at : (first : Bool) → (now : ℕ) → List BurdenedBlock → StrandWeight → StrandWeight
 appends_at first now [] v = goes_on now v
-appends_at first now (p ∷ ps) v = record { now = v.now + now; blocks = lengthened first (v.now + p.longest) v.now v.blocks }
+appends_at first now (p ∷ ps) v =
+    record { now = v.now + now; blocks = lengthened first (v.now + p.longest) v.now v.blocks }
 
 abbrev pub appends : (first : Bool) → (piece v : StrandWeight) → StrandWeight
 appends first piece v = appends_at first piece.now piece.blocks v
@@ -99,7 +104,8 @@ RestsOn below L [] = ⊥
 RestsOn below (Straight n) (b ∷ bs) = (b.longest ≡ 0) × (b.saved ≡ n) × below bs
 RestsOn below (Split l n) (b ∷ bs) = (b.longest ≡ l) × (b.saved ≡ n) × below bs
 
-abbrev pub LiesUnder : (spawned : Bool) → (below : List BurdenedBlock → Type 0) → BlockWeight → List BurdenedBlock → Type 0
+abbrev pub LiesUnder : (spawned : Bool) → (below : List BurdenedBlock → Type 0) → BlockWeight → List BurdenedBlock
+    → Type 0
 LiesUnder true below L bs = RestsOn below L bs
 LiesUnder false below L bs = StandsOn below L bs
 
@@ -129,13 +135,15 @@ NotesWeight old new count =
 
 abbrev pub SpawnsWeight : BurdenedPath → BurdenedPath → (count : ℕ) → (first : Bool) → Type 0
 SpawnsWeight old new count first =
-    (burden : ℕ) (mark : Option Mark) (os : List Open) (es fs : List Event) → Since old.noted count es fs → FitsRun burden os (es ++ fs)
+    (burden : ℕ) (mark : Option Mark) (os : List Open) (es fs : List Event) → Since old.noted count es fs
+    → FitsRun burden os (es ++ fs)
     → has_spawned es ≡ not first → TellsWeight burden os es old → TellsWeight burden (in_fork mark (es ++ fs) os) [] new
 
 abbrev pub EndsChildWeight : BurdenedPath → BurdenedPath → (count burden : ℕ) → Type 0
 EndsChildWeight old new count burden =
     (o : Open) (os : List Open) (es fs : List Event) → Since old.noted count es fs → FitsRun burden (o ∷ os) (es ++ fs)
-    → o.spawned ≡ true → has_spawned es ≡ false → TellsWeight burden (o ∷ os) es old → TellsWeight burden os (closed o (es ++ fs)) new
+    → o.spawned ≡ true → has_spawned es ≡ false → TellsWeight burden (o ∷ os) es old
+    → TellsWeight burden os (closed o (es ++ fs)) new
 
 abbrev pub JoinsWeight : BurdenedPath → BurdenedPath → (count : ℕ) → Type 0
 JoinsWeight old new count =
@@ -145,15 +153,20 @@ JoinsWeight old new count =
 -- a piece of the block that runs, which ran apart and has no join, is joined on
 abbrev pub AppendsWeight : BurdenedPath → (piece : BurdenedPath) → BurdenedPath → (first : Bool) → Type 0
 AppendsWeight old piece new first =
-    (burden : ℕ) (os : List Open) (es fs : List Event) → has_spawned es ≡ not first → no_joins fs ≡ true → work_in os (es ++ fs) < 2 ^ 64
-    → FitsRun burden os (es ++ fs) → TellsWeight burden os es old → TellsWeight burden [] fs piece → TellsWeight burden os (es ++ fs) new
+    (burden : ℕ) (os : List Open) (es fs : List Event) → has_spawned es ≡ not first → no_joins fs ≡ true
+    → work_in os (es ++ fs) < 2 ^ 64
+    → FitsRun burden os (es ++ fs) → TellsWeight burden os es old → TellsWeight burden [] fs piece
+    → TellsWeight burden os (es ++ fs) new
 
 -- parts in series begin and end without a call, once the instructions so far are noted
 pub record SeriesNeedNoCall (burden : ℕ) (path : BurdenedPath) : Type 0 where
-  pub begins : (mark : Option Mark) (os : List Open) (es : List Event) → TellsWeight burden os es path → TellsWeight burden (in_series mark es os) [] path
-  pub ends : (o : Open) (os : List Open) (es : List Event) → o.spawned ≡ false → has_spawned es ≡ false → TellsWeight burden (o ∷ os) es path → TellsWeight burden os (closed o es) path
+  pub begins : (mark : Option Mark) (os : List Open) (es : List Event) → TellsWeight burden os es path
+      → TellsWeight burden (in_series mark es os) [] path
+  pub ends : (o : Open) (os : List Open) (es : List Event) → o.spawned ≡ false → has_spawned es ≡ false
+      → TellsWeight burden (o ∷ os) es path → TellsWeight burden os (closed o es) path
 
 -- what a burdened path says at the end of a run
 abbrev pub ReadsWeight : BurdenedPath → (weight : ℕ) → Type 0
 ReadsWeight path weight =
-    (burden : ℕ) (es : List Event) → has_spawned es ≡ false → TellsWeight burden [] es path → weight ≡ burdened_span burden (tree_of es)
+    (burden : ℕ) (es : List Event) → has_spawned es ≡ false → TellsWeight burden [] es path
+    → weight ≡ burdened_span burden (tree_of es)

@@ -5,3 +5,4 @@ pub mod MeterLaws
 pub mod ReadingLaws
 pub mod TableLaws
 pub mod RestLaws
+pub mod InnermostLaws

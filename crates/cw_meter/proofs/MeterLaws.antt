@@ -45,7 +45,7 @@ instructions_need_no_call m count burden tags from os es small light h = record 
 }
 
 -- the parts kept, the innermost last
-reverse_push : (parts : List Part) (p : Part) → reverse (parts ++ p ∷ []) ≡ p ∷ reverse parts
+pub reverse_push : (parts : List Part) (p : Part) → reverse (parts ++ p ∷ []) ≡ p ∷ reverse parts
 reverse_push parts p = reverse-append parts (p ∷ [])
 
 pub parts_pushed : (from : Origin) (tags : Tags) (o : Open) (os : List Open) (p : Part) (old new : List Part) → new ≡ old ++ p ∷ [] → IsPart from tags o os p → AreParts from tags os (reverse old) → AreParts from tags (o ∷ os) (reverse new)

@@ -1,4 +1,5 @@
--- Runs so far whose trees differ only in how they are grouped: a part that joined at its end, and one that had nothing to join.
+-- Runs so far whose trees differ only in how they are grouped: a part that joined at its end, and one that had nothing
+-- to join.
 use Rattle.std.specs.Prelude.{◌≡◌, List, [], ◌∷◌, ◌++◌}
 use Rattle.cw_model.specs.Trees.{Event, parts_of}
 use Rattle.cw_model.specs.TreeLaws.{Regrouped}
@@ -8,7 +9,8 @@ use Rattle.cw_measure.specs.OpenParts.{Open, has_spawned, no_joins}
 abbrev pub SameParts : List Event → List Event → Type 0
 SameParts es fs = Regrouped (parts_of es).0 (parts_of fs).0 × Regrouped (parts_of es).1 (parts_of fs).1
 
--- events of a block: with whatever comes after them, the parts of their trees differ only so; both have spawned since their last join, or
+-- events of a block: with whatever comes after them, the parts of their trees differ only so; both have spawned since
+-- their last join, or
 -- neither has, and so both have joined or neither
 pub record AreAlike (es fs : List Event) : Type 0 where
   pub parts : (more : List Event) → SameParts (es ++ more) (fs ++ more)
@@ -20,4 +22,5 @@ abbrev pub AreOpenAlike : List Open → List Open → Type 0
 AreOpenAlike [] [] = Unit {0}
 AreOpenAlike [] (p ∷ ps) = ⊥
 AreOpenAlike (o ∷ os) [] = ⊥
-AreOpenAlike (o ∷ os) (p ∷ ps) = (o.spawned ≡ p.spawned) × (o.mark ≡ p.mark) × AreAlike o.outer p.outer × AreOpenAlike os ps
+AreOpenAlike (o ∷ os) (p ∷ ps) =
+    (o.spawned ≡ p.spawned) × (o.mark ≡ p.mark) × AreAlike o.outer p.outer × AreOpenAlike os ps

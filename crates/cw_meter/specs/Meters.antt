@@ -1,5 +1,5 @@
 -- What a meter tells of a run so far, and what each call on it does.
-use Rattle.std.specs.Prelude.{◌≡◌, ℕ, ◌+◌, ◌*◌, ◌≤◌, ◌<◌, Bool, true, false, List, [], ◌∷◌, ◌++◌, length, reverse, Option, Some}
+use Rattle.std.specs.Prelude.{◌≡◌, ℕ, ◌+◌, ◌*◌, ◌≤◌, ◌<◌, Bool, true, false, List, [], ◌∷◌, ◌++◌, length, reverse, Option, Some, None}
 use Rattle.cw_model.specs.declared.limits.TheConstants.{MOST_LIMIT, MOST_BURDEN}
 use Rattle.cw_model.specs.Trees.{Mark, Execution, Event, Work, Join}
 use Rattle.cw_measure.specs.OpenParts.{Open, closed, has_spawned, no_joins, Since, work_in}
@@ -16,7 +16,8 @@ use Rattle.cw_meter.specs.Alike.{AreAlike, AreOpenAlike}
 use Rattle.cw_meter.specs.Origins.{Origin, Main, Rest, base_of, main_open, given_open}
 use Rattle.cw_meter.specs.Parts.{AreParts}
 
--- the numbers of a run of so many instructions: each part began by an instruction, but for those that were open as the meter began
+-- the numbers of a run of so many instructions: each part began by an instruction, but for those that were open as the
+-- meter began
 pub record IsCounted (burden : ℕ) (from : Origin) (count : ℕ) (os : List Open) (es : List Event) : Type 0 where
   pub work : work_in os es ≡ count
   pub calls : (site : ℕ) → calls_in site os es ≤ count + given_open from
@@ -28,14 +29,16 @@ abbrev pub nothing_open : ℕ → ℕ
 nothing_open number = 0
 
 -- a region table tells of a run so far, whose paths are read as the other tables read them
-pub record TellsTags (burden : ℕ) (tags : Tags) (from : Origin) (os : List Open) (es : List Event) (table : RegionTable) : Type 0 where
+pub record TellsTags (burden : ℕ) (tags : Tags) (from : Origin) (os : List Open) (es : List Event) (table : RegionTable)
+    : Type 0 where
   pub along : Readings burden
   pub path_is : (qs : List Open) (fs : List Event) → along.path qs fs ≡ path_in 0 (base_of from) qs fs
   pub burdened_is : (qs : List Open) (fs : List Event) → along.burdened qs fs ≡ weight_in burden qs fs
   pub tells : TellsRegions burden along tags nothing_open os es table
 
 -- the tables have been told of all of a run so far
-pub record AreTold (burden : ℕ) (tags : Tags) (from : Origin) (count : ℕ) (os : List Open) (es : List Event) (t : Tables) : Type 0 where
+pub record AreTold (burden : ℕ) (tags : Tags) (from : Origin) (count : ℕ) (os : List Open) (es : List Event)
+    (t : Tables) : Type 0 where
   pub sites : sites.Tells (base_of from) nothing_open os es t.sites
   pub path : TellsWeight burden os es t.path
   pub regions : TellsTags burden tags from os es t.regions
@@ -44,7 +47,8 @@ pub record AreTold (burden : ℕ) (tags : Tags) (from : Origin) (count : ℕ) (o
   pub spawned_is : t.spawned ≡ has_spawned es
 
 -- the same, but that what came last in the block need not have been told
-pub record TablesTell (burden : ℕ) (tags : Tags) (from : Origin) (count : ℕ) (os : List Open) (es : List Event) (t : Tables) : Type 0 where
+pub record TablesTell (burden : ℕ) (tags : Tags) (from : Origin) (count : ℕ) (os : List Open) (es : List Event)
+    (t : Tables) : Type 0 where
   pub told : List Event
   pub since : List Event
   pub all : told ++ since ≡ es
@@ -57,7 +61,8 @@ pub record TablesTell (burden : ℕ) (tags : Tags) (from : Origin) (count : ℕ)
   pub spawned_is : t.spawned ≡ has_spawned es
 
 -- a meter tells of a run so far: its tables tell of one that is alike, and the parts that are open there are kept
-pub record Meters (burden : ℕ) (tags : Tags) (from : Origin) (count : ℕ) (os : List Open) (es : List Event) (m : Meter) : Type 0 where
+pub record Meters (burden : ℕ) (tags : Tags) (from : Origin) (count : ℕ) (os : List Open) (es : List Event) (m : Meter)
+    : Type 0 where
   pub told_open : List Open
   pub told : List Event
   pub open_alike : AreOpenAlike os told_open
@@ -78,9 +83,11 @@ abbrev pub begun : (spawned : Bool) → Option Mark → List Event → List Open
 begun spawned mark es os = record { spawned = spawned; mark = mark; outer = ticked es } ∷ os
 
 -- what a meter tells goes from one run so far to another, where an instruction more is within the greatest limit
-abbrev pub Tells : (old new : Meter) → (count : ℕ) → (burden : ℕ) → Tags → (from : Origin) → (os os' : List Open) → (es es' : List Event) → Type 0
+abbrev pub Tells : (old new : Meter) → (count : ℕ) → (burden : ℕ) → Tags → (from : Origin) → (os os' : List Open)
+    → (es es' : List Event) → Type 0
 Tells old new count burden tags from os os' es es' =
-    count < MOST_LIMIT → burden ≤ MOST_BURDEN → Meters burden tags from count os es old → Meters burden tags from (count + 1) os' es' new
+    count < MOST_LIMIT → burden ≤ MOST_BURDEN → Meters burden tags from count os es old
+    → Meters burden tags from (count + 1) os' es' new
 
 -- the meter of a rest that begins in an invocation of this site, whatever else is open round it
 abbrev pub StartsRest : (burden site : ℕ) → Meter → Type 0
@@ -93,7 +100,8 @@ Starts burden m = (tags : Tags) → Meters burden tags Main 0 main_open [] m
 -- a call, a scope, a cut, or half of a loop begins
 abbrev pub Begins : (old new : Meter) → (count : ℕ) → (spawned : Bool) → Option Mark → Type 0
 Begins old new count spawned mark =
-    (burden : ℕ) (tags : Tags) (from : Origin) (os : List Open) (es : List Event) → Tells old new count burden tags from os (begun spawned mark es os) es []
+    (burden : ℕ) (tags : Tags) (from : Origin) (os : List Open) (es : List Event)
+    → Tells old new count burden tags from os (begun spawned mark es os) es []
 
 -- a region begins
 abbrev pub BeginsRegion : (old new : Meter) → (count tag : ℕ) → Type 0
@@ -110,25 +118,43 @@ Ends old new count =
 -- a call joins and ends, by an instruction of its own
 abbrev pub Returns : (old new : Meter) → (count : ℕ) → Type 0
 Returns old new count =
-    (burden : ℕ) (tags : Tags) (from : Origin) (o : Open) (os : List Open) (es : List Event) → Tells old new count burden tags from (o ∷ os) os es (closed o (synced es))
+    (burden : ℕ) (tags : Tags) (from : Origin) (o : Open) (os : List Open) (es : List Event)
+    → Tells old new count burden tags from (o ∷ os) os es (closed o (synced es))
 
 -- the block that runs joins
 abbrev pub Syncs : (old new : Meter) → (count : ℕ) → Type 0
-Syncs old new count = (burden : ℕ) (tags : Tags) (from : Origin) (os : List Open) (es : List Event) → Tells old new count burden tags from os os es (synced es)
+Syncs old new count =
+    (burden : ℕ) (tags : Tags) (from : Origin) (os : List Open) (es : List Event)
+    → Tells old new count burden tags from os os es (synced es)
 
 -- an instruction that begins, ends and joins nothing needs no call
 abbrev pub InstructionsNeedNoCall : Type 0
-InstructionsNeedNoCall = (m : Meter) (count burden : ℕ) (tags : Tags) (from : Origin) (os : List Open) (es : List Event) → Tells m m count burden tags from os os es (ticked es)
+InstructionsNeedNoCall =
+    (m : Meter) (count burden : ℕ) (tags : Tags) (from : Origin) (os : List Open) (es : List Event)
+    → Tells m m count burden tags from os os es (ticked es)
 
--- the rest of the block that runs was run apart, up to its join, by a strand with a meter of its own, as so many instructions: what is
+-- the rest of the block that runs was run apart, up to its join, by a strand with a meter of its own, as so many
+-- instructions: what is
 -- told goes on by the rest's events and instructions
 abbrev pub Rests : (old rest new : Meter) → (count cost : ℕ) → Type 0
 Rests old rest new count cost =
-    (burden : ℕ) (tags : Tags) (from : Origin) (os : List Open) (es fs : List Event) → count + cost ≤ MOST_LIMIT → burden ≤ MOST_BURDEN → no_joins fs ≡ true
+    (burden : ℕ) (tags : Tags) (from : Origin) (os : List Open) (es fs : List Event) → count + cost ≤ MOST_LIMIT
+    → burden ≤ MOST_BURDEN → no_joins fs ≡ true
     → Meters burden tags from count os es old → Meters burden tags (Rest (here_in (base_of from) os)) cost [] fs rest
     → Meters burden tags from (count + cost) os (es ++ fs) new
 
 -- the site of the innermost invocation, which a rest of the block that runs is told
 abbrev pub IsHere : Meter → (site : ℕ) → Type 0
 IsHere m site =
-    (burden : ℕ) (tags : Tags) (from : Origin) (count : ℕ) (os : List Open) (es : List Event) → Meters burden tags from count os es m → site ≡ here_in (base_of from) os
+    (burden : ℕ) (tags : Tags) (from : Origin) (count : ℕ) (os : List Open) (es : List Event)
+    → Meters burden tags from count os es m → site ≡ here_in (base_of from) os
+
+-- whether the innermost of the open parts was spawned; none where nothing is open
+abbrev pub innermost : List Open → Option Bool
+innermost [] = None
+innermost (o ∷ os) = Some o.spawned
+
+abbrev pub IsInnermost : Meter → Option Bool → Type 0
+IsInnermost m spawned =
+    (burden : ℕ) (tags : Tags) (from : Origin) (count : ℕ) (os : List Open) (es : List Event)
+    → Meters burden tags from count os es m → spawned ≡ innermost os

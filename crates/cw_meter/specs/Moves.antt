@@ -28,12 +28,14 @@ pub record Stacks (old new : Meter) (kind : PartKind) : Type 0 where
 -- the block that runs joins
 abbrev pub JoinsBlock : (old new : Meter) → (count : ℕ) → Type 0
 JoinsBlock old new count =
-    (burden : ℕ) (tags : Tags) (from : Origin) (os : List Open) (es : List Event) → TellOf old.tables new.tables count burden tags from os os es (es ++ Join ∷ [])
+    (burden : ℕ) (tags : Tags) (from : Origin) (os : List Open) (es : List Event)
+    → TellOf old.tables new.tables count burden tags from os os es (es ++ Join ∷ [])
 
 -- the innermost part ends, whose block has joined, and is kept no more
 abbrev pub ClosesPart : (old new : Meter) → (count : ℕ) → Type 0
 ClosesPart old new count =
-    (burden : ℕ) (tags : Tags) (from : Origin) (o : Open) (os : List Open) (es : List Event) → old.tables.spawned ≡ false
+    (burden : ℕ) (tags : Tags) (from : Origin) (o : Open) (os : List Open) (es : List Event)
+    → old.tables.spawned ≡ false
     → AreParts from tags (o ∷ os) (reverse old.parts.items) → count ≤ MOST_LIMIT → burden ≤ MOST_BURDEN
     → TablesTell burden tags from count (o ∷ os) es old.tables
     → TablesTell burden tags from count os (closed o es) new.tables × AreParts from tags os (reverse new.parts.items)

@@ -3,7 +3,8 @@ use Rattle.std.specs.Prelude.{ℕ, false, List, [], ◌∷◌, Some}
 use Rattle.cw_model.specs.Trees.{Invocation}
 use Rattle.cw_measure.specs.OpenParts.{Open}
 
--- with the call of main by the run itself, or with the rest of a block that another strand handed out, in an invocation of this site
+-- with the call of main by the run itself, or with the rest of a block that another strand handed out, in an invocation
+-- of this site
 pub data Origin : Type 0 where
   Main : Origin
   Rest : (site : ℕ) → Origin

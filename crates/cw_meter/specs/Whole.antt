@@ -29,7 +29,8 @@ pub record AreSiteRows (count : ℕ) (t : Tree) (rows : List SiteRow) : Type 0 w
 -- the rows of tags, by their places, are those of a tree
 pub record AreRegionRows (burden : ℕ) (tags : List Name) (t : Tree) (rows : List RegionRow) : Type 0 where
   pub as_many : length rows ≡ length tags
-  pub are : (k : ℕ) (row : RegionRow) (tag : Name) → slice_get rows k ≡ Some row → slice_get tags k ≡ Some tag → regions.IsRow row (region_row burden tag t)
+  pub are : (k : ℕ) (row : RegionRow) (tag : Name) → slice_get rows k ≡ Some row → slice_get tags k ≡ Some tag
+      → regions.IsRow row (region_row burden tag t)
 
 -- these tags have these names
 pub record HasNames (tags : Tags) (names : List Name) : Type 0 where
@@ -46,5 +47,6 @@ pub record AreMeasures (burden count : ℕ) (names : List Name) (t : Tree) (all 
 abbrev pub Reads : Meter → (count sites tags : ℕ) → Measures → Type 0
 Reads m count sites tags all =
     (burden : ℕ) (by_number : Tags) (names : List Name) (es : List Event) → count ≤ MOST_LIMIT → burden ≤ MOST_BURDEN
-    → HasNames by_number names → length names ≡ tags → Meters burden by_number Main count [] (Series (Marked (Invocation 0) (tree_of es)) ∷ []) m
+    → HasNames by_number names → length names ≡ tags
+    → Meters burden by_number Main count [] (Series (Marked (Invocation 0) (tree_of es)) ∷ []) m
     → AreMeasures burden sites names (normal (Marked (Invocation 0) (tree_of es))) all

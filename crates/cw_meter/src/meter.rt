@@ -2,7 +2,8 @@
 
 ghost use Rattle.std.specs.Prelude.{◌≡◌, Some, None, true, false, IfOk, OnOk};
 ghost use Rattle.cw_model.specs.Trees.{Invocation};
-ghost use Rattle.cw_meter.specs.Meters.{Starts, StartsRest, Begins, BeginsRegion, Ends, IsHere, Rests, Returns, Syncs};
+ghost use Rattle.cw_meter.specs.Meters.{Starts, StartsRest, Begins, BeginsRegion, Ends, IsHere, IsInnermost, Rests, Returns, Syncs};
+ghost use Rattle.cw_meter.specs.Parts as kept;
 ghost use Rattle.cw_meter.specs.Moves.{ClosesPart, JoinsBlock, Stacks};
 ghost use Rattle.cw_meter.specs.Whole.{Reads};
 
@@ -42,6 +43,18 @@ pub struct Meter {
     pub(crate) parts: Vec<Part>,
 }
 
+// Whether a part of this kind was spawned.
+#[inline(always)]
+fn is_spawned(kind: PartKind) -> bool
+    ensures { result ≡ kept.is_spawned kind }
+{
+    match kind {
+        PartKind::SpawnedCall => true,
+        PartKind::Half => true,
+        _ => false,
+    }
+}
+
 impl Meter {
     /// The meter of a run that begins, in the call of `main` by the run itself; `burden` is the cost of a spawn in
     /// instructions. An error where memory runs out.
@@ -75,6 +88,18 @@ impl Meter {
         ensures { IsHere self.now result }
     {
         self.tables.sites.here
+    }
+
+    /// Whether the innermost open part was spawned; none where nothing is open, as in a rest outside of each call and
+    /// sync block that it has begun.
+    #[inline(always)]
+    pub fn innermost(&self) -> Option<bool>
+        ensures { IsInnermost self.now result }
+    {
+        match self.parts.last() {
+            Some(part) => Some(is_spawned(part.kind)),
+            None => None,
+        }
     }
 
     /// Takes in, after `count` instructions, what the meter of the rest of the block that runs has counted in `cost`
@@ -215,7 +240,8 @@ impl Meter {
         sites: usize,
         tags: usize,
     ) -> Result<Measures, AllocError>
-        ensures { IfOk result (λ all. Reads self count sites tags all) }
+        ensures reads { IfOk result (λ all. Reads self count sites tags all) }
+        ensures counted { IfOk result (λ all. all.measure.work ≡ count) }
     {
         let mut tables = self.tables;
         tables.settle(count)?;

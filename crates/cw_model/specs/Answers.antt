@@ -28,7 +28,8 @@ int_given None = pos 0
 -- what an outcome of main comes to
 abbrev pub answer_of : List Reducer → Outcome Returned → Answer
 answer_of reducers (Done returned left t) =
-    Ended (int_given returned.0) t.lines (map (λ r. sum_to r.name t.additions) reducers) (normal (Marked (Invocation 0) (tree_of t.events)))
+    Ended (int_given returned.0) t.lines (map (λ r. sum_to r.name t.additions) reducers)
+    (normal (Marked (Invocation 0) (tree_of t.events)))
 answer_of reducers (Trapped trap line lines) = TrappedAt trap line lines
 answer_of reducers Over = OverLimit
 
@@ -46,4 +47,5 @@ main_name = 109 ∷ 97 ∷ 105 ∷ 110 ∷ []
 unfoldable pub serial_answer : Program → List ℤ → ℕ → Answer
 serial_answer program args limit =
     let main = function_named main_name program.functions in
-    answer_of program.reducers (call (suc limit) 0 program.functions Deeper main (main_frame main.params args no_frame) main.line limit)
+    answer_of program.reducers
+    (call (suc limit) 0 program.functions Deeper main (main_frame main.params args no_frame) main.line limit)

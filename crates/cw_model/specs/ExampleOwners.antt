@@ -6,7 +6,8 @@ use Rattle.cw_model.specs.Ownership.{ownership_faults}
 use Rattle.cw_model.specs.Examples.{IsAccepted, BreaksOwnership}
 use Rattle.cw_model.specs.ExamplePrograms.{a, b, f, g, h, i, j, l, n, p, q, r, s, t, v, x, y, z, main, number, plus, int_param, array_param, int_function, void_function, of_functions, on_line, block, give, call, call_into, spawn, spawn_into, main_of, alone, same_function, with_sum, followed_by, in_every_block, once_in_every_block}
 
--- int f(int v) { return v; } int g(int a[]) { return 0; } int q(int v, int b[]) { return v; } void h(int a[], int b[]) { } before main
+-- int f(int v) { return v; } int g(int a[]) { return 0; } int q(int v, int b[]) { return v; } void h(int a[], int b[])
+-- { } before main
 abbrev pub with_callees : Block → Program
 with_callees body = with_sum (
     same_function
@@ -17,7 +18,9 @@ with_callees body = with_sum (
 
 -- a main of two integers and two arrays, and then these statements
 abbrev pub with_names : Block → Program
-with_names body = with_callees (followed_by (on_line 1 (Declare x (number 0) ∷ Declare y (number 0) ∷ DeclareArray a (number 2) ∷ DeclareArray b (number 2) ∷ [])) body)
+with_names body =
+    with_callees (followed_by (on_line 1 (Declare x (number 0) ∷ Declare y (number 0) ∷ DeclareArray a (number 2)
+    ∷ DeclareArray b (number 2) ∷ [])) body)
 
 -- a sync, and the end
 abbrev pub joined_at : ℕ → Block
@@ -25,7 +28,9 @@ joined_at line = on_line line (Sync ∷ give (number 0) ∷ [])
 
 -- a spawn takes x, another one a, and then comes a statement on line 2
 abbrev pub beside_spawns : Stmt → Program
-beside_spawns st = with_names (Then 1 (spawn_into x 1 f (number 1 ∷ [])) (Then 1 (spawn 2 g (Variable a ∷ [])) (Then 2 st (joined_at 3))))
+beside_spawns st =
+    with_names
+    (Then 1 (spawn_into x 1 f (number 1 ∷ [])) (Then 1 (spawn 2 g (Variable a ∷ [])) (Then 2 st (joined_at 3))))
 
 -- its ownership is refused
 abbrev pub IsRefused : Stmt → Type 0
@@ -71,14 +76,18 @@ pub record TakenExamples : Type 0 where
   pub element : IsRefused (Print (Element a (number 0)))
   pub length : IsRefused (Print (Length a))
   pub in_each_block :
-      BreaksOwnership (with_names (Then 1 (spawn_into x 1 f (number 1 ∷ [])) (once_in_every_block (λ line. Print (Variable x)) (joined_at 17))))
+      BreaksOwnership (with_names (Then 1 (spawn_into x 1 f (number 1 ∷ []))
+      (once_in_every_block (λ line. Print (Variable x)) (joined_at 17))))
       (3 ∷ 5 ∷ 6 ∷ 8 ∷ 10 ∷ 12 ∷ 14 ∷ 16 ∷ [])
   -- nothing but a join frees it
   pub after_each_block :
-      BreaksOwnership (with_names (Then 1 (spawn_into x 1 f (number 1 ∷ [])) (once_in_every_block (λ line. Print (number 1)) (Then 17 (Print (Variable x)) (joined_at 18)))))
+      BreaksOwnership (with_names (Then 1 (spawn_into x 1 f (number 1 ∷ []))
+      (once_in_every_block (λ line. Print (number 1)) (Then 17 (Print (Variable x)) (joined_at 18)))))
       (17 ∷ [])
   pub two_lines_later :
-      BreaksOwnership (with_names (Then 1 (spawn_into x 1 f (number 1 ∷ [])) (Then 2 (Declare z (number 1)) (Then 3 (call_into z 2 f (Variable z ∷ [])) (Then 4 (Print (Variable x)) (joined_at 5))))))
+      BreaksOwnership (with_names (Then 1 (spawn_into x 1 f (number 1 ∷ []))
+      (Then 2 (Declare z (number 1))
+      (Then 3 (call_into z 2 f (Variable z ∷ [])) (Then 4 (Print (Variable x)) (joined_at 5))))))
       (4 ∷ [])
   -- what only loops are lowered to
   pub lowered_call : ownership_faults (alone (Start Plain h [] ∷ [])) ≡ 1 ∷ []
@@ -90,7 +99,8 @@ before_print st = with_names (Then 2 st (Then 3 (Print (Variable x)) (joined_at 
 
 -- a spawn takes x, then comes a statement on line 2, and a print of x on line 3
 abbrev pub between : Stmt → Program
-between st = with_names (Then 1 (spawn_into x 1 f (number 1 ∷ [])) (Then 2 st (Then 3 (Print (Variable x)) (joined_at 4))))
+between st =
+    with_names (Then 1 (spawn_into x 1 f (number 1 ∷ [])) (Then 2 st (Then 3 (Print (Variable x)) (joined_at 4))))
 
 -- a spawn into x
 abbrev pub takes_x : Block
@@ -110,23 +120,29 @@ takes_its_own_array line = on_line line (DeclareArray z (number 1) ∷ spawn 1 g
 
 -- a spawn takes x, then comes a statement on line 2 around a sync and, on line 5, a print of x
 abbrev pub around_print : (Block → Stmt) → Program
-around_print around = with_names (Then 1 (spawn_into x 1 f (number 1 ∷ [])) (Then 2 (around (Then 4 Sync (Then 5 (Print (Variable x)) End))) (joined_at 6)))
+around_print around =
+    with_names (Then 1 (spawn_into x 1 f (number 1 ∷ []))
+    (Then 2 (around (Then 4 Sync (Then 5 (Print (Variable x)) End))) (joined_at 6)))
 
 -- what takes a name, and what frees it
 pub record FreedExamples : Type 0 where
   pub spawn_takes_its_target : BreaksOwnership (before_print (spawn_into x 1 f (Variable x ∷ []))) (3 ∷ [])
   pub spawn_takes_no_integer : IsAccepted (before_print (spawn_into y 1 f (Variable x ∷ [])))
   pub call_gives_back :
-      IsAccepted (with_names (on_line 2 (call 1 h (Variable a ∷ Variable b ∷ []) ∷ call_into x 2 g (Variable a ∷ []) ∷ Print (plus (Variable x) (Element b (number 0))) ∷ give (number 0) ∷ [])))
+      IsAccepted (with_names (on_line 2 (call 1 h (Variable a ∷ Variable b ∷ []) ∷ call_into x 2 g (Variable a ∷ [])
+      ∷ Print (plus (Variable x) (Element b (number 0))) ∷ give (number 0) ∷ [])))
   pub second_argument_taken :
-      BreaksOwnership (with_names (Then 2 (spawn 1 q (number 1 ∷ Variable a ∷ [])) (Then 3 (Print (Length a)) (joined_at 4)))) (3 ∷ [])
+      BreaksOwnership
+      (with_names (Then 2 (spawn 1 q (number 1 ∷ Variable a ∷ [])) (Then 3 (Print (Length a)) (joined_at 4))))
+      (3 ∷ [])
   pub one_array_twice :
       BreaksOwnership (with_names (Then 2 (call 1 h (Variable a ∷ Variable a ∷ [])) (joined_at 3))) (2 ∷ [])
   pub over_twice :
       BreaksOwnership (with_names (Then 2 (For i i i (number 0) (number 2) 64 (a ∷ a ∷ []) End) (joined_at 3))) (2 ∷ [])
   pub sync : IsAccepted (between Sync)
   pub sync_of_an_array :
-      IsAccepted (with_names (on_line 2 (spawn 1 g (Variable a ∷ []) ∷ Sync ∷ AssignElement a (number 0) (number 1) ∷ give (number 0) ∷ [])))
+      IsAccepted (with_names (on_line 2
+      (spawn 1 g (Variable a ∷ []) ∷ Sync ∷ AssignElement a (number 0) (number 1) ∷ give (number 0) ∷ [])))
   -- a sync block joins its own spawns alone
   pub sync_in_scope : BreaksOwnership (between (Scope syncs)) (3 ∷ [])
   pub sync_in_cut : BreaksOwnership (between (Cut a (number 0) l r syncs)) (3 ∷ [])
@@ -146,9 +162,13 @@ pub record FreedExamples : Type 0 where
   pub spawn_in_cut : IsAccepted (before_print (Cut a (number 0) l r takes_x))
   pub spawn_in_region : IsAccepted (before_print (Region t takes_x))
   pub spawn_and_sync_in_scope :
-      IsAccepted (with_names (on_line 2 (Scope (on_line 2 (spawn_into x 1 f (number 1 ∷ []) ∷ Sync ∷ Print (Variable x) ∷ [])) ∷ give (number 0) ∷ [])))
+      IsAccepted (with_names (on_line 2 (Scope
+      (on_line 2 (spawn_into x 1 f (number 1 ∷ []) ∷ Sync ∷ Print (Variable x) ∷ []))
+      ∷ give (number 0) ∷ [])))
   pub spawn_in_the_scope_around :
-      BreaksOwnership (with_names (Then 2 (Scope (on_line 3 (spawn_into x 1 f (number 1 ∷ []) ∷ Scope (on_line 4 (Sync ∷ Print (Variable x) ∷ [])) ∷ []))) (joined_at 5)))
+      BreaksOwnership (with_names (Then 2 (Scope (on_line 3
+      (spawn_into x 1 f (number 1 ∷ []) ∷ Scope (on_line 4 (Sync ∷ Print (Variable x) ∷ [])) ∷ [])))
+      (joined_at 5)))
       (4 ∷ [])
   -- a missing else is an empty branch
   pub sync_in_if : BreaksOwnership (between (If (number 1) syncs)) (3 ∷ [])
@@ -160,13 +180,16 @@ pub record FreedExamples : Type 0 where
   pub spawn_in_one_branch : BreaksOwnership (before_print (IfElse (number 1) takes_x End)) (3 ∷ [])
   pub spawn_in_the_other_branch : BreaksOwnership (before_print (IfElse (number 1) End takes_x)) (3 ∷ [])
   pub spawn_after_a_print_in_if :
-      BreaksOwnership (before_print (If (number 1) (on_line 2 (Print (number 1) ∷ spawn_into x 1 f (number 1 ∷ []) ∷ [])))) (3 ∷ [])
+      BreaksOwnership
+      (before_print (If (number 1) (on_line 2 (Print (number 1) ∷ spawn_into x 1 f (number 1 ∷ []) ∷ [])))) (3 ∷ [])
   pub spawn_before_a_sync_in_if :
       IsAccepted (before_print (If (number 1) (on_line 2 (spawn_into x 1 f (number 1 ∷ []) ∷ Sync ∷ []))))
   -- the second turn writes what the first one took
   pub spawn_in_while : BreaksOwnership (before_print (While (number 0) takes_x)) (2 ∷ 3 ∷ [])
   pub spawn_into_the_test_of_while :
-      BreaksOwnership (with_names (Then 2 (While (Variable x) (on_line 3 (spawn_into x 1 f (number 1 ∷ []) ∷ []))) (joined_at 4))) (2 ∷ 3 ∷ [])
+      BreaksOwnership
+      (with_names (Then 2 (While (Variable x) (on_line 3 (spawn_into x 1 f (number 1 ∷ []) ∷ []))) (joined_at 4)))
+      (2 ∷ 3 ∷ [])
   -- a branch that surely returns leaves nothing taken
   pub spawn_before_return :
       IsAccepted (before_print (If (number 1) (on_line 2 (spawn_into x 1 f (number 1 ∷ []) ∷ give (number 0) ∷ []))))
@@ -178,24 +201,32 @@ pub record FreedExamples : Type 0 where
   pub own_arrays : BreaksOwnership (with_names (in_every_block takes_its_own_array (joined_at 17))) (3 ∷ 5 ∷ 6 ∷ 8 ∷ [])
   -- a name that is declared again is another name
   pub declared_again :
-      BreaksOwnership (with_names (Then 2 (If (number 1) (Then 2 (Print (number 1)) (takes_its_own 3))) (Then 4 (Declare z (number 0)) (Then 5 (Print (Variable z)) (joined_at 6)))))
+      BreaksOwnership (with_names (Then 2 (If (number 1) (Then 2 (Print (number 1)) (takes_its_own 3)))
+      (Then 4 (Declare z (number 0)) (Then 5 (Print (Variable z)) (joined_at 6)))))
       (3 ∷ [])
   pub own_name_before_return :
-      IsAccepted (with_names (Then 2 (If (number 1) (followed_by (takes_its_own 2) (on_line 2 (give (number 0) ∷ [])))) (joined_at 3)))
+      IsAccepted (with_names
+      (Then 2 (If (number 1) (followed_by (takes_its_own 2) (on_line 2 (give (number 0) ∷ [])))) (joined_at 3)))
   pub body_joins :
       IsAccepted (with_sum (same_function ∷ void_function p [] (takes_its_own 2) ∷ main_of (give (number 0) ∷ []) ∷ []))
   -- at a cut's end its array is free again, and no other
   pub after_cut :
-      IsAccepted (with_names (on_line 2 (Cut a (number 0) l r End ∷ AssignElement a (number 0) (number 1) ∷ give (number 0) ∷ [])))
+      IsAccepted (with_names
+      (on_line 2 (Cut a (number 0) l r End ∷ AssignElement a (number 0) (number 1) ∷ give (number 0) ∷ [])))
   pub in_cut :
-      BreaksOwnership (with_names (Then 2 (Cut a (number 0) l r (on_line 3 (Print (Length a) ∷ []))) (joined_at 4))) (3 ∷ [])
+      BreaksOwnership (with_names (Then 2 (Cut a (number 0) l r (on_line 3 (Print (Length a) ∷ []))) (joined_at 4)))
+      (3 ∷ [])
   pub sync_in_its_cut :
-      BreaksOwnership (with_names (Then 2 (Cut a (number 0) l r (on_line 3 (Sync ∷ Print (Length a) ∷ []))) (joined_at 4))) (3 ∷ [])
+      BreaksOwnership
+      (with_names (Then 2 (Cut a (number 0) l r (on_line 3 (Sync ∷ Print (Length a) ∷ []))) (joined_at 4))) (3 ∷ [])
   -- a cut holds its array for its block alone: what a spawn took before is still taken
   pub after_a_cut_of_a_taken_array :
-      BreaksOwnership (with_names (Then 2 (spawn 1 g (Variable a ∷ [])) (Then 3 (Cut a (number 0) l r End) (Then 4 (Print (Length a)) (joined_at 5))))) (3 ∷ 4 ∷ [])
+      BreaksOwnership (with_names (Then 2 (spawn 1 g (Variable a ∷ []))
+      (Then 3 (Cut a (number 0) l r End) (Then 4 (Print (Length a)) (joined_at 5))))) (3 ∷ 4 ∷ [])
   pub after_an_inner_cut :
-      BreaksOwnership (with_names (Then 2 (Cut a (number 0) l r (Then 3 (Cut b (number 0) n z End) (Then 4 (Print (Length a)) End))) (joined_at 5)))
+      BreaksOwnership (with_names (Then 2
+      (Cut a (number 0) l r (Then 3 (Cut b (number 0) n z End) (Then 4 (Print (Length a)) End)))
+      (joined_at 5)))
       (4 ∷ [])
 
 -- a loop over a on line 2, in whose body stands this statement on line 3; b is not among its arrays
@@ -212,11 +243,15 @@ pub record LoopOwnerExamples : Type 0 where
   pub element_read : IsAccepted (in_loop (Print (Element a (Variable i))))
   pub element_written : IsAccepted (in_loop (AssignElement a (Variable i) (Variable i)))
   pub own_array :
-      IsAccepted (in_loop (Scope (on_line 3 (DeclareArray z (number 1) ∷ AssignElement z (number 0) (Variable i) ∷ Print (plus (Element z (Variable x)) (Element z (plus (number 0) (number 0)))) ∷ AssignElement z (Variable x) (Length z) ∷ []))))
+      IsAccepted (in_loop (Scope (on_line 3 (DeclareArray z (number 1) ∷ AssignElement z (number 0) (Variable i)
+      ∷ Print (plus (Element z (Variable x)) (Element z (plus (number 0) (number 0))))
+      ∷ AssignElement z (Variable x) (Length z) ∷ []))))
   pub own_array_passed :
-      IsAccepted (in_loop (Scope (on_line 3 (DeclareArray z (number 1) ∷ call 1 g (Variable z ∷ []) ∷ Cut z (number 0) l r End ∷ []))))
+      IsAccepted (in_loop (Scope
+      (on_line 3 (DeclareArray z (number 1) ∷ call 1 g (Variable z ∷ []) ∷ Cut z (number 0) l r End ∷ []))))
   pub own_integer_written :
-      IsAccepted (in_loop (Scope (on_line 3 (Declare z (number 1) ∷ Assign z (number 2) ∷ call_into z 1 f (number 1 ∷ []) ∷ []))))
+      IsAccepted (in_loop
+      (Scope (on_line 3 (Declare z (number 1) ∷ Assign z (number 2) ∷ call_into z 1 f (number 1 ∷ []) ∷ []))))
   pub array_not_listed : IsRefusedInLoop (Print (Element b (Variable i)))
   pub array_not_listed_written : IsRefusedInLoop (AssignElement b (Variable i) (number 1))
   pub length : IsRefusedInLoop (Print (Length a))
@@ -227,7 +262,8 @@ pub record LoopOwnerExamples : Type 0 where
   pub next_element : IsRefusedInLoop (Print (Element a (plus (Variable i) (number 1))))
   pub in_an_index : IsRefusedInLoop (Print (Element a (Element a (Variable i))))
   pub in_the_index_of_an_own_array :
-      BreaksOwnership (in_loop (Scope (Then 3 (DeclareArray z (number 1)) (Then 5 (Print (Element z (Length a))) End)))) (5 ∷ [])
+      BreaksOwnership (in_loop (Scope (Then 3 (DeclareArray z (number 1)) (Then 5 (Print (Element z (Length a))) End))))
+      (5 ∷ [])
   pub in_negative : IsRefusedInLoop (Print (Negative (Length a)))
   pub in_not : IsRefusedInLoop (Print (Not (Length a)))
   pub in_left_operand : IsRefusedInLoop (Print (plus (Length a) (number 1)))
@@ -242,29 +278,45 @@ pub record LoopOwnerExamples : Type 0 where
   pub lower_end_of_an_inner_loop : IsRefusedInLoop (For j j j (Element a (Variable i)) (number 2) 64 [] End)
   pub upper_end_of_an_inner_loop : IsRefusedInLoop (For j j j (number 0) (Element a (Variable i)) 64 [] End)
   pub element_in_an_inner_loop :
-      BreaksOwnership (in_loop (For j j j (number 0) (number 1) 64 [] (on_line 5 (Print (Element a (Variable i)) ∷ [])))) (5 ∷ [])
+      BreaksOwnership
+      (in_loop (For j j j (number 0) (number 1) 64 [] (on_line 5 (Print (Element a (Variable i)) ∷ [])))) (5 ∷ [])
   pub variable_written_in_an_inner_loop :
       BreaksOwnership (in_loop (For j j j (number 0) (number 1) 64 [] (on_line 5 (Assign i (number 1) ∷ [])))) (5 ∷ [])
   pub name_of_a_turn_written_in_an_inner_loop :
-      BreaksOwnership (in_loop (Scope (on_line 3 (Declare z (number 0) ∷ For j j j (number 0) (number 1) 64 [] (on_line 5 (Assign z (number 1) ∷ [])) ∷ []))))
+      BreaksOwnership (in_loop (Scope (on_line 3 (Declare z (number 0)
+      ∷ For j j j (number 0) (number 1) 64 [] (on_line 5 (Assign z (number 1) ∷ [])) ∷ []))))
       (5 ∷ [])
   pub array_of_a_turn_in_an_inner_loop :
-      BreaksOwnership (in_loop (Scope (on_line 3 (DeclareArray z (number 1) ∷ For j j j (number 0) (number 1) 64 [] (on_line 5 (Print (Length z) ∷ [])) ∷ []))))
+      BreaksOwnership (in_loop (Scope (on_line 3 (DeclareArray z (number 1)
+      ∷ For j j j (number 0) (number 1) 64 [] (on_line 5 (Print (Length z) ∷ [])) ∷ []))))
       (5 ∷ [])
   pub in_each_block :
-      BreaksOwnership (with_names (Then 1 (For j j j (number 0) (number 1) 64 [] (once_in_every_block (λ line. Assign x (number 1)) End)) (joined_at 17)))
+      BreaksOwnership (with_names (Then 1
+      (For j j j (number 0) (number 1) 64 [] (once_in_every_block (λ line. Assign x (number 1)) End))
+      (joined_at 17)))
       (3 ∷ 5 ∷ 6 ∷ 8 ∷ 10 ∷ 12 ∷ 13 ∷ 14 ∷ 16 ∷ [])
   pub in_an_inner_loop_in_each_block :
-      BreaksOwnership (with_names (once_in_every_block (λ line. For j j j (number 0) (number 1) 64 [] (on_line line (Assign x (number 1) ∷ []))) (joined_at 17)))
+      BreaksOwnership (with_names (once_in_every_block
+      (λ line. For j j j (number 0) (number 1) 64 [] (on_line line (Assign x (number 1) ∷ [])))
+      (joined_at 17)))
       (3 ∷ 5 ∷ 6 ∷ 8 ∷ 10 ∷ 12 ∷ 14 ∷ 16 ∷ [])
   pub parameter_written :
-      BreaksOwnership (of_functions (int_function f 1 (int_param v ∷ []) (on_line 2 (For i i i (number 0) (number 2) 64 [] (on_line 3 (Assign v (number 1) ∷ [])) ∷ give (number 0) ∷ [])) ∷ main_of (give (number 0) ∷ []) ∷ []))
+      BreaksOwnership (of_functions (int_function f 1 (int_param v ∷ [])
+      (on_line 2 (For i i i (number 0) (number 2) 64 [] (on_line 3 (Assign v (number 1) ∷ []))
+      ∷ give (number 0) ∷ [])) ∷ main_of (give (number 0) ∷ []) ∷ []))
       (3 ∷ [])
   pub parts_of_a_cut :
-      IsAccepted (with_names (on_line 2 (Cut a (number 1) l r (on_line 2 (For i i i (number 0) (number 1) 64 (l ∷ r ∷ []) (on_line 2 (AssignElement l (Variable i) (Element r (Variable i)) ∷ [])) ∷ [])) ∷ give (number 0) ∷ [])))
+      IsAccepted (with_names (on_line 2 (Cut a (number 1) l r
+      (on_line 2 (For i i i (number 0) (number 1) 64 (l ∷ r ∷ [])
+      (on_line 2 (AssignElement l (Variable i) (Element r (Variable i)) ∷ [])) ∷ []))
+      ∷ give (number 0) ∷ [])))
   pub left_part_in_a_loop :
-      BreaksOwnership (with_names (on_line 2 (Cut a (number 1) l r (on_line 2 (For i i i (number 0) (number 1) 64 [] (on_line 3 (Print (Length l) ∷ [])) ∷ [])) ∷ give (number 0) ∷ [])))
+      BreaksOwnership (with_names (on_line 2 (Cut a (number 1) l r
+      (on_line 2 (For i i i (number 0) (number 1) 64 [] (on_line 3 (Print (Length l) ∷ [])) ∷ []))
+      ∷ give (number 0) ∷ [])))
       (3 ∷ [])
   pub right_part_in_a_loop :
-      BreaksOwnership (with_names (on_line 2 (Cut a (number 1) l r (on_line 2 (For i i i (number 0) (number 1) 64 [] (on_line 3 (Print (Length r) ∷ [])) ∷ [])) ∷ give (number 0) ∷ [])))
+      BreaksOwnership (with_names (on_line 2 (Cut a (number 1) l r
+      (on_line 2 (For i i i (number 0) (number 1) 64 [] (on_line 3 (Print (Length r) ∷ [])) ∷ []))
+      ∷ give (number 0) ∷ [])))
       (3 ∷ [])

@@ -151,7 +151,9 @@ first_program = with_same (Declare x (number 0) ∷ spawn_into x 1 f (number 1 �
 
 -- the same with "int y = x;" before the sync
 abbrev pub early_read : Program
-early_read = with_same (Declare x (number 0) ∷ spawn_into x 1 f (number 1 ∷ []) ∷ Declare y (Variable x) ∷ Sync ∷ give (Variable x) ∷ [])
+early_read =
+    with_same
+    (Declare x (number 0) ∷ spawn_into x 1 f (number 1 ∷ []) ∷ Declare y (Variable x) ∷ Sync ∷ give (Variable x) ∷ [])
 
 -- the same with "g(1)" for "f(1)"
 abbrev pub unknown_callee : Program
@@ -181,8 +183,10 @@ fib_program = of_functions (
 -- int bad(int z) { int q = 0; q = 1 / z; return q; }, and on the next line a main that spawns it beside a statement
 abbrev pub division_beside : Stmt → Program
 division_beside beside = of_functions (
-    int_function bad 1 (int_param z ∷ []) (block (Declare q (number 0) ∷ Assign q (Binary Divide (number 1) (Variable z)) ∷ give (Variable q) ∷ []))
-    ∷ int_function main 2 (int_param z ∷ []) (on_line 2 (spawn 1 bad (Variable z ∷ []) ∷ beside ∷ Sync ∷ give (number 0) ∷ []))
+    int_function bad 1 (int_param z ∷ [])
+    (block (Declare q (number 0) ∷ Assign q (Binary Divide (number 1) (Variable z)) ∷ give (Variable q) ∷ []))
+    ∷ int_function main 2 (int_param z ∷ [])
+    (on_line 2 (spawn 1 bad (Variable z ∷ []) ∷ beside ∷ Sync ∷ give (number 0) ∷ []))
     ∷ [])
 
 -- beside a print
@@ -196,8 +200,10 @@ division_beside_forever = division_beside (While (number 1) End)
 -- a print before the spawn of a division
 abbrev pub division_after_print : Program
 division_after_print = of_functions (
-    int_function bad 1 (int_param z ∷ []) (block (Declare q (number 0) ∷ Assign q (Binary Divide (number 1) (Variable z)) ∷ give (Variable q) ∷ []))
-    ∷ int_function main 2 (int_param z ∷ []) (on_line 2 (Print (number 1) ∷ spawn 1 bad (Variable z ∷ []) ∷ Print (number 7) ∷ Sync ∷ give (number 0) ∷ []))
+    int_function bad 1 (int_param z ∷ [])
+    (block (Declare q (number 0) ∷ Assign q (Binary Divide (number 1) (Variable z)) ∷ give (Variable q) ∷ []))
+    ∷ int_function main 2 (int_param z ∷ [])
+    (on_line 2 (Print (number 1) ∷ spawn 1 bad (Variable z ∷ []) ∷ Print (number 7) ∷ Sync ∷ give (number 0) ∷ []))
     ∷ [])
 
 -- three prints, of which two are spawned
@@ -213,7 +219,9 @@ with_sum functions = record { reducers = record { name = s; line = 1 } ∷ []; f
 
 -- a loop with grain 2 that adds its variable to a sum
 abbrev pub sum_program : ℕ → ℕ → Program
-sum_program from to = with_sum (main_of (For i i i (number from) (number to) 2 [] (block (AddTo s (Variable i) ∷ [])) ∷ give (number 0) ∷ []) ∷ [])
+sum_program from to =
+    with_sum (main_of
+    (For i i i (number from) (number to) 2 [] (block (AddTo s (Variable i) ∷ [])) ∷ give (number 0) ∷ []) ∷ [])
 
 -- the greatest number is added to a sum twice
 abbrev pub large_sum_program : Program
@@ -224,15 +232,20 @@ large_sum_program = with_sum (
 
 -- a spawned result is printed before the sync
 abbrev pub early_print : Program
-early_print = with_same (Declare x (number 0) ∷ spawn_into x 1 f (number 1 ∷ []) ∷ Print (Variable x) ∷ Sync ∷ give (number 0) ∷ [])
+early_print =
+    with_same
+    (Declare x (number 0) ∷ spawn_into x 1 f (number 1 ∷ []) ∷ Print (Variable x) ∷ Sync ∷ give (number 0) ∷ [])
 
 -- the same with the print after the sync, and a further sync
 abbrev pub late_print : Program
-late_print = with_same (Declare x (number 0) ∷ spawn_into x 1 f (number 1 ∷ []) ∷ Sync ∷ Print (Variable x) ∷ Sync ∷ give (number 0) ∷ [])
+late_print =
+    with_same (Declare x (number 0) ∷ spawn_into x 1 f (number 1 ∷ []) ∷ Sync ∷ Print (Variable x) ∷ Sync
+    ∷ give (number 0) ∷ [])
 
 -- an array of three elements is cut, and the length of its right part printed
 abbrev pub cut_program : ℕ → Program
-cut_program at = alone (DeclareArray a (number 3) ∷ Cut a (number at) l r (block (Print (Length r) ∷ [])) ∷ give (number 0) ∷ [])
+cut_program at =
+    alone (DeclareArray a (number 3) ∷ Cut a (number at) l r (block (Print (Length r) ∷ [])) ∷ give (number 0) ∷ [])
 
 -- the same with nothing inside
 abbrev pub empty_cut_program : ℕ → Program
@@ -241,7 +254,8 @@ empty_cut_program at = alone (DeclareArray a (number 3) ∷ Cut a (number at) l 
 -- a function that calls itself without end
 abbrev pub deep_program : Program
 deep_program = of_functions (
-    int_function f 1 (int_param n ∷ []) (block (Declare r (number 0) ∷ call_into r 1 f (plus (Variable n) (number 1) ∷ []) ∷ give (Variable r) ∷ []))
+    int_function f 1 (int_param n ∷ [])
+    (block (Declare r (number 0) ∷ call_into r 1 f (plus (Variable n) (number 1) ∷ []) ∷ give (Variable r) ∷ []))
     ∷ main_of (Declare r (number 0) ∷ call_into r 2 f (number 0 ∷ []) ∷ give (Variable r) ∷ [])
     ∷ [])
 
@@ -254,15 +268,19 @@ deepest_program = of_functions (
 
 -- a loop with grain 2 over an array: each element becomes the square of its index
 abbrev pub square_loop : ℕ → ℕ → Stmt
-square_loop from to = For i i i (number from) (number to) 2 (a ∷ []) (block (AssignElement a (Variable i) (Binary Times (Variable i) (Variable i)) ∷ []))
+square_loop from to =
+    For i i i (number from) (number to) 2 (a ∷ [])
+    (block (AssignElement a (Variable i) (Binary Times (Variable i) (Variable i)) ∷ []))
 
 -- one element is printed
 abbrev pub square_print_program : ℕ → Program
-square_print_program to = alone (DeclareArray a (number 4) ∷ square_loop 0 to ∷ Print (Element a (number 3)) ∷ give (number 0) ∷ [])
+square_print_program to =
+    alone (DeclareArray a (number 4) ∷ square_loop 0 to ∷ Print (Element a (number 3)) ∷ give (number 0) ∷ [])
 
 -- one element is the value
 abbrev pub square_program : (size from to at : ℕ) → Program
-square_program size from to at = alone (DeclareArray a (number size) ∷ square_loop from to ∷ give (Element a (number at)) ∷ [])
+square_program size from to at =
+    alone (DeclareArray a (number size) ∷ square_loop from to ∷ give (Element a (number at)) ∷ [])
 
 -- a region with a spawn and a print
 abbrev pub region_program : Program
@@ -281,11 +299,16 @@ idle_loop from to = alone (For i i i from (number to) 64 [] End ∷ give (number
 
 -- a loop that assigns an outer integer
 abbrev pub outer_program : Program
-outer_program = alone (Declare t (number 0) ∷ For i i i (number 0) (number 4) 64 [] (block (Assign t (plus (Variable t) (Variable i)) ∷ [])) ∷ give (Variable t) ∷ [])
+outer_program =
+    alone (Declare t (number 0)
+    ∷ For i i i (number 0) (number 4) 64 [] (block (Assign t (plus (Variable t) (Variable i)) ∷ []))
+    ∷ give (Variable t) ∷ [])
 
 -- a while whose body is these statements, with a sync after it
 abbrev pub while_program : List Stmt → List Stmt → Program
-while_program declared body = with_same (Declare x (number 0) ∷ before declared (While (Binary Less (Variable x) (number 1)) (block body) ∷ Sync ∷ give (number 0) ∷ []))
+while_program declared body =
+    with_same (Declare x (number 0)
+    ∷ before declared (While (Binary Less (Variable x) (number 1)) (block body) ∷ Sync ∷ give (number 0) ∷ []))
   where
     before : List Stmt → List Stmt → List Stmt
     before [] ss = ss
@@ -300,7 +323,9 @@ same_array_twice = of_functions (
 
 -- a sync inside a cut does not free the array
 abbrev pub sync_in_cut : Program
-sync_in_cut = alone (DeclareArray a (number 2) ∷ Cut a (number 1) l r (block (Sync ∷ Print (Length a) ∷ [])) ∷ give (number 0) ∷ [])
+sync_in_cut =
+    alone
+    (DeclareArray a (number 2) ∷ Cut a (number 1) l r (block (Sync ∷ Print (Length a) ∷ [])) ∷ give (number 0) ∷ [])
 
 -- a spawn in a block, into a name that the block declares on the line after its own
 abbrev pub spawn_into_own : (Block → Stmt) → Program
@@ -314,10 +339,12 @@ spawn_into_own around = of_functions (
 -- two halves of an array are filled, one by a spawn
 abbrev pub fill_program : Program
 fill_program = of_functions (
-    int_function fill 1 (array_param a ∷ int_param v ∷ []) (block (AssignElement a (number 0) (Variable v) ∷ give (Length a) ∷ []))
+    int_function fill 1 (array_param a ∷ int_param v ∷ [])
+    (block (AssignElement a (number 0) (Variable v) ∷ give (Length a) ∷ []))
     ∷ main_of (
     DeclareArray a (number 4) ∷ Declare x (number 0) ∷ Declare y (number 0)
-    ∷ Cut a (number 2) l r (block (spawn_into x 1 fill (Variable l ∷ number 5 ∷ []) ∷ call_into y 2 fill (Variable r ∷ number 7 ∷ []) ∷ []))
+    ∷ Cut a (number 2) l r (block
+    (spawn_into x 1 fill (Variable l ∷ number 5 ∷ []) ∷ call_into y 2 fill (Variable r ∷ number 7 ∷ []) ∷ []))
     ∷ give (plus (Binary Times (Element a (number 0)) (number 10)) (Element a (number 2))) ∷ [])
     ∷ [])
 
@@ -338,7 +365,8 @@ spawn_chain = of_functions (
     int_function f 1 (int_param n ∷ []) (block (
     If (Binary Less (Variable n) (number 1)) (block (give (number 0) ∷ []))
     ∷ Declare x (number 0) ∷ spawn_into x 1 f (minus (Variable n) (number 1) ∷ []) ∷ Sync ∷ give (plus (Variable x) (number 1)) ∷ []))
-    ∷ int_function main 1 (int_param n ∷ []) (block (Declare r (number 0) ∷ call_into r 2 f (Variable n ∷ []) ∷ give (Variable r) ∷ []))
+    ∷ int_function main 1 (int_param n ∷ [])
+    (block (Declare r (number 0) ∷ call_into r 2 f (Variable n ∷ []) ∷ give (Variable r) ∷ []))
     ∷ [])
 
 -- so many signs before 1
@@ -372,7 +400,8 @@ abbrev pub followed_by : Block → Block → Block
 followed_by End rest = rest
 followed_by (Then line st more) rest = Then line st (followed_by more rest)
 
--- a block in each form of statement that has blocks, told the line that it begins in, and then the rest; there is an array a
+-- a block in each form of statement that has blocks, told the line that it begins in, and then the rest; there is an
+-- array a
 abbrev pub in_every_block : (ℕ → Block) → Block → Block
 in_every_block inner rest =
     Then 2 (If (number 1) (inner 3))

@@ -14,12 +14,15 @@ nested_region_program = of_functions (
     int_function f 1 (int_param n ∷ []) (block (
     If (Binary Less (Variable n) (number 1)) (block (give (number 0) ∷ []))
     ∷ Declare r (number 0) ∷ Region t (block (call_into r 1 f (minus (Variable n) (number 1) ∷ []) ∷ [])) ∷ give (Variable r) ∷ []))
-    ∷ int_function main 1 (int_param n ∷ []) (block (Declare r (number 0) ∷ call_into r 2 f (Variable n ∷ []) ∷ give (Variable r) ∷ []))
+    ∷ int_function main 1 (int_param n ∷ [])
+    (block (Declare r (number 0) ∷ call_into r 2 f (Variable n ∷ []) ∷ give (Variable r) ∷ []))
     ∷ [])
 
 -- one tag, executed twice, each time with a spawn
 abbrev pub two_executions_program : Program
-two_executions_program = idle_and (Region t (block (spawn 1 p [] ∷ Print (number 1) ∷ [])) ∷ Region t (block (spawn 2 p [] ∷ Print (number 1) ∷ [])) ∷ give (number 0) ∷ [])
+two_executions_program =
+    idle_and (Region t (block (spawn 1 p [] ∷ Print (number 1) ∷ []))
+    ∷ Region t (block (spawn 2 p [] ∷ Print (number 1) ∷ [])) ∷ give (number 0) ∷ [])
 
 -- a child that spawns in two sync blocks, beside a short rest
 abbrev pub spawning_child_program : Program
@@ -31,7 +34,8 @@ spawning_child_program = of_functions (
 
 -- one tag inside another
 abbrev pub two_tags_program : Program
-two_tags_program = alone (Region t (block (Region r (block (Print (number 1) ∷ [])) ∷ Print (number 2) ∷ [])) ∷ give (number 0) ∷ [])
+two_tags_program =
+    alone (Region t (block (Region r (block (Print (number 1) ∷ [])) ∷ Print (number 2) ∷ [])) ∷ give (number 0) ∷ [])
 
 -- a short child beside a longer rest
 abbrev pub longer_rest_program : Program
@@ -61,7 +65,8 @@ wide_rest_program = of_functions (
 pub record RowExamples : Type 0 where
   -- the inner execution is not counted a second time
   pub nested_region :
-      Scales nested_region_program (2 ∷ []) USUAL_BURDEN (codes ",40,40,1.000,40,1.000" ∷ codes "t,24,24,1.000,24,1.000" ∷ [])
+      Scales nested_region_program (2 ∷ []) USUAL_BURDEN
+      (codes ",40,40,1.000,40,1.000" ∷ codes "t,24,24,1.000,24,1.000" ∷ [])
   -- what stands in a region belongs to the call around it
   pub nested_region_sites : Attributes nested_region_program (2 ∷ [])
       (codes "0,root,1,main,1,6,6,40,40" ∷ codes "1,call,1,f,2,20,20,20,20" ∷ codes "2,call,1,f,1,14,14,34,34" ∷ [])
@@ -70,7 +75,8 @@ pub record RowExamples : Type 0 where
   -- the longer side is the child, with a burden for each of its rests: 1 + (1 + 10 + 2 + 10 + 1 beside 10 + 1) + 1
   pub burdens_of_a_child : Scales spawning_child_program [] 10 (codes ",9,8,1.125,26,0.346" ∷ [])
   pub two_tags :
-      Scales two_tags_program [] 0 (codes ",10,10,1.000,10,1.000" ∷ codes "t,6,6,1.000,6,1.000" ∷ codes "r,2,2,1.000,2,1.000" ∷ [])
+      Scales two_tags_program [] 0
+      (codes ",10,10,1.000,10,1.000" ∷ codes "t,6,6,1.000,6,1.000" ∷ codes "r,2,2,1.000,2,1.000" ∷ [])
   pub two_tags_sites : Attributes two_tags_program [] (codes "0,root,1,main,1,10,10,10,10" ∷ [])
   pub never_executed :
       Scales (alone (If (number 0) (block (Region t End ∷ [])) ∷ give (number 0) ∷ [])) [] 10
@@ -100,9 +106,11 @@ pub record TextExamples : Type 0 where
   pub check : report_text Check first_program 0 OverLimit ≡ codes "ok" ++ 10 ∷ []
   pub run : report_text Run first_program 0 (serial first_program [] USUAL_LIMIT) ≡ codes "return 1" ++ 10 ∷ []
   pub scale : report_text Scale first_program 0 (serial first_program [] USUAL_LIMIT)
-      ≡ codes "tag,work,span,parallelism,burdened_span,burdened_parallelism" ++ 10 ∷ (codes ",9,9,1.000,9,1.000" ++ 10 ∷ [])
+      ≡ codes "tag,work,span,parallelism,burdened_span,burdened_parallelism"
+      ++ 10 ∷ (codes ",9,9,1.000,9,1.000" ++ 10 ∷ [])
   pub sites : report_text Sites first_program 0 (serial first_program [] USUAL_LIMIT)
-      ≡ codes "site,kind,line,callee,calls,own_work,own_span,work,span" ++ 10 ∷ (codes "0,root,1,main,1,7,7,9,9" ++ 10 ∷ (codes "1,spawn,1,f,1,2,2,2,2" ++ 10 ∷ []))
+      ≡ codes "site,kind,line,callee,calls,own_work,own_span,work,span"
+      ++ 10 ∷ (codes "0,root,1,main,1,7,7,9,9" ++ 10 ∷ (codes "1,spawn,1,f,1,2,2,2,2" ++ 10 ∷ []))
   pub plain_fields : csv_line (codes "a" ∷ [] ∷ codes "b_1" ∷ []) ≡ codes "a,,b_1" ++ 10 ∷ []
   -- in quotes, in which a quote stands twice
   pub comma : csv_field (codes "a,b") ≡ codes "\"a,b\""

@@ -23,9 +23,11 @@ pub record TokenSizeExamples : Type 0 where
   pub other_tokens_close_nothing :
       token_faults 0 0 (replicate 64 (token kind.LeftParen) ++ token kind.Comma ∷ token kind.LeftParen ∷ []) ≡ 1 ∷ []
   pub opening_brace_ends_a_row :
-      token_faults 0 0 (replicate 256 (token kind.Minus) ++ token kind.LeftBrace ∷ replicate 256 (token kind.Minus)) ≡ []
+      token_faults 0 0 (replicate 256 (token kind.Minus) ++ token kind.LeftBrace ∷ replicate 256 (token kind.Minus))
+      ≡ []
   pub closing_brace_ends_a_row :
-      token_faults 0 0 (replicate 256 (token kind.Minus) ++ token kind.RightBrace ∷ replicate 256 (token kind.Minus)) ≡ []
+      token_faults 0 0 (replicate 256 (token kind.Minus) ++ token kind.RightBrace ∷ replicate 256 (token kind.Minus))
+      ≡ []
   pub comma_ends_no_row :
       token_faults 0 0 (replicate 200 (token kind.Minus) ++ token kind.Comma ∷ replicate 56 (token kind.Minus)) ≡ 1 ∷ []
 
@@ -36,22 +38,29 @@ tagged (suc k) line rest = Then line (Region (line ∷ []) End) (tagged k (suc l
 
 -- a function of sixteen parameters on line 7, with so many declarations on the lines from 1 on
 abbrev pub wide_function : ℕ → Program
-wide_function declared = of_functions (int_function f 7 (replicate 16 (int_param x)) (each_on_its_line declared 1 (Declare x (number 0))) ∷ [])
+wide_function declared =
+    of_functions
+    (int_function f 7 (replicate 16 (int_param x)) (each_on_its_line declared 1 (Declare x (number 0))) ∷ [])
 
 -- limits on names, functions, reducers and tags, and what of them stands in blocks
 pub record DeclarationSizeExamples : Type 0 where
   pub integers :
-      declaring_lines_in (once_in_every_block (λ line. Declare x (number 0)) End) ≡ 3 ∷ 5 ∷ 6 ∷ 8 ∷ 9 ∷ 10 ∷ 12 ∷ 13 ∷ 13 ∷ 14 ∷ 16 ∷ []
+      declaring_lines_in (once_in_every_block (λ line. Declare x (number 0)) End)
+      ≡ 3 ∷ 5 ∷ 6 ∷ 8 ∷ 9 ∷ 10 ∷ 12 ∷ 13 ∷ 13 ∷ 14 ∷ 16 ∷ []
   pub arrays :
-      declaring_lines_in (once_in_every_block (λ line. DeclareArray x (number 0)) End) ≡ 3 ∷ 5 ∷ 6 ∷ 8 ∷ 9 ∷ 10 ∷ 12 ∷ 13 ∷ 13 ∷ 14 ∷ 16 ∷ []
+      declaring_lines_in (once_in_every_block (λ line. DeclareArray x (number 0)) End)
+      ≡ 3 ∷ 5 ∷ 6 ∷ 8 ∷ 9 ∷ 10 ∷ 12 ∷ 13 ∷ 13 ∷ 14 ∷ 16 ∷ []
   pub no_other_statement_declares :
       declaring_lines_in (once_in_every_block (λ line. Print (number 0)) End) ≡ 9 ∷ 13 ∷ 13 ∷ []
   pub loops :
-      loops_in_block (once_in_every_block (λ line. For j j j (number 0) (number 1) 64 [] End) End) ≡ 3 ∷ 5 ∷ 6 ∷ 8 ∷ 9 ∷ 10 ∷ 12 ∷ 14 ∷ 16 ∷ []
+      loops_in_block (once_in_every_block (λ line. For j j j (number 0) (number 1) 64 [] End) End)
+      ≡ 3 ∷ 5 ∷ 6 ∷ 8 ∷ 9 ∷ 10 ∷ 12 ∷ 14 ∷ 16 ∷ []
   pub regions : regions_in_block (once_in_every_block (λ line. Region (line ∷ []) End) End)
-      ≡ (3 ∷ [], 3) ∷ (5 ∷ [], 5) ∷ (6 ∷ [], 6) ∷ (8 ∷ [], 8) ∷ (10 ∷ [], 10) ∷ (12 ∷ [], 12) ∷ (14 ∷ [], 14) ∷ (t, 15) ∷ (16 ∷ [], 16) ∷ []
+      ≡ (3 ∷ [], 3) ∷ (5 ∷ [], 5) ∷ (6 ∷ [], 6) ∷ (8 ∷ [], 8) ∷ (10 ∷ [], 10) ∷ (12 ∷ [], 12) ∷ (14 ∷ [], 14) ∷ (t, 15)
+      ∷ (16 ∷ [], 16) ∷ []
   pub call_statements :
-      map (λ site. site.line) (sites_in_block (once_in_every_block (λ line. call line f []) End)) ≡ 3 ∷ 5 ∷ 6 ∷ 8 ∷ 10 ∷ 12 ∷ 14 ∷ 16 ∷ []
+      map (λ site. site.line) (sites_in_block (once_in_every_block (λ line. call line f []) End))
+      ≡ 3 ∷ 5 ∷ 6 ∷ 8 ∷ 10 ∷ 12 ∷ 14 ∷ 16 ∷ []
   pub captured_names : captured j (once_in_every_block (λ line. Print (Variable (line ∷ []))) End)
       ≡ (3 ∷ []) ∷ (5 ∷ []) ∷ (6 ∷ []) ∷ (8 ∷ []) ∷ (10 ∷ []) ∷ (12 ∷ []) ∷ (14 ∷ []) ∷ (16 ∷ []) ∷ []
   pub captured_once :
@@ -70,7 +79,8 @@ pub record DeclarationSizeExamples : Type 0 where
   pub tags : limit_faults (of_functions (int_function f 1 [] (tagged 65 1 End) ∷ [])) ≡ 65 ∷ []
   -- tags of all functions are counted together
   pub tags_of_two_functions :
-      limit_faults (of_functions (int_function f 1 [] (tagged 64 1 End) ∷ int_function g 1 [] (tagged 1 65 End) ∷ [])) ≡ 65 ∷ []
+      limit_faults (of_functions (int_function f 1 [] (tagged 64 1 End) ∷ int_function g 1 [] (tagged 1 65 End) ∷ []))
+      ≡ 65 ∷ []
   -- a tag counts where it stands first
   pub first_tag_again :
       limit_faults (of_functions (int_function f 1 [] (tagged 65 1 (Then 70 (Region (1 ∷ []) End) End)) ∷ [])) ≡ 65 ∷ []
@@ -79,7 +89,9 @@ pub record DeclarationSizeExamples : Type 0 where
 
 -- so many instructions, each construct, branch, jump and end counted once
 abbrev pub Takes : Stmt → ℕ → Type 0
-Takes st k = block_size (same_function ∷ void_function g (array_param a ∷ int_param v ∷ []) End ∷ []) (a ∷ []) (on_line 1 (st ∷ [])) ≡ k
+Takes st k =
+    block_size (same_function ∷ void_function g (array_param a ∷ int_param v ∷ []) End ∷ []) (a ∷ [])
+    (on_line 1 (st ∷ [])) ≡ k
 
 -- an element of an array of the loop around
 abbrev pub shifted : Expr
@@ -93,7 +105,8 @@ large_program syncs = of_functions (
 
 -- so many functions of 257 calls each, and one call more in main
 abbrev pub calling_program : (functions : ℕ) → List Stmt → Program
-calling_program functions more = of_functions (main_of more ∷ replicate functions (void_function f [] (each_on_its_line 257 1 (call 1 f []))))
+calling_program functions more =
+    of_functions (main_of more ∷ replicate functions (void_function f [] (each_on_its_line 257 1 (call 1 f []))))
 
 -- static sizes: in a loop over a, an element of a takes two more
 pub record InstructionSizeExamples : Type 0 where
@@ -118,9 +131,11 @@ pub record InstructionSizeExamples : Type 0 where
   pub call_of_an_array_and_an_integer : Takes (call 1 g (Variable a ∷ number 2 ∷ [])) 2
   pub loop : Takes (For i i i (number 0) (number 1) 64 [] (block (Print (number 0) ∷ []))) 40
   pub loop_over_two :
-      Takes (For i i i (number 0) (number 1) 64 (a ∷ b ∷ []) (block (AssignElement b (Variable i) (Variable i) ∷ []))) 53
+      Takes (For i i i (number 0) (number 1) 64 (a ∷ b ∷ []) (block (AssignElement b (Variable i) (Variable i) ∷ [])))
+      53
   pub loop_of_two_captured :
-      Takes (For i i i (number 0) (number 1) 64 [] (block (AddTo s (plus (Variable x) (plus (Variable i) (Variable y))) ∷ []))) 50
+      Takes (For i i i (number 0) (number 1) 64 []
+      (block (AddTo s (plus (Variable x) (plus (Variable i) (Variable y))) ∷ []))) 50
   pub shifted_print : Takes (Print shifted) 5
   pub shifted_declaration : Takes (Declare x shifted) 5
   pub shifted_new_array : Takes (DeclareArray x shifted) 5

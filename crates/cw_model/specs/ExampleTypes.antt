@@ -16,7 +16,9 @@ with_callees last = with_sum (
 
 -- a statement on line 2 of a main where x is an integer, a an array and s a reducer
 abbrev pub amid : Stmt → Program
-amid st = with_callees (int_function main 1 [] (Then 1 (Declare x (number 0)) (Then 1 (DeclareArray a (number 2)) (Then 2 st (Then 3 (give (number 0)) End)))))
+amid st =
+    with_callees (int_function main 1 [] (Then 1 (Declare x (number 0))
+    (Then 1 (DeclareArray a (number 2)) (Then 2 st (Then 3 (give (number 0)) End)))))
 
 -- its types are refused
 abbrev pub IsMistyped : Stmt → Type 0
@@ -64,7 +66,8 @@ pub record WriteTypeExamples : Type 0 where
   pub sum_of_a_function : IsMistyped (AddTo f (number 1))
   pub unknown_addition : IsMistyped (AddTo s (Variable y))
   pub every_write :
-      IsFine (Scope (on_line 4 (Assign x (number 1) ∷ AssignElement a (Variable x) (Length a) ∷ AddTo s (Variable x) ∷ [])))
+      IsFine (Scope
+      (on_line 4 (Assign x (number 1) ∷ AssignElement a (Variable x) (Length a) ∷ AddTo s (Variable x) ∷ [])))
 
 -- calls
 pub record CallTypeExamples : Type 0 where
@@ -125,28 +128,41 @@ pub record BlockTypeExamples : Type 0 where
       (3 ∷ 5 ∷ 6 ∷ 8 ∷ 10 ∷ 12 ∷ 14 ∷ 16 ∷ [])
   -- a name ends with its block
   pub names_of_blocks :
-      IsAccepted (array_and (once_in_every_block (λ line. Declare y (number 0)) (on_line 17 (Declare y (number 0) ∷ give (Variable y) ∷ []))))
+      IsAccepted (array_and (once_in_every_block (λ line. Declare y (number 0))
+      (on_line 17 (Declare y (number 0) ∷ give (Variable y) ∷ []))))
   -- the statement on line 4 surely returns
   pub returns_in_blocks :
-      BreaksTypes (array_and (once_in_every_block (λ line. give (number 0)) (on_line 17 (give (number 0) ∷ [])))) (4 ∷ 10 ∷ 12 ∷ 14 ∷ 16 ∷ [])
+      BreaksTypes (array_and (once_in_every_block (λ line. give (number 0)) (on_line 17 (give (number 0) ∷ []))))
+      (4 ∷ 10 ∷ 12 ∷ 14 ∷ 16 ∷ [])
   pub unknown_result : BreaksTypes (alone (give (Variable y) ∷ [])) (1 ∷ [])
   pub result_of_int_missing :
-      BreaksTypes (of_functions (int_function f 1 [] (on_line 2 (Return None ∷ [])) ∷ main_of (give (number 0) ∷ []) ∷ [])) (2 ∷ [])
+      BreaksTypes
+      (of_functions (int_function f 1 [] (on_line 2 (Return None ∷ [])) ∷ main_of (give (number 0) ∷ []) ∷ []))
+      (2 ∷ [])
   pub result_of_void_given :
-      BreaksTypes (of_functions (void_function g [] (on_line 2 (give (number 1) ∷ [])) ∷ main_of (give (number 0) ∷ []) ∷ [])) (2 ∷ [])
+      BreaksTypes
+      (of_functions (void_function g [] (on_line 2 (give (number 1) ∷ [])) ∷ main_of (give (number 0) ∷ []) ∷ []))
+      (2 ∷ [])
   pub void_returns :
       IsAccepted (of_functions (void_function g [] (block (Return None ∷ [])) ∷ main_of (give (number 0) ∷ []) ∷ []))
   pub nothing_returned : BreaksTypes (of_functions (int_function main 1 [] End ∷ [])) (1 ∷ [])
   pub print_at_the_end :
       BreaksTypes (of_functions (int_function main 1 [] (on_line 2 (Print (number 1) ∷ [])) ∷ [])) (1 ∷ [])
   pub if_at_the_end :
-      BreaksTypes (of_functions (int_function main 1 [] (on_line 2 (If (number 1) (on_line 2 (give (number 0) ∷ [])) ∷ [])) ∷ [])) (1 ∷ [])
+      BreaksTypes (of_functions
+      (int_function main 1 [] (on_line 2 (If (number 1) (on_line 2 (give (number 0) ∷ [])) ∷ [])) ∷ []))
+      (1 ∷ [])
   pub while_at_the_end :
-      BreaksTypes (of_functions (int_function main 1 [] (on_line 2 (While (number 1) (on_line 2 (give (number 0) ∷ [])) ∷ [])) ∷ [])) (1 ∷ [])
+      BreaksTypes (of_functions
+      (int_function main 1 [] (on_line 2 (While (number 1) (on_line 2 (give (number 0) ∷ [])) ∷ [])) ∷ []))
+      (1 ∷ [])
   pub print_after_return :
-      BreaksTypes (of_functions (int_function main 1 [] (Then 2 (give (number 0)) (Then 3 (Print (number 1)) End)) ∷ [])) (1 ∷ 2 ∷ [])
+      BreaksTypes
+      (of_functions (int_function main 1 [] (Then 2 (give (number 0)) (Then 3 (Print (number 1)) End)) ∷ []))
+      (1 ∷ 2 ∷ [])
   pub return_after_return :
-      BreaksTypes (of_functions (int_function main 1 [] (Then 2 (give (number 0)) (Then 3 (give (number 1)) End)) ∷ [])) (2 ∷ [])
+      BreaksTypes (of_functions (int_function main 1 [] (Then 2 (give (number 0)) (Then 3 (give (number 1)) End)) ∷ []))
+      (2 ∷ [])
   pub one_branch_returns : BreaksTypes (alone (IfElse (number 1) (block (give (number 0) ∷ [])) End ∷ [])) (1 ∷ [])
   pub other_branch_returns : BreaksTypes (alone (IfElse (number 1) End (block (give (number 0) ∷ [])) ∷ [])) (1 ∷ [])
   pub both_branches_return :
@@ -161,38 +177,69 @@ pub record GlobalTypeExamples : Type 0 where
   pub parameter_twice :
       BreaksTypes (headed (int_function f 2 (int_param v ∷ int_param v ∷ []) (block (give (Variable v) ∷ [])))) (2 ∷ [])
   pub later_parameters_alike :
-      BreaksTypes (headed (int_function f 2 (int_param v ∷ int_param y ∷ int_param y ∷ []) (block (give (Variable v) ∷ [])))) (2 ∷ [])
+      BreaksTypes
+      (headed (int_function f 2 (int_param v ∷ int_param y ∷ int_param y ∷ []) (block (give (Variable v) ∷ []))))
+      (2 ∷ [])
   pub parameter_named_as_its_function :
       BreaksTypes (headed (int_function f 2 (int_param f ∷ []) (block (give (number 0) ∷ [])))) (2 ∷ [])
   pub parameter_named_as_a_reducer :
       BreaksTypes (headed (int_function f 2 (int_param s ∷ []) (block (give (number 0) ∷ [])))) (2 ∷ [])
   pub parameter_declared :
-      BreaksTypes (headed (int_function f 2 (int_param v ∷ []) (on_line 3 (Declare v (number 0) ∷ give (number 0) ∷ [])))) (3 ∷ [])
+      BreaksTypes
+      (headed (int_function f 2 (int_param v ∷ []) (on_line 3 (Declare v (number 0) ∷ give (number 0) ∷ []))))
+      (3 ∷ [])
   pub parameters_known :
-      IsAccepted (headed (int_function f 2 (int_param v ∷ array_param b ∷ []) (on_line 3 (give (Element b (Variable v)) ∷ []))))
+      IsAccepted (headed
+      (int_function f 2 (int_param v ∷ array_param b ∷ []) (on_line 3 (give (Element b (Variable v)) ∷ []))))
   pub parameter_of_the_other_kind :
-      BreaksTypes (headed (int_function f 2 (int_param v ∷ array_param b ∷ []) (on_line 3 (give (Element v (Variable b)) ∷ [])))) (3 ∷ [])
+      BreaksTypes (headed
+      (int_function f 2 (int_param v ∷ array_param b ∷ []) (on_line 3 (give (Element v (Variable b)) ∷ []))))
+      (3 ∷ [])
   pub missing_main : BreaksTypes (of_functions (int_function f 5 [] (block (give (number 0) ∷ [])) ∷ [])) (1 ∷ [])
   pub void_main :
-      BreaksTypes (of_functions ((record { name = main; line = 2; gives_int = false; params = []; body = End }) ∷ [])) (2 ∷ [])
+      BreaksTypes (of_functions ((record { name = main; line = 2; gives_int = false; params = []; body = End }) ∷ []))
+      (2 ∷ [])
   pub main_of_an_array :
-      BreaksTypes (of_functions (int_function main 2 (int_param v ∷ array_param b ∷ []) (block (give (number 0) ∷ [])) ∷ [])) (2 ∷ [])
+      BreaksTypes
+      (of_functions (int_function main 2 (int_param v ∷ array_param b ∷ []) (block (give (number 0) ∷ [])) ∷ []))
+      (2 ∷ [])
   pub three_of_one_name :
-      BreaksTypes (of_functions (int_function f 1 [] (block (give (number 0) ∷ [])) ∷ int_function f 2 [] (block (give (number 0) ∷ [])) ∷ int_function main 3 [] (block (give (number 0) ∷ [])) ∷ int_function f 4 [] (block (give (number 0) ∷ [])) ∷ []))
+      BreaksTypes (of_functions (int_function f 1 [] (block (give (number 0) ∷ []))
+      ∷ int_function f 2 [] (block (give (number 0) ∷ []))
+      ∷ int_function main 3 [] (block (give (number 0) ∷ []))
+      ∷ int_function f 4 [] (block (give (number 0) ∷ [])) ∷ []))
       (2 ∷ 4 ∷ [])
   pub two_reducers_of_one_name :
-      BreaksTypes (record { reducers = (record { name = s; line = 1 }) ∷ (record { name = t; line = 2 }) ∷ (record { name = s; line = 3 }) ∷ []; functions = main_of (give (number 0) ∷ []) ∷ [] })
+      BreaksTypes (record {
+        reducers = (record { name = s; line = 1 }) ∷ (record { name = t; line = 2 })
+            ∷ (record { name = s; line = 3 }) ∷ [];
+        functions = main_of (give (number 0) ∷ []) ∷ [];
+      })
       (3 ∷ [])
   -- of a function and a reducer of one name the later breaks the rule
   pub function_before_its_reducer :
-      BreaksTypes (record { reducers = (record { name = f; line = 3 }) ∷ []; functions = int_function f 2 [] (block (give (number 0) ∷ [])) ∷ main_of (give (number 0) ∷ []) ∷ [] })
+      BreaksTypes (record {
+        reducers = (record { name = f; line = 3 }) ∷ [];
+        functions = int_function f 2 [] (block (give (number 0) ∷ [])) ∷ main_of (give (number 0) ∷ [])
+            ∷ [];
+      })
       (3 ∷ [])
   pub reducer_before_its_function :
-      BreaksTypes (record { reducers = (record { name = main; line = 1 }) ∷ []; functions = int_function main 2 [] (block (give (number 0) ∷ [])) ∷ [] })
+      BreaksTypes (record {
+        reducers = (record { name = main; line = 1 }) ∷ [];
+        functions = int_function main 2 [] (block (give (number 0) ∷ [])) ∷ [];
+      })
       (2 ∷ [])
   pub reducer_of_the_second_name :
-      BreaksTypes (record { reducers = (record { name = main; line = 9 }) ∷ []; functions = int_function f 2 [] (block (give (number 0) ∷ [])) ∷ main_of (give (number 0) ∷ []) ∷ [] })
+      BreaksTypes (record {
+        reducers = (record { name = main; line = 9 }) ∷ [];
+        functions = int_function f 2 [] (block (give (number 0) ∷ [])) ∷ main_of (give (number 0) ∷ [])
+            ∷ [];
+      })
       (9 ∷ [])
   pub reducer_for_main :
-      BreaksTypes (record { reducers = (record { name = main; line = 3 }) ∷ []; functions = int_function f 2 [] (block (give (number 0) ∷ [])) ∷ [] })
+      BreaksTypes (record {
+        reducers = (record { name = main; line = 3 }) ∷ [];
+        functions = int_function f 2 [] (block (give (number 0) ∷ [])) ∷ [];
+      })
       (1 ∷ [])

@@ -53,7 +53,8 @@ pub record OperatorExamples : Type 0 where
   pub not_below_0 : Computes (Not (below_0 5)) 4 (codes "return 0")
   pub length : Costs (alone (DeclareArray a (number 7) ∷ give (Length a) ∷ [])) [] 4 (codes "return 7" ∷ [])
   pub element :
-      Costs (alone (DeclareArray a (number 2) ∷ AssignElement a (number 1) (number 9) ∷ give (Element a (number 1)) ∷ []))
+      Costs
+      (alone (DeclareArray a (number 2) ∷ AssignElement a (number 1) (number 9) ∷ give (Element a (number 1)) ∷ []))
       [] 8 (codes "return 9" ∷ [])
   pub variable : Costs (alone (Declare x (number 3) ∷ give (Variable x) ∷ [])) [] 4 (codes "return 3" ∷ [])
   pub greatest_sum : Computes (plus (number 9223372036854775806) (number 1)) 4 (codes "return 9223372036854775807")
@@ -62,7 +63,9 @@ pub record OperatorExamples : Type 0 where
 
 -- an array of two elements on line 1, a statement on line 2, and the end on line 3
 abbrev pub trapping : Stmt → Program
-trapping st = with_sum (same_function ∷ int_function main 1 [] (Then 1 (DeclareArray a (number 2)) (Then 2 st (Then 3 (give (number 0)) End))) ∷ [])
+trapping st =
+    with_sum (same_function
+    ∷ int_function main 1 [] (Then 1 (DeclareArray a (number 2)) (Then 2 st (Then 3 (give (number 0)) End))) ∷ [])
 
 -- it traps in this line, as the run has cost so much and not before
 abbrev pub TrapsWithin : Stmt → (cost : ℕ) → Trap → (line : ℕ) → Type 0

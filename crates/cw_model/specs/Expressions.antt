@@ -75,7 +75,8 @@ apply Modulo a b = remainder a b
 abbrev pub evaluate : Expr → Frame → Evaluated
 evaluate (Number n) frame = Gives n 1
 evaluate (Variable x) frame = Gives (int_of frame x) 1
-evaluate (Element a e) frame = and_then (dearer (index_cost frame a) (evaluate e frame)) (λ i. in_bounds (element (array_of frame a) i))
+evaluate (Element a e) frame =
+    and_then (dearer (index_cost frame a) (evaluate e frame)) (λ i. in_bounds (element (array_of frame a) i))
 evaluate (Length a) frame = Gives (pos (length (array_of frame a))) 1
 evaluate (Negative e) frame = and_then (evaluate e frame) (λ v. exact (neg_ℤ v))
 evaluate (Not e) frame = and_then (evaluate e frame) (λ v. truth (is_zero v))

@@ -47,7 +47,8 @@ oldest before now = take (length before) now
 
 -- at the end of a block the names that it declared are gone
 abbrev pub leave : Frame → Frame → Frame
-leave before frame = record { ints = oldest before.ints frame.ints; arrays = oldest before.arrays frame.arrays; sliced = before.sliced }
+leave before frame =
+    record { ints = oldest before.ints frame.ints; arrays = oldest before.arrays frame.arrays; sliced = before.sliced }
 
 -- a result goes to the name that waits for it
 abbrev pub set_result : Option Name → Option ℤ → Frame → Frame

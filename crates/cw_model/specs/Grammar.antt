@@ -45,7 +45,8 @@ mutual
     operand : {k : Kind} {t : Token} {ts rest : List Token} {e : Expr} →
         t.kind ≡ k → ReadsOperand text k t ts e rest → ReadsExpr text (level 0) (t ∷ ts) e rest
     operators : {k : ℕ} {ts us rest : List Token} {d e : Expr} →
-        ReadsExpr text (level k) ts d us → ReadsExpr text (chain (suc k) d) us e rest → ReadsExpr text (level (suc k)) ts e rest
+        ReadsExpr text (level k) ts d us → ReadsExpr text (chain (suc k) d) us e rest
+        → ReadsExpr text (level (suc k)) ts e rest
     end : {k : ℕ} {ts : List Token} {d : Expr} → ReadsExpr text (chain k d) ts d ts
     infixed : {k : ℕ} {t : Token} {ts us rest : List Token} {o : Operator} {d e f : Expr} →
         infix_of t.kind ≡ Some (suc k, o) → ReadsExpr text (level k) ts e us →
@@ -58,7 +59,8 @@ mutual
     negation : {t : Token} {ts rest : List Token} {e : Expr} →
         ReadsExpr text (level 0) ts e rest → ReadsOperand text kind.Not t ts (tree.Not e) rest
     -- every number token of a text is within this bound
-    number : {t : Token} {ts : List Token} {n : ℕ} → n ≤ MOST_NUMBER → ReadsOperand text (kind.Number n) t ts (tree.Number (pos n)) ts
+    number : {t : Token} {ts : List Token} {n : ℕ} → n ≤ MOST_NUMBER
+        → ReadsOperand text (kind.Number n) t ts (tree.Number (pos n)) ts
     variable : {t : Token} {ts : List Token} → ReadsOperand text kind.Name t ts (tree.Variable (name_of text t)) ts
     element : {t u v : Token} {ts rest : List Token} {e : Expr} →
         u.kind ≡ kind.LeftBracket → ReadsExpr text (level 4) ts e (v ∷ rest) → v.kind ≡ kind.RightBracket →
@@ -68,7 +70,8 @@ mutual
         ReadsOperand text kind.Len t (u ∷ v ∷ w ∷ ts) (tree.Length (name_of text v)) ts
     -- parentheses leave no node
     parentheses : {t u : Token} {ts rest : List Token} {e : Expr} →
-        ReadsExpr text (level 4) ts e (u ∷ rest) → u.kind ≡ kind.RightParen → ReadsOperand text kind.LeftParen t ts e rest
+        ReadsExpr text (level 4) ts e (u ∷ rest) → u.kind ≡ kind.RightParen
+        → ReadsOperand text kind.LeftParen t ts e rest
 
 -- a whole expression
 abbrev pub ReadsWhole : List ℕ → List Token → Expr → List Token → Type 0
@@ -78,7 +81,8 @@ ReadsWhole text ts e rest = ReadsExpr text (level 4) ts e rest
 pub data ReadsMoreArguments (text : List ℕ) : List Token → List Expr → List Token → Type 0 where
   close : {t : Token} {ts : List Token} → t.kind ≡ kind.RightParen → ReadsMoreArguments text (t ∷ ts) [] ts
   comma : {t : Token} {ts us rest : List Token} {e : Expr} {es : List Expr} →
-      t.kind ≡ kind.Comma → ReadsWhole text ts e us → ReadsMoreArguments text us es rest → ReadsMoreArguments text (t ∷ ts) (e ∷ es) rest
+      t.kind ≡ kind.Comma → ReadsWhole text ts e us → ReadsMoreArguments text us es rest
+      → ReadsMoreArguments text (t ∷ ts) (e ∷ es) rest
 
 -- arguments, and the closing parenthesis
 pub data ReadsArguments (text : List ℕ) : List Token → List Expr → List Token → Type 0 where
@@ -89,18 +93,21 @@ pub data ReadsArguments (text : List ℕ) : List Token → List Expr → List To
 -- what follows the name of a callee: its arguments and the semicolon
 pub data ReadsCall (text : List ℕ) : List Token → List Expr → List Token → Type 0 where
   called : {t u : Token} {ts rest : List Token} {es : List Expr} →
-      t.kind ≡ kind.LeftParen → ReadsArguments text ts es (u ∷ rest) → u.kind ≡ kind.Semicolon → ReadsCall text (t ∷ ts) es rest
+      t.kind ≡ kind.LeftParen → ReadsArguments text ts es (u ∷ rest) → u.kind ≡ kind.Semicolon
+      → ReadsCall text (t ∷ ts) es rest
 
 -- further names after one, and the closing parenthesis
 pub data ReadsMoreNames (text : List ℕ) : List Token → List Name → List Token → Type 0 where
   close : {t : Token} {ts : List Token} → t.kind ≡ kind.RightParen → ReadsMoreNames text (t ∷ ts) [] ts
   comma : {t u : Token} {ts rest : List Token} {xs : List Name} →
-      t.kind ≡ kind.Comma → u.kind ≡ kind.Name → ReadsMoreNames text ts xs rest → ReadsMoreNames text (t ∷ u ∷ ts) (name_of text u ∷ xs) rest
+      t.kind ≡ kind.Comma → u.kind ≡ kind.Name → ReadsMoreNames text ts xs rest
+      → ReadsMoreNames text (t ∷ u ∷ ts) (name_of text u ∷ xs) rest
 
 -- the turns in a leaf of a loop: 64 where no number stands
 pub data ReadsGrain : List Token → ℕ → List Token → Type 0 where
   usual : {ts : List Token} → ReadsGrain ts 64 ts
-  grain : {t u : Token} {ts : List Token} {n : ℕ} → t.kind ≡ kind.Grain → u.kind ≡ kind.Number n → ReadsGrain (t ∷ u ∷ ts) n ts
+  grain : {t u : Token} {ts : List Token} {n : ℕ} → t.kind ≡ kind.Grain → u.kind ≡ kind.Number n
+      → ReadsGrain (t ∷ u ∷ ts) n ts
 
 -- the arrays of a loop
 pub data ReadsOver (text : List ℕ) : List Token → List Name → List Token → Type 0 where
@@ -121,13 +128,24 @@ pub record Head : Type 0 where
 
 -- "(" "int" NAME "=" expr ";" NAME "<" expr ";" NAME "++" ")", the grain and the arrays
 pub data ReadsHead (text : List ℕ) : List Token → Head → List Token → Type 0 where
-  head : {left int x equals semicolon y less semicolon' z increment right : Token} {ts us vs ws rest : List Token} {from to : Expr} {n : ℕ} {xs : List Name} →
+  head : {left int x equals semicolon y less semicolon' z increment right : Token} {ts us vs ws rest : List Token}
+      {from to : Expr} {n : ℕ} {xs : List Name} →
       left.kind ≡ kind.LeftParen → int.kind ≡ kind.Int → x.kind ≡ kind.Name → equals.kind ≡ kind.Assign →
-      ReadsWhole text ts from (semicolon ∷ y ∷ less ∷ us) → semicolon.kind ≡ kind.Semicolon → y.kind ≡ kind.Name → less.kind ≡ kind.Less →
-      ReadsWhole text us to (semicolon' ∷ z ∷ increment ∷ right ∷ vs) → semicolon'.kind ≡ kind.Semicolon → z.kind ≡ kind.Name → increment.kind ≡ kind.Increment →
+      ReadsWhole text ts from (semicolon ∷ y ∷ less ∷ us) → semicolon.kind ≡ kind.Semicolon → y.kind ≡ kind.Name
+      → less.kind ≡ kind.Less →
+      ReadsWhole text us to (semicolon' ∷ z ∷ increment ∷ right ∷ vs) → semicolon'.kind ≡ kind.Semicolon
+      → z.kind ≡ kind.Name → increment.kind ≡ kind.Increment →
       right.kind ≡ kind.RightParen → ReadsGrain vs n ws → ReadsOver text ws xs rest →
       ReadsHead text (left ∷ int ∷ x ∷ equals ∷ ts)
-      (record { variable = name_of text x; tested = name_of text y; stepped = name_of text z; from = from; to = to; grain = n; over = xs }) rest
+      (record {
+        variable = name_of text x;
+        tested = name_of text y;
+        stepped = name_of text z;
+        from = from;
+        to = to;
+        grain = n;
+        over = xs;
+      }) rest
 
 -- what follows a name and "=": a call, a spawn or an expression
 pub data ReadsAssigned (text : List ℕ) : ℕ → Name → List Token → Stmt → ℕ → List Token → Type 0 where
@@ -145,10 +163,12 @@ pub data ReadsNamed (text : List ℕ) : ℕ → Kind → Token → List Token �
   assign : {n m : ℕ} {t : Token} {ts rest : List Token} {s : Stmt} →
       ReadsAssigned text n (name_of text t) ts s m rest → ReadsNamed text n kind.Assign t ts s m rest
   assign_element : {n : ℕ} {t u v w : Token} {ts us rest : List Token} {i e : Expr} →
-      ReadsWhole text ts i (u ∷ v ∷ us) → u.kind ≡ kind.RightBracket → v.kind ≡ kind.Assign → ReadsWhole text us e (w ∷ rest) → w.kind ≡ kind.Semicolon →
+      ReadsWhole text ts i (u ∷ v ∷ us) → u.kind ≡ kind.RightBracket → v.kind ≡ kind.Assign
+      → ReadsWhole text us e (w ∷ rest) → w.kind ≡ kind.Semicolon →
       ReadsNamed text n kind.LeftBracket t ts (tree.AssignElement (name_of text t) i e) n rest
   add : {n : ℕ} {t u : Token} {ts rest : List Token} {e : Expr} →
-      ReadsWhole text ts e (u ∷ rest) → u.kind ≡ kind.Semicolon → ReadsNamed text n kind.AddAssign t ts (tree.AddTo (name_of text t) e) n rest
+      ReadsWhole text ts e (u ∷ rest) → u.kind ≡ kind.Semicolon
+      → ReadsNamed text n kind.AddAssign t ts (tree.AddTo (name_of text t) e) n rest
   call : {n : ℕ} {t u : Token} {ts rest : List Token} {es : List Expr} →
       ReadsArguments text ts es (u ∷ rest) → u.kind ≡ kind.Semicolon →
       ReadsNamed text n kind.LeftParen t ts (tree.Call Plain n None (name_of text t) es) (suc n) rest
@@ -156,15 +176,18 @@ pub data ReadsNamed (text : List ℕ) : ℕ → Kind → Token → List Token �
 -- what follows "int" NAME in a statement: a value, or a length
 pub data ReadsDeclared (text : List ℕ) : Name → List Token → Stmt → List Token → Type 0 where
   integer : {x : Name} {t u : Token} {ts rest : List Token} {e : Expr} →
-      t.kind ≡ kind.Assign → ReadsWhole text ts e (u ∷ rest) → u.kind ≡ kind.Semicolon → ReadsDeclared text x (t ∷ ts) (tree.Declare x e) rest
+      t.kind ≡ kind.Assign → ReadsWhole text ts e (u ∷ rest) → u.kind ≡ kind.Semicolon
+      → ReadsDeclared text x (t ∷ ts) (tree.Declare x e) rest
   array : {x : Name} {t u v : Token} {ts rest : List Token} {e : Expr} →
-      t.kind ≡ kind.LeftBracket → ReadsWhole text ts e (u ∷ v ∷ rest) → u.kind ≡ kind.RightBracket → v.kind ≡ kind.Semicolon →
+      t.kind ≡ kind.LeftBracket → ReadsWhole text ts e (u ∷ v ∷ rest) → u.kind ≡ kind.RightBracket
+      → v.kind ≡ kind.Semicolon →
       ReadsDeclared text x (t ∷ ts) (tree.DeclareArray x e) rest
 
 -- what follows "return"
 pub data ReadsReturned (text : List ℕ) : List Token → Option Expr → List Token → Type 0 where
   nothing : {t : Token} {ts : List Token} → t.kind ≡ kind.Semicolon → ReadsReturned text (t ∷ ts) None ts
-  value : {t : Token} {ts rest : List Token} {e : Expr} → ReadsWhole text ts e (t ∷ rest) → t.kind ≡ kind.Semicolon → ReadsReturned text ts (Some e) rest
+  value : {t : Token} {ts rest : List Token} {e : Expr} → ReadsWhole text ts e (t ∷ rest) → t.kind ≡ kind.Semicolon
+      → ReadsReturned text ts (Some e) rest
 
 mutual
   -- a statement
@@ -175,21 +198,27 @@ mutual
   -- a statement, by the kind of its first token
   pub data ReadsStmtBy (text : List ℕ) : ℕ → Kind → Token → List Token → Stmt → ℕ → List Token → Type 0 where
     declare : {n : ℕ} {t x : Token} {ts rest : List Token} {s : Stmt} →
-        x.kind ≡ kind.Name → ReadsDeclared text (name_of text x) ts s rest → ReadsStmtBy text n kind.Int t (x ∷ ts) s n rest
+        x.kind ≡ kind.Name → ReadsDeclared text (name_of text x) ts s rest
+        → ReadsStmtBy text n kind.Int t (x ∷ ts) s n rest
     named : {n m : ℕ} {k : Kind} {t u : Token} {ts rest : List Token} {s : Stmt} →
         u.kind ≡ k → ReadsNamed text n k t ts s m rest → ReadsStmtBy text n kind.Name t (u ∷ ts) s m rest
     spawn : {n : ℕ} {t f : Token} {ts rest : List Token} {es : List Expr} →
         f.kind ≡ kind.Name → ReadsCall text ts es rest →
         ReadsStmtBy text n kind.Spawn t (f ∷ ts) (tree.Call Spawned n None (name_of text f) es) (suc n) rest
-    sync : {n : ℕ} {t u : Token} {ts : List Token} → u.kind ≡ kind.Semicolon → ReadsStmtBy text n kind.Sync t (u ∷ ts) tree.Sync n ts
+    sync : {n : ℕ} {t u : Token} {ts : List Token} → u.kind ≡ kind.Semicolon
+        → ReadsStmtBy text n kind.Sync t (u ∷ ts) tree.Sync n ts
     when : {n m : ℕ} {t u v : Token} {ts us rest : List Token} {e : Expr} {b : Block} →
-        u.kind ≡ kind.LeftParen → ReadsWhole text ts e (v ∷ us) → v.kind ≡ kind.RightParen → ReadsBlock text n us b m rest →
+        u.kind ≡ kind.LeftParen → ReadsWhole text ts e (v ∷ us) → v.kind ≡ kind.RightParen
+        → ReadsBlock text n us b m rest →
         ReadsStmtBy text n kind.If t (u ∷ ts) (tree.If e b) m rest
     choose : {n m o : ℕ} {t u v w : Token} {ts us vs rest : List Token} {e : Expr} {b c : Block} →
-        u.kind ≡ kind.LeftParen → ReadsWhole text ts e (v ∷ us) → v.kind ≡ kind.RightParen → ReadsBlock text n us b m (w ∷ vs) →
-        w.kind ≡ kind.Else → ReadsBlock text m vs c o rest → ReadsStmtBy text n kind.If t (u ∷ ts) (tree.IfElse e b c) o rest
+        u.kind ≡ kind.LeftParen → ReadsWhole text ts e (v ∷ us) → v.kind ≡ kind.RightParen
+        → ReadsBlock text n us b m (w ∷ vs) →
+        w.kind ≡ kind.Else → ReadsBlock text m vs c o rest
+        → ReadsStmtBy text n kind.If t (u ∷ ts) (tree.IfElse e b c) o rest
     repeat : {n m : ℕ} {t u v : Token} {ts us rest : List Token} {e : Expr} {b : Block} →
-        u.kind ≡ kind.LeftParen → ReadsWhole text ts e (v ∷ us) → v.kind ≡ kind.RightParen → ReadsBlock text n us b m rest →
+        u.kind ≡ kind.LeftParen → ReadsWhole text ts e (v ∷ us) → v.kind ≡ kind.RightParen
+        → ReadsBlock text n us b m rest →
         ReadsStmtBy text n kind.While t (u ∷ ts) (tree.While e b) m rest
     loop : {n m : ℕ} {t : Token} {ts us rest : List Token} {h : Head} {b : Block} →
         ReadsHead text ts h us → ReadsBlock text n us b m rest →
@@ -198,12 +227,16 @@ mutual
         ReadsBlock text n ts b m rest → ReadsStmtBy text n kind.Scope t ts (tree.Scope b) m rest
     cut : {n m : ℕ} {t a at «as» l comma r : Token} {ts us rest : List Token} {e : Expr} {b : Block} →
         a.kind ≡ kind.Name → at.kind ≡ kind.At → ReadsWhole text ts e («as» ∷ l ∷ comma ∷ r ∷ us) →
-        «as».kind ≡ kind.As → l.kind ≡ kind.Name → comma.kind ≡ kind.Comma → r.kind ≡ kind.Name → ReadsBlock text n us b m rest →
-        ReadsStmtBy text n kind.Cut t (a ∷ at ∷ ts) (tree.Cut (name_of text a) e (name_of text l) (name_of text r) b) m rest
+        «as».kind ≡ kind.As → l.kind ≡ kind.Name → comma.kind ≡ kind.Comma → r.kind ≡ kind.Name
+        → ReadsBlock text n us b m rest →
+        ReadsStmtBy text n kind.Cut t (a ∷ at ∷ ts) (tree.Cut (name_of text a) e (name_of text l) (name_of text r) b) m
+        rest
     region : {n m : ℕ} {t tag : Token} {ts rest : List Token} {b : Block} →
-        tag.kind ≡ kind.Name → ReadsBlock text n ts b m rest → ReadsStmtBy text n kind.Region t (tag ∷ ts) (tree.Region (name_of text tag) b) m rest
+        tag.kind ≡ kind.Name → ReadsBlock text n ts b m rest
+        → ReadsStmtBy text n kind.Region t (tag ∷ ts) (tree.Region (name_of text tag) b) m rest
     print : {n : ℕ} {t u v w : Token} {ts rest : List Token} {e : Expr} →
-        u.kind ≡ kind.LeftParen → ReadsWhole text ts e (v ∷ w ∷ rest) → v.kind ≡ kind.RightParen → w.kind ≡ kind.Semicolon →
+        u.kind ≡ kind.LeftParen → ReadsWhole text ts e (v ∷ w ∷ rest) → v.kind ≡ kind.RightParen
+        → w.kind ≡ kind.Semicolon →
         ReadsStmtBy text n kind.Print t (u ∷ ts) (tree.Print e) n rest
     give : {n : ℕ} {t : Token} {ts rest : List Token} {e : Option Expr} →
         ReadsReturned text ts e rest → ReadsStmtBy text n kind.Return t ts (tree.Return e) n rest
@@ -217,12 +250,14 @@ mutual
   pub data ReadsStmts (text : List ℕ) : ℕ → List Token → Block → ℕ → List Token → Type 0 where
     close : {n : ℕ} {t : Token} {ts : List Token} → t.kind ≡ kind.RightBrace → ReadsStmts text n (t ∷ ts) tree.End n ts
     one_more : {n m o : ℕ} {t : Token} {ts us rest : List Token} {s : Stmt} {b : Block} →
-        ReadsStmt text n (t ∷ ts) s m us → ReadsStmts text m us b o rest → ReadsStmts text n (t ∷ ts) (tree.Then t.line s b) o rest
+        ReadsStmt text n (t ∷ ts) s m us → ReadsStmts text m us b o rest
+        → ReadsStmts text n (t ∷ ts) (tree.Then t.line s b) o rest
 
 -- a parameter
 pub data ReadsParam (text : List ℕ) : List Token → Param → List Token → Type 0 where
   integer : {t x : Token} {ts : List Token} →
-      t.kind ≡ kind.Int → x.kind ≡ kind.Name → ReadsParam text (t ∷ x ∷ ts) (record { name = name_of text x; is_array = false }) ts
+      t.kind ≡ kind.Int → x.kind ≡ kind.Name
+      → ReadsParam text (t ∷ x ∷ ts) (record { name = name_of text x; is_array = false }) ts
   array : {t x u v : Token} {ts : List Token} →
       t.kind ≡ kind.Int → x.kind ≡ kind.Name → u.kind ≡ kind.LeftBracket → v.kind ≡ kind.RightBracket →
       ReadsParam text (t ∷ x ∷ u ∷ v ∷ ts) (record { name = name_of text x; is_array = true }) ts
@@ -231,7 +266,8 @@ pub data ReadsParam (text : List ℕ) : List Token → Param → List Token → 
 pub data ReadsMoreParams (text : List ℕ) : List Token → List Param → List Token → Type 0 where
   close : {t : Token} {ts : List Token} → t.kind ≡ kind.RightParen → ReadsMoreParams text (t ∷ ts) [] ts
   comma : {t : Token} {ts us rest : List Token} {p : Param} {ps : List Param} →
-      t.kind ≡ kind.Comma → ReadsParam text ts p us → ReadsMoreParams text us ps rest → ReadsMoreParams text (t ∷ ts) (p ∷ ps) rest
+      t.kind ≡ kind.Comma → ReadsParam text ts p us → ReadsMoreParams text us ps rest
+      → ReadsMoreParams text (t ∷ ts) (p ∷ ps) rest
 
 -- parameters, and the closing parenthesis
 pub data ReadsParams (text : List ℕ) : List Token → List Param → List Token → Type 0 where
@@ -248,14 +284,17 @@ gives_int_of _ = None
 -- a function, with the line of its name
 pub data ReadsFunction (text : List ℕ) : ℕ → List Token → Function → ℕ → List Token → Type 0 where
   function : {n m : ℕ} {t f u : Token} {ts us rest : List Token} {gives : Bool} {ps : List Param} {b : Block} →
-      gives_int_of t.kind ≡ Some gives → f.kind ≡ kind.Name → u.kind ≡ kind.LeftParen → ReadsParams text ts ps us → ReadsBlock text n us b m rest →
-      ReadsFunction text n (t ∷ f ∷ u ∷ ts) (record { name = name_of text f; line = f.line; gives_int = gives; params = ps; body = b }) m rest
+      gives_int_of t.kind ≡ Some gives → f.kind ≡ kind.Name → u.kind ≡ kind.LeftParen → ReadsParams text ts ps us
+      → ReadsBlock text n us b m rest →
+      ReadsFunction text n (t ∷ f ∷ u ∷ ts)
+      (record { name = name_of text f; line = f.line; gives_int = gives; params = ps; body = b }) m rest
 
 -- items up to the end of the source: its reducers and its functions, each in their order
 pub data ReadsItems (text : List ℕ) : ℕ → List Token → List Reducer → List Function → Type 0 where
   no_item : {n : ℕ} → ReadsItems text n [] [] []
   one_reducer : {n : ℕ} {t u s v : Token} {ts : List Token} {rs : List Reducer} {fs : List Function} →
-      t.kind ≡ kind.Reducer → u.kind ≡ kind.Sum → s.kind ≡ kind.Name → v.kind ≡ kind.Semicolon → ReadsItems text n ts rs fs →
+      t.kind ≡ kind.Reducer → u.kind ≡ kind.Sum → s.kind ≡ kind.Name → v.kind ≡ kind.Semicolon
+      → ReadsItems text n ts rs fs →
       ReadsItems text n (t ∷ u ∷ s ∷ v ∷ ts) (record { name = name_of text s; line = t.line } ∷ rs) fs
   one_function : {n m : ℕ} {ts us : List Token} {f : Function} {rs : List Reducer} {fs : List Function} →
       ReadsFunction text n ts f m us → ReadsItems text m us rs fs → ReadsItems text n ts rs (f ∷ fs)

@@ -14,9 +14,11 @@ use Rattle.cw_model.specs.Ints.{natural}
 -- the body of a loop is one part in series, and a turn leaves no more of the budget than it was given
 pub record IsBody (body inner : ℤ → Frame → Piece Frame) : Type 0 where
   pub in_series : (i : ℤ) (frame : Frame) (left : ℕ) → body i frame left ≡ as_one Series (inner i frame) left
-  pub spends : (i : ℤ) (frame frame' : Frame) (given left : ℕ) (t : Trace) → inner i frame given ≡ Done frame' left t → left ≤ given
+  pub spends : (i : ℤ) (frame frame' : Frame) (given left : ℕ) (t : Trace) → inner i frame given ≡ Done frame' left t
+      → left ≤ given
 
--- one turn of a `cilk_for` of the source: its block on a frame with the turn's number, whose own names are gone at its end
+-- one turn of a `cilk_for` of the source: its block on a frame with the turn's number, whose own names are gone at its
+-- end
 abbrev pub for_turn : Name → List Name → Block → List Function → Calls → ℤ → Frame → Piece Frame
 for_turn x over b fs calls i now = do
   way ← run_all b fs calls (inside_loop over (new_int x i now))
@@ -28,15 +30,18 @@ for_body x over b fs calls i now = do
   way ← as_one Series (run_all b fs calls (inside_loop over (new_int x i now)))
   gives (leave now (frame_of way))
 
--- a `cilk_for`: its bounds, what it captures, the number of its turns, and the loop by halves of its body as one part in series
-abbrev pub for_piece : Name → (from to : Expr) → (grain : ℕ) → List Name → Block → (line : ℕ) → List Function → Calls → Frame → Piece Completion
+-- a `cilk_for`: its bounds, what it captures, the number of its turns, and the loop by halves of its body as one part
+-- in series
+abbrev pub for_piece : Name → (from to : Expr) → (grain : ℕ) → List Name → Block → (line : ℕ) → List Function → Calls
+    → Frame → Piece Completion
 for_piece x from to grain over b line fs calls frame = do
   let k = length (captured x b)
   lo ← pay_for (evaluate from frame) line
   hi ← pay_for (evaluate to frame) line
   _ ← pay k
   n ← pay_for (and_then (Gives (pos 0) 0) (λ v. loop_turns lo hi (map (array_of frame) over))) line
-  frame' ← as_one Series (halves (suc (natural n)) grain k (length over) (natural n) lo (for_body x over b fs calls) frame)
+  frame' ← as_one Series
+      (halves (suc (natural n)) grain k (length over) (natural n) lo (for_body x over b fs calls) frame)
   going frame'
 
 -- what turns took of the budget
@@ -55,8 +60,10 @@ additions_of turns = flat_map (λ turn. turn.trace.additions) turns
 abbrev pub trees_of : List Turn → List Tree
 trees_of turns = map (λ turn. tree_of turn.trace.events) turns
 
--- a loop of n turns that is done did what n turns of the plain loop do in order, at the cost of the halves and in their tree
-pub record RunsAsPlain (inner : ℤ → Frame → Piece Frame) (grain k q n : ℕ) (from : ℤ) (frame : Frame) (left : ℕ) (frame' : Frame) (left' : ℕ) (t : Trace) : Type 0 where
+-- a loop of n turns that is done did what n turns of the plain loop do in order, at the cost of the halves and in their
+-- tree
+pub record RunsAsPlain (inner : ℤ → Frame → Piece Frame) (grain k q n : ℕ) (from : ℤ) (frame : Frame) (left : ℕ)
+    (frame' : Frame) (left' : ℕ) (t : Trace) : Type 0 where
   pub turns : List Turn
   pub as_many : length turns ≡ n
   pub in_order : TurnsLead inner from frame turns frame'
@@ -66,7 +73,8 @@ pub record RunsAsPlain (inner : ℤ → Frame → Piece Frame) (grain k q n : �
   pub tree : normal (tree_of t.events) ≡ normal (loop_tree (suc n) grain k q (trees_of turns))
 
 -- a loop of n turns that traps did what fewer turns of the plain loop do in order, and the turn after them traps so
-pub record TrapsAsPlain (inner : ℤ → Frame → Piece Frame) (n : ℕ) (from : ℤ) (frame : Frame) (trap : Trap) (line : ℕ) (lines : List ℤ) : Type 0 where
+pub record TrapsAsPlain (inner : ℤ → Frame → Piece Frame) (n : ℕ) (from : ℤ) (frame : Frame) (trap : Trap) (line : ℕ)
+    (lines : List ℤ) : Type 0 where
   pub turns : List Turn
   pub fewer : length turns < n
   pub reached : Frame
@@ -79,7 +87,8 @@ pub record TrapsAsPlain (inner : ℤ → Frame → Piece Frame) (n : ℕ) (from 
 -- a `cilk_for` is a loop by halves
 abbrev pub ForsAreByHalves : Type 0
 ForsAreByHalves =
-    (x y z : Name) (from to : Expr) (grain : ℕ) (over : List Name) (b : Block) (line : ℕ) (fs : List Function) (calls : Calls) (frame : Frame) →
+    (x y z : Name) (from to : Expr) (grain : ℕ) (over : List Name) (b : Block) (line : ℕ) (fs : List Function)
+    (calls : Calls) (frame : Frame) →
     run (For x y z from to grain over b) line fs calls frame ≡ for_piece x from to grain over b line fs calls frame
 
 -- the body of a `cilk_for` in a call is one that the laws of loops speak of
@@ -92,14 +101,16 @@ abbrev pub LoopsRunAsPlain : Type 0
 LoopsRunAsPlain =
     (body inner : ℤ → Frame → Piece Frame) → IsBody body inner →
     (grain k q n : ℕ) (from : ℤ) (frame : Frame) (left : ℕ) (frame' : Frame) (left' : ℕ) (t : Trace) →
-    halves (suc n) grain k q n from body frame left ≡ Done frame' left' t → RunsAsPlain inner grain k q n from frame left frame' left' t
+    halves (suc n) grain k q n from body frame left ≡ Done frame' left' t
+    → RunsAsPlain inner grain k q n from frame left frame' left' t
 
 -- a loop by halves that traps did what fewer turns of the plain loop do in order, and the next turn traps so
 abbrev pub LoopsTrapAsPlain : Type 0
 LoopsTrapAsPlain =
     (body inner : ℤ → Frame → Piece Frame) → IsBody body inner →
     (grain k q n : ℕ) (from : ℤ) (frame : Frame) (left : ℕ) (trap : Trap) (line : ℕ) (lines : List ℤ) →
-    halves (suc n) grain k q n from body frame left ≡ Trapped trap line lines → TrapsAsPlain inner n from frame trap line lines
+    halves (suc n) grain k q n from body frame left ≡ Trapped trap line lines
+    → TrapsAsPlain inner n from frame trap line lines
 
 -- the work of a loop's tree is what its leaves and inner nodes cost, and the work of its turns
 abbrev pub LoopWorkAddsUp : Type 0
@@ -109,5 +120,6 @@ LoopWorkAddsUp = (grain k q : ℕ) (ts : List Tree) → 0 < grain →
 -- any greater bound on the depth of a loop does the same
 abbrev pub LoopsAreDeepEnough : Type 0
 LoopsAreDeepEnough =
-    (grain k q n depth : ℕ) (from : ℤ) (body : ℤ → Frame → Piece Frame) (frame : Frame) (left : ℕ) → 0 < grain → n < depth →
+    (grain k q n depth : ℕ) (from : ℤ) (body : ℤ → Frame → Piece Frame) (frame : Frame) (left : ℕ) → 0 < grain
+    → n < depth →
     halves depth grain k q n from body frame left ≡ halves (suc n) grain k q n from body frame left

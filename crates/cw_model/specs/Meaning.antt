@@ -188,7 +188,9 @@ abbrev mutual
     _ ← pay (length captured)
     n ← pay_for (and_then (Gives (pos 0) 0) (λ v. loop_turns lo hi (map (array_of frame) over))) line
     let f = function_named callee fs
-    let given = loop_frame f.params (lo ∷ (lo +ℤ n) ∷ map (int_of frame) captured) (map (λ a. take (natural n) (drop (natural lo) (array_of frame a))) over) no_frame
+    let given =
+        loop_frame f.params (lo ∷ (lo +ℤ n) ∷ map (int_of frame) captured)
+        (map (λ a. take (natural n) (drop (natural lo) (array_of frame a))) over) no_frame
     returned ← as_one Series (calls SameDepth f given line)
     going (slices_back over (natural lo) returned.1 frame)
   -- the instruction of a sync comes after the join
@@ -278,5 +280,6 @@ unfoldable pub call : (bound depth : ℕ) → List Function → Calls
 call zero depth fs entry f given line = λ left. Over
 call (suc bound) depth fs entry f given line =
     if nat_lt MOST_DEPTH (depth_of entry depth) then (λ left. Trapped trap.TooDeep line []) else (do
-      way ← run_all f.body fs (λ e g given' line' left. call bound (depth_of entry depth) fs e g given' line' left) given
+      way ← run_all f.body fs (λ e g given' line' left. call bound (depth_of entry depth) fs e g given' line' left)
+          given
       end_of_call way)

@@ -21,7 +21,8 @@ shows events = record { lines = []; additions = []; events = events }
 
 -- one trace and then another
 abbrev pub joined : Trace → Trace → Trace
-joined t u = record { lines = t.lines ++ u.lines; additions = t.additions ++ u.additions; events = t.events ++ u.events }
+joined t u =
+    record { lines = t.lines ++ u.lines; additions = t.additions ++ u.additions; events = t.events ++ u.events }
 
 -- a piece is done, with what is left of the budget; or it trapped, in a line and with the values printed before;
 -- or its cost passed the budget
@@ -69,7 +70,8 @@ pay_for (Traps trap cost) line = λ left. if nat_lt left cost then Over else Tra
 
 -- the events of an outcome stand in its place as one event, made of their tree
 abbrev pub joined_up : {A : Type 0} → (Tree → Event) → Outcome A → Outcome A
-joined_up part (Done a left t) = Done a left (record { lines = t.lines; additions = t.additions; events = part (tree_of t.events) ∷ [] })
+joined_up part (Done a left t) =
+    Done a left (record { lines = t.lines; additions = t.additions; events = part (tree_of t.events) ∷ [] })
 joined_up part (Trapped trap line lines) = Trapped trap line lines
 joined_up part Over = Over
 

@@ -86,19 +86,25 @@ own_names (Then line s b) = own_names b
 abbrev mutual
   -- what is taken after a statement that lies in so many sync blocks
   pub taken_after : List Function → ℕ → Stmt → Taken → Taken
-  taken_after fs depth (Call Spawned site target f es) taken = taken_by depth (target_names target ++ given fs f es) taken
+  taken_after fs depth (Call Spawned site target f es) taken =
+      taken_by depth (target_names target ++ given fs f es) taken
   taken_after fs depth Sync taken = freed depth taken
   taken_after fs depth (Return e) taken = freed depth taken
-  taken_after fs depth (If e b) taken = where_it_goes_on (block_returns b) (without (own_names b) (taken_after_all fs depth b taken)) ++ taken
+  taken_after fs depth (If e b) taken =
+      where_it_goes_on (block_returns b) (without (own_names b) (taken_after_all fs depth b taken)) ++ taken
   taken_after fs depth (IfElse e b c) taken =
       where_it_goes_on (block_returns b) (without (own_names b) (taken_after_all fs depth b taken))
       ++ where_it_goes_on (block_returns c) (without (own_names c) (taken_after_all fs depth c taken))
   -- what was taken before, and what one turn leaves of it: no further turn takes more
-  taken_after fs depth (While e b) taken = taken ++ where_it_goes_on (block_returns b) (without (own_names b) (taken_after_all fs depth b taken))
-  taken_after fs depth (Scope b) taken = freed (depth + 1) (without (own_names b) (taken_after_all fs (depth + 1) b taken))
-  taken_after fs depth (Region tag b) taken = freed (depth + 1) (without (own_names b) (taken_after_all fs (depth + 1) b taken))
+  taken_after fs depth (While e b) taken =
+      taken ++ where_it_goes_on (block_returns b) (without (own_names b) (taken_after_all fs depth b taken))
+  taken_after fs depth (Scope b) taken =
+      freed (depth + 1) (without (own_names b) (taken_after_all fs (depth + 1) b taken))
+  taken_after fs depth (Region tag b) taken =
+      freed (depth + 1) (without (own_names b) (taken_after_all fs (depth + 1) b taken))
   taken_after fs depth (Cut a e l r b) taken =
-      cut_ended a (freed (depth + 1) (without (l ∷ r ∷ own_names b) (taken_after_all fs (depth + 1) b ((a, CutOf) ∷ taken))))
+      cut_ended a
+      (freed (depth + 1) (without (l ∷ r ∷ own_names b) (taken_after_all fs (depth + 1) b ((a, CutOf) ∷ taken))))
   taken_after fs depth (For x y z from to grain over b) taken =
       freed (depth + 1) (without (x ∷ own_names b) (taken_after_all fs (depth + 1) b taken))
   taken_after fs depth _ taken = taken
@@ -190,13 +196,16 @@ abbrev mutual
   pub owner_faults : List Function → Around → (known : List Name) → (depth : ℕ) → Taken → (line : ℕ) → Stmt → List ℕ
   owner_faults fs around known depth taken line (Declare x e) = unless (may_read around taken e) line
   owner_faults fs around known depth taken line (DeclareArray a e) = unless (may_read around taken e) line
-  owner_faults fs around known depth taken line (Assign x e) = unless (may_read around taken e && may_write around taken (x ∷ [])) line
+  owner_faults fs around known depth taken line (Assign x e) =
+      unless (may_read around taken e && may_write around taken (x ∷ [])) line
   owner_faults fs around known depth taken line (AssignElement a i e) =
-      unless (may_read around taken i && may_read around taken e && are_free taken (a ∷ []) && may_index around a i) line
+      unless (may_read around taken i && may_read around taken e && are_free taken (a ∷ []) && may_index around a i)
+      line
   owner_faults fs around known depth taken line (AddTo s e) = unless (may_read around taken e) line
   -- no array is passed twice
   owner_faults fs around known depth taken line (Call kind site target f es) =
-      unless (list_all (λ e. may_read around taken e) es && may_write around taken (target_names target ++ given fs f es) && differ (given fs f es)) line
+      unless (list_all (λ e. may_read around taken e) es
+      && may_write around taken (target_names target ++ given fs f es) && differ (given fs f es)) line
   -- no source has one
   owner_faults fs around known depth taken line (Start kind callee es) = line ∷ []
   owner_faults fs around known depth taken line (Begin callee from to captured over) = line ∷ []
@@ -204,29 +213,35 @@ abbrev mutual
   owner_faults fs around known depth taken line (If e b) =
       unless (may_read around taken e) line ++ owner_faults_in fs around known depth Leaves taken [] b
   owner_faults fs around known depth taken line (IfElse e b c) =
-      unless (may_read around taken e) line ++ (owner_faults_in fs around known depth Leaves taken [] b ++ owner_faults_in fs around known depth Leaves taken [] c)
+      unless (may_read around taken e) line
+      ++ (owner_faults_in fs around known depth Leaves taken [] b
+      ++ owner_faults_in fs around known depth Leaves taken [] c)
   -- the test and the body see what any number of turns leaves
   owner_faults fs around known depth taken line (While e b) =
       let all = taken_after fs depth (While e b) taken in
       unless (may_read around all e) line ++ owner_faults_in fs around known depth Leaves all [] b
   owner_faults fs around known depth taken line (For x y z from to grain over b) =
-      unless (may_read (for_head around) taken from && may_read (for_head around) taken to && may_write around taken over && differ over) line
+      unless (may_read (for_head around) taken from && may_read (for_head around) taken to
+      && may_write around taken over && differ over) line
       ++ owner_faults_in fs (InLoop (x ∷ known) x over) (x ∷ known) (depth + 1) Joins taken [] b
   owner_faults fs around known depth taken line (Scope b) = owner_faults_in fs around known (depth + 1) Joins taken [] b
   owner_faults fs around known depth taken line (Cut a e l r b) =
       unless (may_read around taken e && may_write around taken (a ∷ [])) line
       ++ owner_faults_in fs around (r ∷ l ∷ known) (depth + 1) Joins ((a, CutOf) ∷ taken) [] b
-  owner_faults fs around known depth taken line (Region tag b) = owner_faults_in fs around known (depth + 1) Joins taken [] b
+  owner_faults fs around known depth taken line (Region tag b) =
+      owner_faults_in fs around known (depth + 1) Joins taken [] b
   owner_faults fs around known depth taken line (Print e) = unless (may_read around taken e) line
   owner_faults fs around known depth taken line (Return None) = []
   owner_faults fs around known depth taken line (Return (Some e)) = unless (may_read around taken e) line
 
   -- in a block; a name of its own that is still taken at its end counts at its declaration
-  pub owner_faults_in : List Function → Around → (known : List Name) → (depth : ℕ) → Closing → Taken → Declared → Block → List ℕ
+  pub owner_faults_in : List Function → Around → (known : List Name) → (depth : ℕ) → Closing → Taken → Declared → Block
+      → List ℕ
   owner_faults_in fs around known depth closing taken declared End = left_taken declared (at_end closing depth taken)
   owner_faults_in fs around known depth closing taken declared (Then line s b) =
       owner_faults fs around known depth taken line s
-      ++ owner_faults_in fs around (known_after known s) depth closing (taken_after fs depth s taken) (declared_by line s declared) b
+      ++ owner_faults_in fs around (known_after known s) depth closing (taken_after fs depth s taken)
+      (declared_by line s declared) b
 
 -- a function's body is a sync block, in which nothing is taken at first
 abbrev pub owner_faults_of : List Function → Function → List ℕ
@@ -245,4 +260,5 @@ pub record IsLeastClosed (turn : Taken → Taken) (before after : Taken) : Type 
   pub holds_before : (t : Name × Holder) → Contains before t → Contains after t
   pub closed : (t : Name × Holder) → Contains (turn after) t → Contains after t
   pub least : (set : Taken) → ((t : Name × Holder) → Contains before t → Contains set t) →
-      ((t : Name × Holder) → Contains (turn set) t → Contains set t) → (t : Name × Holder) → Contains after t → Contains set t
+      ((t : Name × Holder) → Contains (turn set) t → Contains set t) → (t : Name × Holder) → Contains after t
+      → Contains set t

@@ -81,7 +81,8 @@ scale_header = codes "tag,work,span,parallelism,burdened_span,burdened_paralleli
 -- a row of the scale report
 abbrev pub scale_line : Name → (work span burdened : ℕ) → List ℕ
 scale_line tag work span burdened =
-    csv_line (tag ∷ decimal work ∷ decimal span ∷ parallelism work span ∷ decimal burdened ∷ parallelism work burdened ∷ [])
+    csv_line
+    (tag ∷ decimal work ∷ decimal span ∷ parallelism work span ∷ decimal burdened ∷ parallelism work burdened ∷ [])
 
 abbrev mutual
   -- the tags in a statement, by place
@@ -111,7 +112,9 @@ region_line burden t tag = let row = region_row burden tag t in scale_line tag r
 -- the whole program, with an empty tag, and then each tag of the source
 abbrev pub scale_text : Program → ℕ → Answer → List ℕ
 scale_text program burden (Ended v lines sums t) =
-    scale_header ++ (scale_line [] (work t) (span t) (burdened_span burden t) ++ flat_map (region_line burden t) (tags_of program))
+    scale_header
+    ++ (scale_line [] (work t) (span t) (burdened_span burden t)
+    ++ flat_map (region_line burden t) (tags_of program))
 scale_text program burden (TrappedAt trap line lines) = []
 scale_text program burden OverLimit = []
 
@@ -134,7 +137,8 @@ site_line t s =
 
 -- the root, and then each call statement
 abbrev pub sites_text : Program → Answer → List ℕ
-sites_text program (Ended v lines sums t) = sites_header ++ flat_map (site_line t) (root_site program ∷ call_sites program)
+sites_text program (Ended v lines sums t) =
+    sites_header ++ flat_map (site_line t) (root_site program ∷ call_sites program)
 sites_text program (TrappedAt trap line lines) = []
 sites_text program OverLimit = []
 

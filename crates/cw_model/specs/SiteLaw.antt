@@ -8,4 +8,5 @@ use Rattle.cw_model.specs.Grammar.{Derives}
 -- what is derived has its call statements numbered from 1, in the order of their places
 abbrev pub SitesAreNumbered : Type 0
 SitesAreNumbered =
-    (text : List ℕ) (ts : List Token) (program : Program) → Derives text ts program → are_numbered 0 (call_sites program) ≡ true
+    (text : List ℕ) (ts : List Token) (program : Program) → Derives text ts program
+    → are_numbered 0 (call_sites program) ≡ true

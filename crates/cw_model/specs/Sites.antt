@@ -20,7 +20,8 @@ pub record CallSite : Type 0 where
 abbrev mutual
   -- the call statements in a statement of a line, by place
   pub sites_in : ℕ → Stmt → List CallSite
-  sites_in line (Call kind site target callee es) = record { number = site; kind = Of kind; line = line; callee = callee } ∷ []
+  sites_in line (Call kind site target callee es) =
+      record { number = site; kind = Of kind; line = line; callee = callee } ∷ []
   sites_in line (If e b) = sites_in_block b
   sites_in line (IfElse e b c) = sites_in_block b ++ sites_in_block c
   sites_in line (While e b) = sites_in_block b
@@ -41,7 +42,8 @@ call_sites program = flat_map (λ f. sites_in_block f.body) program.functions
 
 -- the invocation of main by the run itself
 abbrev pub root_site : Program → CallSite
-root_site program = record { number = 0; kind = Root; line = (function_named main_name program.functions).line; callee = main_name }
+root_site program =
+    record { number = 0; kind = Root; line = (function_named main_name program.functions).line; callee = main_name }
 
 -- the sites have the numbers that follow this one, in their order
 abbrev pub are_numbered : ℕ → List CallSite → Bool

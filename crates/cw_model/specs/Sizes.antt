@@ -34,7 +34,8 @@ token_faults brackets row [] = []
 token_faults brackets row (t ∷ ts) =
     let opened = open_after brackets t.kind in
     let next = row_after row t.kind in
-    unless (nat_le opened MOST_OPEN_BRACKETS) t.line ++ (unless (nat_le next MOST_TOKENS_IN_A_ROW) t.line ++ token_faults opened next ts)
+    unless (nat_le opened MOST_OPEN_BRACKETS) t.line
+    ++ (unless (nat_le next MOST_TOKENS_IN_A_ROW) t.line ++ token_faults opened next ts)
 
 -- what is there a first time, by its name
 abbrev pub first_places : List (Name × ℕ) → List Name → List (Name × ℕ)
@@ -186,4 +187,5 @@ call_count program = length (call_sites program)
 -- a program of too many instructions or call statements counts at line 1
 abbrev pub program_faults : Program → List ℕ
 program_faults program =
-    unless (nat_le (static_size program) MOST_INSTRUCTIONS) 1 ++ unless (nat_le (call_count program) MOST_CALL_STATEMENTS) 1
+    unless (nat_le (static_size program) MOST_INSTRUCTIONS) 1
+    ++ unless (nat_le (call_count program) MOST_CALL_STATEMENTS) 1

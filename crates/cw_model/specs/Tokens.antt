@@ -11,10 +11,14 @@ use Rattle.cw_model.specs.Pieces.{is_separator, is_word, is_number, is_comment, 
 -- the words that are no names
 abbrev pub keywords : List (List ℕ × Kind)
 keywords =
-    (codes "int", kind.Int) ∷ (codes "void", kind.Void) ∷ (codes "if", kind.If) ∷ (codes "else", kind.Else) ∷ (codes "while", kind.While) ∷
-    (codes "return", kind.Return) ∷ (codes "print", kind.Print) ∷ (codes "len", kind.Len) ∷ (codes "cut", kind.Cut) ∷ (codes "at", kind.At) ∷
-    (codes "as", kind.As) ∷ (codes "region", kind.Region) ∷ (codes "reducer", kind.Reducer) ∷ (codes "sum", kind.Sum) ∷ (codes "grain", kind.Grain) ∷
-    (codes "over", kind.Over) ∷ (codes "cilk_spawn", kind.Spawn) ∷ (codes "cilk_sync", kind.Sync) ∷ (codes "cilk_scope", kind.Scope) ∷
+    (codes "int", kind.Int) ∷ (codes "void", kind.Void) ∷ (codes "if", kind.If) ∷ (codes "else", kind.Else)
+    ∷ (codes "while", kind.While) ∷
+    (codes "return", kind.Return) ∷ (codes "print", kind.Print) ∷ (codes "len", kind.Len) ∷ (codes "cut", kind.Cut)
+    ∷ (codes "at", kind.At) ∷
+    (codes "as", kind.As) ∷ (codes "region", kind.Region) ∷ (codes "reducer", kind.Reducer) ∷ (codes "sum", kind.Sum)
+    ∷ (codes "grain", kind.Grain) ∷
+    (codes "over", kind.Over) ∷ (codes "cilk_spawn", kind.Spawn) ∷ (codes "cilk_sync", kind.Sync)
+    ∷ (codes "cilk_scope", kind.Scope) ∷
     (codes "cilk_for", kind.For) ∷ []
 
 -- the keyword of a word in a table, or a name
@@ -34,8 +38,10 @@ pub record IsLongest (bytes : List ℕ) (len : ℕ) : Type 0 where
 
 -- what a token's text is, by its kind
 pub data IsSpelled : Kind → List ℕ → Type 0 where
-  word : {text : List ℕ} → is_word text ≡ true → (word_kind text ≡ kind.Name → length text ≤ MOST_NAME_BYTES) → IsSpelled (word_kind text) text
-  number : {text : List ℕ} → is_number text ≡ true → decimal_value text ≤ MOST_NUMBER → IsSpelled (kind.Number (decimal_value text)) text
+  word : {text : List ℕ} → is_word text ≡ true → (word_kind text ≡ kind.Name → length text ≤ MOST_NAME_BYTES)
+      → IsSpelled (word_kind text) text
+  number : {text : List ℕ} → is_number text ≡ true → decimal_value text ≤ MOST_NUMBER
+      → IsSpelled (kind.Number (decimal_value text)) text
   mark : {k : Kind} {text : List ℕ} → symbol text ≡ Some k → IsSpelled k text
 
 -- a token of the text: the longest piece in its place, with its kind and its line
@@ -48,8 +54,10 @@ pub record IsToken (text : List ℕ) (t : Token) : Type 0 where
 -- only separators and comments from one place to another
 pub data IsGap (text : List ℕ) : ℕ → ℕ → Type 0 where
   none : {at : ℕ} → IsGap text at at
-  separator : {at to : ℕ} → at < length text → is_separator (slice_index text at) ≡ true → IsGap text (at + 1) to → IsGap text at to
-  comment : {at to : ℕ} (len : ℕ) → IsLongest (drop at text) len → is_comment (take len (drop at text)) ≡ true → IsGap text (at + len) to → IsGap text at to
+  separator : {at to : ℕ} → at < length text → is_separator (slice_index text at) ≡ true → IsGap text (at + 1) to
+      → IsGap text at to
+  comment : {at to : ℕ} (len : ℕ) → IsLongest (drop at text) len → is_comment (take len (drop at text)) ≡ true
+      → IsGap text (at + len) to → IsGap text at to
 
 -- between two places stand these tokens, with only gaps before, between and after them
 abbrev pub AreTokens : List ℕ → ℕ → List Token → ℕ → Type 0

@@ -15,7 +15,8 @@ pub data Regrouped : Tree → Tree → Type 0 where
   nothing_before : (t : Tree) → Regrouped (Seq (Leaf 0) t) t
   nothing_after : (t : Tree) → Regrouped (Seq t (Leaf 0)) t
   in_series : {a a' b b' : Tree} → Regrouped a a' → Regrouped b b' → Regrouped (Seq a b) (Seq a' b')
-  in_fork : {child child' rest rest' : Tree} → Regrouped child child' → Regrouped rest rest' → Regrouped (Par child rest) (Par child' rest')
+  in_fork : {child child' rest rest' : Tree} → Regrouped child child' → Regrouped rest rest'
+      → Regrouped (Par child rest) (Par child' rest')
   in_mark : {t t' : Tree} → (mark : Mark) → Regrouped t t' → Regrouped (Marked mark t) (Marked mark t')
 
 -- all that is read off two trees is the same: work, burdened spans, and the rows of every site and every region

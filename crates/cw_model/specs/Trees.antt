@@ -7,7 +7,8 @@ pub data Mark : Type 0 where
   Invocation : (site : ℕ) → Mark
   Execution : (tag : Name) → Mark
 
--- a strand of so many instructions, one part after another, a child beside the rest of its sync block, and a marked part
+-- a strand of so many instructions, one part after another, a child beside the rest of its sync block, and a marked
+-- part
 pub data Tree : Type 0 where
   Leaf : ℕ → Tree
   Seq : Tree → Tree → Tree

@@ -67,7 +67,8 @@ is_target known f (Some x) = is_int known x && f.gives_int
 -- a call of a function that is there and is not main
 abbrev pub is_call : Known → Option Name → Option Function → List Expr → Bool
 is_call known target None es = false
-is_call known target (Some f) es = is_target known f target && are_arguments known f.params es && not (same_name f.name main_name)
+is_call known target (Some f) es =
+    is_target known f target && are_arguments known f.params es && not (same_name f.name main_name)
 
 -- a reducer of the program
 abbrev pub is_reducer : Program → Name → Bool
@@ -104,8 +105,10 @@ declares (Declare x e) known = (x, false) ∷ known
 declares (DeclareArray a e) known = (a, true) ∷ known
 declares _ known = known
 
--- the three names of a loop's head are one new name, its ends are integers, its grain is in range, and it is over arrays
-abbrev pub is_head_of_loop : Program → Known → (variable tested stepped : Name) → (from to : Expr) → (grain : ℕ) → (over : List Name) → Bool
+-- the three names of a loop's head are one new name, its ends are integers, its grain is in range, and it is over
+-- arrays
+abbrev pub is_head_of_loop : Program → Known → (variable tested stepped : Name) → (from to : Expr) → (grain : ℕ)
+    → (over : List Name) → Bool
 is_head_of_loop program known x y z from to grain over =
     is_new program known x && same_name y x && same_name z x && is_fine known from && is_fine known to
     && nat_le 1 grain && nat_le grain MOST_GRAIN && list_all (λ a. is_array known a) over
@@ -126,19 +129,25 @@ abbrev mutual
   faults_in program returns known line (Declare x e) = unless (is_fine known e && is_new program known x) line
   faults_in program returns known line (DeclareArray a e) = unless (is_fine known e && is_new program known a) line
   faults_in program returns known line (Assign x e) = unless (is_int known x && is_fine known e) line
-  faults_in program returns known line (AssignElement a i e) = unless (is_array known a && is_fine known i && is_fine known e) line
+  faults_in program returns known line (AssignElement a i e) =
+      unless (is_array known a && is_fine known i && is_fine known e) line
   faults_in program returns known line (AddTo s e) = unless (is_reducer program s && is_fine known e) line
-  faults_in program returns known line (Call kind site target f es) = unless (is_call known target (called f program.functions) es) line
+  faults_in program returns known line (Call kind site target f es) =
+      unless (is_call known target (called f program.functions) es) line
   -- no source has one
   faults_in program returns known line (Start kind callee es) = line ∷ []
   faults_in program returns known line (Begin callee from to captured over) = line ∷ []
   faults_in program returns known line Sync = []
-  faults_in program returns known line (If e b) = unless (is_fine known e) line ++ faults_in_block program returns known b
+  faults_in program returns known line (If e b) =
+      unless (is_fine known e) line ++ faults_in_block program returns known b
   faults_in program returns known line (IfElse e b c) =
-      unless (is_fine known e) line ++ (faults_in_block program returns known b ++ faults_in_block program returns known c)
-  faults_in program returns known line (While e b) = unless (is_fine known e) line ++ faults_in_block program returns known b
+      unless (is_fine known e) line
+      ++ (faults_in_block program returns known b ++ faults_in_block program returns known c)
+  faults_in program returns known line (While e b) =
+      unless (is_fine known e) line ++ faults_in_block program returns known b
   faults_in program returns known line (For x y z from to grain over b) =
-      unless (is_head_of_loop program known x y z from to grain over) line ++ faults_in_block program Nowhere ((x, false) ∷ known) b
+      unless (is_head_of_loop program known x y z from to grain over) line
+      ++ faults_in_block program Nowhere ((x, false) ∷ known) b
   faults_in program returns known line (Scope b) = faults_in_block program Nowhere known b
   faults_in program returns known line (Cut a e l r b) =
       unless (is_cut program known a e l r) line ++ faults_in_block program Nowhere ((r, true) ∷ (l, true) ∷ known) b
@@ -161,7 +170,8 @@ known_of (p ∷ ps) = known_of ps ++ (p.name, p.is_array) ∷ []
 -- its parameters are new names that differ, an int function surely returns, and main is an int function of integers
 abbrev pub is_head : Program → Function → Bool
 is_head program f =
-    differ (map (λ p. p.name) f.params) && not (list_any (λ p. is_among p.name (globals program)) f.params) && (not f.gives_int || block_returns f.body)
+    differ (map (λ p. p.name) f.params) && not (list_any (λ p. is_among p.name (globals program)) f.params)
+    && (not f.gives_int || block_returns f.body)
     && (not (same_name f.name main_name) || (f.gives_int && not (list_any (λ p. p.is_array) f.params)))
 
 -- the lines that break a rule in a function
@@ -190,7 +200,8 @@ repeated_names program =
 -- all lines that break a rule; a missing main counts as line 1
 abbrev pub type_faults : Program → List ℕ
 type_faults program =
-    unless (is_among main_name (map (λ f. f.name) program.functions)) 1 ++ (repeated_names program ++ flat_map (faults_of program) program.functions)
+    unless (is_among main_name (map (λ f. f.name) program.functions)) 1
+    ++ (repeated_names program ++ flat_map (faults_of program) program.functions)
 
 -- no line breaks a rule
 abbrev pub IsWellTyped : Program → Type 0

@@ -9,5 +9,6 @@ use Rattle.cw_model.specs.Meaning.{Entry, Returned, call}
 -- a call that is done takes the work of its tree
 abbrev pub CallsTakeTheirWork : Type 0
 CallsTakeTheirWork =
-    (bound depth : ℕ) (fs : List Function) (entry : Entry) (f : Function) (given : Frame) (line left : ℕ) (returned : Returned) (left' : ℕ) (t : Trace) →
+    (bound depth : ℕ) (fs : List Function) (entry : Entry) (f : Function) (given : Frame) (line left : ℕ)
+    (returned : Returned) (left' : ℕ) (t : Trace) →
     call bound depth fs entry f given line left ≡ Done returned left' t → left ≡ left' + work (tree_of t.events)

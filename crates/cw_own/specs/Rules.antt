@@ -8,7 +8,8 @@ use Rattle.cw_own.specs.declared.around.Loop as code
 use Rattle.cw_own.specs.Sets.{Slots, no_slot, with_slot, slots_of, Row, no_local, with_int, either_row, row_of}
 use Rattle.cw_own.specs.Taken.{Taken, nothing, int_taken, array_taken, inside, inside_cut, joined, with_parts, known_after, taken_after, taken_after_all, gain, with_params}
 
--- the innermost loop around: the locals from outside its body and its variable, the slot of that, and the arrays of the loop
+-- the innermost loop around: the locals from outside its body and its variable, the slot of that, and the arrays of the
+-- loop
 pub record Loop : Type 0 where
   pub outer : Row
   pub variable : ℕ
@@ -26,7 +27,8 @@ with_uses (u ∷ us) set = with_uses us (with_slot u.slot set)
 -- the loop of this head, where these locals are known before it
 abbrev pub loop_in : Head → Row → Loop
 loop_in head known =
-    record { outer = with_int head.variable.slot known; variable = head.variable.slot; over = with_uses head.over no_slot }
+    record
+    { outer = with_int head.variable.slot known; variable = head.variable.slot; over = with_uses head.over no_slot }
 
 -- the head of a further loop names no array of the loop around
 abbrev pub for_head : Option Loop → Option Loop
@@ -147,7 +149,8 @@ left_at_end closing known taken b = left_lines (at_end closing (taken_after_all 
 
 -- what the test and the body of a `while` see as taken: also what a turn takes
 abbrev pub seen_by : (known : Row) → Taken → Stmt → Taken
-seen_by known taken (While e b) = record { outer = taken.outer; here = either_row taken.here (gain known b); cuts = taken.cuts }
+seen_by known taken (While e b) =
+    record { outer = taken.outer; here = either_row taken.here (gain known b); cuts = taken.cuts }
 seen_by known taken _ = taken
 
 abbrev mutual

@@ -32,7 +32,8 @@ inside taken = record { outer = either_row taken.outer taken.here; here = no_loc
 
 -- as the block of a cut of this array begins
 abbrev pub inside_cut : ℕ → Taken → Taken
-inside_cut a taken = record { outer = either_row taken.outer taken.here; here = no_local; cuts = with_slot a taken.cuts }
+inside_cut a taken =
+    record { outer = either_row taken.outer taken.here; here = no_local; cuts = with_slot a taken.cuts }
 
 -- after a join
 abbrev pub joined : Taken → Taken
@@ -133,7 +134,8 @@ abbrev mutual
 
 -- what is taken after a statement
 abbrev pub taken_after : (known : Row) → Stmt → Taken → Taken
-taken_after known s taken = record { outer = taken.outer; here = after known s taken.here; cuts = cuts_after s taken.cuts }
+taken_after known s taken =
+    record { outer = taken.outer; here = after known s taken.here; cuts = cuts_after s taken.cuts }
 
 -- what a statement leaves taken, where this much is seen by its test and its blocks
 abbrev pub left_by : (known : Row) → Stmt → Taken → Taken
@@ -158,7 +160,8 @@ taken_after_all known b taken =
 abbrev pub with_params : (ints arrays : ℕ) → List Param → Row → Row
 with_params ints arrays [] known = known
 with_params ints arrays (p ∷ ps) known =
-    if p.is_array then with_params ints (arrays + 1) ps (with_array arrays known) else with_params (ints + 1) arrays ps (with_int ints known)
+    if p.is_array then with_params ints (arrays + 1) ps (with_array arrays known) else with_params (ints + 1) arrays ps
+    (with_int ints known)
 
 -- what the code holds as taken
 abbrev pub taken_of : code.Taken → Taken

@@ -36,12 +36,15 @@ closed m make whole ts = whole ts >>= λ x. marked m x.1 >>= λ y. Ok (make x.0,
 -- an operand that begins with a name
 unfoldable pub named : List ℕ → Reader Expr → Token → Reader Expr
 named text whole t ts =
-    if_next (is_mark mark.LeftBracket) (λ _ us. closed mark.RightBracket (λ e. tree.Element (name_of text t) e) whole us >>= λ x. unindexed x.0 x.1)
+    if_next (is_mark mark.LeftBracket)
+    (λ _ us. closed mark.RightBracket (λ e. tree.Element (name_of text t) e) whole us >>= λ x. unindexed x.0 x.1)
     (λ us. Ok (tree.Variable (name_of text t), us)) ts
 
 -- a length after its word
 unfoldable pub measured : List ℕ → Reader Expr
-measured text ts = marked mark.LeftParen ts >>= λ x. marked mark.Name x.1 >>= λ y. marked mark.RightParen y.1 >>= λ z. Ok (tree.Length (name_of text y.0), z.1)
+measured text ts =
+    marked mark.LeftParen ts >>= λ x. marked mark.Name x.1 >>= λ y. marked mark.RightParen y.1 >>= λ z. Ok
+    (tree.Length (name_of text y.0), z.1)
 
 -- an operand without a sign and without a name in front, after a first token of this kind
 unfoldable pub atom : List ℕ → Reader Expr → Token → Kind → Reader Expr
@@ -156,7 +159,8 @@ name text ts = marked mark.Name ts >>= λ x. Ok (name_of text x.0, x.1)
 -- what follows the name of a callee, and the number after that of the call
 unfoldable pub called : List ℕ → ℕ → CallKind → ℕ → Option Name → Token → Reader (Stmt × ℕ)
 called text n how site target f ts =
-    list (expr text n) n ts >>= λ y. marked mark.Semicolon y.1 >>= λ z. Ok ((tree.Call how site target (name_of text f) y.0, site + 1), z.1)
+    list (expr text n) n ts >>= λ y. marked mark.Semicolon y.1 >>= λ z. Ok
+    ((tree.Call how site target (name_of text f) y.0, site + 1), z.1)
 
 -- a call after what stands in front of the name of its callee
 unfoldable pub call : List ℕ → ℕ → CallKind → ℕ → Option Name → Reader (Stmt × ℕ)
@@ -182,7 +186,8 @@ assigned text n site x ts =
 -- what follows a name and "[" in a statement
 unfoldable pub element_assigned : List ℕ → ℕ → ℕ → Name → Reader (Stmt × ℕ)
 element_assigned text n site x ts =
-    expr text n ts >>= λ i. marked mark.RightBracket i.1 >>= λ u. marked mark.Assign u.1 >>= λ v. ended text n site (λ e. tree.AssignElement x i.0 e) v.1
+    expr text n ts >>= λ i. marked mark.RightBracket i.1 >>= λ u. marked mark.Assign u.1 >>= λ v. ended text n site
+    (λ e. tree.AssignElement x i.0 e) v.1
 
 -- what follows the name at the front of a statement, after a second token of this kind
 unfoldable pub named_stmt : List ℕ → ℕ → ℕ → Token → Token → Kind → Reader (Stmt × ℕ)
@@ -196,7 +201,8 @@ named_stmt text n site t u _ ts = Err (length (u ∷ ts))
 unfoldable pub declared_as : List ℕ → ℕ → ℕ → Name → Token → Kind → Reader (Stmt × ℕ)
 declared_as text n site x u kind.Assign ts = ended text n site (λ e. tree.Declare x e) ts
 declared_as text n site x u kind.LeftBracket ts =
-    expr text n ts >>= λ e. marked mark.RightBracket e.1 >>= λ v. marked mark.Semicolon v.1 >>= λ w. Ok ((tree.DeclareArray x e.0, site), w.1)
+    expr text n ts >>= λ e. marked mark.RightBracket e.1 >>= λ v. marked mark.Semicolon v.1 >>= λ w. Ok
+    ((tree.DeclareArray x e.0, site), w.1)
 declared_as text n site x u _ ts = Err (length (u ∷ ts))
 
 -- what follows "int" in a statement
@@ -206,12 +212,14 @@ declared text n site ts = marked mark.Name ts >>= λ x. by_first (declared_as te
 -- what follows "return"
 unfoldable pub returned : List ℕ → ℕ → ℕ → Reader (Stmt × ℕ)
 returned text n site ts =
-    if_next (is_mark mark.Semicolon) (λ _ us. Ok ((tree.Return None, site), us)) (ended text n site (λ e. tree.Return (Some e))) ts
+    if_next (is_mark mark.Semicolon) (λ _ us. Ok ((tree.Return None, site), us))
+    (ended text n site (λ e. tree.Return (Some e))) ts
 
 -- what follows "print"
 unfoldable pub printed : List ℕ → ℕ → ℕ → Reader (Stmt × ℕ)
 printed text n site ts =
-    marked mark.LeftParen ts >>= λ u. expr text n u.1 >>= λ e. marked mark.RightParen e.1 >>= λ v. marked mark.Semicolon v.1 >>= λ w.
+    marked mark.LeftParen ts >>= λ u. expr text n u.1 >>= λ e. marked mark.RightParen e.1 >>= λ v. marked mark.Semicolon
+    v.1 >>= λ w.
     Ok ((tree.Print e.0, site), w.1)
 
 -- a statement without a block after a first token of this kind, and the number of the next call statement
@@ -238,7 +246,8 @@ pub data Opening : Type 0 where
 -- a condition in parentheses and an opening brace
 unfoldable pub condition : List ℕ → ℕ → Reader Expr
 condition text n ts =
-    marked mark.LeftParen ts >>= λ u. expr text n u.1 >>= λ e. marked mark.RightParen e.1 >>= λ v. marked mark.LeftBrace v.1 >>= λ w. Ok (e.0, w.1)
+    marked mark.LeftParen ts >>= λ u. expr text n u.1 >>= λ e. marked mark.RightParen e.1 >>= λ v. marked mark.LeftBrace
+    v.1 >>= λ w. Ok (e.0, w.1)
 
 -- the most turns in a leaf of a loop, after a first token of this kind
 abbrev pub turns : Token → Kind → Reader ℕ
@@ -252,35 +261,44 @@ grain ts = if_next (is_mark mark.Grain) (λ _ us. by_first turns us) (λ us. Ok 
 -- the arrays of a loop
 unfoldable pub over : List ℕ → ℕ → Reader (List Name)
 over text n ts =
-    if_next (is_mark mark.Over) (λ _ us. marked mark.LeftParen us >>= λ u. some_of (name text) n u.1) (λ us. Ok ([], us)) ts
+    if_next (is_mark mark.Over) (λ _ us. marked mark.LeftParen us >>= λ u. some_of (name text) n u.1)
+    (λ us. Ok ([], us)) ts
 
 -- the range of a loop: its variable and first value
 unfoldable pub range_from : List ℕ → ℕ → Reader (Name × Expr)
 range_from text n ts =
-    marked mark.LeftParen ts >>= λ l. marked mark.Int l.1 >>= λ i. marked mark.Name i.1 >>= λ x. marked mark.Assign x.1 >>= λ a.
+    marked mark.LeftParen ts >>= λ l. marked mark.Int l.1 >>= λ i. marked mark.Name i.1 >>= λ x. marked mark.Assign x.1
+    >>= λ a.
     expr text n a.1 >>= λ e. marked mark.Semicolon e.1 >>= λ s. Ok ((name_of text x.0, e.0), s.1)
 
 -- the range of a loop: the name that is tested, and the upper bound
 unfoldable pub range_to : List ℕ → ℕ → Reader (Name × Expr)
 range_to text n ts =
-    marked mark.Name ts >>= λ y. marked mark.Less y.1 >>= λ l. expr text n l.1 >>= λ e. marked mark.Semicolon e.1 >>= λ s. Ok ((name_of text y.0, e.0), s.1)
+    marked mark.Name ts >>= λ y. marked mark.Less y.1 >>= λ l. expr text n l.1 >>= λ e. marked mark.Semicolon e.1 >>= λ
+    s. Ok ((name_of text y.0, e.0), s.1)
 
 -- the range of a loop: the name that is stepped
 unfoldable pub range_step : List ℕ → Reader Name
 range_step text ts =
-    marked mark.Name ts >>= λ z. marked mark.Increment z.1 >>= λ i. marked mark.RightParen i.1 >>= λ r. Ok (name_of text z.0, r.1)
+    marked mark.Name ts >>= λ z. marked mark.Increment z.1 >>= λ i. marked mark.RightParen i.1 >>= λ r. Ok
+    (name_of text z.0, r.1)
 
 -- the head of a loop and an opening brace
 unfoldable pub head : List ℕ → ℕ → Reader Head
 head text n ts =
-    range_from text n ts >>= λ f. range_to text n f.1 >>= λ t. range_step text t.1 >>= λ z. grain z.1 >>= λ g. over text n g.1 >>= λ o. marked mark.LeftBrace o.1 >>= λ b.
-    Ok (record { variable = f.0.0; tested = t.0.0; stepped = z.0; from = f.0.1; to = t.0.1; grain = g.0; over = o.0 }, b.1)
+    range_from text n ts >>= λ f. range_to text n f.1 >>= λ t. range_step text t.1 >>= λ z. grain z.1 >>= λ g. over text
+    n g.1 >>= λ o. marked mark.LeftBrace o.1 >>= λ b.
+    Ok (
+      record { variable = f.0.0; tested = t.0.0; stepped = z.0; from = f.0.1; to = t.0.1; grain = g.0; over = o.0 },
+      b.1,
+    )
 
 -- what follows "cut", and an opening brace
 unfoldable pub cut : List ℕ → ℕ → Reader Opening
 cut text n ts =
     marked mark.Name ts >>= λ a. marked mark.At a.1 >>= λ u. expr text n u.1 >>= λ e. marked mark.As e.1 >>= λ v.
-    marked mark.Name v.1 >>= λ l. marked mark.Comma l.1 >>= λ c. marked mark.Name c.1 >>= λ r. marked mark.LeftBrace r.1 >>= λ b.
+    marked mark.Name v.1 >>= λ l. marked mark.Comma l.1 >>= λ c. marked mark.Name c.1 >>= λ r. marked mark.LeftBrace r.1
+    >>= λ b.
     Ok (Cut (name_of text a.0) e.0 (name_of text l.0) (name_of text r.0), b.1)
 
 -- what follows "region", and an opening brace
@@ -313,7 +331,9 @@ unanswered s ts = unless_next (is_mark mark.Else) s ts
 -- what may follow the block behind an opening
 unfoldable pub framed_by : (ℕ → Reader (Block × ℕ)) → Opening → Block → ℕ → Reader (Stmt × ℕ)
 framed_by lines (If e) b site ts =
-    if_next (is_mark mark.Else) (λ _ us. (marked mark.LeftBrace us >>= λ x. lines site x.1 >>= λ c. Ok ((tree.IfElse e b c.0.0, c.0.1), c.1)) >>= λ y. unanswered y.0 y.1)
+    if_next (is_mark mark.Else) (λ _ us.
+    (marked mark.LeftBrace us >>= λ x. lines site x.1 >>= λ c. Ok ((tree.IfElse e b c.0.0, c.0.1), c.1)) >>= λ
+    y. unanswered y.0 y.1)
     (λ us. Ok ((tree.If e b, site), us)) ts
 framed_by lines o b site ts = unanswered (around o b, site) ts
 
@@ -386,7 +406,8 @@ array x ts = marked mark.RightBracket ts >>= λ v. Ok (record { name = x; is_arr
 -- a parameter behind its name
 abbrev pub behind_name : Name → Reader Param
 behind_name x ts =
-    if_next (is_mark mark.LeftBracket) (λ _ us. array x us >>= λ y. single y.0 y.1) (λ us. Ok (record { name = x; is_array = false }, us)) ts
+    if_next (is_mark mark.LeftBracket) (λ _ us. array x us >>= λ y. single y.0 y.1)
+    (λ us. Ok (record { name = x; is_array = false }, us)) ts
 
 -- a parameter
 unfoldable pub param : List ℕ → Reader Param
@@ -400,13 +421,18 @@ pub data Item : Type 0 where
 -- a reducer after its first token
 unfoldable pub reducer : List ℕ → Token → Reader Reducer
 reducer text t ts =
-    marked mark.Sum ts >>= λ u. marked mark.Name u.1 >>= λ s. marked mark.Semicolon s.1 >>= λ v. Ok (record { name = name_of text s.0; line = t.line }, v.1)
+    marked mark.Sum ts >>= λ u. marked mark.Name u.1 >>= λ s. marked mark.Semicolon s.1 >>= λ v. Ok
+    (record { name = name_of text s.0; line = t.line }, v.1)
 
 -- a function after its first token, and the number of the next call statement
 unfoldable pub function : List ℕ → ℕ → Bool → ℕ → Reader (Function × ℕ)
 function text n gives site ts =
-    marked mark.Name ts >>= λ f. marked mark.LeftParen f.1 >>= λ u. list (param text) n u.1 >>= λ p. marked mark.LeftBrace p.1 >>= λ o. lines text n site o.1 >>= λ b.
-    Ok ((record { name = name_of text f.0; line = f.0.line; gives_int = gives; params = p.0; body = b.0.0 }, b.0.1), b.1)
+    marked mark.Name ts >>= λ f. marked mark.LeftParen f.1 >>= λ u. list (param text) n u.1 >>= λ p. marked
+    mark.LeftBrace p.1 >>= λ o. lines text n site o.1 >>= λ b.
+    Ok (
+      (record { name = name_of text f.0; line = f.0.line; gives_int = gives; params = p.0; body = b.0.0 }, b.0.1),
+      b.1,
+    )
 
 -- an item after a first token of this kind, and the number of the next call statement
 unfoldable pub item : List ℕ → ℕ → ℕ → Token → Kind → Reader (Item × ℕ)

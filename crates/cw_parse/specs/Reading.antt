@@ -54,11 +54,13 @@ abbrev pub unless_next : {A : Type 0} → (Kind → Bool) → A → Reader A
 unless_next p a [] = Ok (a, [])
 unless_next p a (t ∷ ts) = if p t.kind then Err (length (t ∷ ts)) else Ok (a, t ∷ ts)
 
--- a row of parts up to a token that closes it, in at most so many steps: each part goes on from the state after the one before
+-- a row of parts up to a token that closes it, in at most so many steps: each part goes on from the state after the one
+-- before
 unfoldable pub row : {A S B : Type 0} → (Kind → Bool) → (S → B) → (A → B → B) → (S → Reader (A × S)) → ℕ → S → Reader B
 row close end join part zero s ts = Err (length ts)
 row close end join part (suc n) s ts =
-    if_next close (λ _ us. Ok (end s, us)) (λ us. part s us >>= λ x. row close end join part n x.0.1 x.1 >>= λ y. Ok (join x.0.0 y.0, y.1)) ts
+    if_next close (λ _ us. Ok (end s, us))
+    (λ us. part s us >>= λ x. row close end join part n x.0.1 x.1 >>= λ y. Ok (join x.0.0 y.0, y.1)) ts
 
 -- what parts before make of what a row gives
 abbrev pub pile : {A B : Type 0} → (A → B → B) → List A → B → B

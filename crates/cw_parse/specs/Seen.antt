@@ -15,7 +15,16 @@ use Rattle.cw_parse.specs.Parts as part
 
 -- the head of a loop
 abbrev pub head_of : code.Head → Head
-head_of h = record { variable = h.variable; tested = h.tested; stepped = h.stepped; from = expr_of h.from; to = expr_of h.to; grain = h.grain; over = h.over.items }
+head_of h =
+    record {
+      variable = h.variable;
+      tested = h.tested;
+      stepped = h.stepped;
+      from = expr_of h.from;
+      to = expr_of h.to;
+      grain = h.grain;
+      over = h.over.items;
+    }
 
 -- what stands in front of a block
 abbrev pub opening_of : Opening → part.Opening

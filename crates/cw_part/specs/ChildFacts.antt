@@ -10,7 +10,8 @@ use Rattle.cw_part.specs.Read.{readings, child_read, call_read}
 no_more : (w : ℕ) → up_to most 0 w ≡ w
 no_more w = omega arith
 
-pub child_above : (burden n : ℕ) (x : Came Read) → is_above readings n (seen (child_read burden) x) ≡ is_above readings n x
+pub child_above : (burden n : ℕ) (x : Came Read)
+    → is_above readings n (seen (child_read burden) x) ≡ is_above readings n x
 child_above burden n (Completed a) = ap (nat_lt n) (no_more a.measure.work)
 child_above burden n (Trapped trap line a) = ap (nat_lt n) (no_more a.measure.work)
 child_above burden n Over = refl

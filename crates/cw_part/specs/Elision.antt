@@ -25,8 +25,10 @@ elision program args limit =
     let main = function_named main_name program.functions in
     call (suc limit) 0 program.functions Deeper main (main_frame main.params args no_frame) main.line
 
--- what is read of a part tells an end: the printed lines, the sums of what was added to each reducer, and the readings of the tree
-pub record TellsEnd (burden : ℕ) (number : Name → ℕ) (program : Program) (args : List ℤ) (limit : ℕ) (lines sums : List ℤ) (tree : Tree) (a : Read) : Type 0 where
+-- what is read of a part tells an end: the printed lines, the sums of what was added to each reducer, and the readings
+-- of the tree
+pub record TellsEnd (burden : ℕ) (number : Name → ℕ) (program : Program) (args : List ℤ) (limit : ℕ)
+    (lines sums : List ℤ) (tree : Tree) (a : Read) : Type 0 where
   pub returned : Returned
   pub left : ℕ
   pub trace : Trace
@@ -37,15 +39,19 @@ pub record TellsEnd (burden : ℕ) (number : Name → ℕ) (program : Program) (
   pub measured : ReadsTree burden a.measure tree
 
 -- and a trap: the lines printed before it, and its cost, which is the least limit that it comes within
-pub record TellsStop (program : Program) (args : List ℤ) (limit : ℕ) (trap : Trap) (line : ℕ) (lines : List ℤ) (a : Read) : Type 0 where
+pub record TellsStop (program : Program) (args : List ℤ) (limit : ℕ) (trap : Trap) (line : ℕ) (lines : List ℤ)
+    (a : Read) : Type 0 where
   pub printed : a.views.lines ≡ lines
   pub cost : ℕ
   pub measured : a.measure.work ≡ min most cost
-  pub comes : (left : ℕ) → left ≤ limit → serial_answer program args left ≡ (if nat_lt left cost then OverLimit else TrappedAt trap line lines)
+  pub comes : (left : ℕ) → left ≤ limit
+      → serial_answer program args left ≡ (if nat_lt left cost then OverLimit else TrappedAt trap line lines)
 
 -- how a part came out tells an answer of a program within a limit
-pub data TellsAnswer (burden : ℕ) (number : Name → ℕ) (program : Program) (args : List ℤ) (limit : ℕ) : Answer → Came Read → Type 0 where
-  EndedSo : (value : ℤ) (lines sums : List ℤ) (tree : Tree) (a : Read) → TellsEnd burden number program args limit lines sums tree a
+pub data TellsAnswer (burden : ℕ) (number : Name → ℕ) (program : Program) (args : List ℤ) (limit : ℕ) : Answer
+    → Came Read → Type 0 where
+  EndedSo : (value : ℤ) (lines sums : List ℤ) (tree : Tree) (a : Read)
+      → TellsEnd burden number program args limit lines sums tree a
       → TellsAnswer burden number program args limit (Ended value lines sums tree) (Completed a)
   TrappedSo : (trap : Trap) (line : ℕ) (lines : List ℤ) (a : Read) → TellsStop program args limit trap line lines a
       → TellsAnswer burden number program args limit (TrappedAt trap line lines) (Trapped trap line a)
@@ -58,16 +64,21 @@ ElisionIsARun = (program : Program) (args : List ℤ) (limit : ℕ) → HasRun O
 -- and one run gives the serial answer within the limit and within each lesser one
 abbrev pub RunGivesTheAnswers : Type 0
 RunGivesTheAnswers =
-    (program : Program) (args : List ℤ) (limit left : ℕ) (run : Run) (exit : Exit OfCall) → IsRunOf OfCall limit (elision program args limit) run exit → left ≤ limit
+    (program : Program) (args : List ℤ) (limit left : ℕ) (run : Run) (exit : Exit OfCall)
+    → IsRunOf OfCall limit (elision program args limit) run exit → left ≤ limit
     → serial_answer program args left ≡ answer_of program.reducers (outcome_with OfCall left (serial left run) exit)
 
--- however that run is cut at its spawns, and whatever each piece met: the joined part tells the serial answer within the limit, or
+-- however that run is cut at its spawns, and whatever each piece met: the joined part tells the serial answer within
+-- the limit, or
 -- memory was refused
 abbrev pub PiecesAreTheElision : Type 0
 PiecesAreTheElision =
-    (burden : ℕ) (number : Name → ℕ) (program : Program) (args : List ℤ) (limit : ℕ) (run : Run) (exit : Exit OfCall) (p : RunPart)
-    → burden < 2 ^ 64 → IsRunOf OfCall limit (elision program args limit) run exit → IsJoinedOf burden number limit 0 run p
-    → (p.limit ≡ limit) × ((p.came ≡ Memory) ⊎ TellsAnswer burden number program args limit (serial_answer program args limit) p.came)
+    (burden : ℕ) (number : Name → ℕ) (program : Program) (args : List ℤ) (limit : ℕ) (run : Run) (exit : Exit OfCall)
+    (p : RunPart)
+    → burden < 2 ^ 64 → IsRunOf OfCall limit (elision program args limit) run exit
+    → IsJoinedOf burden number limit 0 run p
+    → (p.limit ≡ limit)
+    × ((p.came ≡ Memory) ⊎ TellsAnswer burden number program args limit (serial_answer program args limit) p.came)
 
 -- each addition fits 128 bits
 abbrev pub AllFit : List (Name × ℤ) → Type 0
@@ -77,5 +88,6 @@ AllFit (addition ∷ more) = FitsSigned w128 addition.1 × AllFit more
 -- where the number of a reducer is that of no other name, what is added to it is its sum, as far as that fits 128 bits
 abbrev pub AdditionsAreSums : Type 0
 AdditionsAreSums =
-    (number : Name → ℕ) (reducer : Name) (additions : List (Name × ℤ)) → ((x : Name) → (number x == number reducer) ≡ same_name reducer x) → AllFit additions
+    (number : Name → ℕ) (reducer : Name) (additions : List (Name × ℤ))
+    → ((x : Name) → (number x == number reducer) ≡ same_name reducer x) → AllFit additions
     → added number (number reducer) additions ≡ word_of (int_wrap w128 (sum_to reducer additions))

@@ -29,8 +29,11 @@ pub record Elides (program : Program) (args : List ℤ) (limit : ℕ) (run : Run
 
 pub record ElisionExamples : Type 0 where
   -- a declaration, a spawn with one argument, a sync and a return
-  pub spawn : Elides example.first_program [] 100 (one (one (one (one (child 1 (one (join (one Ends))) (join (one (one (join (one Ends))))))))))
+  pub spawn : Elides example.first_program [] 100
+      (one (one (one (one (child 1 (one (join (one Ends))) (join (one (one (join (one Ends))))))))))
   -- a print, and then a spawned child that divides by 0: nothing comes after it
-  pub trap : Elides example.division_after_print (pos 0 ∷ []) 100 (one (one (print (pos 1) (one (one (child 1 (one (one (Traps trap.DivisionByZero 1 (shows (works 3))))) Ends))))))
+  pub trap : Elides example.division_after_print (pos 0 ∷ []) 100
+      (one (one (print (pos 1) (one (one (child 1 (one (one (Traps trap.DivisionByZero 1 (shows (works 3))))) Ends))))))
   -- the same within a limit that the child's second instruction passes
-  pub limit : Elides example.division_after_print (pos 0 ∷ []) 5 (one (one (print (pos 1) (one (one (child 1 (one (one Ends)) Ends))))))
+  pub limit : Elides example.division_after_print (pos 0 ∷ []) 5
+      (one (one (print (pos 1) (one (one (child 1 (one (one Ends)) Ends))))))

@@ -26,7 +26,8 @@ pub data Came (M : Type 0) : Type 0 where
   Over : Came M
   Memory : Came M
 
--- a part and the next one: what follows a trap or an end at the limit is dropped; memory that was refused on either side is so for both
+-- a part and the next one: what follows a trap or an end at the limit is dropped; memory that was refused on either
+-- side is so for both
 abbrev pub followed : {M : Type 0} → Readings M → Came M → Came M → Came M
 followed R (Completed a) (Completed b) = Completed (R.joined a b)
 followed R (Completed a) (Trapped trap line b) = Trapped trap line (R.joined a b)
@@ -85,7 +86,8 @@ pub record Part (M : Type 0) : Type 0 where
 
 -- the lesser limit is that of both, also where one of them is dropped
 abbrev pub part_joined : {M : Type 0} → Readings M → Part M → Part M → Part M
-part_joined R p q = record { limit = min p.limit q.limit; came = within R (min p.limit q.limit) (followed R p.came q.came) }
+part_joined R p q =
+    record { limit = min p.limit q.limit; came = within R (min p.limit q.limit) (followed R p.came q.came) }
 
 abbrev pub nothing_ran : {M : Type 0} → Readings M → Part M
 nothing_ran R = record { limit = MOST_LIMIT; came = Completed R.none }

@@ -28,7 +28,8 @@ Given OfFrame = Frame
 Given OfStatement = Completion
 Given OfCall = Returned
 
--- how a piece comes out within a limit: with a value, and so much left of the limit; or it stops, at a trap or at the limit
+-- how a piece comes out within a limit: with a value, and so much left of the limit; or it stops, at a trap or at the
+-- limit
 abbrev pub Exit : Kind → Type 0
 Exit kind = Option (Given kind × ℕ)
 
@@ -50,23 +51,33 @@ pub data IsRunOf : (kind : Kind) (limit : ℕ) → Piece (Given kind) → Run �
   Nothing : (kind : Kind) (limit : ℕ) (a : Given kind) → IsRunOf kind limit (gives a) Ends (Some (a, limit))
   Free : (limit : ℕ) (t : Trace) → cost t ≡ 0 → IsRunOf OfNothing limit (show t) (Shows t Ends) (Some (tt, limit))
   Paid : (limit k : ℕ) → IsRunOf OfNothing limit (pay k) (instructions k) (exit_of OfNothing limit k tt)
-  Valued : (limit line : ℕ) (v : ℤ) (k : ℕ) → IsRunOf OfInt limit (pay_for (expression.Gives v k) line) (instructions k) (exit_of OfInt limit k v)
+  Valued : (limit line : ℕ) (v : ℤ) (k : ℕ)
+      → IsRunOf OfInt limit (pay_for (expression.Gives v k) line) (instructions k) (exit_of OfInt limit k v)
   -- the cost of a trap is that up to and with the instruction that traps
-  Failed : (limit line : ℕ) (trap : Trap) (k : ℕ) → IsRunOf OfInt limit (pay_for (expression.Traps trap k) line) (Traps trap line (shows (works k))) None
-  AtOnce : (kind : Kind) (limit line : ℕ) (trap : Trap) → IsRunOf kind limit (λ left. model.Trapped trap line []) (Traps trap line quiet) None
+  Failed : (limit line : ℕ) (trap : Trap) (k : ℕ)
+      → IsRunOf OfInt limit (pay_for (expression.Traps trap k) line) (Traps trap line (shows (works k))) None
+  AtOnce : (kind : Kind) (limit line : ℕ) (trap : Trap)
+      → IsRunOf kind limit (λ left. model.Trapped trap line []) (Traps trap line quiet) None
   CutOff : (kind : Kind) (limit : ℕ) → IsRunOf kind limit (λ left. model.Over) (past limit) None
   -- a call, a region or a scope in place, or a spawned child
-  Nested : (kind : Kind) (limit : ℕ) (spawned : Bool) (mark : Option Mark) (piece : Piece (Given kind)) (inner : Run) (exit : Exit kind)
+  Nested : (kind : Kind) (limit : ℕ) (spawned : Bool) (mark : Option Mark) (piece : Piece (Given kind)) (inner : Run)
+      (exit : Exit kind)
       → IsRunOf kind limit piece inner exit
-      → IsRunOf kind limit (as_one (λ tree. part_of spawned (marked mark tree)) piece) (Inside spawned mark inner Ends) exit
-  Further : (kind later : Kind) (limit left : ℕ) (piece : Piece (Given kind)) (next : Given kind → Piece (Given later)) (first rest : Run) (a : Given kind) (exit : Exit later)
+      → IsRunOf kind limit (as_one (λ tree. part_of spawned (marked mark tree)) piece) (Inside spawned mark inner Ends)
+      exit
+  Further : (kind later : Kind) (limit left : ℕ) (piece : Piece (Given kind)) (next : Given kind → Piece (Given later))
+      (first rest : Run) (a : Given kind) (exit : Exit later)
       → IsRunOf kind limit piece first (Some (a, left)) → IsRunOf later left (next a) rest exit
       → IsRunOf later limit (◌>>=◌ piece next) (then_run first rest) exit
-  Stopped : (kind later : Kind) (limit : ℕ) (piece : Piece (Given kind)) (next : Given kind → Piece (Given later)) (first : Run)
+  Stopped : (kind later : Kind) (limit : ℕ) (piece : Piece (Given kind)) (next : Given kind → Piece (Given later))
+      (first : Run)
       → IsRunOf kind limit piece first None → IsRunOf later limit (◌>>=◌ piece next) first None
-  -- the turns of a `while` are at most as many as the budget says: the greatest one allows no other turns than each budget does
-  Turns : (limit line : ℕ) (test : Frame → Evaluated) (body : Frame → Piece Completion) (frame : Frame) (run : Run) (exit : Exit OfStatement)
-      → ((left : ℕ) → left ≤ limit → turns (suc left) test line body frame left ≡ turns (suc limit) test line body frame left)
+  -- the turns of a `while` are at most as many as the budget says: the greatest one allows no other turns than each
+  -- budget does
+  Turns : (limit line : ℕ) (test : Frame → Evaluated) (body : Frame → Piece Completion) (frame : Frame) (run : Run)
+      (exit : Exit OfStatement)
+      → ((left : ℕ) → left ≤ limit
+      → turns (suc left) test line body frame left ≡ turns (suc limit) test line body frame left)
       → IsRunOf OfStatement limit (turns (suc limit) test line body frame) run exit
       → IsRunOf OfStatement limit (λ left. turns (suc left) test line body frame left) run exit
 

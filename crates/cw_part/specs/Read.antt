@@ -13,7 +13,8 @@ nothing_read = record { views = nothing_shown; measure = nothing }
 abbrev pub read_joined : Read → Read → Read
 read_joined a b = record { views = shown_joined a.views b.views; measure = joined a.measure b.measure }
 
--- what is read of a spawned child, as a piece of the block that spawned it: its views as they are, its measure as that of one child
+-- what is read of a spawned child, as a piece of the block that spawned it: its views as they are, its measure as that
+-- of one child
 abbrev pub child_read : (burden : ℕ) → Read → Read
 child_read burden a = record { views = a.views; measure = after_child burden a.measure nothing }
 

@@ -16,7 +16,8 @@ pub record RunPart : Type 0 where
   pub tested : is_above readings limit came ≡ false
 
 -- the part with this limit that came out so, as its type keeps it
-abbrev pub run_part : (limit : ℕ) (came : Came Read) → nat_lt MOST_LIMIT limit ≡ false → is_above readings limit came ≡ false → RunPart
+abbrev pub run_part : (limit : ℕ) (came : Came Read) → nat_lt MOST_LIMIT limit ≡ false
+    → is_above readings limit came ≡ false → RunPart
 run_part limit came limited tested = record { limit = limit; came = came; limited = limited; tested = tested }
 
 -- a part of nothing

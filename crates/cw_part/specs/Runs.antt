@@ -19,7 +19,8 @@ cost t = work (tree_of t.events)
 abbrev pub traces : Readings Trace
 traces = record { none = quiet; joined = joined; work = cost }
 
--- the run of a frame: instructions and joins, with what they show; one that traps in a line; and a part inside, a call, a region or a
+-- the run of a frame: instructions and joins, with what they show; one that traps in a line; and a part inside, a call,
+-- a region or a
 -- spawned child, which may be marked
 pub data Run : Type 0 where
   Ends : Run
@@ -36,7 +37,8 @@ then_run (Inside spawned mark inner rest) later = Inside spawned mark inner (the
 
 -- the events of a part inside stand as one event, made of their tree
 abbrev pub as_event : (spawned : Bool) → Option Mark → Trace → Trace
-as_event spawned mark t = record { lines = t.lines; additions = t.additions; events = part_of spawned (marked mark (tree_of t.events)) ∷ [] }
+as_event spawned mark t =
+    record { lines = t.lines; additions = t.additions; events = part_of spawned (marked mark (tree_of t.events)) ∷ [] }
 
 -- what goes on where a part inside ran to its end
 abbrev pub goes_on : Came Trace → (Trace → Came Trace) → Came Trace
@@ -48,9 +50,11 @@ goes_on Memory go = Memory
 -- the serial run, within what is left of a limit: it stops before the instruction that passes it
 abbrev pub serial : (left : ℕ) → Run → Came Trace
 serial left Ends = Completed quiet
-serial left (Shows t rest) = over_if (nat_lt left (cost t)) (followed traces (Completed t) (serial (left - cost t) rest))
+serial left (Shows t rest) =
+    over_if (nat_lt left (cost t)) (followed traces (Completed t) (serial (left - cost t) rest))
 serial left (Traps trap line t) = over_if (nat_lt left (cost t)) (Trapped trap line t)
-serial left (Inside spawned mark inner rest) = goes_on (seen (as_event spawned mark) (serial left inner)) (λ t. serial (left - cost t) rest)
+serial left (Inside spawned mark inner rest) =
+    goes_on (seen (as_event spawned mark) (serial left inner)) (λ t. serial (left - cost t) rest)
 
 -- what is added to one reducer, by the number of its name
 abbrev pub added : (number : Name → ℕ) → (reducer : ℕ) → List (Name × ℤ) → Word
@@ -73,36 +77,45 @@ pub record TellsTrap (t : Trace) (a : Read) : Type 0 where
 -- how a part came out tells how a run did
 pub data TellsCame (burden : ℕ) (number : Name → ℕ) : Came Trace → Came Read → Type 0 where
   RanAlike : (t : Trace) (a : Read) → TellsTrace burden number t a → TellsCame burden number (Completed t) (Completed a)
-  TrappedAlike : (trap : Trap) (line : ℕ) (t : Trace) (a : Read) → TellsTrap t a → TellsCame burden number (Trapped trap line t) (Trapped trap line a)
+  TrappedAlike : (trap : Trap) (line : ℕ) (t : Trace) (a : Read) → TellsTrap t a
+      → TellsCame burden number (Trapped trap line t) (Trapped trap line a)
   OverAlike : TellsCame burden number Over Over
 
--- what is counted before a later piece is no more than what was before the first one and what that spent, where it ran to its end
+-- what is counted before a later piece is no more than what was before the first one and what that spent, where it ran
+-- to its end
 abbrev pub IsCountedAfter : (before : ℕ) → Came Trace → (between : ℕ) → Type 0
 IsCountedAfter before (Completed t) between = between ≤ before + cost t
 IsCountedAfter before (Trapped trap line t) between = Unit {0}
 IsCountedAfter before Over between = Unit {0}
 IsCountedAfter before Memory between = Unit {0}
 
--- the part of a run, joined of pieces, each of which counts a cost before it: one strand ran it all, and stopped no earlier than the
--- limit with that cost before it, or memory was refused to it; it was cut, and the pieces of what came first and of what came later
+-- the part of a run, joined of pieces, each of which counts a cost before it: one strand ran it all, and stopped no
+-- earlier than the
+-- limit with that cost before it, or memory was refused to it; it was cut, and the pieces of what came first and of
+-- what came later
 -- were joined; or a part at its beginning, a spawned child or a call, was joined of pieces of its own
 pub data IsJoinedOf (burden : ℕ) (number : Name → ℕ) (limit : ℕ) : (before : ℕ) → Run → RunPart → Type 0 where
   Alone : (before left : ℕ) (run : Run) (p : RunPart) → p.limit ≡ limit → left ≤ limit → limit ≤ before + left
       → TellsCame burden number (serial left run) p.came → IsJoinedOf burden number limit before run p
-  Refused : (before : ℕ) (run : Run) (p : RunPart) → p.limit ≡ limit → p.came ≡ Memory → IsJoinedOf burden number limit before run p
+  Refused : (before : ℕ) (run : Run) (p : RunPart) → p.limit ≡ limit → p.came ≡ Memory
+      → IsJoinedOf burden number limit before run p
   Cut : (before between : ℕ) (first later : Run) (p q : RunPart) → IsCountedAfter before (serial limit first) between
       → IsJoinedOf burden number limit before first p → IsJoinedOf burden number limit between later q
       → IsJoinedOf burden number limit before (then_run first later) (run_joined p q)
-  Apart : (before between : ℕ) (mark : Option Mark) (child rest : Run) (p q : RunPart) → IsCountedAfter before (serial limit child) between
+  Apart : (before between : ℕ) (mark : Option Mark) (child rest : Run) (p q : RunPart)
+      → IsCountedAfter before (serial limit child) between
       → IsJoinedOf burden number limit before child p → IsJoinedOf burden number limit between rest q
       → IsJoinedOf burden number limit before (Inside true mark child rest) (run_joined (as_child burden p) q)
-  Called : (before between : ℕ) (mark : Option Mark) (call rest : Run) (p q : RunPart) → IsCountedAfter before (serial limit call) between
+  Called : (before between : ℕ) (mark : Option Mark) (call rest : Run) (p q : RunPart)
+      → IsCountedAfter before (serial limit call) between
       → IsJoinedOf burden number limit before call p → IsJoinedOf burden number limit between rest q
       → IsJoinedOf burden number limit before (Inside false mark call rest) (run_joined (as_call p) q)
 
--- however a run is cut at its spawns, and whatever each piece met: the joined part tells of the serial run within the limit, or
+-- however a run is cut at its spawns, and whatever each piece met: the joined part tells of the serial run within the
+-- limit, or
 -- memory was refused
 abbrev pub PiecesAreTheRun : Type 0
 PiecesAreTheRun =
-    (burden : ℕ) (number : Name → ℕ) (limit : ℕ) (run : Run) (p : RunPart) → burden < 2 ^ 64 → IsJoinedOf burden number limit 0 run p
+    (burden : ℕ) (number : Name → ℕ) (limit : ℕ) (run : Run) (p : RunPart) → burden < 2 ^ 64
+    → IsJoinedOf burden number limit 0 run p
     → (p.limit ≡ limit) × ((p.came ≡ Memory) ⊎ TellsCame burden number (serial limit run) p.came)

@@ -13,4 +13,5 @@ pub record HasPart (burden : ℕ) (number : Name → ℕ) (limit before : ℕ) (
 -- for each limit, and each cost before the run that is within it
 abbrev pub RunsHaveParts : Type 0
 RunsHaveParts =
-    (burden : ℕ) (number : Name → ℕ) (limit before : ℕ) (run : Run) → limit ≤ MOST_LIMIT → before ≤ limit → HasPart burden number limit before run
+    (burden : ℕ) (number : Name → ℕ) (limit before : ℕ) (run : Run) → limit ≤ MOST_LIMIT → before ≤ limit
+    → HasPart burden number limit before run

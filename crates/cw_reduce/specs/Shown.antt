@@ -2,7 +2,8 @@
 use Rattle.std.specs.Prelude.{◌≡◌, ℕ, ℤ, ◌+◌, ◌^◌, ◌%◌, ◌==◌, List, [], ◌∷◌, ◌++◌, slice_index_or, if◌then◌else◌}
 use Rattle.cw_reduce.specs.Words.{Word, nothing, plus, word_of}
 
--- the sums of the reducers, by their number in the source, and the printed values; a reducer past the end has the sum of nothing
+-- the sums of the reducers, by their number in the source, and the printed values; a reducer past the end has the sum
+-- of nothing
 pub record Shown : Type 0 where
   pub sums : List Word
   pub lines : List ℤ
@@ -30,7 +31,9 @@ Adds old new reducer n =
 -- the same of the bits
 abbrev pub AddsBits : List ℕ → List ℕ → (reducer n : ℕ) → Type 0
 AddsBits old new reducer n =
-    (q : ℕ) → slice_index_or new q 0 ≡ (if reducer == q then (slice_index_or old q 0 + n) % 2 ^ 128 else slice_index_or old q 0)
+    (q : ℕ)
+    → slice_index_or new q 0
+    ≡ (if reducer == q then (slice_index_or old q 0 + n) % 2 ^ 128 else slice_index_or old q 0)
 
 -- the same bits at each place; past the end there is 0
 abbrev pub SameBits : List ℕ → List ℕ → Type 0

@@ -13,16 +13,52 @@ row_of rows tag = slice_index_or rows.by_tag.items tag zero_row
 
 -- an execution begins, at this work and on a path of this weight
 abbrev pub entered_at : (first : Bool) → (count span burdened : ℕ) → Row → Row
-entered_at true count span burdened r = record { work = r.work; span = r.span; burdened = r.burdened; active = r.active + 1; at_work = count; at_path = span; at_burdened = burdened }
-entered_at false count span burdened r = record { work = r.work; span = r.span; burdened = r.burdened; active = r.active + 1; at_work = r.at_work; at_path = r.at_path; at_burdened = r.at_burdened }
+entered_at true count span burdened r =
+    record {
+      work = r.work;
+      span = r.span;
+      burdened = r.burdened;
+      active = r.active + 1;
+      at_work = count;
+      at_path = span;
+      at_burdened = burdened;
+    }
+entered_at false count span burdened r =
+    record {
+      work = r.work;
+      span = r.span;
+      burdened = r.burdened;
+      active = r.active + 1;
+      at_work = r.at_work;
+      at_path = r.at_path;
+      at_burdened = r.at_burdened;
+    }
 
 abbrev pub entered : (count span burdened : ℕ) → Row → Row
 entered count span burdened r = entered_at (r.active == 0) count span burdened r
 
 -- it ends: the outermost one is summed
 abbrev pub left_at : (last : Bool) → (count span burdened : ℕ) → Row → Row
-left_at true count span burdened r = record { work = r.work + (count - r.at_work); span = r.span + (span - r.at_path); burdened = r.burdened + (burdened - r.at_burdened); active = r.active - 1; at_work = r.at_work; at_path = r.at_path; at_burdened = r.at_burdened }
-left_at false count span burdened r = record { work = r.work; span = r.span; burdened = r.burdened; active = r.active - 1; at_work = r.at_work; at_path = r.at_path; at_burdened = r.at_burdened }
+left_at true count span burdened r =
+    record {
+      work = r.work + (count - r.at_work);
+      span = r.span + (span - r.at_path);
+      burdened = r.burdened + (burdened - r.at_burdened);
+      active = r.active - 1;
+      at_work = r.at_work;
+      at_path = r.at_path;
+      at_burdened = r.at_burdened;
+    }
+left_at false count span burdened r =
+    record {
+      work = r.work;
+      span = r.span;
+      burdened = r.burdened;
+      active = r.active - 1;
+      at_work = r.at_work;
+      at_path = r.at_path;
+      at_burdened = r.at_burdened;
+    }
 
 abbrev pub left : (count span burdened : ℕ) → Row → Row
 left count span burdened r = left_at (r.active == 1) count span burdened r
@@ -48,9 +84,19 @@ pub record FitsRow (r : Row) : Type 0 where
 abbrev pub IsWhereItFits : (wanted row : Row) → Type 0
 IsWhereItFits wanted row = FitsRow wanted → row ≡ wanted
 
--- a row, and that of a piece that ran apart and of which no execution is open: where some are open here, those of the piece lie in them
+-- a row, and that of a piece that ran apart and of which no execution is open: where some are open here, those of the
+-- piece lie in them
 abbrev pub summed : Row → Row → Row
-summed a b = record { work = a.work + unless_open a.active b.work; span = a.span + unless_open a.active b.span; burdened = a.burdened + unless_open a.active b.burdened; active = a.active; at_work = a.at_work; at_path = a.at_path; at_burdened = a.at_burdened }
+summed a b =
+    record {
+      work = a.work + unless_open a.active b.work;
+      span = a.span + unless_open a.active b.span;
+      burdened = a.burdened + unless_open a.active b.burdened;
+      active = a.active;
+      at_work = a.at_work;
+      at_path = a.at_path;
+      at_burdened = a.at_burdened;
+    }
 
 -- the same, the piece's row first
 abbrev pub under : Row → Row → Row
@@ -58,7 +104,8 @@ under piece ours = summed ours piece
 
 -- each of the shorter rows is added so to the longer ones, and the further ones stay
 pub record AddsEach (add : Row → Row → Row) (longer shorter new : Rows) : Type 0 where
-  pub within : (q : ℕ) → q < length shorter.by_tag.items → FitsRow (add (row_of longer q) (row_of shorter q)) → row_of new q ≡ add (row_of longer q) (row_of shorter q)
+  pub within : (q : ℕ) → q < length shorter.by_tag.items → FitsRow (add (row_of longer q) (row_of shorter q))
+      → row_of new q ≡ add (row_of longer q) (row_of shorter q)
   pub beyond : (q : ℕ) → length shorter.by_tag.items ≤ q → row_of new q ≡ row_of longer q
 
 -- a row is read as another: the same sums, as many open and, where one is open, begun at the same readings

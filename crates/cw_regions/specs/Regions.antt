@@ -27,13 +27,15 @@ pub record Tags : Type 0 where
   pub differ : (j k : ℕ) → j < count → k < count → same_name (name j) (name k) ≡ true → j ≡ k
 
 -- a row counts the executions of a tag over a run so far
-pub record CountsTag (burden : ℕ) (along : Readings burden) (tag : Name) (busy : ℕ) (os : List Open) (es : List Event) (r : Row) : Type 0 where
+pub record CountsTag (burden : ℕ) (along : Readings burden) (tag : Name) (busy : ℕ) (os : List Open) (es : List Event)
+    (r : Row) : Type 0 where
   pub work_is : Counts work work_in (is_tag tag) busy os es (work_tally r)
   pub span_is : Counts span along.path (is_tag tag) busy os es (span_tally r)
   pub burdened_is : Counts (burdened_span burden) along.burdened (is_tag tag) busy os es (burdened_tally r)
 
 -- a table tells, for each tag, of a run so far; so many executions of each were open round it
-abbrev pub TellsRegions : (burden : ℕ) → Readings burden → Tags → (busy : ℕ → ℕ) → List Open → List Event → RegionTable → Type 0
+abbrev pub TellsRegions : (burden : ℕ) → Readings burden → Tags → (busy : ℕ → ℕ) → List Open → List Event → RegionTable
+    → Type 0
 TellsRegions burden along tags busy os es table =
     (k : ℕ) → k < tags.count → CountsTag burden along (tags.name k) (busy k) os es (row_of table.rows k)
 
@@ -48,23 +50,28 @@ abbrev pub executed : Tags → (tag : ℕ) → List Event → List Open → List
 executed tags tag es os = in_series (Some (Execution (tags.name tag))) es os
 
 abbrev pub StartsRegions : RegionTable → Type 0
-StartsRegions table = (burden : ℕ) (along : Readings burden) (tags : Tags) → TellsRegions burden along tags (λ k. 0) [] [] table
+StartsRegions table =
+    (burden : ℕ) (along : Readings burden) (tags : Tags) → TellsRegions burden along tags (λ k. 0) [] [] table
 
 -- what each call on a table does: it told of a run, and tells of what the run has come to
 abbrev pub BeginsRegion : RegionTable → RegionTable → (tag count path heavy : ℕ) → Type 0
 BeginsRegion old new tag count path heavy =
-    (burden : ℕ) (along : Readings burden) (tags : Tags) (busy : ℕ → ℕ) (os : List Open) (es : List Event) → tag < tags.count
+    (burden : ℕ) (along : Readings burden) (tags : Tags) (busy : ℕ → ℕ) (os : List Open) (es : List Event)
+    → tag < tags.count
     → count ≡ work_in os es → path ≡ along.path os es → heavy ≡ along.burdened os es
     → SmallRegions burden tags busy (executed tags tag es os) [] → TellsRegions burden along tags busy os es old
     → TellsRegions burden along tags busy (executed tags tag es os) [] new
 
 abbrev pub EndsRegion : RegionTable → RegionTable → (tag count path heavy : ℕ) → Type 0
 EndsRegion old new tag count path heavy =
-    (burden : ℕ) (along : Readings burden) (tags : Tags) (busy : ℕ → ℕ) (os : List Open) (before es : List Event) → tag < tags.count
+    (burden : ℕ) (along : Readings burden) (tags : Tags) (busy : ℕ → ℕ) (os : List Open) (before es : List Event)
+    → tag < tags.count
     → count ≡ work_in (executed tags tag before os) es → path ≡ along.path (executed tags tag before os) es
     → heavy ≡ along.burdened (executed tags tag before os) es → has_spawned es ≡ false
-    → SmallRegions burden tags busy (executed tags tag before os) es → TellsRegions burden along tags busy (executed tags tag before os) es old
-    → TellsRegions burden along tags busy os (closed (record { spawned = false; mark = Some (Execution (tags.name tag)); outer = before }) es) new
+    → SmallRegions burden tags busy (executed tags tag before os) es
+    → TellsRegions burden along tags busy (executed tags tag before os) es old
+    → TellsRegions burden along tags busy os
+    (closed (record { spawned = false; mark = Some (Execution (tags.name tag)); outer = before }) es) new
 
 -- a row is the row of a tag in a tree
 pub record IsRow (row : declared.RegionRow) (of : model.RegionRow) : Type 0 where
@@ -75,7 +82,8 @@ pub record IsRow (row : declared.RegionRow) (of : model.RegionRow) : Type 0 wher
 -- a row that is read once no part is open
 abbrev pub ReadsRegion : RegionTable → (tag : ℕ) → declared.RegionRow → Type 0
 ReadsRegion table tag row =
-    (burden : ℕ) (along : Readings burden) (tags : Tags) (busy : ℕ → ℕ) (es : List Event) → tag < tags.count → busy tag ≡ 0
+    (burden : ℕ) (along : Readings burden) (tags : Tags) (busy : ℕ → ℕ) (es : List Event) → tag < tags.count
+    → busy tag ≡ 0
     → TellsRegions burden along tags busy [] es table → IsRow row (region_row burden (tags.name tag) (tree_of es))
 
 -- a part that is no execution of a tag: a call, a scope, a cut, a loop's turn or half
@@ -85,11 +93,16 @@ IsNoExecution (Some (Invocation site)) = Unit {0}
 IsNoExecution (Some (Execution tag)) = ⊥
 
 -- what goes on, joins, begins and ends without a call of the table
-pub record RegionsNeedNoCall (burden : ℕ) (along : Readings burden) (tags : Tags) (busy : ℕ → ℕ) (os : List Open) (table : RegionTable) : Type 0 where
-  pub work : (es : List Event) (k : ℕ) → TellsRegions burden along tags busy os es table → TellsRegions burden along tags busy os (es ++ Work k ∷ []) table
-  pub join : (es : List Event) → TellsRegions burden along tags busy os es table → TellsRegions burden along tags busy os (es ++ Join ∷ []) table
-  pub begins : (o : Open) → IsNoExecution o.mark → TellsRegions burden along tags busy os o.outer table → TellsRegions burden along tags busy (o ∷ os) [] table
-  pub ends : (o : Open) (es : List Event) → IsNoExecution o.mark → TellsRegions burden along tags busy (o ∷ os) es table → TellsRegions burden along tags busy os (closed o es) table
+pub record RegionsNeedNoCall (burden : ℕ) (along : Readings burden) (tags : Tags) (busy : ℕ → ℕ) (os : List Open)
+    (table : RegionTable) : Type 0 where
+  pub work : (es : List Event) (k : ℕ) → TellsRegions burden along tags busy os es table
+      → TellsRegions burden along tags busy os (es ++ Work k ∷ []) table
+  pub join : (es : List Event) → TellsRegions burden along tags busy os es table
+      → TellsRegions burden along tags busy os (es ++ Join ∷ []) table
+  pub begins : (o : Open) → IsNoExecution o.mark → TellsRegions burden along tags busy os o.outer table
+      → TellsRegions burden along tags busy (o ∷ os) [] table
+  pub ends : (o : Open) (es : List Event) → IsNoExecution o.mark → TellsRegions burden along tags busy (o ∷ os) es table
+      → TellsRegions burden along tags busy os (closed o es) table
 
 -- and so for every table
 abbrev pub RegionsKeep : Type 0

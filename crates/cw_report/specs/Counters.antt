@@ -37,9 +37,11 @@ abbrev pub CountsReads : {T : Type 0} → (old new : Counted T) → Result ℕ E
 CountsReads old new r = failures_of old < 2 ^ 64 - 1 → CountsRead (failures_of old) (failures_of new) r
 
 -- the writer behind the count appended what it says it took of the bytes
-abbrev pub AppendsBehind : {T E : Type 0} → (contents : T → Option (List ℕ)) → (old new : Counted T) → Result ℕ E → List ℕ → Type 0
+abbrev pub AppendsBehind : {T E : Type 0} → (contents : T → Option (List ℕ)) → (old new : Counted T) → Result ℕ E
+    → List ℕ → Type 0
 AppendsBehind contents old new r bytes = WriteAppends (contents (inner_of old)) (contents (inner_of new)) r bytes
 
 -- the reader behind the count consumed what it gave
-abbrev pub ConsumesBehind : {T E : Type 0} → (remaining : T → Option (List ℕ)) → (old new : Counted T) → Result ℕ E → List ℕ → Type 0
+abbrev pub ConsumesBehind : {T E : Type 0} → (remaining : T → Option (List ℕ)) → (old new : Counted T) → Result ℕ E
+    → List ℕ → Type 0
 ConsumesBehind remaining old new r bytes = ReadConsumes (remaining (inner_of old)) (remaining (inner_of new)) r bytes

@@ -5,7 +5,7 @@ use Rattle.indexmap.specs.IndexMap.{values}
 use Rattle.cw_model.specs.Syntax.{Name}
 use Rattle.cw_model.specs.Answers.{main_name}
 use Rattle.cw_model.specs.Sites.{Root, CallSite}
-use Rattle.cw_model.specs.Report.{value_line, sum_lines, csv_line, scale_header, scale_line, sites_header, site_kind_text}
+use Rattle.cw_model.specs.Report.{value_line, sum_lines, csv_line, end_of_line, scale_header, scale_line, sites_header, site_kind_text}
 use Rattle.cw_code.specs.Code.{Code, code_view, site_view, told_sites}
 use Rattle.cw_code.specs.declared.code.Site.{Site}
 use Rattle.cw_sites.specs.declared.table.SiteRow.{SiteRow}
@@ -13,6 +13,7 @@ use Rattle.cw_regions.specs.declared.table.RegionRow.{RegionRow}
 use Rattle.cw_verify.specs.declared.verified.Verified.{Verified}
 use Rattle.cw_machine.specs.declared.alone.Ended.{Ended}
 use Rattle.cw_machine.specs.declared.values.Values.{Values}
+use Rattle.cw_scheduled.specs.declared.schedules.Schedule.{Schedule}
 use Rattle.cw_text.specs.declared.fault.Fault.{Fault}
 use Rattle.cw_text.specs.declared.fault.Fault.TheVariants as fault
 
@@ -42,7 +43,8 @@ sums_text names sums = sum_lines (map (λ name. record { name = name; line = 0 }
 
 -- of a run of code that printed these values, left these sums and ended with this value
 abbrev pub ended_text : Code → (lines sums : List ℤ) → ℤ → List ℕ
-ended_text code lines sums v = flat_map value_line lines ++ (sums_text code.reducers sums ++ (codes "return " ++ value_line v))
+ended_text code lines sums v =
+    flat_map value_line lines ++ (sums_text code.reducers sums ++ (codes "return " ++ value_line v))
 
 -- the same, of a run as it is handed on
 abbrev pub run_text : Code → Values → List ℕ
@@ -70,9 +72,27 @@ abbrev pub scale_report : Result Ended Fault → List ℕ
 scale_report (Ok ended) = scale_text ended
 scale_report (Err e) = []
 
+-- the columns of the schedule report
+abbrev pub schedule_header : List ℕ
+schedule_header = codes "processors,work,span,greedy" ++ end_of_line
+
+-- the row of the schedule report
+abbrev pub schedule_line : Schedule → List ℕ
+schedule_line s = csv_line (decimal s.processors ∷ decimal s.work ∷ decimal s.span ∷ decimal s.greedy ∷ [])
+
+-- work, span and the length of the greedy schedule of a run that ended
+abbrev pub schedule_text : Schedule → List ℕ
+schedule_text s = schedule_header ++ schedule_line s
+
+-- the same, of a run as it is handed on; of one that did not end, or has too many strands, there is none
+abbrev pub schedule_report : Result Schedule Fault → List ℕ
+schedule_report (Ok s) = schedule_text s
+schedule_report (Err e) = []
+
 -- what is counted of a site, as the last fields of its line
 abbrev pub counts_of : SiteRow → List (List ℕ)
-counts_of row = decimal row.calls ∷ decimal row.own_work ∷ decimal row.own_span ∷ decimal row.work ∷ decimal row.span ∷ []
+counts_of row =
+    decimal row.calls ∷ decimal row.own_work ∷ decimal row.own_span ∷ decimal row.work ∷ decimal row.span ∷ []
 
 -- the line of a site: what it tells of the source, and what is counted of it
 abbrev pub told_line : (number : ℕ) (kind : List ℕ) (line : ℕ) (callee : Name) → SiteRow → List ℕ

@@ -3,15 +3,16 @@
 ghost use Rattle.std.specs.Prelude.{◌≡◌, [], ◌<◌, ◌-◌, ◌^◌};
 ghost use Rattle.cw_model.specs.Report.{check_text};
 ghost use Rattle.cw_report.specs.Sinks.{Writes};
-ghost use Rattle.cw_report.specs.Texts.{run_report, scale_report, sites_report};
+ghost use Rattle.cw_report.specs.Texts.{run_report, scale_report, schedule_report, sites_report};
 ghost use Rattle.cw_report.specs.Answers.{AnswersText};
 
 use crate::sink::Sink;
-use crate::tables::{scale_text, sites_text};
+use crate::tables::{scale_text, schedule_text, sites_text};
 use crate::text::{ended_text, printed_text};
 use crate::writing::write_text;
 use cw_machine::alone::Ended;
 use cw_machine::values::Values;
+use cw_scheduled::schedules::Schedule;
 use cw_text::Fault;
 use cw_verify::verified::Verified;
 use std::alloc::Global;
@@ -104,6 +105,32 @@ pub fn sites<W: Sink>(
     match ended {
         Ok(ended) => {
             let text = sites_text(alloc, &code.code, ended)?;
+            write_text(to, text.as_slice())
+        }
+        Err(_) => Ok(()),
+    }
+}
+
+/// Writes the work, the span and the length of the greedy schedule of a run, with the processors that it was asked for,
+/// each in its column on one line. Of a run that did not end, or has too many strands, nothing is written, and the sink
+/// is left alone.
+///
+/// The error is `Memory` where there is none for the text: nothing was written then. It is `Write` where a write failed
+/// or took no byte: the sink took a beginning of the text, and counts one more failed write.
+///
+/// It asks that fewer than 2^64 - 1 writes to the sink failed before.
+pub fn schedule<W: Sink>(
+    alloc: Global,
+    schedule: &Result<Schedule, Fault>,
+    to: &mut W,
+) -> Result<(), Fault>
+    requires { (W.seen to.old).failures < 2 ^ 64 - 1 }
+    ensures idle { schedule_report schedule.now ≡ [] → to.new ≡ to.old }
+    ensures answers { AnswersText W.seen to.old to.new (schedule_report schedule.now) result }
+{
+    match schedule {
+        Ok(schedule) => {
+            let text = schedule_text(alloc, schedule)?;
             write_text(to, text.as_slice())
         }
         Err(_) => Ok(()),

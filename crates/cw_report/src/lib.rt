@@ -12,7 +12,7 @@ mod tables;
 mod text;
 mod writing;
 
-pub use answering::{answer, ok, scale, sites};
+pub use answering::{answer, ok, scale, schedule, sites};
 pub use counted::Counted;
 pub use input::Input;
 pub use sink::Sink;

@@ -14,6 +14,7 @@ use cw_code::code::{Code, Site};
 use cw_machine::alone::Ended;
 use cw_model::syntax::CallKind;
 use cw_regions::RegionRow;
+use cw_scheduled::schedules::Schedule;
 use cw_sites::table::SiteRow;
 use cw_text::Fault;
 use indexmap::IndexMap;
@@ -53,6 +54,39 @@ pub fn sites_text(alloc: Global, code: &Code, ended: &Ended) -> Result<Vec<u8>, 
     push_rows(&mut table, code, ended.sites.values().as_slice())?;
     let text = table.into_text()?;
     Ok(text)
+}
+
+/// The schedule of a run that ended, on a line; the error is `Memory` where there is none for the text.
+pub fn schedule_text(alloc: Global, schedule: &Schedule) -> Result<Vec<u8>, Fault>
+    ensures ok { Makes (texts.schedule_text schedule.now) result }
+    ensures why { IfErr result (λ e. e ≡ Fault.Memory) }
+{
+    let mut table = Table::new(alloc);
+    push_schedule_header(&mut table)?;
+    push_schedule(&mut table, schedule)?;
+    let text = table.into_text()?;
+    Ok(text)
+}
+
+// Adds the names of the columns of the schedule report.
+fn push_schedule_header(table: &mut Table) -> Result<(), AllocError>
+    ensures { Adds table.old table.new texts.schedule_header result }
+{
+    table.push(&[b"processors", b"work", b"span", b"greedy"])
+}
+
+// Adds the line of the schedule report.
+fn push_schedule(table: &mut Table, schedule: &Schedule) -> Result<(), AllocError>
+    ensures { Adds table.old table.new (texts.schedule_line schedule.now) result }
+{
+    let mut first = (Buffer::new(), Buffer::new());
+    let mut last = (Buffer::new(), Buffer::new());
+    table.push(&[
+        first.0.format(schedule.processors).as_bytes(),
+        first.1.format(schedule.work).as_bytes(),
+        last.0.format(schedule.span).as_bytes(),
+        last.1.format(schedule.greedy).as_bytes(),
+    ])
 }
 
 // Adds the names of the columns of the scale report.

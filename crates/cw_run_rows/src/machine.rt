@@ -2,6 +2,8 @@
 
 mod arrays;
 mod measures;
+mod schedules;
+mod strands;
 
 use cw_code::code::{BlockKind, Callee, Code, Func, Instr, Site, UnaryOperator};
 use cw_machine::alone::{Ended, run_alone};

@@ -25,7 +25,8 @@ abbrev pub but_oldest : {A : Type 0} → List A → List A
 but_oldest [] = []
 but_oldest (x ∷ xs) = xs
 
--- what became of a number: it was not offered; it is out, in a deque or with who stole it; it was retaken; its effect is in its cell; its effect was collected
+-- what became of a number: it was not offered; it is out, in a deque or with who stole it; it was retaken; its effect
+-- is in its cell; its effect was collected
 pub data State : Type 0 where
   Unoffered : State
   Out : State

@@ -17,13 +17,15 @@ pub data Event : Type 0 where
   Settle : (w : ℕ) → Event
   Collect : (w : ℕ) → Event
 
--- the jobs by number, each in its place; for each worker the jobs whose strands it has begun and not settled, the newest first; and the board
+-- the jobs by number, each in its place; for each worker the jobs whose strands it has begun and not settled, the
+-- newest first; and the board
 pub record Sched : Type 0 where
   pub world : World
   pub begun : List (List ℕ)
   pub board : Board
 
--- w's strand, the one that it began last and has not settled: none; one that goes on, with its job and the numbers of the jobs that it has out; or one that has ended
+-- w's strand, the one that it began last and has not settled: none; one that goes on, with its job and the numbers of
+-- the jobs that it has out; or one that has ended
 pub data Top : Type 0 where
   Idle : Top
   Busy : (i : ℕ) → Job → Strand → (outs : List ℕ) → Top
@@ -41,7 +43,8 @@ top_of world (i ∷ others) = top_at i (slice_get world.jobs i) (slice_get world
 abbrev pub top : Sched → (w : ℕ) → Top
 top s w = top_of s.world (of_worker s.begun w)
 
--- a spawned call in it has ended, or it has stopped with jobs out: the join is open until its newest job out was given, skipped or taken back
+-- a spawned call in it has ended, or it has stopped with jobs out: the join is open until its newest job out was given,
+-- skipped or taken back
 abbrev pub at_join : Strand → Bool
 at_join (Going state count outs) = false
 at_join (Waits state count outs) = true
@@ -112,17 +115,21 @@ can_retake s w n = is_kept_by w (place_of s n) || is_same n (newest (of_worker s
 
 -- the table
 abbrev pub is_possible : Sched → Event → Bool
-is_possible s (Run w) = has_strand (top s w) && not (has_ended (top s w)) && not (is_at_spawn s w (top s w)) && not (is_at_join (top s w))
+is_possible s (Run w) =
+    has_strand (top s w) && not (has_ended (top s w)) && not (is_at_spawn s w (top s w)) && not (is_at_join (top s w))
 is_possible s (Offer w) = is_at_spawn s w (top s w)
 is_possible s (Inline w) = is_at_spawn s w (top s w)
 is_possible s (Retake w) = is_at_join (top s w) && can_retake s w (newest_out (top s w))
-is_possible s (Steal w v) = is_some (slice_get s.begun w) && (not (has_strand (top s w)) || is_at_join (top s w)) && is_some (oldest (of_worker s.board.lists v))
+is_possible s (Steal w v) =
+    is_some (slice_get s.begun w) && (not (has_strand (top s w)) || is_at_join (top s w))
+    && is_some (oldest (of_worker s.board.lists v))
 is_possible s (Settle w) = has_ended (top s w) && is_stolen s (top s w)
 is_possible s (Collect w) = is_at_join (top s w) && is_settled (place_of s (newest_out (top s w)))
 
 -- the effect of a strand that has come to its end
 abbrev pub effect_of : Code → Job → Strand → Option Effect
-effect_of code job (Going state count []) = if has_come job.extent code state then Some (Joined (standing state) state.trace count) else None
+effect_of code job (Going state count []) =
+    if has_come job.extent code state then Some (Joined (standing state) state.trace count) else None
 effect_of code job (Going state count (out ∷ outs)) = None
 effect_of code job (Waits state count outs) = None
 effect_of code job (Halted e []) = Some e
@@ -149,7 +156,8 @@ counted board = record { lists = board.lists; states = board.states ++ Unoffered
 -- Run: one instruction
 abbrev pub advanced : Code → Sched → (w i : ℕ) → Job → List ℕ → Advanced → Sched
 advanced code s w i job outs (Ran new) = told s (put code s.world w i job new outs)
-advanced code s w i job outs (Handed out new) = noted s (placed (joined_by s.world out (Undecided w)) i (Runs w new (length s.world.jobs ∷ outs))) (counted s.board)
+advanced code s w i job outs (Handed out new) =
+    noted s (placed (joined_by s.world out (Undecided w)) i (Runs w new (length s.world.jobs ∷ outs))) (counted s.board)
 advanced code s w i job outs AtSync = s
 advanced code s w i job outs (Finished e) = told s (placed s.world i (Made w e))
 advanced code s w i job outs Unfit = s
@@ -177,7 +185,12 @@ short_of false strand = strand
 -- Steal: the thief has begun the job
 abbrev pub stole : Code → Sched → (w v n : ℕ) → Option Job → Sched
 stole code s w v n None = s
-stole code s w v n (Some job) = record { world = put code s.world w n job (started job) []; begun = slice_set s.begun w (n ∷ of_worker s.begun w); board = steal v s.board }
+stole code s w v n (Some job) =
+    record {
+      world = put code s.world w n job (started job) [];
+      begun = slice_set s.begun w (n ∷ of_worker s.begun w);
+      board = steal v s.board;
+    }
 
 abbrev pub stolen_by : Code → Sched → (w v : ℕ) → Option ℕ → Sched
 stolen_by code s w v None = s
@@ -185,12 +198,18 @@ stolen_by code s w v (Some n) = stole code s w v n (slice_get s.world.jobs n)
 
 -- Settle: the effect goes to its cell, and the strand is the worker's no more
 abbrev pub settled : Sched → (w i : ℕ) → Effect → Sched
-settled s w i e = record { world = placed s.world i (Settled e); begun = slice_set s.begun w (but_oldest (of_worker s.begun w)); board = settle i s.board }
+settled s w i e =
+    record {
+      world = placed s.world i (Settled e);
+      begun = slice_set s.begun w (but_oldest (of_worker s.begun w));
+      board = settle i s.board;
+    }
 
 -- Collect: the strand is given the effect
 abbrev pub collected : Code → (short : Bool) → Sched → (w i n : ℕ) → Job → Strand → List ℕ → Option Effect → Sched
 collected code short s w i n job strand outs None = s
-collected code short s w i n job strand outs (Some e) = noted s (put code (placed s.world n Spent) w i job (short_of short (give job strand e)) outs) (collect n s.board)
+collected code short s w i n job strand outs (Some e) =
+    noted s (put code (placed s.world n Spent) w i job (short_of short (give job strand e)) outs) (collect n s.board)
 
 abbrev pub effect_at : Option Place → Option Effect
 effect_at None = None
@@ -201,10 +220,13 @@ abbrev pub does : Code → (short : Bool) → Sched → Event → Top → Sched
 does code short s (Run w) (Busy i job strand outs) = ran code short s w i job strand outs
 does code short s (Offer w) (Busy i job strand (n ∷ outs)) = noted s (placed s.world n (Offered w)) (offer w n s.board)
 does code short s (Inline w) (Busy i job strand (n ∷ outs)) = told s (placed s.world n (Kept w))
-does code short s (Retake w) (Busy i job strand (n ∷ outs)) = noted s (put code (placed s.world n Spent) w i job (got_back strand) outs) (retaken w n (slice_get s.world.places n) s.board)
+does code short s (Retake w) (Busy i job strand (n ∷ outs)) =
+    noted s (put code (placed s.world n Spent) w i job (got_back strand) outs)
+    (retaken w n (slice_get s.world.places n) s.board)
 does code short s (Steal w v) t = stolen_by code s w v (oldest (of_worker s.board.lists v))
 does code short s (Settle w) (Over i e) = settled s w i e
-does code short s (Collect w) (Busy i job strand (n ∷ outs)) = collected code short s w i n job strand outs (effect_at (slice_get s.world.places n))
+does code short s (Collect w) (Busy i job strand (n ∷ outs)) =
+    collected code short s w i n job strand outs (effect_at (slice_get s.world.places n))
 does code short s event t = s
 
 abbrev pub worker_of : Event → ℕ

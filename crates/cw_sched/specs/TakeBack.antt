@@ -16,22 +16,31 @@ pub record SameWork (a b : Job) : Type 0 where
   pub arrays : a.arrays ≡ b.arrays
   pub depth : a.depth ≡ b.depth
 
--- what an instruction is to the strand of a rest and to the strand that took the rest back, where the spawned call had ended at b after count instructions: the one goes on over b, hands out a job, waits or stops exactly where the other does
+-- what an instruction is to the strand of a rest and to the strand that took the rest back, where the spawned call had
+-- ended at b after count instructions: the one goes on over b, hands out a job, waits or stops exactly where the other
+-- does
 abbrev pub Alike : (b : State) → (count : ℕ) → Advanced → Advanced → Type 0
 Alike b count (Ran (Going s n outs)) (Ran (Going t m outs')) = (t ≡ under b s) × (m ≡ count + n)
 Alike b count (Ran (Waits s n outs)) (Ran (Waits t m outs')) = (t ≡ under b s) × (m ≡ count + n)
 Alike b count (Ran (Halted e outs)) (Ran (Halted e' outs')) = e' ≡ stopped_after b count e
-Alike b count (Handed out (Going s n outs)) (Handed out' (Going t m outs')) = (t ≡ under b s) × (m ≡ count + n) × SameWork out out'
+Alike b count (Handed out (Going s n outs)) (Handed out' (Going t m outs')) =
+    (t ≡ under b s) × (m ≡ count + n) × SameWork out out'
 Alike b count Unfit Unfit = Unit {0}
 Alike b count _ _ = ⊥
 
--- one instruction of the rest before its join, in its own strand and in the one that took it back, both within their limits
+-- one instruction of the rest before its join, in its own strand and in the one that took it back, both within their
+-- limits
 abbrev pub RunsAlike : Type 0
-RunsAlike = (code : Code) (rest job : Job) (b s : State) (count n : ℕ) (outs outs' : List Job) → rest.extent ≡ ToJoin → has_come ToJoin code s ≡ false
+RunsAlike =
+    (code : Code) (rest job : Job) (b s : State) (count n : ℕ) (outs outs' : List Job) → rest.extent ≡ ToJoin
+    → has_come ToJoin code s ≡ false
     → rest.before + (n + 1) ≤ rest.limit → job.before + ((count + n) + 1) ≤ job.limit
     → Alike b count (advance code rest (Going s n outs)) (advance code job (Going (under b s) (count + n) outs'))
 
--- where the rest's own run comes to the join with so much left, the run that took it back goes on from the join as given, with as much left
+-- where the rest's own run comes to the join with so much left, the run that took it back goes on from the join as
+-- given, with as much left
 abbrev pub JoinsAlike : Type 0
-JoinsAlike = (code : Code) (y : Extent) (s : State) (limit before n left : ℕ) (frame : Standing) (t : Trace) → s.operands ≡ []
-    → course code (rest_at s limit before) n ≡ Arrives frame t left → travel y code n s ≡ travel y code left (resumed s frame t)
+JoinsAlike =
+    (code : Code) (y : Extent) (s : State) (limit before n left : ℕ) (frame : Standing) (t : Trace) → s.operands ≡ []
+    → course code (rest_at s limit before) n ≡ Arrives frame t left
+    → travel y code n s ≡ travel y code left (resumed s frame t)

@@ -56,7 +56,8 @@ failed_at None = None
 failed_at (Some e) = answered failing e
 
 abbrev pub failed_by : List Event → (others limit : ℕ) → Option Answer
-failed_by events others limit = failed_at (outcome (world_run failing (ample events) (first_sched (root_job fails [] limit) others)))
+failed_by events others limit =
+    failed_at (outcome (world_run failing (ample events) (first_sched (root_job fails [] limit) others)))
 
 -- the rest was kept, and is skipped
 abbrev pub skipped : List Event
@@ -71,7 +72,8 @@ pub record FailingWalks : Type 0 where
   pub as_dropped : failed_by dropped_rest 1 5 ≡ code_serial failing [] 5
   pub over : failed_by skipped 0 4 ≡ code_serial failing [] 4
 
--- moments of two workers: the first is at a spawn; its rest is kept; its call has ended beside a kept rest; beside an offered one; the rest was stolen; and has ended; and is settled
+-- moments of two workers: the first is at a spawn; its rest is kept; its call has ended beside a kept rest; beside an
+-- offered one; the rest was stolen; and has ended; and is settled
 abbrev pub at_spawn : Sched
 at_spawn = after (Run 0 ∷ Run 0 ∷ []) 1
 
@@ -88,10 +90,14 @@ abbrev pub stolen_rest : Sched
 stolen_rest = after (Run 0 ∷ Run 0 ∷ Offer 0 ∷ Run 0 ∷ Run 0 ∷ Run 0 ∷ Steal 1 0 ∷ []) 1
 
 abbrev pub ended_rest : Sched
-ended_rest = after (Run 0 ∷ Run 0 ∷ Offer 0 ∷ Run 0 ∷ Run 0 ∷ Run 0 ∷ Steal 1 0 ∷ Run 1 ∷ Run 1 ∷ Inline 1 ∷ Run 1 ∷ Run 1 ∷ Run 1 ∷ Retake 1 ∷ Run 1 ∷ Run 1 ∷ []) 1
+ended_rest =
+    after (Run 0 ∷ Run 0 ∷ Offer 0 ∷ Run 0 ∷ Run 0 ∷ Run 0 ∷ Steal 1 0 ∷ Run 1 ∷ Run 1 ∷ Inline 1 ∷ Run 1 ∷ Run 1
+    ∷ Run 1 ∷ Retake 1 ∷ Run 1 ∷ Run 1 ∷ []) 1
 
 abbrev pub settled_rest : Sched
-settled_rest = after (Run 0 ∷ Run 0 ∷ Offer 0 ∷ Run 0 ∷ Run 0 ∷ Run 0 ∷ Steal 1 0 ∷ Run 1 ∷ Run 1 ∷ Inline 1 ∷ Run 1 ∷ Run 1 ∷ Run 1 ∷ Retake 1 ∷ Run 1 ∷ Run 1 ∷ Settle 1 ∷ []) 1
+settled_rest =
+    after (Run 0 ∷ Run 0 ∷ Offer 0 ∷ Run 0 ∷ Run 0 ∷ Run 0 ∷ Steal 1 0 ∷ Run 1 ∷ Run 1 ∷ Inline 1 ∷ Run 1 ∷ Run 1
+    ∷ Run 1 ∷ Retake 1 ∷ Run 1 ∷ Run 1 ∷ Settle 1 ∷ []) 1
 
 -- both are in calls, and the second has offered
 abbrev pub both_in_calls : Sched

@@ -61,11 +61,16 @@ patched xs at begins = slice_set xs at (strand (slice_index_or xs at (strand 0 S
 
 -- a spawn is open, whose strand is there once the last one is
 abbrev pub HasSpawn : Planning → Type 0
-HasSpawn plan = (spawns : List Open) × ((at : ℕ) × ((first : Bool) × ((plan.spawns.items ≡ spawns ++ open_at at first ∷ []) × (at ≤ length plan.strands.items))))
+HasSpawn plan =
+    (spawns : List Open)
+    × ((at : ℕ)
+    × ((first : Bool)
+    × ((plan.spawns.items ≡ spawns ++ open_at at first ∷ []) × (at ≤ length plan.strands.items))))
 
 -- the child of the last open spawn ends, and its continuation begins
 pub record Continues (plan plan' : Planning) (outer : List Open) (at : ℕ) (first : Bool) : Type 0 where
-  pub strands : plan'.strands.items ≡ patched (plan.strands.items ++ plan.last ∷ []) at (Child (length plan.strands.items + 1 - at))
+  pub strands : plan'.strands.items
+      ≡ patched (plan.strands.items ++ plan.last ∷ []) at (Child (length plan.strands.items + 1 - at))
   pub last : plan'.last ≡ strand 0 (Continuation 0)
   pub spawns : plan'.spawns.items ≡ outer ++ open_at (length plan.strands.items + 1) first ∷ []
 

@@ -16,7 +16,8 @@ pub record Half (s : ℕ → Option ℕ) (f : ℕ → Bool) (from count : ℕ) :
   pub idle : (k : ℕ) → from ≤ k → k < from + count → s k ≡ None
   pub others : (k : ℕ) → from < k → k < from + count → f k ≡ false
 
--- a state of a block whose first strand has this number: what is left at each place, and of which joins one side is done
+-- a state of a block whose first strand has this number: what is left at each place, and of which joins one side is
+-- done
 pub data Shows (s : ℕ → Option ℕ) (f : ℕ → Bool) : ℕ → Block → Going → Type 0 where
   ready : (o j k : ℕ) → s o ≡ Some k → f o ≡ false → Shows s f o (Last j) (Ready k)
   before : (o j k : ℕ) (c r a : Block) → s o ≡ Some k → f o ≡ false → Quiet s f (o + 1) (size c + (size r + size a))
@@ -38,7 +39,8 @@ abbrev pub PlanAt : (ℕ → Strand) → ℕ → Begins → Block → Type 0
 PlanAt p o begins (Last k) = p o ≡ strand k begins
 PlanAt p o begins (Fork k c r a) =
     (p o ≡ strand k begins)
-    × (PlanAt p (o + 1) (w.Child (size c)) c × (PlanAt p (o + 1 + size c) (w.Continuation (size r)) r × PlanAt p (o + 1 + size c + size r) w.Sync a))
+    × (PlanAt p (o + 1) (w.Child (size c)) c
+    × (PlanAt p (o + 1 + size c) (w.Continuation (size r)) r × PlanAt p (o + 1 + size c + size r) w.Sync a))
 
 -- the join that waits for the strand before this one
 abbrev pub join_of : Begins → (next : ℕ) → Option ℕ
@@ -48,7 +50,8 @@ join_of (w.Continuation later) next = Some (next + later)
 join_of w.Sync next = Some next
 
 -- the child and the rest of a spawn get ready
-pub record Forks (p : ℕ → Strand) (s : ℕ → Option ℕ) (f : ℕ → Bool) (s' : ℕ → Option ℕ) (f' : ℕ → Bool) (i later : ℕ) : Type 0 where
+pub record Forks (p : ℕ → Strand) (s : ℕ → Option ℕ) (f : ℕ → Bool) (s' : ℕ → Option ℕ) (f' : ℕ → Bool) (i later : ℕ) :
+    Type 0 where
   pub gone : s' i ≡ None
   pub child : s' (i + 1) ≡ Some (p (i + 1)).weight
   pub rest : s' (i + 1 + later) ≡ Some (p (i + 1 + later)).weight
@@ -64,7 +67,8 @@ pub record Arrives (s : ℕ → Option ℕ) (f : ℕ → Bool) (s' : ℕ → Opt
   pub flags : (k : ℕ) → k ≢ join → f' k ≡ f k
 
 -- the other side of a join is done too, and it gets ready
-pub record Joins (p : ℕ → Strand) (s : ℕ → Option ℕ) (f : ℕ → Bool) (s' : ℕ → Option ℕ) (f' : ℕ → Bool) (i join : ℕ) : Type 0 where
+pub record Joins (p : ℕ → Strand) (s : ℕ → Option ℕ) (f : ℕ → Bool) (s' : ℕ → Option ℕ) (f' : ℕ → Bool) (i join : ℕ) :
+    Type 0 where
   pub second : f join ≡ true
   pub gone : s' i ≡ None
   pub joined : s' join ≡ Some (p join).weight
@@ -73,7 +77,8 @@ pub record Joins (p : ℕ → Strand) (s : ℕ → Option ℕ) (f : ℕ → Bool
   pub flags : (k : ℕ) → k ≢ join → f' k ≡ f k
 
 -- a strand is taken off, and what waited for it alone gets ready: that is told by how the next strand begins
-pub data Releases (p : ℕ → Strand) (s : ℕ → Option ℕ) (f : ℕ → Bool) (s' : ℕ → Option ℕ) (f' : ℕ → Bool) (i : ℕ) : Type 0 where
+pub data Releases (p : ℕ → Strand) (s : ℕ → Option ℕ) (f : ℕ → Bool) (s' : ℕ → Option ℕ) (f' : ℕ → Bool) (i : ℕ) : Type
+    0 where
   forks : (later : ℕ) → (p (i + 1)).begins ≡ w.Child later → Forks p s f s' f' i later → Releases p s f s' f' i
   arrives : (join : ℕ) → join_of (p (i + 1)).begins (i + 1) ≡ Some join → Arrives s f s' f' i join →
       Releases p s f s' f' i

@@ -28,14 +28,18 @@ Reaches (w.Continuation later) next count = next + later < count
 Reaches w.Sync next count = next < count
 
 -- what waited for the strand before this one alone gets ready
-pub data Puts (strands : List Strand) (next : ℕ) (flags : List Bool) (slots : Slots) (flags' : List Bool) (slots' : Slots) : Type 0 where
+pub data Puts (strands : List Strand) (next : ℕ) (flags : List Bool) (slots : Slots) (flags' : List Bool)
+    (slots' : Slots) : Type 0 where
   forks : (later : ℕ) → (strand_at strands next).begins ≡ w.Child later
-      → slots' ≡ slice_set (slice_set slots next (Some (strand_at strands next).weight)) (next + later) (Some (strand_at strands (next + later)).weight)
+      → slots'
+      ≡ slice_set (slice_set slots next (Some (strand_at strands next).weight)) (next + later)
+      (Some (strand_at strands (next + later)).weight)
       → flags' ≡ flags → Puts strands next flags slots flags' slots'
   arrives : (join : ℕ) → join_of (strand_at strands next).begins next ≡ Some join → flag_at flags join ≡ false
       → slots' ≡ slots → flags' ≡ slice_set flags join true → Puts strands next flags slots flags' slots'
   joins : (join : ℕ) → join_of (strand_at strands next).begins next ≡ Some join → flag_at flags join ≡ true
-      → slots' ≡ slice_set slots join (Some (strand_at strands join).weight) → flags' ≡ slice_set flags join false → Puts strands next flags slots flags' slots'
+      → slots' ≡ slice_set slots join (Some (strand_at strands join).weight) → flags' ≡ slice_set flags join false
+      → Puts strands next flags slots flags' slots'
 
 -- how many strands have not been taken off
 abbrev pub waiting : Going → ℕ
@@ -59,7 +63,8 @@ pub data Takes (block : Block) (g : Going) (strands : List Strand) (flags : List
   on : (g' : Going) → Released g g' → Stands block g' strands flags slots → Takes block g strands flags slots
 
 -- after so many strands and steps: a state stands, or all is done
-pub data Counts (processors : ℕ) (block : Block) (taken steps : ℕ) (strands : List Strand) (flags : List Bool) (slots : Slots) : Type 0 where
+pub data Counts (processors : ℕ) (block : Block) (taken steps : ℕ) (strands : List Strand) (flags : List Bool)
+    (slots : Slots) : Type 0 where
   going : (g : Going) → Stands block g strands flags slots → waiting g + taken ≡ size block →
       IsAfter processors steps (start block) g
       → Counts processors block taken steps strands flags slots
@@ -67,9 +72,10 @@ pub data Counts (processors : ℕ) (block : Block) (taken steps : ℕ) (strands 
       Counts processors block taken steps strands flags slots
 
 -- the first state of a block, whose schedule is not too long
-pub record Begun (processors : ℕ) (block : Block) (strands : List Strand) (flags : List Bool) (slots : Slots) : Type 0 where
-  pub stands : Stands block (start block) strands flags slots
-  pub fits : greedy_length processors (to_do (start block)) < 18446744073709551616
+pub record Begun (processors : ℕ) (block : Block) (strands : List Strand) (flags : List Bool) (slots : Slots) : Type 0
+  where
+    pub stands : Stands block (start block) strands flags slots
+    pub fits : greedy_length processors (to_do (start block)) < 18446744073709551616
 
 -- so many steps are no fewer than work and span need, and no more than both together
 pub record IsWithin (processors steps : ℕ) (t : Tree) : Type 0 where

@@ -3,7 +3,8 @@ use Rattle.std.specs.Prelude.{ℕ, ◌+◌, Bool, true, false, nat_lt, List, [],
 use Rattle.cw_model.specs.Trees.{Event, Work, Series, Fork, Join}
 use Rattle.cw_sites.specs.ChosenPaths.{Path, nowhere, plus, best, chosen, steps_of}
 
--- with no child since the last join, the path so far; else the path up to where the longest child was spawned, that child, and the path from there on
+-- with no child since the last join, the path so far; else the path up to where the longest child was spawned, that
+-- child, and the path from there on
 pub data BlockPath : Type 0 where
   Straight : (now : Path) → BlockPath
   Split : (base : Path) (longest : Option Path) (now : Path) → BlockPath

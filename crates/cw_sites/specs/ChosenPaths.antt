@@ -30,7 +30,8 @@ path_of site leaves = record { weight = sum_by (λ leaf. leaf.1) leaves; own = w
 abbrev pub steps_of : (site here : ℕ) → ℕ → Path
 steps_of site here k = record { weight = k; own = if here == site then k else 0 }
 
--- the path through a tree that takes the child where it weighs as much as the rest; `here` is the site of the innermost invocation around the tree
+-- the path through a tree that takes the child where it weighs as much as the rest; `here` is the site of the innermost
+-- invocation around the tree
 abbrev pub chosen : (site here : ℕ) → Tree → Path
 chosen site here (Leaf k) = steps_of site here k
 chosen site here (Seq a b) = plus (chosen site here a) (chosen site here b)

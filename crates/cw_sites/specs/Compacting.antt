@@ -3,7 +3,8 @@ use Rattle.std.specs.Prelude.{◌≡◌, ℕ, ◌+◌, ◌-◌, ◌^◌, ◌<◌
 use Rattle.cw_sites.specs.declared.steps.Steps.{Steps}
 use Rattle.cw_sites.specs.StepSums.{added, sum_at, upto, whole, AllBelow, SumsUp}
 
--- the steps from a place up to another are added up: they end at `end` now, and what lies behind them stays apart from them
+-- the steps from a place up to another are added up: they end at `end` now, and what lies behind them stays apart from
+-- them
 pub record IsAddedUp (from to : ℕ) (old new : List Steps) (end : ℕ) : Type 0 where
   pub from_is : from ≤ end
   pub count_is : length new + to ≡ length old + end

@@ -24,7 +24,8 @@ enters false L = Straight (now_of L)
 -- what is kept of the block that runs
 abbrev pub block_path : (site base : ℕ) → List Open → List Event → BlockPath
 block_path site base [] es = after_all site base (Straight nowhere) es
-block_path site base (o ∷ os) es = after_all site (here_in base (o ∷ os)) (enters o.spawned (block_path site base os o.outer)) es
+block_path site base (o ∷ os) es =
+    after_all site (here_in base (o ∷ os)) (enters o.spawned (block_path site base os o.outer)) es
 
 -- a block that runs, or that a call, a scope or a region goes on with: what has been spawned in it
 abbrev pub StandsOn : (below : List SeenBlock → Type 0) → BlockPath → List SeenBlock → Type 0

@@ -17,20 +17,65 @@ row_of rows site = slice_index_or rows.by_site.items site zero_row
 
 -- so many of its own instructions more
 abbrev pub worked : ℕ → Row → Row
-worked k r = record { calls = r.calls; own = r.own + k; work = r.work; span = r.span; active = r.active; at_work = r.at_work; at_path = r.at_path }
+worked k r =
+    record {
+      calls = r.calls;
+      own = r.own + k;
+      work = r.work;
+      span = r.span;
+      active = r.active;
+      at_work = r.at_work;
+      at_path = r.at_path;
+    }
 
 -- an invocation begins, at this work and on a path of this weight
 abbrev pub entered_at : (first : Bool) → (count path : ℕ) → Row → Row
-entered_at true count path r = record { calls = r.calls + 1; own = r.own; work = r.work; span = r.span; active = r.active + 1; at_work = count; at_path = path }
-entered_at false count path r = record { calls = r.calls + 1; own = r.own; work = r.work; span = r.span; active = r.active + 1; at_work = r.at_work; at_path = r.at_path }
+entered_at true count path r =
+    record {
+      calls = r.calls + 1;
+      own = r.own;
+      work = r.work;
+      span = r.span;
+      active = r.active + 1;
+      at_work = count;
+      at_path = path;
+    }
+entered_at false count path r =
+    record {
+      calls = r.calls + 1;
+      own = r.own;
+      work = r.work;
+      span = r.span;
+      active = r.active + 1;
+      at_work = r.at_work;
+      at_path = r.at_path;
+    }
 
 abbrev pub entered : (count path : ℕ) → Row → Row
 entered count path r = entered_at (r.active == 0) count path r
 
 -- it ends: the outermost one is summed
 abbrev pub left_at : (last : Bool) → (count path : ℕ) → Row → Row
-left_at true count path r = record { calls = r.calls; own = r.own; work = r.work + (count - r.at_work); span = r.span + (path - r.at_path); active = r.active - 1; at_work = r.at_work; at_path = r.at_path }
-left_at false count path r = record { calls = r.calls; own = r.own; work = r.work; span = r.span; active = r.active - 1; at_work = r.at_work; at_path = r.at_path }
+left_at true count path r =
+    record {
+      calls = r.calls;
+      own = r.own;
+      work = r.work + (count - r.at_work);
+      span = r.span + (path - r.at_path);
+      active = r.active - 1;
+      at_work = r.at_work;
+      at_path = r.at_path;
+    }
+left_at false count path r =
+    record {
+      calls = r.calls;
+      own = r.own;
+      work = r.work;
+      span = r.span;
+      active = r.active - 1;
+      at_work = r.at_work;
+      at_path = r.at_path;
+    }
 
 abbrev pub left : (count path : ℕ) → Row → Row
 left count path r = left_at (r.active == 1) count path r
@@ -38,7 +83,8 @@ left count path r = left_at (r.active == 1) count path r
 -- the invocations of a site, and its own instructions
 abbrev pub calls_in : (site : ℕ) → List Open → List Event → ℕ
 calls_in site [] es = calls_of site (tree_of es)
-calls_in site (o ∷ os) es = calls_of site (tree_of es) + (one_if (is_counted (is_site site) o.mark) + calls_in site os o.outer)
+calls_in site (o ∷ os) es =
+    calls_of site (tree_of es) + (one_if (is_counted (is_site site) o.mark) + calls_in site os o.outer)
 
 abbrev pub own_tree : (site here : ℕ) → Tree → ℕ
 own_tree site here t = weight_of_site site (leaves here t)
@@ -87,9 +133,19 @@ IsGiven old new site row = (q : ℕ) → row_of new q ≡ (if site == q then row
 abbrev pub SayTheSame : Rows → Rows → Type 0
 SayTheSame old new = (q : ℕ) → row_of new q ≡ row_of old q
 
--- a row, and that of a piece that ran apart and of which no invocation is open: where some are open here, those of the piece lie in them
+-- a row, and that of a piece that ran apart and of which no invocation is open: where some are open here, those of the
+-- piece lie in them
 abbrev pub summed : Row → Row → Row
-summed a b = record { calls = a.calls + b.calls; own = a.own + b.own; work = a.work + unless_open a.active b.work; span = a.span + unless_open a.active b.span; active = a.active; at_work = a.at_work; at_path = a.at_path }
+summed a b =
+    record {
+      calls = a.calls + b.calls;
+      own = a.own + b.own;
+      work = a.work + unless_open a.active b.work;
+      span = a.span + unless_open a.active b.span;
+      active = a.active;
+      at_work = a.at_work;
+      at_path = a.at_path;
+    }
 
 -- the same, the piece's row first
 abbrev pub under : Row → Row → Row
@@ -97,7 +153,8 @@ under piece ours = summed ours piece
 
 -- each of the shorter rows is added so to the longer ones, and the further ones stay
 pub record AddsEach (add : Row → Row → Row) (longer shorter new : Rows) : Type 0 where
-  pub within : (q : ℕ) → q < length shorter.by_site.items → FitsRow (add (row_of longer q) (row_of shorter q)) → row_of new q ≡ add (row_of longer q) (row_of shorter q)
+  pub within : (q : ℕ) → q < length shorter.by_site.items → FitsRow (add (row_of longer q) (row_of shorter q))
+      → row_of new q ≡ add (row_of longer q) (row_of shorter q)
   pub beyond : (q : ℕ) → length shorter.by_site.items ≤ q → row_of new q ≡ row_of longer q
 
 -- a row is read as another: the same sums, as many open and, where one is open, begun at the same readings

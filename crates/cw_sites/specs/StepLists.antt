@@ -12,14 +12,23 @@ abbrev pub part : (site : ℕ) → List Steps → (from to weight : ℕ) → Pat
 part site steps from to weight = record { weight = weight; own = upto site steps to - upto site steps from }
 
 abbrev pub seen : (site : ℕ) → List Steps → Block → SeenBlock
-seen site steps f = record { base = part site steps f.from f.mid f.base; longest = option_map (part site steps f.mid f.end) f.longest; rest = part site steps f.end f.child f.rest }
+seen site steps f =
+    record {
+      base = part site steps f.from f.mid f.base;
+      longest = option_map (part site steps f.mid f.end) f.longest;
+      rest = part site steps f.end f.child f.rest;
+    }
 
 abbrev pub seen_blocks : (site : ℕ) → List Steps → List Block → List SeenBlock → List SeenBlock
 seen_blocks site steps [] ps = ps
 seen_blocks site steps (f ∷ fs) ps = seen_blocks site steps fs (seen site steps f ∷ ps)
 
 abbrev pub strand_path : (site : ℕ) → Paths → StrandPath
-strand_path site r = record { now = part site r.steps.items r.start (length r.steps.items) r.weight; blocks = seen_blocks site r.steps.items r.blocks.items [] }
+strand_path site r =
+    record {
+      now = part site r.steps.items r.start (length r.steps.items) r.weight;
+      blocks = seen_blocks site r.steps.items r.blocks.items [];
+    }
 
 -- the parts of blocks lie in order, each block's after those of the one round it
 abbrev pub InOrder : Block → Type 0
@@ -40,7 +49,8 @@ pub record LaidWith (r : Paths) (f : Block) : Type 0 where
   pub child : f.child ≡ r.start
   pub start : r.start ≤ length r.steps.items
 
--- the path of the strand that runs has at most one step more than it may have before those of the same sites are added up
+-- the path of the strand that runs has at most one step more than it may have before those of the same sites are added
+-- up
 abbrev pub IsShort : Paths → Type 0
 IsShort paths = length paths.steps.items ≤ paths.start + paths.limit + 1
 
@@ -67,7 +77,8 @@ pub record Gathers (old new : List Steps) (f : Block) (mid : ℕ) : Type 0 where
   pub from : f.from ≤ mid
   pub count_is : length new + f.child ≡ length old + mid
   pub below : (q n : ℕ) → n ≤ f.from → upto q new n ≡ upto q old n
-  pub base : (q : ℕ) → rested q old f < 2 ^ 64 → upto q new mid + upto q old f.end ≡ upto q old f.mid + upto q old f.child
+  pub base : (q : ℕ) → rested q old f < 2 ^ 64
+      → upto q new mid + upto q old f.end ≡ upto q old f.mid + upto q old f.child
   pub child : (q : ℕ) → whole q new + upto q old f.child ≡ upto q new mid + whole q old
 
 abbrev pub GathersBase : Paths → Paths → Block → (mid : ℕ) → Type 0
@@ -81,33 +92,46 @@ SaysTheSame old new = Laid old → (q : ℕ) → (strand_path q old).now.own < 2
 abbrev pub Extends : Paths → Paths → (site count : ℕ) → Type 0
 Extends old new site count =
     Laid old → (q : ℕ) → Fits (plus (strand_path q old).now (steps_of q site count))
-    → strand_path q new ≡ record { now = plus (strand_path q old).now (steps_of q site count); blocks = (strand_path q old).blocks }
+    → strand_path q new
+    ≡ record { now = plus (strand_path q old).now (steps_of q site count); blocks = (strand_path q old).blocks }
 
 -- what a call does to the paths of each site
 abbrev pub Comes : (StrandPath → StrandPath) → Paths → Paths → Type 0
 Comes f old new = Laid old → (q : ℕ) → strand_path q new ≡ f (strand_path q old)
 
 abbrev pub ComesWithin : (StrandPath → StrandPath) → Paths → Paths → Type 0
-ComesWithin f old new = Laid old → (q : ℕ) → Fits (all_of (strand_path q old)) → strand_path q new ≡ f (strand_path q old)
+ComesWithin f old new =
+    Laid old → (q : ℕ) → Fits (all_of (strand_path q old)) → strand_path q new ≡ f (strand_path q old)
 
 -- the same, where the innermost block is not in the list
 abbrev pub TakesChild : Paths → Paths → Block → Type 0
 TakesChild old new f =
     LaidWith old f → (q : ℕ) → Fits (plus (seen q old.steps.items f).base (seen q old.steps.items f).rest)
-    → strand_path q new ≡ takes (seen q old.steps.items f).base (seen q old.steps.items f).rest (strand_path q old).now (strand_path q old).blocks
+    → strand_path q new
+    ≡ takes (seen q old.steps.items f).base (seen q old.steps.items f).rest (strand_path q old).now
+    (strand_path q old).blocks
 
 abbrev pub LetsChildGo : Paths → Paths → Block → Type 0
-LetsChildGo old new f = LaidWith old f → (q : ℕ) → strand_path q new ≡ goes_on (seen q old.steps.items f) (strand_path q old).blocks
+LetsChildGo old new f =
+    LaidWith old f → (q : ℕ) → strand_path q new ≡ goes_on (seen q old.steps.items f) (strand_path q old).blocks
 
 abbrev pub JoinsBlock : Paths → Paths → Block → Type 0
 JoinsBlock old new f =
-    LaidWith old f → (q : ℕ) → f.base + old.weight < 2 ^ 64 → f.base + (longest_path (seen q old.steps.items f).longest).weight < 2 ^ 64
-    → strand_path q new ≡ record { now = plus (seen q old.steps.items f).base (best (seen q old.steps.items f).longest (strand_path q old).now); blocks = (strand_path q old).blocks }
+    LaidWith old f → (q : ℕ) → f.base + old.weight < 2 ^ 64
+    → f.base + (longest_path (seen q old.steps.items f).longest).weight < 2 ^ 64
+    → strand_path q new
+    ≡ record {
+      now = plus (seen q old.steps.items f).base
+          (best (seen q old.steps.items f).longest (strand_path q old).now);
+      blocks = (strand_path q old).blocks;
+    }
 
 abbrev pub ClosesBlock : Paths → Paths → Block → Type 0
 ClosesBlock old new f =
     LaidWith old f → (q : ℕ) → f.base + old.weight < 2 ^ 64
-    → strand_path q new ≡ record { now = plus (seen q old.steps.items f).base (strand_path q old).now; blocks = (strand_path q old).blocks }
+    → strand_path q new
+    ≡ record
+    { now = plus (seen q old.steps.items f).base (strand_path q old).now; blocks = (strand_path q old).blocks }
 
 -- these steps more, whose weight is added apart
 abbrev pub AddsStep : Paths → Paths → Steps → Type 0
@@ -118,13 +142,15 @@ AddsStep old new one =
 -- the steps of a list from a place to another more, which weigh so much
 abbrev pub ExtendsBy : Paths → Paths → List Steps → (from to weight : ℕ) → Type 0
 ExtendsBy old new steps from to weight =
-    from ≤ to → to ≤ length steps → Laid old → (q : ℕ) → Fits (plus (strand_path q old).now (part q steps from to weight))
+    from ≤ to → to ≤ length steps → Laid old → (q : ℕ)
+    → Fits (plus (strand_path q old).now (part q steps from to weight))
     → strand_path q new ≡ extends_by (part q steps from to weight) (strand_path q old)
 
 -- a child that ran apart, whose steps these are
 abbrev pub Forks : Paths → Paths → (first : Bool) → List Steps → (from to weight : ℕ) → Type 0
 Forks old new first steps from to weight =
-    from ≤ to → to ≤ length steps → Laid old → (q : ℕ) → Fits (plus (all_of (strand_path q old)) (part q steps from to weight))
+    from ≤ to → to ≤ length steps → Laid old → (q : ℕ)
+    → Fits (plus (all_of (strand_path q old)) (part q steps from to weight))
     → strand_path q new ≡ forks first (part q steps from to weight) (strand_path q old)
 
 -- a piece that ran apart, and of which nothing is open
@@ -137,5 +163,8 @@ Appends old piece new first =
 abbrev pub AppendsBlock : Paths → (piece : Paths) → Paths → Block → (first : Bool) → Type 0
 AppendsBlock old piece new f first =
     Laid old → LaidWith piece f → (q : ℕ)
-    → Fits (plus (all_of (strand_path q old)) (all_of (record { now = (strand_path q piece).now; blocks = seen q piece.steps.items f ∷ [] })))
-    → strand_path q new ≡ appends_block first (seen q piece.steps.items f).base (seen q piece.steps.items f).longest (strand_path q piece).now (strand_path q old)
+    → Fits (plus (all_of (strand_path q old))
+    (all_of (record { now = (strand_path q piece).now; blocks = seen q piece.steps.items f ∷ [] })))
+    → strand_path q new
+    ≡ appends_block first (seen q piece.steps.items f).base (seen q piece.steps.items f).longest
+    (strand_path q piece).now (strand_path q old)

@@ -46,7 +46,8 @@ AllBelow most (s ∷ ss) = (s.site < most) × AllBelow most ss
 -- so many steps of a site were put at the end, where the steps from a place on fit 64 bits with them
 abbrev pub AddsSteps : (start site count : ℕ) → List Steps → List Steps → Type 0
 AddsSteps start site count old new =
-    (q : ℕ) → (whole q old - upto q old start) + if_site q site count < 2 ^ 64 → whole q new ≡ whole q old + if_site q site count
+    (q : ℕ) → (whole q old - upto q old start) + if_site q site count < 2 ^ 64
+    → whole q new ≡ whole q old + if_site q site count
 
 -- steps that are of sites below a number stay so
 abbrev pub StaysBelow : List Steps → List Steps → Type 0

@@ -2,7 +2,8 @@
 use Rattle.std.specs.Prelude.{ℕ, ◌+◌, nat_lt, Bool, true, false, List, [], ◌∷◌, Option, Some, None}
 use Rattle.cw_sites.specs.ChosenPaths.{Path, nowhere, plus, best}
 
--- an open block: the path up to where its longest child was spawned, that child, and, while a child runs, the path from there to its spawn
+-- an open block: the path up to where its longest child was spawned, that child, and, while a child runs, the path from
+-- there to its spawn
 pub record SeenBlock : Type 0 where
   pub base : Path
   pub longest : Option Path
@@ -48,10 +49,12 @@ spawns false t = again t
 
 -- the child that ran is the longest: the base reaches up to its spawn
 abbrev pub takes : (base rest child : Path) → List SeenBlock → StrandPath
-takes base rest child ps = record { now = nowhere; blocks = record { base = plus base rest; longest = Some child; rest = nowhere } ∷ ps }
+takes base rest child ps =
+    record { now = nowhere; blocks = record { base = plus base rest; longest = Some child; rest = nowhere } ∷ ps }
 
 abbrev pub keeps : (base longest rest : Path) → List SeenBlock → StrandPath
-keeps base longest rest ps = record { now = rest; blocks = record { base = base; longest = Some longest; rest = nowhere } ∷ ps }
+keeps base longest rest ps =
+    record { now = rest; blocks = record { base = base; longest = Some longest; rest = nowhere } ∷ ps }
 
 abbrev pub chooses : Bool → (base longest rest child : Path) → List SeenBlock → StrandPath
 chooses true base l rest child ps = takes base rest child ps
@@ -94,7 +97,8 @@ extends_by p t = record { now = plus t.now p; blocks = t.blocks }
 abbrev pub forks : (first : Bool) → (child : Path) → StrandPath → StrandPath
 forks first child t = ends (extends_by child (spawns first t))
 
--- a piece of the block that runs, of which nothing is open, is joined on: what it has spawned since its last join, and where it is
+-- a piece of the block that runs, of which nothing is open, is joined on: what it has spawned since its last join, and
+-- where it is
 abbrev pub appends_block : (first : Bool) → (base : Path) → Option Path → (now : Path) → StrandPath → StrandPath
 appends_block first base None now t = extends_by now (extends_by base t)
 appends_block first base (Some l) now t = extends_by now (forks first l (extends_by base t))

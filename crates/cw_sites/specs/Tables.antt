@@ -37,21 +37,31 @@ spawned site es os = in_fork (Some (Invocation site)) es os
 
 -- the steps of a table's calls, where counts only grow
 pub record Flushed (old new : SiteTable) (count : ℕ) : Type 0 where
-  pub rows : old.noted ≤ count → (q : ℕ) → FitsRow (worked (steps_of q old.here (count - old.noted)).own (row_of old.rows q)) → row_of new.rows q ≡ worked (steps_of q old.here (count - old.noted)).own (row_of old.rows q)
+  pub rows : old.noted ≤ count → (q : ℕ)
+      → FitsRow (worked (steps_of q old.here (count - old.noted)).own (row_of old.rows q))
+      → row_of new.rows q ≡ worked (steps_of q old.here (count - old.noted)).own (row_of old.rows q)
   pub laid : Laid old.paths → Laid new.paths
-  pub paths : old.noted ≤ count → Laid old.paths → (q : ℕ) → Fits (plus (strand_path q old.paths).now (steps_of q old.here (count - old.noted))) → strand_path q new.paths ≡ record { now = plus (strand_path q old.paths).now (steps_of q old.here (count - old.noted)); blocks = (strand_path q old.paths).blocks }
+  pub paths : old.noted ≤ count → Laid old.paths → (q : ℕ)
+      → Fits (plus (strand_path q old.paths).now (steps_of q old.here (count - old.noted)))
+      → strand_path q new.paths
+      ≡ record {
+        now = plus (strand_path q old.paths).now (steps_of q old.here (count - old.noted));
+        blocks = (strand_path q old.paths).blocks;
+      }
   pub noted_is : new.noted ≡ count
   pub here_is : new.here ≡ old.here
 
 pub record RowBegun (old new : SiteTable) (site path : ℕ) : Type 0 where
-  pub own : FitsRow (entered old.noted path (row_of old.rows site)) → row_of new.rows site ≡ entered old.noted path (row_of old.rows site)
+  pub own : FitsRow (entered old.noted path (row_of old.rows site))
+      → row_of new.rows site ≡ entered old.noted path (row_of old.rows site)
   pub others : (q : ℕ) → (site == q) ≡ false → row_of new.rows q ≡ row_of old.rows q
   pub paths : new.paths ≡ old.paths
   pub noted_is : new.noted ≡ old.noted
   pub here_is : new.here ≡ site
 
 pub record RowLeft (old new : SiteTable) (outer : ℕ) : Type 0 where
-  pub own : FitsRow (left old.noted (strand_path 0 old.paths).now.weight (row_of old.rows old.here)) → row_of new.rows old.here ≡ left old.noted (strand_path 0 old.paths).now.weight (row_of old.rows old.here)
+  pub own : FitsRow (left old.noted (strand_path 0 old.paths).now.weight (row_of old.rows old.here))
+      → row_of new.rows old.here ≡ left old.noted (strand_path 0 old.paths).now.weight (row_of old.rows old.here)
   pub others : (q : ℕ) → (old.here == q) ≡ false → row_of new.rows q ≡ row_of old.rows q
   pub paths : new.paths ≡ old.paths
   pub noted_is : new.noted ≡ old.noted
@@ -73,66 +83,87 @@ IsQuiet (Some (Execution tag)) = Unit {0}
 
 -- such a part begins and ends in series without a call of the table
 pub record QuietParts (base : ℕ) (busy : ℕ → ℕ) (os : List Open) (table : SiteTable) : Type 0 where
-  pub begins : (mark : Option Mark) (es : List Event) → IsQuiet mark → Tells base busy os es table → Tells base busy (in_series mark es os) [] table
-  pub ends : (mark : Option Mark) (outer es : List Event) → IsQuiet mark → has_spawned es ≡ false → Tells base busy (in_series mark outer os) es table → Tells base busy os (closed (record { spawned = false; mark = mark; outer = outer }) es) table
+  pub begins : (mark : Option Mark) (es : List Event) → IsQuiet mark → Tells base busy os es table
+      → Tells base busy (in_series mark es os) [] table
+  pub ends : (mark : Option Mark) (outer es : List Event) → IsQuiet mark → has_spawned es ≡ false
+      → Tells base busy (in_series mark outer os) es table
+      → Tells base busy os (closed (record { spawned = false; mark = mark; outer = outer }) es) table
 
 -- what each call on a table does: it told of a run, and tells of what the run has come to
 abbrev pub Notes : SiteTable → SiteTable → (count : ℕ) → Type 0
 Notes old new count =
-    (base : ℕ) (busy : ℕ → ℕ) (os : List Open) (es fs : List Event) → Since old.noted count es fs → Small busy os (es ++ fs)
+    (base : ℕ) (busy : ℕ → ℕ) (os : List Open) (es fs : List Event) → Since old.noted count es fs
+    → Small busy os (es ++ fs)
     → Tells base busy os es old → Tells base busy os (es ++ fs) new
 
 abbrev pub Enters : SiteTable → SiteTable → (count site : ℕ) → Type 0
 Enters old new count site =
-    (base : ℕ) (busy : ℕ → ℕ) (os : List Open) (es fs : List Event) → Since old.noted count es fs → Small busy (called site (es ++ fs) os) []
+    (base : ℕ) (busy : ℕ → ℕ) (os : List Open) (es fs : List Event) → Since old.noted count es fs
+    → Small busy (called site (es ++ fs) os) []
     → Tells base busy os es old → Tells base busy (called site (es ++ fs) os) [] new
 
 abbrev pub Spawns : SiteTable → SiteTable → (count site : ℕ) → (first : Bool) → Type 0
 Spawns old new count site first =
-    (base : ℕ) (busy : ℕ → ℕ) (os : List Open) (es fs : List Event) → Since old.noted count es fs → has_spawned es ≡ not first
-    → Small busy (spawned site (es ++ fs) os) [] → Tells base busy os es old → Tells base busy (spawned site (es ++ fs) os) [] new
+    (base : ℕ) (busy : ℕ → ℕ) (os : List Open) (es fs : List Event) → Since old.noted count es fs
+    → has_spawned es ≡ not first
+    → Small busy (spawned site (es ++ fs) os) [] → Tells base busy os es old
+    → Tells base busy (spawned site (es ++ fs) os) [] new
 
 abbrev pub Leaves : SiteTable → SiteTable → (count outer : ℕ) → Type 0
 Leaves old new count outer =
-    (base : ℕ) (busy : ℕ → ℕ) (os : List Open) (before es fs : List Event) (site : ℕ) → Since old.noted count es fs → has_spawned es ≡ false
-    → outer ≡ here_in base os → Small busy (called site before os) (es ++ fs) → Tells base busy (called site before os) es old
-    → Tells base busy os (closed (record { spawned = false; mark = Some (Invocation site); outer = before }) (es ++ fs)) new
+    (base : ℕ) (busy : ℕ → ℕ) (os : List Open) (before es fs : List Event) (site : ℕ) → Since old.noted count es fs
+    → has_spawned es ≡ false
+    → outer ≡ here_in base os → Small busy (called site before os) (es ++ fs)
+    → Tells base busy (called site before os) es old
+    → Tells base busy os (closed (record { spawned = false; mark = Some (Invocation site); outer = before }) (es ++ fs))
+    new
 
 abbrev pub EndsChild : SiteTable → SiteTable → (count outer : ℕ) → Type 0
 EndsChild old new count outer =
-    (base : ℕ) (busy : ℕ → ℕ) (os : List Open) (before es fs : List Event) (site : ℕ) → Since old.noted count es fs → has_spawned es ≡ false
-    → outer ≡ here_in base os → Small busy (spawned site before os) (es ++ fs) → Tells base busy (spawned site before os) es old
-    → Tells base busy os (closed (record { spawned = true; mark = Some (Invocation site); outer = before }) (es ++ fs)) new
+    (base : ℕ) (busy : ℕ → ℕ) (os : List Open) (before es fs : List Event) (site : ℕ) → Since old.noted count es fs
+    → has_spawned es ≡ false
+    → outer ≡ here_in base os → Small busy (spawned site before os) (es ++ fs)
+    → Tells base busy (spawned site before os) es old
+    → Tells base busy os (closed (record { spawned = true; mark = Some (Invocation site); outer = before }) (es ++ fs))
+    new
 
 abbrev pub Joins : SiteTable → SiteTable → (count : ℕ) → Type 0
 Joins old new count =
-    (base : ℕ) (busy : ℕ → ℕ) (os : List Open) (es fs : List Event) → Since old.noted count es fs → has_spawned es ≡ true
+    (base : ℕ) (busy : ℕ → ℕ) (os : List Open) (es fs : List Event) → Since old.noted count es fs
+    → has_spawned es ≡ true
     → Small busy os (es ++ fs) → Tells base busy os es old → Tells base busy os ((es ++ fs) ++ Join ∷ []) new
 
 -- a row that is read once no part is open and the block has joined
 abbrev pub ReadsSite : SiteTable → (site : ℕ) → declared.SiteRow → Type 0
 ReadsSite table site row =
-    (busy : ℕ → ℕ) (es : List Event) → busy site ≡ 0 → has_spawned es ≡ false → Small busy [] es → Tells 0 busy [] es table
+    (busy : ℕ → ℕ) (es : List Event) → busy site ≡ 0 → has_spawned es ≡ false → Small busy [] es
+    → Tells 0 busy [] es table
     → IsRow row (site_row site (tree_of es))
 
 -- a spawned part that is no call begins, and ends: half of a loop
 abbrev pub SpawnsHalf : SiteTable → SiteTable → (count : ℕ) → (first : Bool) → Type 0
 SpawnsHalf old new count first =
-    (base : ℕ) (busy : ℕ → ℕ) (mark : Option Mark) (os : List Open) (es fs : List Event) → IsQuiet mark → Since old.noted count es fs
-    → has_spawned es ≡ not first → Small busy os (es ++ fs) → Tells base busy os es old → Tells base busy (in_fork mark (es ++ fs) os) [] new
+    (base : ℕ) (busy : ℕ → ℕ) (mark : Option Mark) (os : List Open) (es fs : List Event) → IsQuiet mark
+    → Since old.noted count es fs
+    → has_spawned es ≡ not first → Small busy os (es ++ fs) → Tells base busy os es old
+    → Tells base busy (in_fork mark (es ++ fs) os) [] new
 
 abbrev pub EndsHalf : SiteTable → SiteTable → (count : ℕ) → Type 0
 EndsHalf old new count =
-    (base : ℕ) (busy : ℕ → ℕ) (mark : Option Mark) (os : List Open) (before es fs : List Event) → IsQuiet mark → Since old.noted count es fs
-    → has_spawned es ≡ false → Small busy (in_fork mark before os) (es ++ fs) → Tells base busy (in_fork mark before os) es old
+    (base : ℕ) (busy : ℕ → ℕ) (mark : Option Mark) (os : List Open) (before es fs : List Event) → IsQuiet mark
+    → Since old.noted count es fs
+    → has_spawned es ≡ false → Small busy (in_fork mark before os) (es ++ fs)
+    → Tells base busy (in_fork mark before os) es old
     → Tells base busy os (closed (record { spawned = true; mark = mark; outer = before }) (es ++ fs)) new
 
 -- the weight of the path of the strand that runs
 abbrev pub ReadsPath : SiteTable → (weight : ℕ) → Type 0
 ReadsPath table weight =
-    (site base : ℕ) (busy : ℕ → ℕ) (os : List Open) (es : List Event) → Tells base busy os es table → weight ≡ path_in site base os es
+    (site base : ℕ) (busy : ℕ → ℕ) (os : List Open) (es : List Event) → Tells base busy os es table
+    → weight ≡ path_in site base os es
 
--- the steps of a table are of sites below a number, and each path that it keeps, of the strand that runs and of each open
+-- the steps of a table are of sites below a number, and each path that it keeps, of the strand that runs and of each
+-- open
 -- block, has at most so many of them: twice the number and a constant, and after a join two such paths
 pub record IsBoundedTable (most : ℕ) (table : SiteTable) : Type 0 where
   pub paths : IsBounded most table.paths
@@ -154,17 +185,22 @@ StaysBoundedIn site old new = (most : ℕ) → site < most → IsBoundedTable mo
 abbrev pub nothing_open : ℕ → ℕ
 nothing_open site = 0
 
--- a table tells of a piece that ran apart inside of the open parts, and of which no part is open: of those it knows the site of the
+-- a table tells of a piece that ran apart inside of the open parts, and of which no part is open: of those it knows the
+-- site of the
 -- innermost invocation alone
 abbrev pub TellsPiece : (base : ℕ) → List Open → List Event → SiteTable → Type 0
 TellsPiece base os fs piece = Tells (here_in base os) nothing_open [] fs piece
 
--- the piece is joined on, as the next events of the block that runs: it has no join, or the block has spawned nothing since its last join
+-- the piece is joined on, as the next events of the block that runs: it has no join, or the block has spawned nothing
+-- since its last join
 abbrev pub JoinsPiece : SiteTable → (piece : SiteTable) → SiteTable → (first : Bool) → Type 0
 JoinsPiece old piece new first =
-    (base : ℕ) (busy : ℕ → ℕ) (os : List Open) (es fs : List Event) → has_spawned es ≡ not first → (first || no_joins fs) ≡ true
-    → Small busy os (es ++ fs) → Tells base busy os es old → TellsPiece base os fs piece → Tells base busy os (es ++ fs) new
+    (base : ℕ) (busy : ℕ → ℕ) (os : List Open) (es fs : List Event) → has_spawned es ≡ not first
+    → (first || no_joins fs) ≡ true
+    → Small busy os (es ++ fs) → Tells base busy os es old → TellsPiece base os fs piece
+    → Tells base busy os (es ++ fs) new
 
 -- what is bounded stays so, with a piece that is
 abbrev pub StaysBoundedBeside : (piece : SiteTable) → SiteTable → SiteTable → Type 0
-StaysBoundedBeside piece old new = (most : ℕ) → IsBoundedTable most piece → IsBoundedTable most old → IsBoundedTable most new
+StaysBoundedBeside piece old new =
+    (most : ℕ) → IsBoundedTable most piece → IsBoundedTable most old → IsBoundedTable most new

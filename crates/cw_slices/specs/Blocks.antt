@@ -15,7 +15,8 @@ lodged_code =
     code_by (List (Option ℤ) × (Ptr × (ℕ × (ℕ × ℕ))))
     (coded× (coded_list (coded_option coded_ℤ)) (coded× coded_ptr (coded× coded_ℕ (coded× coded_ℕ coded_ℕ))))
     (λ s. (s.cells, (s.spot.ptr, (s.spot.frees, (s.spot.frozen, s.spot.halved)))))
-    (λ r. record { cells = r.0; spot = record { ptr = r.1.0; frees = r.1.1.0; frozen = r.1.1.1.0; halved = r.1.1.1.1 } })
+    (λ r. record
+    { cells = r.0; spot = record { ptr = r.1.0; frees = r.1.1.0; frozen = r.1.1.1.0; halved = r.1.1.1.1 } })
     (λ _. refl)
 
 -- cells that are all in

@@ -1,4 +1,5 @@
--- What cells own that are owned, or that may be read for a time: then a part of the token of a lifetime for which the cells
+-- What cells own that are owned, or that may be read for a time: then a part of the token of a lifetime for which the
+-- cells
 -- are lent, and what a `&` to them holds at it. Who is owed them has the lender's right.
 use Rattle.std.specs.Prelude.{ℕ, zero, suc, ℤ, Bool, List, [], ◌∷◌}
 use base.Fraction.{full_share}

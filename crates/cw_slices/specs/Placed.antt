@@ -3,9 +3,11 @@ use Rattle.std.specs.Prelude.{◌≡◌, ℕ, suc, ◌*◌, ◌^◌, ℤ, List, 
 use Rattle.std.specs.Coded.{Coded, code_by, coded×, coded_list, coded_ℕ, coded_ℤ}
 use denote.RawPtr.{Ptr, coded_ptr, ◌+ₚ◌}
 
--- where a slice begins, and how long the block is that it frees: none, where it does not begin the block. A frozen slice
+-- where a slice begins, and how long the block is that it frees: none, where it does not begin the block. A frozen
+-- slice
 -- has 2 ^ 60 there, which no block reaches, and frees none.
--- A slice with one owner has 0 as `frozen`. Any other number names a freeze, and `halved` says how often the right to read
+-- A slice with one owner has 0 as `frozen`. Any other number names a freeze, and `halved` says how often the right to
+-- read
 -- was halved
 pub record Spot : Type 0 where
   pub ptr : Ptr
@@ -28,9 +30,11 @@ pub record Placed : Type 0 where
 
 abbrev pub placed_code : Coded Placed
 placed_code =
-    code_by (List ℤ × (Ptr × (ℕ × (ℕ × ℕ)))) (coded× (coded_list coded_ℤ) (coded× coded_ptr (coded× coded_ℕ (coded× coded_ℕ coded_ℕ))))
+    code_by (List ℤ × (Ptr × (ℕ × (ℕ × ℕ))))
+    (coded× (coded_list coded_ℤ) (coded× coded_ptr (coded× coded_ℕ (coded× coded_ℕ coded_ℕ))))
     (λ s. (s.items, (s.spot.ptr, (s.spot.frees, (s.spot.frozen, s.spot.halved)))))
-    (λ p. record { items = p.0; spot = record { ptr = p.1.0; frees = p.1.1.0; frozen = p.1.1.1.0; halved = p.1.1.1.1 } })
+    (λ p. record
+    { items = p.0; spot = record { ptr = p.1.0; frees = p.1.1.0; frozen = p.1.1.1.0; halved = p.1.1.1.1 } })
     (λ _. refl)
 
 -- one owner, who may write
@@ -44,7 +48,11 @@ Follows l r = r.spot ≡ after (length l.items) l.spot
 -- one half of the right to read it
 abbrev pub half : Placed → Placed
 half s =
-    record { items = s.items; spot = record { ptr = s.spot.ptr; frees = s.spot.frees; frozen = s.spot.frozen; halved = suc s.spot.halved } }
+    record {
+      items = s.items;
+      spot = record
+          { ptr = s.spot.ptr; frees = s.spot.frees; frozen = s.spot.frozen; halved = suc s.spot.halved };
+    }
 
 -- what is owed to the owner of a frozen slice: the slice as it lay, when the freeze ends
 pub record Owed : Type 0 where
@@ -52,9 +60,14 @@ pub record Owed : Type 0 where
   pub freeze : ℕ
 
 abbrev pub owed_code : Coded Owed
-owed_code = code_by (Placed × ℕ) (coded× placed_code coded_ℕ) (λ s. (s.slice, s.freeze)) (λ p. record { slice = p.0; freeze = p.1 }) (λ _. refl)
+owed_code =
+    code_by (Placed × ℕ) (coded× placed_code coded_ℕ) (λ s. (s.slice, s.freeze))
+    (λ p. record { slice = p.0; freeze = p.1 }) (λ _. refl)
 
 -- the whole right to read what is owed
 abbrev pub all_of : Owed → Placed
 all_of o =
-    record { items = o.slice.items; spot = record { ptr = o.slice.spot.ptr; frees = 2 ^ 60; frozen = suc o.freeze; halved = 0 } }
+    record {
+      items = o.slice.items;
+      spot = record { ptr = o.slice.spot.ptr; frees = 2 ^ 60; frozen = suc o.freeze; halved = 0 };
+    }

@@ -10,5 +10,5 @@ pub mod Wants
 pub mod Owners
 pub mod Plays
 pub mod Walks
-pub mod JobsFit
 pub mod StrandsFit
+pub mod Staying

@@ -18,7 +18,7 @@ use Rattle.cw_strands.specs.Worlds.{Place, Undecided, Kept, Offered, Runs, Made,
 use Rattle.cw_strands.specs.lemmas.Acts.{acts_by}
 use Rattle.cw_strands.specs.lemmas.Rests.{GoesOn, act_goes}
 use Rattle.cw_strands.proofs.Budgets.{meaning_stands}
-use Rattle.cw_strands.proofs.JobsFit.{Base, Alone, Upon, lifted, LiftedTransition, lifted_step, FitJob, hands_fit, arrived, gives_fit}
+use Rattle.cw_strands.specs.lemmas.JobsFit.{Base, Alone, Upon, lifted, LiftedTransition, lifted_step, FitJob, hands_fit, arrived, gives_fit}
 use Rattle.cw_strands.specs.Over.{under}
 use Rattle.cw_strands.proofs.WorldLaws.{set_gives, added_gives, stays_there, one_there, last_there, Named, PlaceOk, WorldOk, next_ok, begins_ok}
 

@@ -15,6 +15,7 @@ use Rattle.cw_strands.specs.RestLaws.{onwards}
 use Rattle.cw_strands.specs.Over.{under, transition_under}
 use Rattle.cw_strands.specs.lemmas.Tests.{taken, not_taken}
 use Rattle.cw_strands.specs.lemmas.Acts.{acts_by}
+use Rattle.cw_strands.specs.lemmas.Settled.{settled_append}
 use Rattle.cw_strands.specs.lemmas.Under.{same_trace, HasCaller, IsCall, Allowed, act_under}
 
 pub joined_quiet : (t : Trace) → joined t quiet ≡ t
@@ -72,11 +73,6 @@ module _ (d : ℕ) where
     leaves = λ arrays o around e. subst (λ a. base_of s.depth a ≡ d) e h;
     returns = λ v. back_based s.depth s.around v (settled s.arrived s.arrays) (synced s.trace) h;
   }) o
-
--- results go back one after another, the newest first
-pub settled_append : {A : Type 0} (p q : Results A) (slots : Slots A) → settled (p ++ q) slots ≡ settled q (settled p slots)
-settled_append [] q slots = refl
-settled_append (r ∷ p) q slots = settled_append p q (slice_set slots r.0 (Some r.1))
 
 module _ (code : Code) where
   -- a join does the same once what waits has gone back

@@ -106,7 +106,9 @@ play code (event ∷ events) world = and_apply code event (play code events worl
 
 -- what is played can come
 abbrev pub PlaysCome : Type 0
-PlaysCome = (code : Code) (events : List Event) (first world : World) → play code events first ≡ Some world → After code first world
+PlaysCome =
+    (code : Code) (events : List Event) (first world : World) → play code events first ≡ Some world
+    → After code first world
 
 -- what the root's effect answers
 abbrev pub and_answered : Code → Option Effect → Option Answer

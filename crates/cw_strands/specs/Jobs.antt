@@ -1,4 +1,5 @@
--- Jobs: a whole call, or the rest of a sync block up to its join; how a run of one ends, what its effect is, and what an effect must be.
+-- Jobs: a whole call, or the rest of a sync block up to its join; how a run of one ends, what its effect is, and what
+-- an effect must be.
 use Rattle.std.specs.Prelude.{◌≡◌, ℕ, zero, suc, ◌-◌, ℤ, Bool, true, false, ◌&&◌, if◌then◌else◌, List, [], ◌∷◌, Option, Some, None, slice_get}
 use Rattle.cw_model.specs.declared.trap.Trap.{Trap}
 use Rattle.cw_model.specs.Frames.{no_frame}
@@ -42,9 +43,12 @@ pub record Standing : Type 0 where
   pub arrays : Slots (List ℤ)
 
 abbrev pub standing : State → Standing
-standing s = record { place = s.place; operands = s.operands; slots = settled s.results s.slots; arrays = settled s.arrived s.arrays }
+standing s =
+    record
+    { place = s.place; operands = s.operands; slots = settled s.results s.slots; arrays = settled s.arrived s.arrays }
 
--- where a run comes to within a budget, and what is left of it: to the join, to the end of its call, to a trap, to the end of the budget, or to code that does not fit
+-- where a run comes to within a budget, and what is left of it: to the join, to the end of its call, to a trap, to the
+-- end of the budget, or to code that does not fit
 pub data Came : Type 0 where
   Arrives : Standing → Trace → (left : ℕ) → Came
   Returns : Option ℤ → Slots (List ℤ) → Trace → (left : ℕ) → Came
@@ -64,7 +68,8 @@ travel x code zero s = if has_come x code s then Arrives (standing s) s.trace ze
 travel x code (suc n) s =
     if has_come x code s then Arrives (standing s) s.trace (suc n) else moved (step code s) n (λ s'. travel x code n s')
 
--- a job: how far it goes, its place, its slots, in which what a spawn still out took stands empty, its depth, the limit of the run, and the cost before it
+-- a job: how far it goes, its place, its slots, in which what a spawn still out took stands empty, its depth, the limit
+-- of the run, and the cost before it
 pub record Job : Type 0 where
   pub extent : Extent
   pub place : ℕ
@@ -84,9 +89,19 @@ course code job n = travel job.extent code n (job_start job)
 
 -- the job of a whole run: a function on its arguments, at depth 1, with nothing before it
 abbrev pub root_job : Func → List ℤ → (limit : ℕ) → Job
-root_job f args limit = record { extent = WholeCall; place = f.start; slots = slots_of f args; arrays = arrays_of f []; depth = 1; limit = limit; before = 0 }
+root_job f args limit =
+    record {
+      extent = WholeCall;
+      place = f.start;
+      slots = slots_of f args;
+      arrays = arrays_of f [];
+      depth = 1;
+      limit = limit;
+      before = 0;
+    }
 
--- what a strand makes of its job: the value of the call, or the call at the join, with what the run has shown and its cost; or a trap with its cost, the limit passed, or memory wanting
+-- what a strand makes of its job: the value of the call, or the call at the join, with what the run has shown and its
+-- cost; or a trap with its cost, the limit passed, or memory wanting
 pub data Effect : Type 0 where
   Ended : Option ℤ → Slots (List ℤ) → Trace → (cost : ℕ) → Effect
   Joined : Standing → Trace → (cost : ℕ) → Effect
@@ -102,7 +117,8 @@ IsOf (Falls trap line lines left) n e = e ≡ TrapIn trap line lines (n - left)
 IsOf Beyond n e = e ≡ OverLimit
 IsOf Lost n e = ⊥
 
--- the meaning of a job: what its run comes to within the limit; or over, where the run is over within the limit less the cost before; or memory was wanting
+-- the meaning of a job: what its run comes to within the limit; or over, where the run is over within the limit less
+-- the cost before; or memory was wanting
 pub data JobMeaning (code : Code) (job : Job) (e : Effect) : Type 0 where
   Same : IsOf (course code job job.limit) job.limit e → JobMeaning code job e
   Passed : e ≡ OverLimit → course code job (job.limit - job.before) ≡ Beyond → JobMeaning code job e

@@ -4,6 +4,7 @@ pub mod Strands
 pub mod Promises
 pub mod Steps
 pub mod RestLaws
+pub mod Staying
 pub mod Worlds
 pub mod Wants
 pub mod Events

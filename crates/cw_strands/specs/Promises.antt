@@ -1,4 +1,5 @@
--- What is true of a strand at each moment, whatever its schedule: the state of a strand is a state of the serial run of its job.
+-- What is true of a strand at each moment, whatever its schedule: the state of a strand is a state of the serial run of
+-- its job.
 use Rattle.std.specs.Prelude.{◌≡◌, ℕ, ◌+◌, ◌≤◌, ◌<◌, List, [], ◌∷◌}
 use Rattle.cw_model.specs.declared.syntax.CallKind.{CallKind}
 use Rattle.cw_model.specs.declared.syntax.CallKind.TheVariants.{Plain, Spawned}
@@ -20,7 +21,8 @@ StandsFor code job (TrapIn trap line lines cost) = Takes cost (course code job) 
 StandsFor code job OverLimit = (m : ℕ) → job.before + m ≤ job.limit → course code job m ≡ Beyond
 StandsFor code job Memory = Unit {0}
 
--- the job that is out at a call that waits for a spawned one: no operand stands there, and the cost before the job is no more than this
+-- the job that is out at a call that waits for a spawned one: no operand stands there, and the cost before the job is
+-- no more than this
 pub record IsOutAt (limit bound : ℕ) (w : Waiting) (out : Job) : Type 0 where
   pub same : out ≡ rest_of w limit out.before
   pub low : out.before ≤ bound

@@ -8,7 +8,8 @@ use Rattle.cw_strands.specs.Jobs.{Extent, WholeCall, Came, Arrives, Returns, Fal
 use Rattle.cw_strands.specs.Strands.{Strand, rest_at, resumed, Reached, Makes}
 use Rattle.cw_strands.specs.Promises.{IsStrandOf}
 
--- what a run comes to over what waits in its block: at the join what waits goes back into its slots, and the block goes on from the join; at the end of a call its caller goes on
+-- what a run comes to over what waits in its block: at the join what waits goes back into its slots, and the block goes
+-- on from the join; at the end of a call its caller goes on
 abbrev pub onwards : Code → Extent → State → Came → Came
 onwards code y b (Arrives frame t left) = travel y code left (resumed b frame t)
 onwards code y b (Returns v arrays t left) =
@@ -29,24 +30,31 @@ call_job e limit before = record {
   before = before;
 }
 
--- the cut: from a spawn the serial run is the child's run, and then its caller goes on; where the caller goes on, the serial run is the run of the rest up to the join, from the slots as they stand, and then what waits goes back into its slots and the block goes on
+-- the cut: from a spawn the serial run is the child's run, and then its caller goes on; where the caller goes on, the
+-- serial run is the run of the rest up to the join, from the slots as they stand, and then what waits goes back into
+-- its slots and the block goes on
 pub record Cut (code : Code) : Type 0 where
   pub child : (y : Extent) (s : State) (e : Entering) (limit before n : ℕ) →
       travel y code n (begun s e) ≡ onwards code y (begun s e) (course code (call_job e limit before) n)
   pub rest : (y : Extent) (s : State) (limit before n : ℕ) → s.operands ≡ [] →
       travel y code n s ≡ onwards code y s (course code (rest_at s limit before) n)
 
--- a strand, whatever it hands out and is given, is a strand of its job, and each effect that can be made of a job means it
+-- a strand, whatever it hands out and is given, is a strand of its job, and each effect that can be made of a job means
+-- it
 pub record Kept (code : Code) : Type 0 where
   pub strand : (job : Job) (strand : Strand) → Reached code job strand → IsStrandOf code job strand
   pub effect : (job : Job) (e : Effect) → Makes code job e → JobMeaning code job e
 
 -- an effect that means the whole run answers what the code gives, or memory was wanting
 abbrev pub RootsAreSerial : Type 0
-RootsAreSerial = (code : Code) (f : Func) (args : List ℤ) (limit : ℕ) (e : Effect) → first_transition (slice_get code.funcs code.main) args ≡ On (first_state f args [])
+RootsAreSerial =
+    (code : Code) (f : Func) (args : List ℤ) (limit : ℕ) (e : Effect)
+    → first_transition (slice_get code.funcs code.main) args ≡ On (first_state f args [])
     → JobMeaning code (root_job f args limit) e → (e ≡ Memory) ⊎ (answered code e ≡ code_serial code args limit)
 
 -- whatever the schedule
 abbrev pub SchedulesAreSerial : Type 0
-SchedulesAreSerial = (code : Code) (f : Func) (args : List ℤ) (limit : ℕ) (e : Effect) → first_transition (slice_get code.funcs code.main) args ≡ On (first_state f args [])
+SchedulesAreSerial =
+    (code : Code) (f : Func) (args : List ℤ) (limit : ℕ) (e : Effect)
+    → first_transition (slice_get code.funcs code.main) args ≡ On (first_state f args [])
     → Makes code (root_job f args limit) e → (e ≡ Memory) ⊎ (answered code e ≡ code_serial code args limit)

@@ -10,7 +10,9 @@ use Rattle.cw_strands.specs.Promises.{IsStrandOf}
 abbrev pub started : Job → Strand
 started job = Going (job_start job) 0 []
 
--- what an advance answers: an instruction was done; it was a spawn, and the rest of its block is handed out; the strand is at a join, where it must be given or skip the newest job out; it has ended with an effect; or the code does not fit
+-- what an advance answers: an instruction was done; it was a spawn, and the rest of its block is handed out; the strand
+-- is at a join, where it must be given or skip the newest job out; it has ended with an effect; or the code does not
+-- fit
 pub data Advanced : Type 0 where
   Ran : Strand → Advanced
   Handed : Job → Strand → Advanced
@@ -25,7 +27,8 @@ finished (out ∷ outs) e = Unfit
 
 abbrev pub turned : Turn → (from to : State) → (limit before count : ℕ) → List Job → Advanced
 turned Goes from to limit before count outs = Ran (Going to count outs)
-turned (HandsOut target taken) from to limit before count outs = let out = spawn_job from target taken limit (before + count) in Handed out (Going to count (out ∷ outs))
+turned (HandsOut target taken) from to limit before count outs =
+    let out = spawn_job from target taken limit (before + count) in Handed out (Going to count (out ∷ outs))
 turned ComesBack from to limit before count outs = Ran (Waits to count outs)
 
 abbrev pub went_on : Turn → State → Transition → (limit before count : ℕ) → List Job → Advanced
@@ -66,7 +69,8 @@ abbrev pub skip : Strand → Strand
 skip (Halted e (out ∷ outs)) = Halted e outs
 skip strand = strand
 
--- take back: the newest job out was got back unrun, and the call beside it has ended: the strand goes on itself, the result of the call still waiting for the join
+-- take back: the newest job out was got back unrun, and the call beside it has ended: the strand goes on itself, the
+-- result of the call still waiting for the join
 abbrev pub take_back : Strand → Strand
 take_back (Waits s count (out ∷ outs)) = Going s count outs
 take_back strand = strand

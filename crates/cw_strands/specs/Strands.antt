@@ -10,7 +10,9 @@ use Rattle.cw_code.specs.Code.{Code}
 use Rattle.cw_code.specs.Run.{Waiting, Around, Caller, State, On, Ends, Stops, Slots, settled, Taken, Whole, slot_taken, taken_from, moved_out, passed_by, step}
 use Rattle.cw_strands.specs.Jobs.{ToJoin, has_come, Standing, standing, Job, job_start, Effect, Ended, Joined, TrapIn, OverLimit, Memory}
 
--- a strand and the jobs that it handed out and was not given back, the newest first: it goes on, from a state of the serial run, so many instructions after its job's start; or a spawned call in it has ended, so that it waits for the rest of the block that spawned it, the newest job out; or it has stopped
+-- a strand and the jobs that it handed out and was not given back, the newest first: it goes on, from a state of the
+-- serial run, so many instructions after its job's start; or a spawned call in it has ended, so that it waits for the
+-- rest of the block that spawned it, the newest job out; or it has stopped
 pub data Strand : Type 0 where
   Going : State → (count : ℕ) → (outs : List Job) → Strand
   Waits : State → (count : ℕ) → (outs : List Job) → Strand
@@ -24,11 +26,29 @@ outs_of (Halted e outs) = outs
 
 -- the rest of a block that waits for a spawned call, as a job
 abbrev pub rest_of : Waiting → (limit before : ℕ) → Job
-rest_of w limit before = record { extent = ToJoin; place = w.place; slots = w.slots; arrays = w.arrays; depth = w.depth; limit = limit; before = before }
+rest_of w limit before =
+    record {
+      extent = ToJoin;
+      place = w.place;
+      slots = w.slots;
+      arrays = w.arrays;
+      depth = w.depth;
+      limit = limit;
+      before = before;
+    }
 
 -- the job that is out where a strand waits: the rest of the block that it will go on with
 abbrev pub rest_at : State → (limit before : ℕ) → Job
-rest_at s limit before = record { extent = ToJoin; place = s.place; slots = s.slots; arrays = s.arrays; depth = s.depth; limit = limit; before = before }
+rest_at s limit before =
+    record {
+      extent = ToJoin;
+      place = s.place;
+      slots = s.slots;
+      arrays = s.arrays;
+      depth = s.depth;
+      limit = limit;
+      before = before;
+    }
 
 -- what an instruction is to a strand: it hands out the rest of its block, ends a spawned call, or does neither
 pub data Turn : Type 0 where
@@ -59,7 +79,8 @@ turn_of code _ around = Goes
 abbrev pub turn : Code → State → Turn
 turn code s = turn_of code (slice_get code.instrs s.place) s.around
 
--- the job of a spawn: the rest of its block, from the next place, with the slots of the result and of what was taken empty
+-- the job of a spawn: the rest of its block, from the next place, with the slots of the result and of what was taken
+-- empty
 abbrev pub spawn_job : State → Option ℕ → List Taken → (limit before : ℕ) → Job
 spawn_job s target taken limit before = record {
   extent = ToJoin;
@@ -80,7 +101,16 @@ goes_on ComesBack from to limit before count outs = Waits to count outs
 
 -- the join: the rest is done, what waits goes back into its slots, and the block goes on from its join
 abbrev pub resumed : State → Standing → Trace → State
-resumed s frame t = record s { place = frame.place; operands = frame.operands; slots = settled s.results frame.slots; arrays = settled s.arrived frame.arrays; results = []; arrived = []; trace = joined s.trace t }
+resumed s frame t =
+    record s {
+      place = frame.place;
+      operands = frame.operands;
+      slots = settled s.results frame.slots;
+      arrays = settled s.arrived frame.arrays;
+      results = [];
+      arrived = [];
+      trace = joined s.trace t;
+    }
 
 -- an effect that stopped
 abbrev pub HasStopped : Effect → Type 0
@@ -117,27 +147,33 @@ mutual
     Started : (job : Job) → job.before ≤ job.limit → Reached code job (Going (job_start job) 0 [])
     -- an instruction within the limit
     Ran : (job : Job) (s s' : State) (count : ℕ) (outs : List Job)
-        → Reached code job (Going s count outs) → has_come job.extent code s ≡ false → step code s ≡ On s' → job.before + (count + 1) ≤ job.limit
+        → Reached code job (Going s count outs) → has_come job.extent code s ≡ false → step code s ≡ On s'
+        → job.before + (count + 1) ≤ job.limit
         → Reached code job (goes_on (turn code s) s s' job.limit job.before (count + 1) outs)
     Fell : (job : Job) (s : State) (count : ℕ) (outs : List Job) (trap : Trap) (line : ℕ) (lines : List ℤ)
-        → Reached code job (Going s count outs) → has_come job.extent code s ≡ false → step code s ≡ Stops trap line lines → job.before + (count + 1) ≤ job.limit
+        → Reached code job (Going s count outs) → has_come job.extent code s ≡ false
+        → step code s ≡ Stops trap line lines → job.before + (count + 1) ≤ job.limit
         → Reached code job (Halted (TrapIn trap line lines (count + 1)) outs)
     -- the next instruction would pass the limit
     TooMuch : (job : Job) (s : State) (count : ℕ) (outs : List Job)
-        → Reached code job (Going s count outs) → has_come job.extent code s ≡ false → job.limit < job.before + (count + 1)
+        → Reached code job (Going s count outs) → has_come job.extent code s ≡ false
+        → job.limit < job.before + (count + 1)
         → Reached code job (Halted OverLimit outs)
     -- memory may be wanting at any step
     NoMemory : (job : Job) (strand : Strand)
         → Reached code job strand → Reached code job (Halted Memory (outs_of strand))
     -- give: the effect of the newest rest out
     Given : (job out : Job) (s : State) (count : ℕ) (outs : List Job) (frame : Standing) (t : Trace) (cost : ℕ)
-        → Reached code job (Waits s count (out ∷ outs)) → Makes code out (Joined frame t cost) → job.before + (count + cost) ≤ job.limit
+        → Reached code job (Waits s count (out ∷ outs)) → Makes code out (Joined frame t cost)
+        → job.before + (count + cost) ≤ job.limit
         → Reached code job (Going (resumed s frame t) (count + cost) outs)
     GivenTooMuch : (job out : Job) (s : State) (count : ℕ) (outs : List Job) (e : Effect)
-        → Reached code job (Waits s count (out ∷ outs)) → Makes code out e → job.limit < job.before + (count + cost_of e)
+        → Reached code job (Waits s count (out ∷ outs)) → Makes code out e
+        → job.limit < job.before + (count + cost_of e)
         → Reached code job (Halted OverLimit outs)
     GivenStop : (job out : Job) (s : State) (count : ℕ) (outs : List Job) (e : Effect)
-        → Reached code job (Waits s count (out ∷ outs)) → Makes code out e → HasStopped e → job.before + (count + cost_of e) ≤ job.limit
+        → Reached code job (Waits s count (out ∷ outs)) → Makes code out e → HasStopped e
+        → job.before + (count + cost_of e) ≤ job.limit
         → Reached code job (Halted (stopped_after s count e) outs)
     -- skip: the call stopped, and its rest was got back unrun
     Skipped : (job out : Job) (e : Effect) (outs : List Job)
@@ -149,9 +185,11 @@ mutual
   -- the effects that strands may make of a job
   pub data Makes (code : Code) : (job : Job) → Effect → Type 0 where
     Arrived : (job : Job) (s : State) (count : ℕ)
-        → Reached code job (Going s count []) → has_come job.extent code s ≡ true → Makes code job (Joined (standing s) s.trace count)
+        → Reached code job (Going s count []) → has_come job.extent code s ≡ true
+        → Makes code job (Joined (standing s) s.trace count)
     Returned : (job : Job) (s : State) (count : ℕ) (v : Option ℤ) (arrays : Slots (List ℤ)) (t : Trace)
-        → Reached code job (Going s count []) → has_come job.extent code s ≡ false → step code s ≡ Ends v arrays t → job.before + (count + 1) ≤ job.limit
+        → Reached code job (Going s count []) → has_come job.extent code s ≡ false → step code s ≡ Ends v arrays t
+        → job.before + (count + 1) ≤ job.limit
         → Makes code job (Ended v arrays t (count + 1))
     Stopped : (job : Job) (e : Effect)
         → Reached code job (Halted e []) → Makes code job e

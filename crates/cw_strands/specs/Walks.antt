@@ -20,7 +20,8 @@ to_first site line = record { function = 0; site = site; line = line; target = N
 
 -- a spawn of the first function
 abbrev pub spawn_site : (number line : ℕ) → CodeSite
-spawn_site number line = record { told = record { number = number; kind = Of Spawned; line = line; callee = [] }; function = 0 }
+spawn_site number line =
+    record { told = record { number = number; kind = Of Spawned; line = line; callee = [] }; function = 0 }
 
 -- main of the first code
 abbrev pub prints : Func
@@ -29,8 +30,12 @@ prints = record { start = 3; end = 12; gives_int = true; params = 0; slots = 0; 
 -- void p(int v) { print(v); } and main: cilk_spawn p(1); cilk_spawn p(2); print(3); cilk_sync; return 0;
 abbrev pub printing : Code
 printing = record {
-  instrs = Load 0 ∷ Print ∷ Return ∷ Push (pos 1) ∷ Call Spawned (to_first 1 1) ∷ Push (pos 2) ∷ Call Spawned (to_first 2 1) ∷ Push (pos 3) ∷ Print ∷ Sync ∷ Push (pos 0) ∷ ReturnValue ∷ [];
-  funcs = record { start = 0; end = 3; gives_int = false; params = 1; slots = 1; array_params = 0; arrays = 0 } ∷ prints ∷ [];
+  instrs =
+      Load 0 ∷ Print ∷ Return ∷ Push (pos 1) ∷ Call Spawned (to_first 1 1) ∷ Push (pos 2) ∷ Call Spawned (to_first 2 1)
+      ∷ Push (pos 3) ∷ Print ∷ Sync ∷ Push (pos 0) ∷ ReturnValue ∷ [];
+  funcs =
+      record { start = 0; end = 3; gives_int = false; params = 1; slots = 1; array_params = 0; arrays = 0 } ∷ prints
+      ∷ [];
   main = 1;
   main_line = 1;
   sites = spawn_site 1 1 ∷ spawn_site 2 1 ∷ [];
@@ -76,8 +81,11 @@ fails = record { start = 4; end = 11; gives_int = true; params = 0; slots = 0; a
 -- int f(int z) { return 1 / z; } in line 1 and main in line 2: cilk_spawn f(0); print(7); cilk_sync; return 0;
 abbrev pub failing : Code
 failing = record {
-  instrs = Push (pos 1) ∷ Load 0 ∷ Binary Divide 1 ∷ ReturnValue ∷ Push (pos 0) ∷ Call Spawned (to_first 1 2) ∷ Push (pos 7) ∷ Print ∷ Sync ∷ Push (pos 0) ∷ ReturnValue ∷ [];
-  funcs = record { start = 0; end = 4; gives_int = true; params = 1; slots = 1; array_params = 0; arrays = 0 } ∷ fails ∷ [];
+  instrs =
+      Push (pos 1) ∷ Load 0 ∷ Binary Divide 1 ∷ ReturnValue ∷ Push (pos 0) ∷ Call Spawned (to_first 1 2) ∷ Push (pos 7)
+      ∷ Print ∷ Sync ∷ Push (pos 0) ∷ ReturnValue ∷ [];
+  funcs =
+      record { start = 0; end = 4; gives_int = true; params = 1; slots = 1; array_params = 0; arrays = 0 } ∷ fails ∷ [];
   main = 1;
   main_line = 1;
   sites = spawn_site 1 2 ∷ [];
@@ -92,7 +100,9 @@ failed_by events limit = outcome failing (play failing events (world_of (root_jo
 
 -- the rest has printed before the call beside it traps, and is dropped
 abbrev pub dropped_rest : List Event
-dropped_rest = Advance 0 ∷ Give 0 ∷ Advance 0 ∷ Advance 0 ∷ Advance 0 ∷ Settle 1 ∷ Advance 1 ∷ Advance 1 ∷ Advance 1 ∷ Begin 1 1 ∷ Offer 1 ∷ Advance 0 ∷ Advance 0 ∷ []
+dropped_rest =
+    Advance 0 ∷ Give 0 ∷ Advance 0 ∷ Advance 0 ∷ Advance 0 ∷ Settle 1 ∷ Advance 1 ∷ Advance 1 ∷ Advance 1 ∷ Begin 1 1
+    ∷ Offer 1 ∷ Advance 0 ∷ Advance 0 ∷ []
 
 -- the rest was never begun, and is skipped
 abbrev pub skipped_rest : List Event
@@ -106,7 +116,8 @@ pub record PrintingWalks : Type 0 where
   pub as_stolen : printed_by stolen 15 ≡ code_serial printing [] 15
   pub over : code_serial printing [] 14 ≡ Some OverLimit
 
--- the spawned call of the second code traps as the fifth instruction of the run, whether the rest beside it was run or not
+-- the spawned call of the second code traps as the fifth instruction of the run, whether the rest beside it was run or
+-- not
 pub record FailingWalks : Type 0 where
   pub as_dropped : failed_by dropped_rest 5 ≡ Some (TrappedAt trap.DivisionByZero 1 [])
   pub as_skipped : failed_by skipped_rest 5 ≡ Some (TrappedAt trap.DivisionByZero 1 [])

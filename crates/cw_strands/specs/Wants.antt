@@ -15,7 +15,9 @@ abbrev pub AreAmple : {code : Code} {first world : World} → After code first w
 AreAmple Now = Unit {0}
 AreAmple (Later world next after event) = AreAmple after × IsAmple event
 
--- whatever the events, an effect is for want of memory only after memory was wanting: so the root answers memory only then
+-- whatever the events, an effect is for want of memory only after memory was wanting: so the root answers memory only
+-- then
 abbrev pub MemoryWasWanting : Type 0
 MemoryWasWanting = (code : Code) (root : Job) (world : World) (i : ℕ) (job : Job) (place : Place) (e : Effect)
-    → (after : After code (world_of root) world) → AreAmple after → Has world i job place → effect_in place ≡ Some e → e ≢ Memory
+    → (after : After code (world_of root) world) → AreAmple after → Has world i job place → effect_in place ≡ Some e
+    → e ≢ Memory

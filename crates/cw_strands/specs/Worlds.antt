@@ -8,7 +8,9 @@ use Rattle.cw_strands.specs.Jobs.{Job, root_job, Effect, Memory, JobMeaning, ans
 use Rattle.cw_strands.specs.Strands.{Strand, Going, Waits, Halted}
 use Rattle.cw_strands.specs.Steps.{started, Ran, Handed, Finished, Unfit, advance, give, skip, take_back, out_of_memory}
 
--- where a job is: at a spawn of this worker, to be offered or kept; kept by it; in its deque; run by a strand of this worker, with the numbers of the jobs that the strand has out, the newest first; its effect with this worker, or in its cell; or its effect was given, or it was skipped
+-- where a job is: at a spawn of this worker, to be offered or kept; kept by it; in its deque; run by a strand of this
+-- worker, with the numbers of the jobs that the strand has out, the newest first; its effect with this worker, or in
+-- its cell; or its effect was given, or it was skipped
 pub data Place : Type 0 where
   Undecided : (worker : ℕ) → Place
   Kept : (worker : ℕ) → Place
@@ -62,11 +64,13 @@ pub record Has (world : World) (i : ℕ) (job : Job) (place : Place) : Type 0 wh
   pub job_is : slice_get world.jobs i ≡ Some job
   pub place_is : slice_get world.places i ≡ Some place
 
--- one event. Which strand of a worker moves, and from which end a deque is taken, is left free: each rule for it allows fewer events
+-- one event. Which strand of a worker moves, and from which end a deque is taken, is left free: each rule for it allows
+-- fewer events
 pub data Next (code : Code) : World → World → Type 0 where
   -- an instruction
   Run : (world : World) (i worker : ℕ) (job : Job) (strand new : Strand) (outs : List ℕ)
-      → Has world i job (Runs worker strand outs) → advance code job strand ≡ Ran new → Next code world (placed world i (Runs worker new outs))
+      → Has world i job (Runs worker strand outs) → advance code job strand ≡ Ran new
+      → Next code world (placed world i (Runs worker new outs))
   -- a spawn: the rest of its block is the next job
   Spawn : (world : World) (i worker : ℕ) (job out : Job) (strand new : Strand) (outs : List ℕ)
       → Has world i job (Runs worker strand outs) → advance code job strand ≡ Handed out new
@@ -88,16 +92,20 @@ pub data Next (code : Code) : World → World → Type 0 where
       → Next code world (placed (placed world n Spent) i (Runs worker (take_back strand) outs))
   -- a strand has ended
   End : (world : World) (i worker : ℕ) (job : Job) (strand : Strand) (outs : List ℕ) (e : Effect)
-      → Has world i job (Runs worker strand outs) → advance code job strand ≡ Finished e → Next code world (placed world i (Made worker e))
+      → Has world i job (Runs worker strand outs) → advance code job strand ≡ Finished e
+      → Next code world (placed world i (Made worker e))
   Settle : (world : World) (i worker : ℕ) (job : Job) (e : Effect) → Has world i job (Made worker e) →
       Next code world (placed world i (Settled e))
-  -- Collect, or a rest that the worker ran itself hands its effect over: it is given to the strand whose newest job out it is
+  -- Collect, or a rest that the worker ran itself hands its effect over: it is given to the strand whose newest job out
+  -- it is
   Give : (world : World) (i n worker : ℕ) (job out : Job) (strand : Strand) (outs : List ℕ) (place : Place) (e : Effect)
-      → Has world i job (Runs worker strand (n ∷ outs)) → IsWaiting strand → Has world n out place → effect_in place ≡ Some e
+      → Has world i job (Runs worker strand (n ∷ outs)) → IsWaiting strand → Has world n out place
+      → effect_in place ≡ Some e
       → Next code world (placed (placed world n Spent) i (Runs worker (give job strand e) outs))
   -- memory was wanting, in a strand or before one was made
   Want : (world : World) (i worker : ℕ) (job : Job) (strand : Strand) (outs : List ℕ)
-      → Has world i job (Runs worker strand outs) → Next code world (placed world i (Runs worker (out_of_memory strand) outs))
+      → Has world i job (Runs worker strand outs)
+      → Next code world (placed world i (Runs worker (out_of_memory strand) outs))
   GiveUp : (world : World) (i worker : ℕ) (job : Job) (place : Place) → Has world i job place → IsUnrun place →
       Next code world (placed world i (Made worker Memory))
 
@@ -112,18 +120,28 @@ world_of job = record { jobs = job ∷ []; places = Runs 0 (started job) [] ∷ 
 
 -- whatever the events, the effect of the root answers what the code gives, or memory was wanting
 abbrev pub WorldsAreSerial : Type 0
-WorldsAreSerial = (code : Code) (f : Func) (args : List ℤ) (limit : ℕ) (world : World) (place : Place) (e : Effect) → first_transition (slice_get code.funcs code.main) args ≡ On (first_state f args [])
-    → After code (world_of (root_job f args limit)) world → slice_get world.places 0 ≡ Some place → effect_in place ≡ Some e → (e ≡ Memory) ⊎ (answered code e ≡ code_serial code args limit)
+WorldsAreSerial =
+    (code : Code) (f : Func) (args : List ℤ) (limit : ℕ) (world : World) (place : Place) (e : Effect)
+    → first_transition (slice_get code.funcs code.main) args ≡ On (first_state f args [])
+    → After code (world_of (root_job f args limit)) world → slice_get world.places 0 ≡ Some place
+    → effect_in place ≡ Some e → (e ≡ Memory) ⊎ (answered code e ≡ code_serial code args limit)
 
 -- whatever the events, each effect that was made and not given means its job
 abbrev pub EffectsMean : Type 0
-EffectsMean = (code : Code) (root : Job) (world : World) (i : ℕ) (job : Job) (place : Place) (e : Effect) → root.before ≤ root.limit
+EffectsMean =
+    (code : Code) (root : Job) (world : World) (i : ℕ) (job : Job) (place : Place) (e : Effect)
+    → root.before ≤ root.limit
     → After code (world_of root) world → Has world i job place → effect_in place ≡ Some e → JobMeaning code job e
 
 -- in code that fits no strand of any world finds what does not fit
 abbrev pub NoneIsUnfit : Type 0
-NoneIsUnfit = (code : Code) → Fits code → (f : Func) (args : List ℤ) (limit : ℕ) (world : World) (i worker : ℕ) (job : Job) (strand : Strand) (outs : List ℕ)
-    → slice_get code.funcs code.main ≡ Some f → length args ≡ f.params → After code (world_of (root_job f args limit)) world → Has world i job (Runs worker strand outs) → advance code job strand ≢ Unfit
+NoneIsUnfit =
+    (code : Code) → Fits code
+    → (f : Func) (args : List ℤ) (limit : ℕ) (world : World) (i worker : ℕ) (job : Job) (strand : Strand)
+    (outs : List ℕ)
+    → slice_get code.funcs code.main ≡ Some f → length args ≡ f.params
+    → After code (world_of (root_job f args limit)) world → Has world i job (Runs worker strand outs)
+    → advance code job strand ≢ Unfit
 
 -- the number stands among these
 abbrev pub IsAmong : ℕ → List ℕ → Type 0

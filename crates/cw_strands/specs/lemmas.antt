@@ -4,3 +4,6 @@ pub mod Acts
 pub mod Under
 pub mod Budgets
 pub mod Rests
+pub mod Within
+pub mod Settled
+pub mod JobsFit

@@ -4,6 +4,7 @@ ghost use Rattle.cw_code.specs.Code.{Code};
 ghost use Rattle.cw_strands.specs.Costs.{CostsAreWork};
 ghost use Rattle.cw_strands.specs.Events.{PlaysCome};
 ghost use Rattle.cw_strands.specs.RestLaws.{Cut, Kept, RootsAreSerial, SchedulesAreSerial};
+ghost use Rattle.cw_strands.specs.Staying.{RestsStayInside};
 ghost use Rattle.cw_strands.specs.Steps.{CallsKeep};
 ghost use Rattle.cw_strands.specs.Walks.{FailingWalks, PrintingWalks};
 ghost use Rattle.cw_strands.specs.Wants.{MemoryWasWanting};
@@ -63,6 +64,14 @@ pub fn no_strand_of_code_that_fits_gets_stuck()
 {
     cw_code::laws::code_that_fits_goes_on();
     cw_code::laws::results_may_go_back();
+}
+
+/// Where the rest of a block has come to its join, it is in the function that it began in.
+pub fn rests_stay_in_their_functions()
+    ensures { RestsStayInside }
+{
+    cw_code::laws::code_that_fits_goes_on();
+    cw_code::laws::runs_stay_in_their_functions();
 }
 
 /// A job is out at one strand at most, once, and as long as it is neither given nor skipped.

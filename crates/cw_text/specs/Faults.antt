@@ -48,7 +48,8 @@ fault_text (fault.Ownership p) = codes "refused 4 " ++ place_text p
 fault_text (fault.Size p) = codes "refused 5 " ++ place_text p
 fault_text fault.Code = codes "refused 6"
 fault_text fault.OverLimit = codes "over limit"
-fault_text (fault.Trap c l o) = codes "trap " ++ decimal (trap_number c) ++ codes " " ++ place_text (record { line = l })
+fault_text (fault.Trap c l o) =
+    codes "trap " ++ decimal (trap_number c) ++ codes " " ++ place_text (record { line = l })
 fault_text fault.Memory = codes "memory"
 fault_text fault.Write = codes "write failed"
 fault_text fault.Arguments = codes "arguments"

@@ -192,7 +192,8 @@ abbrev pub head_reads : Head → List Use
 head_reads head = reads head.from ++ (reads head.to ++ head.captured)
 
 abbrev mutual
-  -- the integers that a statement reads, in order; a loop reads what its head reads and what its body takes from outside
+  -- the integers that a statement reads, in order; a loop reads what its head reads and what its body takes from
+  -- outside
   pub reads_in : Stmt → List Use
   reads_in (Declare u e) = reads e
   reads_in (DeclareArray u e) = reads e
@@ -222,7 +223,8 @@ is_slot_in slot slots = list_any (λ k. k == slot) slots
 
 -- the uses found so far, with a use whose slot is below n and none of theirs
 abbrev pub with_first : (n : ℕ) → List Use → Use → List Use
-with_first n found u = if nat_lt u.slot n && not (is_slot_in u.slot (map (λ w. w.slot) found)) then found ++ u ∷ [] else found
+with_first n found u =
+    if nat_lt u.slot n && not (is_slot_in u.slot (map (λ w. w.slot) found)) then found ++ u ∷ [] else found
 
 -- the uses found so far, and behind them the first one of each further slot below n
 abbrev pub first_uses : (n : ℕ) → (found : List Use) → List Use → List Use
@@ -267,7 +269,8 @@ abbrev mutual
       AssignElement (use_of locals.arrays a) (resolved_expr locals i) (resolved_expr locals e)
   resolved_stmt lists locals (model.AddTo s e) = AddTo (listed_in lists.reducers s) (resolved_expr locals e)
   resolved_stmt lists locals (model.Call kind site target f es) =
-      Call kind site (option_map (use_of locals.ints) target) (listed_in lists.functions f) (map (resolved_argument locals) es)
+      Call kind site (option_map (use_of locals.ints) target) (listed_in lists.functions f)
+      (map (resolved_argument locals) es)
   -- no source has one
   resolved_stmt lists locals (model.Start kind f es) = Sync
   resolved_stmt lists locals (model.Begin f from to captured over) = Sync
@@ -410,7 +413,8 @@ abbrev mutual
   plain_stmt (While e b) = model.While (plain_expr e) (plain_block b)
   plain_stmt (For head b) =
       let x = head.variable.name in
-      model.For x x x (plain_expr head.from) (plain_expr head.to) head.grain (map (λ u. u.name) head.over) (plain_block b)
+      model.For x x x (plain_expr head.from) (plain_expr head.to) head.grain (map (λ u. u.name) head.over)
+      (plain_block b)
   plain_stmt (Scope b) = model.Scope (plain_block b)
   plain_stmt (Cut parts b) =
       model.Cut parts.array.name (plain_expr parts.at) parts.left.name parts.right.name (plain_block b)
@@ -425,7 +429,8 @@ abbrev mutual
 
 -- a function without slots and indices
 abbrev pub plain_function : Function → model.Function
-plain_function f = record { name = f.name; line = f.line; gives_int = f.gives_int; params = f.params; body = plain_block f.body }
+plain_function f =
+    record { name = f.name; line = f.line; gives_int = f.gives_int; params = f.params; body = plain_block f.body }
 
 -- a program without slots and indices
 abbrev pub plain : Resolved → model.Program

@@ -75,7 +75,8 @@ abbrev mutual
   is_right_stmt lists locals (Declare u e) = is_next locals.ints u && is_right_expr locals e
   is_right_stmt lists locals (DeclareArray u e) = is_next locals.arrays u && is_right_expr locals e
   is_right_stmt lists locals (Assign u e) = is_use locals.ints u && is_right_expr locals e
-  is_right_stmt lists locals (AssignElement u i e) = is_use locals.arrays u && is_right_expr locals i && is_right_expr locals e
+  is_right_stmt lists locals (AssignElement u i e) =
+      is_use locals.arrays u && is_right_expr locals i && is_right_expr locals e
   is_right_stmt lists locals (AddTo s e) = is_listed lists.reducers s && is_right_expr locals e
   is_right_stmt lists locals (Call kind site target f es) =
       is_right_target locals target && is_listed lists.functions f && list_all (is_right_argument locals) es
@@ -88,7 +89,8 @@ abbrev mutual
       is_right_head locals head b && is_right_block lists (with_int head.variable.name locals) b
   is_right_stmt lists locals (Scope b) = is_right_block lists locals b
   is_right_stmt lists locals (Cut parts b) =
-      is_right_cut locals parts && is_right_block lists (with_array parts.right.name (with_array parts.left.name locals)) b
+      is_right_cut locals parts
+      && is_right_block lists (with_array parts.right.name (with_array parts.left.name locals)) b
   is_right_stmt lists locals (Region tag b) = is_listed lists.tags tag && is_right_block lists locals b
   is_right_stmt lists locals (Print e) = is_right_expr locals e
   is_right_stmt lists locals (Return e) = is_right_return locals e

@@ -37,15 +37,18 @@ stmt_step (Stmt-F.DeclareArray x e) = model.DeclareArray x (expr_of e)
 stmt_step (Stmt-F.Assign x e) = model.Assign x (expr_of e)
 stmt_step (Stmt-F.AssignElement x i e) = model.AssignElement x (expr_of i) (expr_of e)
 stmt_step (Stmt-F.AddTo x e) = model.AddTo x (expr_of e)
-stmt_step (Stmt-F.Call c) = model.Call c.value.kind c.value.site c.value.target c.value.callee (exprs_of c.value.arguments.items)
+stmt_step (Stmt-F.Call c) =
+    model.Call c.value.kind c.value.site c.value.target c.value.callee (exprs_of c.value.arguments.items)
 stmt_step Stmt-F.Sync = model.Sync
 stmt_step (Stmt-F.If e b) = model.If (expr_of e) (block_from b.items)
 stmt_step (Stmt-F.IfElse e b c) = model.IfElse (expr_of e) (block_from b.items) (block_from c.items)
 stmt_step (Stmt-F.While e b) = model.While (expr_of e) (block_from b.items)
 stmt_step (Stmt-F.For h b) =
-    model.For h.value.variable h.value.tested h.value.stepped (expr_of h.value.from) (expr_of h.value.to) h.value.grain h.value.over.items (block_from b.items)
+    model.For h.value.variable h.value.tested h.value.stepped (expr_of h.value.from) (expr_of h.value.to) h.value.grain
+    h.value.over.items (block_from b.items)
 stmt_step (Stmt-F.Scope b) = model.Scope (block_from b.items)
-stmt_step (Stmt-F.Cut c b) = model.Cut c.value.array (expr_of c.value.at) c.value.left c.value.right (block_from b.items)
+stmt_step (Stmt-F.Cut c b) =
+    model.Cut c.value.array (expr_of c.value.at) c.value.left c.value.right (block_from b.items)
 stmt_step (Stmt-F.Region tag b) = model.Region tag (block_from b.items)
 stmt_step (Stmt-F.Print e) = model.Print (expr_of e)
 stmt_step (Stmt-F.Return e) = model.Return (option_map expr_of e)
@@ -76,7 +79,14 @@ param_of p = record { name = p.name; is_array = p.is_array }
 
 -- a function of the code as one of the definitions
 abbrev pub function_of : Function → model.Function
-function_of f = record { name = f.name; line = f.line; gives_int = f.gives_int; params = map param_of f.params.items; body = block_of f.body.items }
+function_of f =
+    record {
+      name = f.name;
+      line = f.line;
+      gives_int = f.gives_int;
+      params = map param_of f.params.items;
+      body = block_of f.body.items;
+    }
 
 -- a reducer of the code as one of the definitions
 abbrev pub reducer_of : Reducer → model.Reducer
@@ -84,4 +94,5 @@ reducer_of r = record { name = r.name; line = r.line }
 
 -- the program that a tree of the code stands for
 abbrev pub program_of : Ast → model.Program
-program_of ast = record { reducers = map reducer_of ast.reducers.items; functions = map function_of ast.functions.items }
+program_of ast =
+    record { reducers = map reducer_of ast.reducers.items; functions = map function_of ast.functions.items }

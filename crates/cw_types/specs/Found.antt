@@ -78,7 +78,8 @@ IsStmt lists locals s found =
 -- a parallel loop by its head and its body, and a cut by its parts and its block
 abbrev pub loop_over : Head → List Line → model.Stmt
 loop_over h b =
-    model.For h.variable h.tested h.stepped (parsed.expr_of h.from) (parsed.expr_of h.to) h.grain h.over.items (parsed.block_of b)
+    model.For h.variable h.tested h.stepped (parsed.expr_of h.from) (parsed.expr_of h.to) h.grain h.over.items
+    (parsed.block_of b)
 
 abbrev pub cut_over : Cut → List Line → model.Stmt
 cut_over c b = model.Cut c.array (parsed.expr_of c.at) c.left c.right (parsed.block_of b)

@@ -80,4 +80,6 @@ are_new program known (p ∷ ps) = is_new program known p.name && are_new progra
 
 -- a function that gives an integer surely returns, and main is one of integers alone
 abbrev pub keeps_head : Function → Bool
-keeps_head f = (not f.gives_int || block_returns f.body) && (not (same_name f.name main_name) || (f.gives_int && not (list_any (λ p. p.is_array) f.params)))
+keeps_head f =
+    (not f.gives_int || block_returns f.body)
+    && (not (same_name f.name main_name) || (f.gives_int && not (list_any (λ p. p.is_array) f.params)))

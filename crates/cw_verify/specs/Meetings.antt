@@ -8,7 +8,8 @@ use Rattle.cw_verify.specs.Table.{are_alike, each_brings}
 -- how blocks meet: whether they are alike, whether more comes, and whether what comes has all that was there
 abbrev pub meeting_of : (there found : List Outer) → Meeting
 meeting_of there found =
-    if are_alike there found then (if each_brings there found then (if each_brings found there then Both else Comes) else Stays)
+    if are_alike there found then
+    (if each_brings there found then (if each_brings found there then Both else Comes) else Stays)
     else Apart
 
 -- they can meet

@@ -1,4 +1,5 @@
--- Numbers for the blocks round the places of a function: where two places have one number, the same blocks lie round them.
+-- Numbers for the blocks round the places of a function: where two places have one number, the same blocks lie round
+-- them.
 use Rattle.std.specs.Prelude.{◌≡◌, ◌⊎◌, ℕ, ◌<◌, ◌≤◌, Bool, true, false, List, Option, Some, None, Result, IfOk}
 use Rattle.std.specs.Prelude.{slice_get, slice_set}
 use Rattle.cw_text.specs.declared.fault.Fault.{Fault}
@@ -95,7 +96,8 @@ KnowsAt k number rounds more n = KnowsBoth (number_of n.places.items k) number r
 -- how the last pair met is still so, if these blocks have these numbers
 abbrev pub KeepsPair : (there found : ℕ) → (rounds more : Rounds) → (old new : Numbers) → Type 0
 KeepsPair there found rounds more old new =
-    (names : Names) → HasNumber names old.last there (rounds_of rounds) → HasNumber names old.last found (rounds_of more) →
+    (names : Names) → HasNumber names old.last there (rounds_of rounds)
+    → HasNumber names old.last found (rounds_of more) →
     IsPair names old.last old.pair → IsPair names new.last new.pair
 
 -- a place has another number, and nothing else is new

@@ -14,7 +14,8 @@ use Rattle.cw_loops.specs.lemmas.Naming.{Placed, at_front, after_it, placed, Sid
 use Rattle.cw_loops.specs.lemmas.Knowing.{Unknown, new_unknown, Adds, an_int, an_array, nothing, adds}
 
 -- what the head of a loop keeps
-pub record HeadKept (program : Program) (known : Known) (x : Name) (from to : Expr) (grain : ℕ) (over : List Name) : Type 0 where
+pub record HeadKept (program : Program) (known : Known) (x : Name) (from to : Expr) (grain : ℕ) (over : List Name) :
+    Type 0 where
   pub new : is_new program known x ≡ true
   pub from_fine : is_fine known from ≡ true
   pub to_fine : is_fine known to ≡ true
@@ -30,7 +31,13 @@ head_kept program known x y z from to grain over h =
     let d = both_true _ (is_fine known to) c.0 in
     let e = both_true _ (is_fine known from) d.0 in
     let f = both_true _ (same_name z x) e.0 in
-    record { new = (both_true (is_new program known x) (same_name y x) f.0).0; from_fine = e.1; to_fine = d.1; some = c.1; arrays = a.1 }
+    record {
+      new = (both_true (is_new program known x) (same_name y x) f.0).0;
+      from_fine = e.1;
+      to_fine = d.1;
+      some = c.1;
+      arrays = a.1;
+    }
 
 -- what a cut keeps
 pub record CutKept (program : Program) (known : Known) (a : Name) (e : Expr) (l r : Name) : Type 0 where
@@ -62,16 +69,21 @@ unknown_before known y x kind u = go (same_name x y) kind u.no_int u.no_array
 module _ (program : Program) where
   -- the names that a statement declares are new where it stands
   abbrev StmtNew : Stmt → Type 0
-  StmtNew s = (returns : Returns) (known : Known) (line : ℕ) → faults_in program returns known line s ≡ [] → (x : Name) → is_among x (declared_in s) ≡ true → Unknown known x
+  StmtNew s =
+      (returns : Returns) (known : Known) (line : ℕ) → faults_in program returns known line s ≡ [] → (x : Name)
+      → is_among x (declared_in s) ≡ true → Unknown known x
 
   abbrev BlockNew : Block → Type 0
-  BlockNew b = (returns : Returns) (known : Known) → faults_in_block program returns known b ≡ [] → (x : Name) → is_among x (declared_in_block b) ≡ true → Unknown known x
+  BlockNew b =
+      (returns : Returns) (known : Known) → faults_in_block program returns known b ≡ [] → (x : Name)
+      → is_among x (declared_in_block b) ≡ true → Unknown known x
 
   for_new : (x y z : Name) (from to : Expr) (grain : ℕ) (over : List Name) (b : Block) → BlockNew b →
       StmtNew (For x y z from to grain over b)
   for_new x y z from to grain over b more returns known line h v o =
       let head = head_kept program known x y z from to grain over (kept _ line (left_none _ _ h)) in
-      go (placed v x (declared_in_block b) o) (new_unknown program known x head.new) (λ p. unknown_before known x v false (more Nowhere ((x, false) ∷ known) (right_none _ _ h) v p))
+      go (placed v x (declared_in_block b) o) (new_unknown program known x head.new)
+      (λ p. unknown_before known x v false (more Nowhere ((x, false) ∷ known) (right_none _ _ h) v p))
     where
       go : Placed v x (declared_in_block b) → Unknown known x →
           (is_among v (declared_in_block b) ≡ true → Unknown known v) → Unknown known v
@@ -81,8 +93,11 @@ module _ (program : Program) where
   cut_new : (a : Name) (e : Expr) (l r : Name) (b : Block) → BlockNew b → StmtNew (Cut a e l r b)
   cut_new a e l r b more returns known line h v o =
       let k = cut_kept program known a e l r (kept _ line (left_none _ _ h)) in
-      go (placed v l (r ∷ declared_in_block b) o) (new_unknown program known l k.left) (new_unknown program known r k.right)
-      (λ p. unknown_before known l v true (unknown_before ((l, true) ∷ known) r v true (more Nowhere ((r, true) ∷ (l, true) ∷ known) (right_none _ _ h) v p)))
+      go (placed v l (r ∷ declared_in_block b) o) (new_unknown program known l k.left)
+      (new_unknown program known r k.right)
+      (λ p. unknown_before known l v true
+      (unknown_before ((l, true) ∷ known) r v true
+      (more Nowhere ((r, true) ∷ (l, true) ∷ known) (right_none _ _ h) v p)))
     where
       second : Placed v r (declared_in_block b) → Unknown known r →
           (is_among v (declared_in_block b) ≡ true → Unknown known v) → Unknown known v
@@ -126,7 +141,9 @@ module _ (program : Program) where
       Side v (declared_in s) (declared_in_block b) → StmtNew s → BlockNew b → Unknown known v
   by_side s b returns known line h v (in_first o) here more = here returns known line (left_none _ _ h) v o
   by_side s b returns known line h v (in_second o) here more =
-      before_it s known v (more returns (declares s known) (right_none (unless (not (surely_returns s) || ends_block b) line) _ (right_none (faults_in program returns known line s) _ h)) v o)
+      before_it s known v (more returns (declares s known)
+      (right_none (unless (not (surely_returns s) || ends_block b) line) _
+      (right_none (faults_in program returns known line s) _ h)) v o)
 
   mutual
     pub stmt_new : (s : Stmt) → StmtNew s

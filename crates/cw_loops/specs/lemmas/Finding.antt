@@ -32,7 +32,8 @@ found_numbered : (made pre : List Function) (k : ℕ) → Numbered k made → ((
     Found (pre ++ made) made
 found_numbered [] pre k h skips = tt
 found_numbered (f ∷ made) pre k h skips =
-    let here : function_named f.name (f ∷ made) ≡ f = ap (λ b. if b then f else function_named f.name made) (same_itself f.name) in
+    let here : function_named f.name (f ∷ made) ≡ f =
+    ap (λ b. if b then f else function_named f.name made) (same_itself f.name) in
     let skip : function_named f.name (pre ++ f ∷ made) ≡ function_named f.name (f ∷ made) = subst (λ n. function_named n (pre ++ f ∷ made) ≡ function_named n (f ∷ made)) (sym h.0) (skips k (omega arith) (f ∷ made)) in (
       skip ∙ here,
       subst (λ t. Found t made) (append_assoc pre (f ∷ []) made) (found_numbered made (pre ++ f ∷ []) (k + 1) h.1 (λ j le rest.
@@ -46,7 +47,9 @@ lowered_plain all0 [] k h j rest = refl
 lowered_plain all0 (f ∷ fs) k h j rest =
     let p = both_true (can_lower_function all0 f) (list_all (can_lower_function all0) fs) h in
     let n = both_true (is_plain f.name) _ p.0 in
-    ap (λ b. if b then lower_function k f else function_named (loop_name j) (lower_functions (k + loop_count_in f.body) fs ++ rest)) (apart_plain f.name (j ∷ []) n.0) ∙ lowered_plain all0 fs (k + loop_count_in f.body) p.1 j rest
+    ap (λ b. if b then lower_function k f else function_named (loop_name j)
+    (lower_functions (k + loop_count_in f.body) fs ++ rest)) (apart_plain f.name (j ∷ []) n.0) ∙ lowered_plain all0
+    fs (k + loop_count_in f.body) p.1 j rest
 
 -- a name of the source among the functions of both
 pub record Looked (all0 all fs : List Function) (g : Name) : Type 0 where
@@ -61,41 +64,60 @@ no_loop : (g : Name) → is_plain g ≡ true → (made : List Function) (k : ℕ
     function_named g made ≡ no_function
 no_loop g plain [] k h = refl
 no_loop g plain (f ∷ made) k h =
-    ap (λ b. if b then f else function_named g made) (ap (λ n. same_name g n) h.0 ∙ plain_apart g (k ∷ []) plain) ∙ no_loop g plain made (k + 1) h.1
+    ap (λ b. if b then f else function_named g made) (ap (λ n. same_name g n) h.0 ∙ plain_apart g (k ∷ []) plain) ∙
+    no_loop g plain made (k + 1) h.1
 
 looked_in : (all0 all : List Function) (g : Name) → is_plain g ≡ true →
     (fs : List Function) (k : ℕ) (rest : List Function) (j : ℕ) → Numbered j rest →
     list_all (can_lower_function all0) fs ≡ true → Found all (made_of k fs) →
     function_named g all ≡ function_named g (lower_functions k fs ++ rest) → Looked all0 all fs g
-looked_in all0 all g plain [] k rest j num h found e = record { number = 0; f = no_function; is = refl; is' = e ∙ no_loop g plain rest j num; can = refl; made = tt }
+looked_in all0 all g plain [] k rest j num h found e =
+    record { number = 0; f = no_function; is = refl; is' = e ∙ no_loop g plain rest j num; can = refl; made = tt }
 looked_in all0 all g plain (f ∷ fs) k rest j num h found e =
-    by_name (same_name g f.name) refl (λ q. looked_in all0 all g plain fs (k + loop_count_in f.body) rest j num p.1 (found_right all (made_in k f.body) (made_of (k + loop_count_in f.body) fs) found) q)
+    by_name (same_name g f.name) refl (λ q. looked_in all0 all g plain fs (k + loop_count_in f.body) rest j num p.1
+    (found_right all (made_in k f.body) (made_of (k + loop_count_in f.body) fs) found) q)
   where
     p : (can_lower_function all0 f ≡ true) × (list_all (can_lower_function all0) fs ≡ true)
     p = both_true (can_lower_function all0 f) (list_all (can_lower_function all0) fs) h
 
-    by_name : (b : Bool) → same_name g f.name ≡ b → (function_named g all ≡ function_named g (lower_functions (k + loop_count_in f.body) fs ++ rest) → Looked all0 all fs g) → Looked all0 all (f ∷ fs) g
+    by_name : (b : Bool) → same_name g f.name ≡ b
+        → (function_named g all ≡ function_named g (lower_functions (k + loop_count_in f.body) fs ++ rest)
+        → Looked all0 all fs g) → Looked all0 all (f ∷ fs) g
     by_name true s more = record {
       number = k;
       f = f;
       is = ap (λ b. if b then f else function_named g fs) s;
-      is' = e ∙ ap (λ b. if b then lower_function k f else function_named g (lower_functions (k + loop_count_in f.body) fs ++ rest)) s;
+      is' =
+          e ∙ ap (λ b. if b then lower_function k f else function_named g
+          (lower_functions (k + loop_count_in f.body) fs ++ rest)) s;
       can = p.0;
       made = found_left all (made_in k f.body) (made_of (k + loop_count_in f.body) fs) found;
     }
     by_name false s more =
-        let r = more (e ∙ ap (λ b. if b then lower_function k f else function_named g (lower_functions (k + loop_count_in f.body) fs ++ rest)) s) in
-        record { number = r.number; f = r.f; is = ap (λ b. if b then f else function_named g fs) s ∙ r.is; is' = r.is'; can = r.can; made = r.made }
+        let r =
+        more (e ∙ ap (λ b. if b then lower_function k f else function_named g
+        (lower_functions (k + loop_count_in f.body) fs ++ rest)) s) in
+        record {
+          number = r.number;
+          f = r.f;
+          is = ap (λ b. if b then f else function_named g fs) s ∙ r.is;
+          is' = r.is';
+          can = r.can;
+          made = r.made;
+        }
 
 module _ (fs : List Function) (can : list_all (can_lower_function fs) fs ≡ true) where
   abbrev pub fs' : List Function
   fs' = lower_functions 0 fs ++ made_of 0 fs
 
   pub all_found : Found fs' (made_of 0 fs)
-  all_found = found_numbered (made_of 0 fs) (lower_functions 0 fs) 0 (made_functions fs 0).numbered (λ j le. lowered_plain fs fs 0 can j)
+  all_found =
+      found_numbered (made_of 0 fs) (lower_functions 0 fs) 0 (made_functions fs 0).numbered
+      (λ j le. lowered_plain fs fs 0 can j)
 
   pub looked : (g : Name) → is_plain g ≡ true → Looked fs fs' fs g
   looked g plain = looked_in fs fs' g plain fs 0 (made_of 0 fs) 0 (made_functions fs 0).numbered can all_found refl
 
   pub params_same : (g : Name) → is_plain g ≡ true → (function_named g fs').params ≡ (function_named g fs).params
-  params_same g plain = let l = looked g plain in ap (λ (f : Function). f.params) l.is' ∙ sym (ap (λ (f : Function). f.params) l.is)
+  params_same g plain =
+      let l = looked g plain in ap (λ (f : Function). f.params) l.is' ∙ sym (ap (λ (f : Function). f.params) l.is)

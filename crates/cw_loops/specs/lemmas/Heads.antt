@@ -25,30 +25,41 @@ kind_among x (p ∷ ps) = go p.is_array (same_name x p.name) refl (is_among x (i
   where
     go : (k s : Bool) → same_name x p.name ≡ s → (i : Bool) → is_among x (integers_of ps) ≡ i →
         is_among x (names_of ps) ≡ (is_among x (integers_of ps) || is_among x (arrays_of ps)) →
-        is_among x (p.name ∷ names_of ps) ≡ (is_among x (if k then integers_of ps else p.name ∷ integers_of ps) || is_among x (if k then p.name ∷ arrays_of ps else arrays_of ps))
+        is_among x (p.name ∷ names_of ps)
+        ≡ (is_among x (if k then integers_of ps else p.name ∷ integers_of ps) || is_among x
+        (if k then p.name ∷ arrays_of ps else arrays_of ps))
     go true true e i f h = rw (e, f) (sym (either_right i true refl))
     go true false e i f h = rw (e) h
     go false true e i f h = rw (e) refl
     go false false e i f h = rw (e) h
 
 -- the newest of known names
-known_push : (array : Bool) (ks : Known) (n : Name) (kind : Bool) (x : Name) → is_known x array (ks ++ (n, kind) ∷ []) ≡ (if is_among x (map (λ k. k.0) ks) then is_known x array ks else is_known x array ((n, kind) ∷ []))
+known_push : (array : Bool) (ks : Known) (n : Name) (kind : Bool) (x : Name)
+    → is_known x array (ks ++ (n, kind) ∷ [])
+    ≡ (if is_among x (map (λ k. k.0) ks) then is_known x array ks else is_known x array ((n, kind) ∷ []))
 known_push array [] n kind x = refl
 known_push array (k ∷ ks) n kind x = go (same_name x k.0) (known_push array ks n kind x)
   where
-    go : (s : Bool) → is_known x array (ks ++ (n, kind) ∷ []) ≡ (if is_among x (map (λ k. k.0) ks) then is_known x array ks else is_known x array ((n, kind) ∷ [])) →
+    go : (s : Bool)
+        → is_known x array (ks ++ (n, kind) ∷ [])
+        ≡ (if is_among x (map (λ k. k.0) ks) then is_known x array ks else is_known x array ((n, kind) ∷ [])) →
         (if s then (if array then k.1 else not k.1) else is_known x array (ks ++ (n, kind) ∷ []))
-        ≡ (if (if s then true else is_among x (map (λ k. k.0) ks)) then (if s then (if array then k.1 else not k.1) else is_known x array ks) else is_known x array ((n, kind) ∷ []))
+        ≡ (if (if s then true else is_among x (map (λ k. k.0) ks)) then
+        (if s then (if array then k.1 else not k.1) else is_known x array ks) else is_known x array
+        ((n, kind) ∷ []))
     go true h = refl
     go false h = h
 
-among_push : (x : Name) (ks : Known) (n : Name) (kind : Bool) → is_among x (map (λ k. k.0) (ks ++ (n, kind) ∷ [])) ≡ (if same_name x n then true else is_among x (map (λ k. k.0) ks))
+among_push : (x : Name) (ks : Known) (n : Name) (kind : Bool)
+    → is_among x (map (λ k. k.0) (ks ++ (n, kind) ∷ []))
+    ≡ (if same_name x n then true else is_among x (map (λ k. k.0) ks))
 among_push x [] n kind = refl
 among_push x (k ∷ ks) n kind = go (same_name x k.0) (same_name x n) (among_push x ks n kind)
   where
     go : (s q : Bool) →
         is_among x (map (λ k. k.0) (ks ++ (n, kind) ∷ [])) ≡ (if q then true else is_among x (map (λ k. k.0) ks)) →
-        (if s then true else is_among x (map (λ k. k.0) (ks ++ (n, kind) ∷ []))) ≡ (if q then true else (if s then true else is_among x (map (λ k. k.0) ks)))
+        (if s then true else is_among x (map (λ k. k.0) (ks ++ (n, kind) ∷ [])))
+        ≡ (if q then true else (if s then true else is_among x (map (λ k. k.0) ks)))
     go true true h = refl
     go true false h = refl
     go false q h = h
@@ -61,15 +72,24 @@ heads_are x (p ∷ ps) =
 -- no parameter after the first has its name
 pub others_differ : (p : Param) (ps : List Param) → differ (names_of (p ∷ ps)) ≡ true →
     (is_among p.name (names_of ps) ≡ false) × (differ (names_of ps) ≡ true)
-others_differ p ps h = let d = both_true (not (is_among p.name (names_of ps))) (differ (names_of ps)) h in (not_true _ d.0, d.1)
+others_differ p ps h =
+    let d = both_true (not (is_among p.name (names_of ps))) (differ (names_of ps)) h in (not_true _ d.0, d.1)
 
 -- the newest parameter, or one before it
-newest : (array : Bool) (p : Param) (ps : List Param) (x : Name) → is_among p.name (names_of ps) ≡ false → is_known x array (known_of (p ∷ ps)) ≡ (if same_name x p.name then (if array then p.is_array else not p.is_array) else is_known x array (known_of ps))
-newest array p ps x alone = known_push array (known_of ps) p.name p.is_array x ∙ go (same_name x p.name) refl (is_among x (map (λ k. k.0) (known_of ps))) refl
+newest : (array : Bool) (p : Param) (ps : List Param) (x : Name) → is_among p.name (names_of ps) ≡ false
+    → is_known x array (known_of (p ∷ ps))
+    ≡ (if same_name x p.name then (if array then p.is_array else not p.is_array) else is_known x array (known_of ps))
+newest array p ps x alone =
+    known_push array (known_of ps) p.name p.is_array x ∙ go (same_name x p.name) refl
+    (is_among x (map (λ k. k.0) (known_of ps))) refl
   where
     go : (s : Bool) → same_name x p.name ≡ s → (b : Bool) → is_among x (map (λ k. k.0) (known_of ps)) ≡ b →
-        (if b then is_known x array (known_of ps) else (if s then (if array then p.is_array else not p.is_array) else false)) ≡ (if s then (if array then p.is_array else not p.is_array) else is_known x array (known_of ps))
-    go true e true h = never (is_among x (names_of ps)) (sym (heads_are x ps) ∙ h) (ap (λ z. is_among z (names_of ps)) (same_are x p.name e) ∙ alone)
+        (if b then is_known x array (known_of ps) else
+        (if s then (if array then p.is_array else not p.is_array) else false))
+        ≡ (if s then (if array then p.is_array else not p.is_array) else is_known x array (known_of ps))
+    go true e true h =
+        never (is_among x (names_of ps)) (sym (heads_are x ps) ∙ h)
+        (ap (λ z. is_among z (names_of ps)) (same_are x p.name e) ∙ alone)
     go true e false h = refl
     go false e true h = refl
     go false e false h = sym (not_there array (known_of ps) x h)
@@ -83,11 +103,13 @@ pub int_kind : (ps : List Param) → differ (names_of ps) ≡ true → (x : Name
 int_kind [] h x = refl
 int_kind (p ∷ ps) h x =
     let d = others_differ p ps h in
-    newest false p ps x d.0 ∙ go (same_name x p.name) refl p.is_array (int_kind ps d.1 x) (λ e. (no_kind x ps (ap (λ z. is_among z (names_of ps)) (same_are x p.name e) ∙ d.0)).0)
+    newest false p ps x d.0 ∙ go (same_name x p.name) refl p.is_array (int_kind ps d.1 x)
+    (λ e. (no_kind x ps (ap (λ z. is_among z (names_of ps)) (same_are x p.name e) ∙ d.0)).0)
   where
     go : (s : Bool) → same_name x p.name ≡ s → (k : Bool) → is_int (known_of ps) x ≡ is_among x (integers_of ps) →
         (same_name x p.name ≡ true → is_among x (integers_of ps) ≡ false) →
-        (if s then not k else is_int (known_of ps) x) ≡ is_among x (if k then integers_of ps else p.name ∷ integers_of ps)
+        (if s then not k else is_int (known_of ps) x)
+        ≡ is_among x (if k then integers_of ps else p.name ∷ integers_of ps)
     go true e true h none = sym (none e)
     go true e false h none = rw (e) refl
     go false e true h none = h
@@ -98,7 +120,8 @@ pub array_kind : (ps : List Param) → differ (names_of ps) ≡ true → (x : Na
 array_kind [] h x = refl
 array_kind (p ∷ ps) h x =
     let d = others_differ p ps h in
-    newest true p ps x d.0 ∙ go (same_name x p.name) refl p.is_array (array_kind ps d.1 x) (λ e. (no_kind x ps (ap (λ z. is_among z (names_of ps)) (same_are x p.name e) ∙ d.0)).1)
+    newest true p ps x d.0 ∙ go (same_name x p.name) refl p.is_array (array_kind ps d.1 x)
+    (λ e. (no_kind x ps (ap (λ z. is_among z (names_of ps)) (same_are x p.name e) ∙ d.0)).1)
   where
     go : (s : Bool) → same_name x p.name ≡ s → (k : Bool) → is_array (known_of ps) x ≡ is_among x (arrays_of ps) →
         (same_name x p.name ≡ true → is_among x (arrays_of ps) ≡ false) →
@@ -111,7 +134,9 @@ array_kind (p ∷ ps) h x =
 -- the parameters are what is known
 pub parameters_known : (ps : List Param) → differ (names_of ps) ≡ true → (x : Name) →
     is_among x (names_of ps) ≡ (is_int (known_of ps) x || is_array (known_of ps) x)
-parameters_known ps h x = kind_among x ps ∙ sym (ap (λ b. b || is_among x (arrays_of ps)) (int_kind ps h x)) ∙ ap (λ b. is_int (known_of ps) x || b) (sym (array_kind ps h x))
+parameters_known ps h x =
+    kind_among x ps ∙ sym (ap (λ b. b || is_among x (arrays_of ps)) (int_kind ps h x)) ∙ ap
+    (λ b. is_int (known_of ps) x || b) (sym (array_kind ps h x))
 
 -- what the head of a function keeps
 pub record HeadOf (f : Function) : Type 0 where
@@ -120,10 +145,15 @@ pub record HeadOf (f : Function) : Type 0 where
 
 pub head_of : (program : Program) (f : Function) → faults_of program f ≡ [] → HeadOf f
 head_of program f h =
-    let a = both_true _ (not (same_name f.name main_name) || (f.gives_int && not (list_any (λ p. p.is_array) f.params))) (kept (is_head program f) f.line (left_none _ _ h)) in
+    let a =
+    both_true _ (not (same_name f.name main_name) || (f.gives_int && not (list_any (λ p. p.is_array) f.params)))
+    (kept (is_head program f) f.line (left_none _ _ h)) in
     let b = both_true _ (not f.gives_int || block_returns f.body) a.0 in
-    let c = both_true (differ (names_of f.params)) (not (list_any (λ p. is_among p.name (globals program)) f.params)) b.0 in
+    let c =
+    both_true (differ (names_of f.params)) (not (list_any (λ p. is_among p.name (globals program)) f.params)) b.0 in
     record { params = c.0; main = a.1 }
 
 pub heads_kept : (program : Program) → IsWellTyped program → flat_map (faults_of program) program.functions ≡ []
-heads_kept program h = right_none (repeated_names program) _ (right_none (unless (is_among main_name (map (λ f. f.name) program.functions)) 1) _ h)
+heads_kept program h =
+    right_none (repeated_names program) _
+    (right_none (unless (is_among main_name (map (λ f. f.name) program.functions)) 1) _ h)

@@ -147,16 +147,22 @@ new_are_all x (y ∷ xs) known h n = go (is_among y known) refl (placed x y xs h
     go true e (after_it other o) more = more known o n
     go false e (at_front same) more =
         ap (λ z. is_among z (y ∷ new_names xs (y ∷ known))) same ∙ front_among y (new_names xs (y ∷ known))
-    go false e (after_it other o) more = later_among x y (new_names xs (y ∷ known)) (more (y ∷ known) o (ap (λ b. if b then true else is_among x known) other ∙ n))
+    go false e (after_it other o) more =
+        later_among x y (new_names xs (y ∷ known))
+        (more (y ∷ known) o (ap (λ b. if b then true else is_among x known) other ∙ n))
 
 pub new_differ : (xs known : List Name) → differ (new_names xs known) ≡ true
 new_differ [] known = refl
 new_differ (y ∷ xs) known = go (is_among y known) (λ k. new_differ xs k)
   where
     fresh : is_among y (new_names xs (y ∷ known)) ≡ false
-    fresh = refuted (is_among y (new_names xs (y ∷ known))) (λ o. never (is_among y (y ∷ known)) (front_among y known) (new_are_there y xs (y ∷ known) o).1)
+    fresh =
+        refuted (is_among y (new_names xs (y ∷ known)))
+        (λ o. never (is_among y (y ∷ known)) (front_among y known) (new_are_there y xs (y ∷ known) o).1)
 
     go : (b : Bool) → ((k : List Name) → differ (new_names xs k) ≡ true) →
         differ (if b then new_names xs known else y ∷ new_names xs (y ∷ known)) ≡ true
     go true more = more known
-    go false more = all_of (not (is_among y (new_names xs (y ∷ known)))) (differ (new_names xs (y ∷ known))) (ap not fresh) (more (y ∷ known))
+    go false more =
+        all_of (not (is_among y (new_names xs (y ∷ known)))) (differ (new_names xs (y ∷ known))) (ap not fresh)
+        (more (y ∷ known))

@@ -13,7 +13,9 @@ Numbered k (f ∷ fs) = (f.name ≡ loop_name k) × Numbered (k + 1) fs
 
 numbered-append : (k : ℕ) (xs ys : List Function) → Numbered k xs → Numbered (k + length xs) ys → Numbered k (xs ++ ys)
 numbered-append k [] ys h g = let z : k + 0 ≡ k = omega arith in subst (λ n. Numbered n ys) z g
-numbered-append k (x ∷ xs) ys h g = let z : k + suc (length xs) ≡ k + 1 + length xs = omega arith in (h.0, numbered-append (k + 1) xs ys h.1 (subst (λ n. Numbered n ys) z g))
+numbered-append k (x ∷ xs) ys h g =
+    let z : k + suc (length xs)
+    ≡ k + 1 + length xs = omega arith in (h.0, numbered-append (k + 1) xs ys h.1 (subst (λ n. Numbered n ys) z g))
 
 -- what a statement's loops are made into
 pub record Made (k count : ℕ) (made : List Function) : Type 0 where
@@ -32,7 +34,9 @@ none_made k = record { many = refl; numbered = tt }
 mutual
   made_stmt : (s : Stmt) (line k : ℕ) → Made k (loop_count s) (made_by line k s)
   made_stmt (If e b) line k = made_block b k
-  made_stmt (IfElse e b c) line k = both_made k (loop_count_in b) (loop_count_in c) (made_in k b) (made_in (k + loop_count_in b) c) (made_block b k) (made_block c (k + loop_count_in b))
+  made_stmt (IfElse e b c) line k =
+      both_made k (loop_count_in b) (loop_count_in c) (made_in k b) (made_in (k + loop_count_in b) c) (made_block b k)
+      (made_block c (k + loop_count_in b))
   made_stmt (While e b) line k = made_block b k
   made_stmt (For x y z from to grain over b) line k =
       both_made k (loop_count_in b) 1 (made_in k b) _ (made_block b k) (record { many = refl; numbered = (refl, tt) })
@@ -53,7 +57,9 @@ mutual
 
   made_block : (b : Block) (k : ℕ) → Made k (loop_count_in b) (made_in k b)
   made_block End k = none_made k
-  made_block (Then line s b) k = both_made k (loop_count s) (loop_count_in b) (made_by line k s) (made_in (k + loop_count s) b) (made_stmt s line k) (made_block b (k + loop_count s))
+  made_block (Then line s b) k =
+      both_made k (loop_count s) (loop_count_in b) (made_by line k s) (made_in (k + loop_count s) b)
+      (made_stmt s line k) (made_block b (k + loop_count s))
 
 abbrev pub count_of : List Function → ℕ
 count_of [] = 0
@@ -61,7 +67,9 @@ count_of (f ∷ fs) = loop_count_in f.body + count_of fs
 
 pub made_functions : (fs : List Function) (k : ℕ) → Made k (count_of fs) (made_of k fs)
 made_functions [] k = none_made k
-made_functions (f ∷ fs) k = both_made k (loop_count_in f.body) (count_of fs) (made_in k f.body) (made_of (k + loop_count_in f.body) fs) (made_block f.body k) (made_functions fs (k + loop_count_in f.body))
+made_functions (f ∷ fs) k =
+    both_made k (loop_count_in f.body) (count_of fs) (made_in k f.body) (made_of (k + loop_count_in f.body) fs)
+    (made_block f.body k) (made_functions fs (k + loop_count_in f.body))
 
 pub loops_apart : (j k : ℕ) → k < j → same_name (loop_name j) (loop_name k) ≡ false
 loops_apart j k h = apart (loop_name j) (loop_name k) (λ e. let q : j ≡ k = numbers e in omega arith)

@@ -38,7 +38,9 @@ expr_seen known (Variable y) source fine x o = go (placed x y [] o)
     go : Placed x y [] → (is_plain x ≡ true) × (is_int known x ≡ true)
     go (at_front same) = (ap is_plain same ∙ source, ap (is_int known) same ∙ fine)
     go (after_it other p) = absurd cc
-expr_seen known (Element a e) source fine x o = expr_seen known e (both_true (is_plain a) (is_source_expr e) source).1 (both_true (is_array known a) (is_fine known e) fine).1 x o
+expr_seen known (Element a e) source fine x o =
+    expr_seen known e (both_true (is_plain a) (is_source_expr e) source).1
+    (both_true (is_array known a) (is_fine known e) fine).1 x o
 expr_seen known (Length a) source fine x o = absurd cc
 expr_seen known (Negative e) source fine x o = expr_seen known e source fine x o
 expr_seen known (Not e) source fine x o = expr_seen known e source fine x o
@@ -64,9 +66,10 @@ called_is f (k ∷ fs) g h = go (same_name f k.name) h (λ p. called_is f fs g p
     go true p more = cc
     go false p more = more p
 
-pub record CallKept (fs : List Function) (known : Known) (target : Option Name) (f : Name) (es : List Expr) : Type 0 where
-  pub target_fine : is_target known (function_named f fs) target ≡ true
-  pub arguments : are_arguments known (function_named f fs).params es ≡ true
+pub record CallKept (fs : List Function) (known : Known) (target : Option Name) (f : Name) (es : List Expr) : Type 0
+  where
+    pub target_fine : is_target known (function_named f fs) target ≡ true
+    pub arguments : are_arguments known (function_named f fs).params es ≡ true
 
 pub call_kept : (fs : List Function) (known : Known) (target : Option Name) (f : Name) (es : List Expr) →
     is_call known target (called f fs) es ≡ true → CallKept fs known target f es
@@ -78,7 +81,10 @@ call_kept fs known target f es h = go (called f fs) refl h
         let p = both_true _ (not (same_name k.name main_name)) g in
         let q = both_true (is_target known k target) (are_arguments known k.params es) p.0 in
         let is = called_is f fs k same in
-        record { target_fine = ap (λ w. is_target known w target) is ∙ q.0; arguments = ap (λ w. are_arguments known w.params es) is ∙ q.1 }
+        record {
+          target_fine = ap (λ w. is_target known w target) is ∙ q.0;
+          arguments = ap (λ w. are_arguments known w.params es) is ∙ q.1;
+        }
 
 pub inner_names : (around : Around) (xs : List Name) → are_inner around xs ≡ true → (x : Name) → is_among x xs ≡ true →
     is_outer around x ≡ false
@@ -88,17 +94,24 @@ abbrev pub AllInner : Around → List Name → Type 0
 AllInner around xs = (x : Name) → is_among x xs ≡ true → is_outer around x ≡ false
 
 -- what a call keeps of ownership
-pub record GivenKept (around : Around) (taken : Taken) (fs : List Function) (target : Option Name) (f : Name) (es : List Expr) : Type 0 where
+pub record GivenKept (around : Around) (taken : Taken) (fs : List Function) (target : Option Name) (f : Name)
+    (es : List Expr) : Type 0 where
   pub reads : list_all (λ e. may_read around taken e) es ≡ true
   pub targets : AllInner around (target_names target)
   pub arrays : AllInner around (given fs f es)
 
-pub given_kept : (around : Around) (taken : Taken) (fs : List Function) (target : Option Name) (f : Name) (es : List Expr) →
-    (list_all (λ e. may_read around taken e) es && may_write around taken (target_names target ++ given fs f es) && differ (given fs f es)) ≡ true → GivenKept around taken fs target f es
+pub given_kept : (around : Around) (taken : Taken) (fs : List Function) (target : Option Name) (f : Name)
+    (es : List Expr) →
+    (list_all (λ e. may_read around taken e) es && may_write around taken (target_names target ++ given fs f es)
+    && differ (given fs f es)) ≡ true → GivenKept around taken fs target f es
 given_kept around taken fs target f es h =
     let p = both_true _ (differ (given fs f es)) h in
-    let q = both_true (list_all (λ e. may_read around taken e) es) (may_write around taken (target_names target ++ given fs f es)) p.0 in
-    let w = both_true (are_free taken (target_names target ++ given fs f es)) (are_inner around (target_names target ++ given fs f es)) q.1 in
+    let q =
+    both_true (list_all (λ e. may_read around taken e) es)
+    (may_write around taken (target_names target ++ given fs f es)) p.0 in
+    let w =
+    both_true (are_free taken (target_names target ++ given fs f es))
+    (are_inner around (target_names target ++ given fs f es)) q.1 in
     let each = inner_names around (target_names target ++ given fs f es) w.1 in
     record {
       reads = q.0;
@@ -119,7 +132,8 @@ module _ (around : Around) (known : Known) (declared : List Name) where
   argument_seen true (Variable y) source fine inner' x o = go (placed x y [] o)
     where
       go : Placed x y [] → Seen around known declared x
-      go (at_front same) = record { plain = ap is_plain same ∙ source; place = array (ap (is_array known) same ∙ fine) (inner' x o) }
+      go (at_front same) =
+          record { plain = ap is_plain same ∙ source; place = array (ap (is_array known) same ∙ fine) (inner' x o) }
       go (after_it other p) = absurd cc
   argument_seen true (Number n) source fine inner' x o = absurd cc
   argument_seen true (Element a e) source fine inner' x o = absurd cc
@@ -138,8 +152,10 @@ module _ (around : Around) (known : Known) (declared : List Name) where
       let s = both_true (is_source_expr e) (list_all is_source_expr es) source in
       let f = both_true (is_argument known p.is_array e) (are_arguments known ps es) fine in
       go (side x (read_by e) (read_by_all es) o)
-      (argument_seen p.is_array e s.0 f.0 (λ v q. inner' v (among_left v (if p.is_array then names_in e else []) (arrays_given ps es) q)) x)
-      (arguments_seen ps es s.1 f.1 (λ v q. inner' v (among_right v (if p.is_array then names_in e else []) (arrays_given ps es) q)) x)
+      (argument_seen p.is_array e s.0 f.0
+      (λ v q. inner' v (among_left v (if p.is_array then names_in e else []) (arrays_given ps es) q)) x)
+      (arguments_seen ps es s.1 f.1
+      (λ v q. inner' v (among_right v (if p.is_array then names_in e else []) (arrays_given ps es) q)) x)
     where
       go : Side x (read_by e) (read_by_all es) → (is_among x (read_by e) ≡ true → Seen around known declared x) →
           (is_among x (read_by_all es) ≡ true → Seen around known declared x) → Seen around known declared x
@@ -155,11 +171,17 @@ pub after_known : (s : Stmt) (known : Known) (owners : List Name) → SameKnown 
 after_known s known owners h = go (adds s)
   where
     go : Adds s → SameKnown (declares s known) (known_after owners s)
-    go (an_int y e same) = subst (λ t. SameKnown (declares t known) (known_after owners t)) (sym same) (λ x. known_more x y owners (is_int known x) (is_array known x) (h x))
-    go (an_array y e same) = subst (λ t. SameKnown (declares t known) (known_after owners t)) (sym same) (λ x. known_array_more x y owners (is_int known x) (is_array known x) (h x))
-    go (nothing same ints arrays owners_same) = λ x. ap (is_among x) (owners_same owners) ∙ h x ∙ sym (ap (λ k. is_int k x || is_array k x) (same known))
+    go (an_int y e same) =
+        subst (λ t. SameKnown (declares t known) (known_after owners t)) (sym same)
+        (λ x. known_more x y owners (is_int known x) (is_array known x) (h x))
+    go (an_array y e same) =
+        subst (λ t. SameKnown (declares t known) (known_after owners t)) (sym same)
+        (λ x. known_array_more x y owners (is_int known x) (is_array known x) (h x))
+    go (nothing same ints arrays owners_same) =
+        λ x. ap (is_among x) (owners_same owners) ∙ h x ∙ sym (ap (λ k. is_int k x || is_array k x) (same known))
 
--- where a name that the body of a loop reads comes from, as seen from its head: an array from outside is no name of a turn
+-- where a name that the body of a loop reads comes from, as seen from its head: an array from outside is no name of a
+-- turn
 pub data Home (v : Name) (known : Known) (declared : List Name) (x : Name) : Type 0 where
   declared_there : is_among x (v ∷ declared) ≡ true → Home v known declared x
   known_before : is_int known x ≡ true → Home v known declared x
@@ -172,7 +194,9 @@ home v known owners same over declared x s = by s
     of_array : (r : Bool) → same_name x v ≡ r → (if r then false else is_array known x) ≡ true →
         is_among x (v ∷ owners) ≡ false → Home v known declared x
     of_array true e p out = absurd cc
-    of_array false e p out = never (is_array known x) p (none_of (is_int known x) (is_array known x) (sym (same x) ∙ ap (λ r. if r then true else is_among x owners) (sym e) ∙ out)).1
+    of_array false e p out =
+        never (is_array known x) p (none_of (is_int known x) (is_array known x)
+        (sym (same x) ∙ ap (λ r. if r then true else is_among x owners) (sym e) ∙ out)).1
 
     of_int : (r : Bool) → same_name x v ≡ r → (if r then true else is_int known x) ≡ true → Home v known declared x
     of_int true e p = declared_there (ap (λ r. if r then true else is_among x declared) e)
@@ -197,7 +221,8 @@ seen_more around known declared declared' x h s = record { plain = s.plain; plac
 
 -- one name less is known, and declared instead
 seen_before : (around : Around) (known : Known) (y : Name) (kind : Bool) (declared declared' : List Name) (x : Name) →
-    (is_among x declared ≡ true → is_among x declared' ≡ true) → is_among y declared' ≡ true → Seen around ((y, kind) ∷ known) declared x → Seen around known declared' x
+    (is_among x declared ≡ true → is_among x declared' ≡ true) → is_among y declared' ≡ true
+    → Seen around ((y, kind) ∷ known) declared x → Seen around known declared' x
 seen_before around known y kind declared declared' x h here s = record { plain = s.plain; place = go s.place }
   where
     named : same_name x y ≡ true → Place around known declared' x
@@ -220,25 +245,35 @@ seen_before around known y kind declared declared' x h here s = record { plain =
 
 module _ (program : Program) (fs : List Function) (fs_is : program.functions ≡ fs) where
   abbrev StmtSeen : Stmt → Type 0
-  StmtSeen s = (returns : Returns) (known : Known) (owners : List Name) (around : Around) → SameKnown known owners → (depth line : ℕ) (taken : Taken) → is_source_stmt s ≡ true →
-      faults_in program returns known line s ≡ [] → owner_faults fs around owners depth taken line s ≡ [] → (x : Name) → is_among x (read_in s) ≡ true → Seen around known (declared_in s) x
+  StmtSeen s =
+      (returns : Returns) (known : Known) (owners : List Name) (around : Around) → SameKnown known owners
+      → (depth line : ℕ) (taken : Taken) → is_source_stmt s ≡ true →
+      faults_in program returns known line s ≡ [] → owner_faults fs around owners depth taken line s ≡ [] → (x : Name)
+      → is_among x (read_in s) ≡ true → Seen around known (declared_in s) x
 
   abbrev BlockSeen : Block → Type 0
-  BlockSeen b = (returns : Returns) (known : Known) (owners : List Name) (around : Around) → SameKnown known owners → (depth : ℕ) (closing : Closing) (taken : Taken) (declared : Declared) → is_source_block b ≡ true →
-      faults_in_block program returns known b ≡ [] → owner_faults_in fs around owners depth closing taken declared b ≡ [] → (x : Name) → is_among x (read_in_block b) ≡ true → Seen around known (declared_in_block b) x
+  BlockSeen b =
+      (returns : Returns) (known : Known) (owners : List Name) (around : Around) → SameKnown known owners
+      → (depth : ℕ) (closing : Closing) (taken : Taken) (declared : Declared) → is_source_block b ≡ true →
+      faults_in_block program returns known b ≡ []
+      → owner_faults_in fs around owners depth closing taken declared b ≡ [] → (x : Name)
+      → is_among x (read_in_block b) ≡ true → Seen around known (declared_in_block b) x
 
   call_seen : (kind : CallKind) (site : ℕ) (target : Option Name) (f : Name) (es : List Expr) →
       StmtSeen (Call kind site target f es)
   call_seen kind site target f es returns known owners around same depth line taken source types owns x o =
       let s = both_true (is_source_target target) _ source in
       let t = both_true (is_plain f) (list_all is_source_expr es) s.1 in
-      let k = call_kept fs known target f es (ap (λ w. is_call known target (called f w) es) (sym fs_is) ∙ kept _ line types) in
+      let k =
+      call_kept fs known target f es
+      (ap (λ w. is_call known target (called f w) es) (sym fs_is) ∙ kept _ line types) in
       let g = given_kept around taken fs target f es (kept _ line owns) in
       arguments_seen around known [] (function_named f fs).params es t.1 k.arguments g.arrays x o
 
   tested_seen : (e : Expr) (b : Block) (returns : Returns) (known : Known) (around : Around) → is_source_expr e ≡ true →
       is_fine known e ≡ true → (x : Name) →
-      (is_among x (read_in_block b) ≡ true → Seen around known (declared_in_block b) x) → is_among x (read_by e ++ read_in_block b) ≡ true → Seen around known (declared_in_block b) x
+      (is_among x (read_in_block b) ≡ true → Seen around known (declared_in_block b) x)
+      → is_among x (read_by e ++ read_in_block b) ≡ true → Seen around known (declared_in_block b) x
   tested_seen e b returns known around source fine x more o = go (side x (read_by e) (read_in_block b) o)
     where
       go : Side x (read_by e) (read_in_block b) → Seen around known (declared_in_block b) x
@@ -267,15 +302,24 @@ module _ (program : Program) (fs : List Function) (fs_is : program.functions ≡
       types' : faults_in_block program returns known b ++ faults_in_block program returns known d ≡ []
       types' = right_none (unless (is_fine known e) line) _ types
 
-      owns' : owner_faults_in fs around owners depth Leaves taken [] b ++ owner_faults_in fs around owners depth Leaves taken [] d ≡ []
+      owns' : owner_faults_in fs around owners depth Leaves taken [] b
+          ++ owner_faults_in fs around owners depth Leaves taken [] d ≡ []
       owns' = right_none (unless (may_read around taken e) line) _ owns
 
       declared : List Name
       declared = declared_in_block b ++ declared_in_block d
 
       branch : Side x (read_in_block b) (read_in_block d) → Seen around known declared x
-      branch (in_first p) = seen_more around known (declared_in_block b) declared x (among_left x (declared_in_block b) (declared_in_block d)) (one returns known owners around same depth Leaves taken [] s2.0 (left_none _ _ types') (left_none _ _ owns') x p)
-      branch (in_second p) = seen_more around known (declared_in_block d) declared x (among_right x (declared_in_block b) (declared_in_block d)) (other returns known owners around same depth Leaves taken [] s2.1 (right_none _ _ types') (right_none _ _ owns') x p)
+      branch (in_first p) =
+          seen_more around known (declared_in_block b) declared x
+          (among_left x (declared_in_block b) (declared_in_block d))
+          (one returns known owners around same depth Leaves taken [] s2.0 (left_none _ _ types')
+          (left_none _ _ owns') x p)
+      branch (in_second p) =
+          seen_more around known (declared_in_block d) declared x
+          (among_right x (declared_in_block b) (declared_in_block d))
+          (other returns known owners around same depth Leaves taken [] s2.1 (right_none _ _ types')
+          (right_none _ _ owns') x p)
 
       go : Side x (read_by e) (read_in_block b ++ read_in_block d) → Seen around known declared x
       go (in_first p) = fine_seen around known declared e s1.0 (kept _ line (left_none _ _ types)) x p
@@ -287,7 +331,9 @@ module _ (program : Program) (fs : List Function) (fs_is : program.functions ≡
       go (side x (read_by from) (read_by to ++ read_in_block b) o)
     where
       head : HeadKept program known v from to grain over
-      head = head_kept program known v y z from to grain over (kept _ line (left_none (unless (is_head_of_loop program known v y z from to grain over) line) _ types))
+      head =
+          head_kept program known v y z from to grain over
+          (kept _ line (left_none (unless (is_head_of_loop program known v y z from to grain over) line) _ types))
 
       s1 : (is_plain v ≡ true) ×
           ((is_source_expr from && (is_source_expr to && (list_all is_plain over && is_source_block b))) ≡ true)
@@ -309,7 +355,9 @@ module _ (program : Program) (fs : List Function) (fs_is : program.functions ≡
       types' = right_none (unless (is_head_of_loop program known v y z from to grain over) line) _ types
 
       owns' : owner_faults_in fs (InLoop (v ∷ owners) v over) (v ∷ owners) (depth + 1) Joins taken [] b ≡ []
-      owns' = right_none (unless (may_read (for_head around) taken from && may_read (for_head around) taken to && may_write around taken over && differ over) line) _ owns
+      owns' =
+          right_none (unless (may_read (for_head around) taken from && may_read (for_head around) taken to
+          && may_write around taken over && differ over) line) _ owns
 
       at_home : Home v known (declared_in_block b) x → Place around known declared x
       at_home (declared_there p) = inner p
@@ -317,7 +365,9 @@ module _ (program : Program) (fs : List Function) (fs_is : program.functions ≡
 
       body : is_among x (read_in_block b) ≡ true → Seen around known declared x
       body p =
-          let s = more Nowhere ((v, false) ∷ known) (v ∷ owners) (InLoop (v ∷ owners) v over) inside_known (depth + 1) Joins taken [] (both_true (list_all is_plain over) (is_source_block b) s3.1).1 types' owns' x p in
+          let s =
+          more Nowhere ((v, false) ∷ known) (v ∷ owners) (InLoop (v ∷ owners) v over) inside_known (depth + 1) Joins
+          taken [] (both_true (list_all is_plain over) (is_source_block b) s3.1).1 types' owns' x p in
           record { plain = s.plain; place = at_home (home v known owners same over (declared_in_block b) x s.place) }
 
       late : Side x (read_by to) (read_in_block b) → Seen around known declared x
@@ -348,12 +398,15 @@ module _ (program : Program) (fs : List Function) (fs_is : program.functions ≡
       declared = l ∷ r ∷ declared_in_block b
 
       inside_known : SameKnown ((r, true) ∷ (l, true) ∷ known) (r ∷ l ∷ owners)
-      inside_known w = known_array_more w r (l ∷ owners) (is_int ((l, true) ∷ known) w) (is_array ((l, true) ∷ known) w) (known_array_more w l owners (is_int known w) (is_array known w) (same w))
+      inside_known w =
+          known_array_more w r (l ∷ owners) (is_int ((l, true) ∷ known) w) (is_array ((l, true) ∷ known) w)
+          (known_array_more w l owners (is_int known w) (is_array known w) (same w))
 
       go : Side x (read_by e) (read_in_block b) → Seen around known declared x
       go (in_first p) = fine_seen around known declared e s2.0 k.fine x p
       go (in_second p) =
-          seen_before around known l true (r ∷ declared_in_block b) declared x (later_among x l (r ∷ declared_in_block b)) (front_among l (r ∷ declared_in_block b))
+          seen_before around known l true (r ∷ declared_in_block b) declared x
+          (later_among x l (r ∷ declared_in_block b)) (front_among l (r ∷ declared_in_block b))
           (seen_before around ((l, true) ∷ known) r true (declared_in_block b) (r ∷ declared_in_block b) x (later_among x r (declared_in_block b)) (front_among r (declared_in_block b))
           (more Nowhere ((r, true) ∷ (l, true) ∷ known) (r ∷ l ∷ owners) around inside_known (depth + 1) Joins ((a, CutOf) ∷ taken) [] s3.1 (right_none _ _ types) (right_none _ _ owns) x p))
 
@@ -364,10 +417,14 @@ module _ (program : Program) (fs : List Function) (fs_is : program.functions ≡
     where
       go : Adds s → Seen around known (declared_in s ++ rest) x
       go (an_int y e same) = subst (λ t. Seen around known (declared_in t ++ rest) x) (sym same)
-          (seen_before around known y false rest (y ∷ rest) x (later_among x y rest) (front_among y rest) (subst (λ t. Seen around (declares t known) rest x) same h))
+          (seen_before around known y false rest (y ∷ rest) x (later_among x y rest) (front_among y rest)
+          (subst (λ t. Seen around (declares t known) rest x) same h))
       go (an_array y e same) = subst (λ t. Seen around known (declared_in t ++ rest) x) (sym same)
-          (seen_before around known y true rest (y ∷ rest) x (later_among x y rest) (front_among y rest) (subst (λ t. Seen around (declares t known) rest x) same h))
-      go (nothing same ints arrays owners_same) = seen_more around known rest (declared_in s ++ rest) x (among_right x (declared_in s) rest) (subst (λ k. Seen around k rest x) (same known) h)
+          (seen_before around known y true rest (y ∷ rest) x (later_among x y rest) (front_among y rest)
+          (subst (λ t. Seen around (declares t known) rest x) same h))
+      go (nothing same ints arrays owners_same) =
+          seen_more around known rest (declared_in s ++ rest) x (among_right x (declared_in s) rest)
+          (subst (λ k. Seen around k rest x) (same known) h)
 
   then_seen : (line : ℕ) (s : Stmt) (b : Block) → StmtSeen s → BlockSeen b → BlockSeen (Then line s b)
   then_seen line s b here more returns known owners around same depth closing taken declared source types owns x o =
@@ -377,7 +434,11 @@ module _ (program : Program) (fs : List Function) (fs_is : program.functions ≡
       both = both_true (is_source_stmt s) (is_source_block b) source
 
       go : Side x (read_in s) (read_in_block b) → Seen around known (declared_in s ++ declared_in_block b) x
-      go (in_first p) = seen_more around known (declared_in s) (declared_in s ++ declared_in_block b) x (among_left x (declared_in s) (declared_in_block b)) (here returns known owners around same depth line taken both.0 (left_none _ _ types) (left_none _ _ owns) x p)
+      go (in_first p) =
+          seen_more around known (declared_in s) (declared_in s ++ declared_in_block b) x
+          (among_left x (declared_in s) (declared_in_block b))
+          (here returns known owners around same depth line taken both.0 (left_none _ _ types) (left_none _ _ owns) x
+          p)
       go (in_second p) = later_seen s known around (declared_in_block b) x
           (more returns (declares s known) (known_after owners s) around (after_known s known owners same) depth closing (taken_after fs depth s taken) (declared_by line s declared) both.1
           (right_none (unless (not (surely_returns s) || ends_block b) line) _ (right_none (faults_in program returns known line s) _ types)) (right_none _ _ owns) x p)
@@ -391,17 +452,21 @@ module _ (program : Program) (fs : List Function) (fs_is : program.functions ≡
   mutual
     pub stmt_seen : (s : Stmt) → StmtSeen s
     stmt_seen (Declare y e) returns known owners around same depth line taken source types owns x o =
-        fine_seen around known (y ∷ []) e (both_true (is_plain y) (is_source_expr e) source).1 (both_true (is_fine known e) (is_new program known y) (kept _ line types)).0 x o
+        fine_seen around known (y ∷ []) e (both_true (is_plain y) (is_source_expr e) source).1
+        (both_true (is_fine known e) (is_new program known y) (kept _ line types)).0 x o
     stmt_seen (DeclareArray y e) returns known owners around same depth line taken source types owns x o =
-        fine_seen around known (y ∷ []) e (both_true (is_plain y) (is_source_expr e) source).1 (both_true (is_fine known e) (is_new program known y) (kept _ line types)).0 x o
+        fine_seen around known (y ∷ []) e (both_true (is_plain y) (is_source_expr e) source).1
+        (both_true (is_fine known e) (is_new program known y) (kept _ line types)).0 x o
     stmt_seen (Assign y e) returns known owners around same depth line taken source types owns x o =
-        fine_seen around known [] e (both_true (is_plain y) (is_source_expr e) source).1 (both_true (is_int known y) (is_fine known e) (kept _ line types)).1 x o
+        fine_seen around known [] e (both_true (is_plain y) (is_source_expr e) source).1
+        (both_true (is_int known y) (is_fine known e) (kept _ line types)).1 x o
     stmt_seen (AssignElement a i e) returns known owners around same depth line taken source types owns x o =
         let s = both_true (is_source_expr i) (is_source_expr e) (both_true (is_plain a) _ source).1 in
         let f = both_true (is_array known a && is_fine known i) (is_fine known e) (kept _ line types) in
         element_seen known around i e s.0 s.1 (both_true (is_array known a) (is_fine known i) f.0).1 f.1 x o
     stmt_seen (AddTo r e) returns known owners around same depth line taken source types owns x o =
-        fine_seen around known [] e (both_true (is_plain r) (is_source_expr e) source).1 (both_true (is_reducer program r) (is_fine known e) (kept _ line types)).1 x o
+        fine_seen around known [] e (both_true (is_plain r) (is_source_expr e) source).1
+        (both_true (is_reducer program r) (is_fine known e) (kept _ line types)).1 x o
     stmt_seen (Call kind site target f es) returns known owners around same depth line taken source types owns x o =
         call_seen kind site target f es returns known owners around same depth line taken source types owns x o
     stmt_seen (Start kind f es) returns known owners around same depth line taken source types owns x o = absurd cc
@@ -410,13 +475,20 @@ module _ (program : Program) (fs : List Function) (fs_is : program.functions ≡
     stmt_seen Sync returns known owners around same depth line taken source types owns x o = absurd cc
     stmt_seen (If e b) returns known owners around same depth line taken source types owns x o =
         let s = both_true (is_source_expr e) (is_source_block b) source in
-        tested_seen e b returns known around s.0 (kept _ line (left_none _ _ types)) x (block_seen b returns known owners around same depth Leaves taken [] s.1 (right_none _ _ types) (right_none _ _ owns) x) o
-    stmt_seen (IfElse e b d) returns known owners around same depth line taken source types owns x o = choice_seen e b d (block_seen b) (block_seen d) returns known owners around same depth line taken source types owns x o
+        tested_seen e b returns known around s.0 (kept _ line (left_none _ _ types)) x
+        (block_seen b returns known owners around same depth Leaves taken [] s.1 (right_none _ _ types)
+        (right_none _ _ owns) x) o
+    stmt_seen (IfElse e b d) returns known owners around same depth line taken source types owns x o =
+        choice_seen e b d (block_seen b) (block_seen d) returns known owners around same depth line taken source types
+        owns x o
     stmt_seen (While e b) returns known owners around same depth line taken source types owns x o =
         let s = both_true (is_source_expr e) (is_source_block b) source in
         tested_seen e b returns known around s.0 (kept _ line (left_none _ _ types)) x
-        (block_seen b returns known owners around same depth Leaves (taken_after fs depth (While e b) taken) [] s.1 (right_none _ _ types) (right_none _ _ owns) x) o
-    stmt_seen (For v y z from to grain over b) returns known owners around same depth line taken source types owns x o = for_seen v y z from to grain over b (block_seen b) returns known owners around same depth line taken source types owns x o
+        (block_seen b returns known owners around same depth Leaves (taken_after fs depth (While e b) taken) [] s.1
+        (right_none _ _ types) (right_none _ _ owns) x) o
+    stmt_seen (For v y z from to grain over b) returns known owners around same depth line taken source types owns x o =
+        for_seen v y z from to grain over b (block_seen b) returns known owners around same depth line taken source
+        types owns x o
     stmt_seen (Scope b) returns known owners around same depth line taken source types owns x o =
         block_seen b Nowhere known owners around same (depth + 1) Joins taken [] source types owns x o
     stmt_seen (Cut a e l r b) returns known owners around same depth line taken source types owns x o =
@@ -432,4 +504,5 @@ module _ (program : Program) (fs : List Function) (fs_is : program.functions ≡
     pub block_seen : (b : Block) → BlockSeen b
     block_seen End returns known owners around same depth closing taken declared source types owns x o = absurd cc
     block_seen (Then line s b) returns known owners around same depth closing taken declared source types owns x o =
-        then_seen line s b (stmt_seen s) (block_seen b) returns known owners around same depth closing taken declared source types owns x o
+        then_seen line s b (stmt_seen s) (block_seen b) returns known owners around same depth closing taken declared
+        source types owns x o

@@ -19,13 +19,15 @@ stands_gone_on : (f l k w : ℕ) (L : BlockWeight) → StandsAt f l k L → Stan
 stands_gone_on f l k w (Straight n) h = let a = h.0 in let b = h.1 in (omega arith, omega arith)
 stands_gone_on f l k w (Split m n) h = let a = h.0 in let b = h.1 in (omega arith, omega arith)
 
-stands_forked : (f l k burden c : ℕ) (L : BlockWeight) → StandsAt f l k L → StandsAt f (max l (later exactly k c)) (k + burden) (child_ended burden c L)
+stands_forked : (f l k burden c : ℕ) (L : BlockWeight) → StandsAt f l k L
+    → StandsAt f (max l (later exactly k c)) (k + burden) (child_ended burden c L)
 stands_forked f l k burden zero (Straight n) h = let a = h.0 in let b = h.1 in (omega arith, omega arith)
 stands_forked f l k burden (suc c) (Straight n) h = let a = h.0 in let b = h.1 in (omega arith, omega arith)
 stands_forked f l k burden zero (Split m n) h = let a = h.0 in let b = h.1 in (omega arith, omega arith)
 stands_forked f l k burden (suc c) (Split m n) h = let a = h.0 in let b = h.1 in (omega arith, omega arith)
 
-one_more : (burden before : ℕ) (w : Counters) (L : BlockWeight) (e : Event) → StandsFor before w L → StandsFor before (onward exactly w (of_event burden e)) (after burden L e)
+one_more : (burden before : ℕ) (w : Counters) (L : BlockWeight) (e : Event) → StandsFor before w L
+    → StandsFor before (onward exactly w (of_event burden e)) (after burden L e)
 one_more burden before (Unsynced l k) L (Work n) h = stands_gone_on before l k n L h
 one_more burden before (Synced p l k) L (Work n) h = stands_gone_on (before + p) l k n L h
 one_more burden before (Unsynced l k) L (Series t) h = stands_gone_on before l k (burdened_span burden t) L h
@@ -35,21 +37,28 @@ one_more burden before (Synced p l k) L (Fork t) h = stands_forked (before + p) 
 one_more burden before (Unsynced l k) L Join h = let a = h.1 in (omega arith, omega arith)
 one_more burden before (Synced p l k) L Join h = let a = h.1 in (omega arith, omega arith)
 
-all_more : (burden before : ℕ) (w : Counters) (L : BlockWeight) (es : List Event) → StandsFor before w L → StandsFor before (onward exactly w (of_events burden es)) (after_all burden L es)
-all_more burden before w L [] h = let P : Counters → Type 0 = λ x. StandsFor before x L in subst P (sym (onward-fresh_last exactly exactly_is w)) h
+all_more : (burden before : ℕ) (w : Counters) (L : BlockWeight) (es : List Event) → StandsFor before w L
+    → StandsFor before (onward exactly w (of_events burden es)) (after_all burden L es)
+all_more burden before w L [] h =
+    let P : Counters → Type 0 = λ x. StandsFor before x L in subst P (sym (onward-fresh_last exactly exactly_is w)) h
 all_more burden before w L (e ∷ es) h =
     let P : Counters → Type 0 = λ x. StandsFor before x (after_all burden (after burden L e) es) in
-    subst P (onward-assoc exactly exactly_is w (of_event burden e) (of_events burden es)) (all_more burden before (onward exactly w (of_event burden e)) (after burden L e) es (one_more burden before w L e h))
+    subst P (onward-assoc exactly exactly_is w (of_event burden e) (of_events burden es))
+    (all_more burden before (onward exactly w (of_event burden e)) (after burden L e) es
+    (one_more burden before w L e h))
 
-stands_top : (before : ℕ) (w : Counters) (L : BlockWeight) → StandsFor before w L → top_of L ≡ before + heaviest exactly w
+stands_top : (before : ℕ) (w : Counters) (L : BlockWeight) → StandsFor before w L
+    → top_of L ≡ before + heaviest exactly w
 stands_top before (Unsynced l k) L h = let a = h.1 in omega arith
 stands_top before (Synced p l k) L h = let a = h.1 in omega arith
 
 -- THE LAW OF A BLOCK
-pub top-after_all : (burden before : ℕ) (es : List Event) → top_of (after_all burden (Straight before) es) ≡ before + burdened_span burden (tree_of es)
+pub top-after_all : (burden before : ℕ) (es : List Event)
+    → top_of (after_all burden (Straight before) es) ≡ before + burdened_span burden (tree_of es)
 top-after_all burden before es =
     let begun : StandsFor before fresh (Straight before) = (omega arith, omega arith) in
-    stands_top before (onward exactly fresh (of_events burden es)) (after_all burden (Straight before) es) (all_more burden before fresh (Straight before) es begun)
+    stands_top before (onward exactly fresh (of_events burden es)) (after_all burden (Straight before) es)
+    (all_more burden before fresh (Straight before) es begun)
     ∙ ap (λ (w : Counters). before + heaviest exactly w) (onward-fresh_first exactly exactly_is (of_events burden es))
     ∙ ap (λ (n : ℕ). before + n) (heaviest-of_events burden es)
 

@@ -12,13 +12,16 @@ use Rattle.cw_measure.specs.lemmas.BlockWeights.{top-after_all}
 use Rattle.cw_measure.specs.lemmas.OpenParts.{work_adds, sum_begun, left_work}
 
 -- one event more in the block that runs
-pub after_all-append : (burden : ℕ) (L : BlockWeight) (es fs : List Event) → after_all burden L (es ++ fs) ≡ after_all burden (after_all burden L es) fs
+pub after_all-append : (burden : ℕ) (L : BlockWeight) (es fs : List Event)
+    → after_all burden L (es ++ fs) ≡ after_all burden (after_all burden L es) fs
 after_all-append burden L [] fs = refl
 after_all-append burden L (e ∷ es) fs = after_all-append burden (after burden L e) es fs
 
-pub block_more : (burden : ℕ) (os : List Open) (es : List Event) (e : Event) → block_weight burden os (es ++ e ∷ []) ≡ after burden (block_weight burden os es) e
+pub block_more : (burden : ℕ) (os : List Open) (es : List Event) (e : Event)
+    → block_weight burden os (es ++ e ∷ []) ≡ after burden (block_weight burden os es) e
 block_more burden [] es e = after_all-append burden (Straight 0) es (e ∷ [])
-block_more burden (o ∷ os) es e = after_all-append burden (enters o.spawned (block_weight burden os o.outer)) es (e ∷ [])
+block_more burden (o ∷ os) es e =
+    after_all-append burden (enters o.spawned (block_weight burden os o.outer)) es (e ∷ [])
 
 -- whether a block is split is told by its events
 abbrev pub is_split : BlockWeight → Bool
@@ -34,15 +37,19 @@ split_after burden (Straight n) (Fork t) = refl
 split_after burden (Split l n) (Fork t) = refl
 split_after burden L Join = refl
 
-split_all : (burden : ℕ) (L : BlockWeight) (es : List Event) → is_split (after_all burden L es) ≡ has_spawned_from (is_split L) es
+split_all : (burden : ℕ) (L : BlockWeight) (es : List Event)
+    → is_split (after_all burden L es) ≡ has_spawned_from (is_split L) es
 split_all burden L [] = refl
-split_all burden L (e ∷ es) = split_all burden (after burden L e) es ∙ ap (λ (b : Bool). has_spawned_from b es) (split_after burden L e)
+split_all burden L (e ∷ es) =
+    split_all burden (after burden L e) es ∙ ap (λ (b : Bool). has_spawned_from b es) (split_after burden L e)
 
-split_entered : (burden : ℕ) (spawned : Bool) (L : BlockWeight) (es : List Event) → is_split (after_all burden (enters spawned L) es) ≡ has_spawned es
+split_entered : (burden : ℕ) (spawned : Bool) (L : BlockWeight) (es : List Event)
+    → is_split (after_all burden (enters spawned L) es) ≡ has_spawned es
 split_entered burden true L es = split_all burden (Straight 0) es
 split_entered burden false L es = split_all burden (Straight (now_of L)) es
 
-pub split-block : (burden : ℕ) (os : List Open) (es : List Event) → is_split (block_weight burden os es) ≡ has_spawned es
+pub split-block : (burden : ℕ) (os : List Open) (es : List Event)
+    → is_split (block_weight burden os es) ≡ has_spawned es
 split-block burden [] es = split_all burden (Straight 0) es
 split-block burden (o ∷ os) es = split_entered burden o.spawned (block_weight burden os o.outer) es
 
@@ -54,12 +61,14 @@ enters_is : (b : Bool) (L : BlockWeight) → enters b L ≡ Straight (now_of (en
 enters_is true L = refl
 enters_is false L = refl
 
-pub span_marked : (burden : ℕ) (mark : Option Mark) (t : Tree) → burdened_span burden (marked mark t) ≡ burdened_span burden t
+pub span_marked : (burden : ℕ) (mark : Option Mark) (t : Tree)
+    → burdened_span burden (marked mark t) ≡ burdened_span burden t
 span_marked burden None t = refl
 span_marked burden (Some m) t = refl
 
 -- the path of a part that has ended, after the path that it began with
-pub ended_weight : (burden : ℕ) (o : Open) (os : List Open) (es : List Event) → has_spawned es ≡ false → weight_in burden (o ∷ os) es ≡ weight_in burden (o ∷ os) [] + burdened_span burden (tree_of es)
+pub ended_weight : (burden : ℕ) (o : Open) (os : List Open) (es : List Event) → has_spawned es ≡ false
+    → weight_in burden (o ∷ os) es ≡ weight_in burden (o ∷ os) [] + burdened_span burden (tree_of es)
 ended_weight burden o os es e =
     let L = enters o.spawned (block_weight burden os o.outer) in
     straight (block_weight burden (o ∷ os) es) (split-block burden (o ∷ os) es ∙ e)
@@ -85,12 +94,14 @@ pub record ShowsBlock (below : List BurdenedBlock → Type 0) (L : BlockWeight) 
   pub now_is : v.now ≡ now_of L
   pub blocks_are : StandsOn below L v.blocks
 
-pub by_block : (burden : ℕ) (os : List Open) (es : List Event) (L : BlockWeight) (v : StrandWeight) → block_weight burden os es ≡ L → ShowsBlock (Under burden os) L v → ShowsWeight burden os es v
+pub by_block : (burden : ℕ) (os : List Open) (es : List Event) (L : BlockWeight) (v : StrandWeight)
+    → block_weight burden os es ≡ L → ShowsBlock (Under burden os) L v → ShowsWeight burden os es v
 by_block burden os es L v e h =
     let P : BlockWeight → Type 0 = λ x. ShowsBlock (Under burden os) x v in
     let s = subst P (sym e) h in record { now_is = s.now_is; blocks_are = s.blocks_are }
 
-pub stands_gone_on : (below : List BurdenedBlock → Type 0) (k : ℕ) (L : BlockWeight) (bs : List BurdenedBlock) → StandsOn below L bs → StandsOn below (gone_on k L) bs
+pub stands_gone_on : (below : List BurdenedBlock → Type 0) (k : ℕ) (L : BlockWeight) (bs : List BurdenedBlock)
+    → StandsOn below L bs → StandsOn below (gone_on k L) bs
 stands_gone_on below k (Straight n) bs h = h
 stands_gone_on below k (Split l n) [] h = absurd h
 stands_gone_on below k (Split l n) (b ∷ bs) h = h
@@ -100,25 +111,37 @@ now_gone_on k (Straight n) = refl
 now_gone_on k (Split l n) = refl
 
 -- a block that has not spawned stands on what lies below it
-pub stands_straight : (below : List BurdenedBlock → Type 0) (L : BlockWeight) (bs : List BurdenedBlock) → is_split L ≡ false → StandsOn below L bs → below bs
+pub stands_straight : (below : List BurdenedBlock → Type 0) (L : BlockWeight) (bs : List BurdenedBlock)
+    → is_split L ≡ false → StandsOn below L bs → below bs
 stands_straight below (Straight n) bs e h = h
 stands_straight below (Split l n) bs e h = cc
 
-in_series_ends : (burden : ℕ) (mark : Option Mark) (outer : List Event) (os : List Open) (es : List Event) (v : StrandWeight) → has_spawned es ≡ false → ShowsWeight burden (in_series mark outer os) es v → ShowsWeight burden os (closed (record { spawned = false; mark = mark; outer = outer }) es) v
+in_series_ends : (burden : ℕ) (mark : Option Mark) (outer : List Event) (os : List Open) (es : List Event)
+    (v : StrandWeight) → has_spawned es ≡ false → ShowsWeight burden (in_series mark outer os) es v
+    → ShowsWeight burden os (closed (record { spawned = false; mark = mark; outer = outer }) es) v
 in_series_ends burden mark outer os es v e h =
     let o : Open = record { spawned = false; mark = mark; outer = outer } in
     let t = marked mark (tree_of es) in
     let L = block_weight burden os outer in
     let k = burdened_span burden t in
-    let below = stands_straight (StandsOn (Under burden os) L) (block_weight burden (o ∷ os) es) v.blocks (split-block burden (o ∷ os) es ∙ e) h.blocks_are in
+    let below =
+    stands_straight (StandsOn (Under burden os) L) (block_weight burden (o ∷ os) es) v.blocks
+    (split-block burden (o ∷ os) es ∙ e) h.blocks_are in
     let same : burdened_span burden (tree_of es) ≡ k = sym (span_marked burden mark (tree_of es)) in
     by_block burden os (closed o es) (gone_on k L) v (block_more burden os outer (Series t))
-    (record { now_is = h.now_is ∙ ended_weight burden o os es e ∙ ap (λ (x : ℕ). now_of L + x) same ∙ sym (now_gone_on k L); blocks_are = stands_gone_on (Under burden os) k L v.blocks below })
+    (record {
+      now_is = h.now_is ∙ ended_weight burden o os es e ∙ ap (λ (x : ℕ). now_of L + x) same ∙ sym
+          (now_gone_on k L);
+      blocks_are = stands_gone_on (Under burden os) k L v.blocks below;
+    })
 
-shows_left : (burden : ℕ) (o : Open) (os : List Open) (es : List Event) (v : StrandWeight) → o.spawned ≡ false → has_spawned es ≡ false → ShowsWeight burden (o ∷ os) es v → ShowsWeight burden os (closed o es) v
+shows_left : (burden : ℕ) (o : Open) (os : List Open) (es : List Event) (v : StrandWeight) → o.spawned ≡ false
+    → has_spawned es ≡ false → ShowsWeight burden (o ∷ os) es v → ShowsWeight burden os (closed o es) v
 shows_left burden o os es v b e h = by_kind o.spawned b h
   where
-    by_kind : (s : Bool) → s ≡ false → ShowsWeight burden (record { spawned = s; mark = o.mark; outer = o.outer } ∷ os) es v → ShowsWeight burden os (closed (record { spawned = s; mark = o.mark; outer = o.outer }) es) v
+    by_kind : (s : Bool) → s ≡ false
+        → ShowsWeight burden (record { spawned = s; mark = o.mark; outer = o.outer } ∷ os) es v
+        → ShowsWeight burden os (closed (record { spawned = s; mark = o.mark; outer = o.outer }) es) v
     by_kind false b h = in_series_ends burden o.mark o.outer os es v e h
     by_kind true b h = cc
 
@@ -146,35 +169,47 @@ works_is burden (Series t ∷ es) = let b = works_is burden es in omega arith
 works_is burden (Fork t ∷ es) = let b = works_is burden es in omega arith
 works_is burden (Join ∷ es) = let b = works_is burden es in omega arith
 
-burdened_works_more : (burden : ℕ) (es : List Event) (e : Event) → burdened_work burden (tree_of (es ++ e ∷ [])) ≡ burdened_work burden (tree_of es) + event_work burden e
-burdened_works_more burden es e = sym (works_is burden (es ++ e ∷ [])) ∙ sum_append burden es e ∙ ap (λ (x : ℕ). x + event_work burden e) (works_is burden es)
+burdened_works_more : (burden : ℕ) (es : List Event) (e : Event)
+    → burdened_work burden (tree_of (es ++ e ∷ [])) ≡ burdened_work burden (tree_of es) + event_work burden e
+burdened_works_more burden es e =
+    sym (works_is burden (es ++ e ∷ [])) ∙ sum_append burden es e ∙ ap (λ (x : ℕ). x + event_work burden e)
+    (works_is burden es)
   where
-    sum_append : (burden : ℕ) (es : List Event) (e : Event) → sum_of_works burden (es ++ e ∷ []) ≡ sum_of_works burden es + event_work burden e
+    sum_append : (burden : ℕ) (es : List Event) (e : Event)
+        → sum_of_works burden (es ++ e ∷ []) ≡ sum_of_works burden es + event_work burden e
     sum_append burden [] e = omega arith
     sum_append burden (d ∷ es) e = let i = sum_append burden es e in omega arith
 
-burdened_works_in : (burden : ℕ) (os : List Open) (es : List Event) (e : Event) → burdened_work_in burden os (es ++ e ∷ []) ≡ burdened_work_in burden os es + event_work burden e
+burdened_works_in : (burden : ℕ) (os : List Open) (es : List Event) (e : Event)
+    → burdened_work_in burden os (es ++ e ∷ []) ≡ burdened_work_in burden os es + event_work burden e
 burdened_works_in burden [] es e = burdened_works_more burden es e
 burdened_works_in burden (o ∷ os) es e = let a = burdened_works_more burden es e in omega arith
 
-burdened_works_all : (burden : ℕ) (es fs : List Event) → burdened_work burden (tree_of (es ++ fs)) ≡ burdened_work burden (tree_of es) + burdened_work burden (tree_of fs)
-burdened_works_all burden es fs = sym (works_is burden (es ++ fs)) ∙ sum_all burden es fs ∙ ap (λ (x : ℕ). x + sum_of_works burden fs) (works_is burden es) ∙ ap (λ (x : ℕ). burdened_work burden (tree_of es) + x) (works_is burden fs)
+burdened_works_all : (burden : ℕ) (es fs : List Event)
+    → burdened_work burden (tree_of (es ++ fs)) ≡ burdened_work burden (tree_of es) + burdened_work burden (tree_of fs)
+burdened_works_all burden es fs =
+    sym (works_is burden (es ++ fs)) ∙ sum_all burden es fs ∙ ap (λ (x : ℕ). x + sum_of_works burden fs)
+    (works_is burden es) ∙ ap (λ (x : ℕ). burdened_work burden (tree_of es) + x) (works_is burden fs)
   where
-    sum_all : (burden : ℕ) (es fs : List Event) → sum_of_works burden (es ++ fs) ≡ sum_of_works burden es + sum_of_works burden fs
+    sum_all : (burden : ℕ) (es fs : List Event)
+        → sum_of_works burden (es ++ fs) ≡ sum_of_works burden es + sum_of_works burden fs
     sum_all burden [] fs = omega arith
     sum_all burden (d ∷ es) fs = let i = sum_all burden es fs in omega arith
 
-pub burdened_append : (burden : ℕ) (os : List Open) (es fs : List Event) → burdened_work_in burden os (es ++ fs) ≡ burdened_work_in burden os es + burdened_work burden (tree_of fs)
+pub burdened_append : (burden : ℕ) (os : List Open) (es fs : List Event)
+    → burdened_work_in burden os (es ++ fs) ≡ burdened_work_in burden os es + burdened_work burden (tree_of fs)
 burdened_append burden [] es fs = burdened_works_all burden es fs
 burdened_append burden (o ∷ os) es fs = let a = burdened_works_all burden es fs in omega arith
 
-event_work_is : (burden : ℕ) (spawned : Bool) (mark : Option Mark) (t : Tree) → event_work burden (part_of spawned (marked mark t)) ≡ burdened_work burden t + burden_if spawned burden
+event_work_is : (burden : ℕ) (spawned : Bool) (mark : Option Mark) (t : Tree)
+    → event_work burden (part_of spawned (marked mark t)) ≡ burdened_work burden t + burden_if spawned burden
 event_work_is burden true None t = refl
 event_work_is burden true (Some m) t = refl
 event_work_is burden false None t = omega arith
 event_work_is burden false (Some m) t = omega arith
 
-pub left_burdened_work : (burden : ℕ) (o : Open) (os : List Open) (es : List Event) → burdened_work_in burden os (closed o es) ≡ burdened_work_in burden (o ∷ os) es
+pub left_burdened_work : (burden : ℕ) (o : Open) (os : List Open) (es : List Event)
+    → burdened_work_in burden os (closed o es) ≡ burdened_work_in burden (o ∷ os) es
 left_burdened_work burden o os es =
     let a = burdened_works_in burden os o.outer (event_of o es) in
     let b = event_work_is burden o.spawned o.mark (tree_of es) in omega arith

@@ -33,7 +33,9 @@ later : (x : ℕ) (xs : List ℕ) (n : ℕ) → Contains xs n → Contains (x �
 later x xs n c = Contains-append_right (x ∷ []) xs n c
 
 here : (x : ℕ) (xs : List ℕ) (n : ℕ) → n ≡ x → Contains (x ∷ xs) n
-here x xs n e = let P : ℕ → Type 0 = λ k. Contains (x ∷ xs) k in subst P (sym e) (Contains-append_left (x ∷ []) xs x (Contains-push [] x))
+here x xs n e =
+    let P : ℕ
+    → Type 0 = λ k. Contains (x ∷ xs) k in subst P (sym e) (Contains-append_left (x ∷ []) xs x (Contains-push [] x))
 
 at_most : (m x : ℕ) → nat_le m x ≡ true → m ≤ x
 at_most m x e = grind (arith, nat_tests)
@@ -63,7 +65,8 @@ one_more m x xs false e l =
     }
 
 some_lowest : (m : ℕ) (xs : List ℕ) → Lowest m xs
-some_lowest m [] = record { least = m; is = refl; below = omega arith; all = λ k d h. absurd (omega (arith, h)); from = inl refl }
+some_lowest m [] =
+    record { least = m; is = refl; below = omega arith; all = λ k d h. absurd (omega (arith, h)); from = inl refl }
 some_lowest m (x ∷ xs) = one_more m x xs (nat_le m x) refl (some_lowest (if nat_le m x then m else x) xs)
 
 pub no_lines : (xs : List ℕ) → lowest None xs ≡ None → xs ≡ []

@@ -27,7 +27,8 @@ same_before (to_the_right a b c) later = refl
 same_before (as_one_strand j k) later = leaf-leaf_before j k later
 same_before (nothing_before t) later = refl
 same_before (nothing_after t) later = refl
-same_before (in_series {a = a} {a' = a'} {b = b} {b' = b'} r s) later = same_before r (before b later) ∙ ap (before a') (same_before s later)
+same_before (in_series {a = a} {a' = a'} {b = b} {b' = b'} r s) later =
+    same_before r (before b later) ∙ ap (before a') (same_before s later)
 same_before (in_fork r s) later = rw (same_before r (Leaf 0), same_before s (Leaf 0)) refl
 same_before (in_mark mark r) later = rw (same_before r (Leaf 0)) refl
 
@@ -35,7 +36,8 @@ same_before (in_mark mark r) later = rw (same_before r (Leaf 0)) refl
 leaf_is_before : (k : ℕ) (t : Tree) → Regrouped (leaf_before k t) (Seq (Leaf k) t)
 leaf_is_before zero t = back (nothing_before t)
 leaf_is_before (suc k) (Leaf j) = back (as_one_strand (suc k) j)
-leaf_is_before (suc k) (Seq (Leaf j) t) = further (in_series (back (as_one_strand (suc k) j)) (same t)) (to_the_right (Leaf (suc k)) (Leaf j) t)
+leaf_is_before (suc k) (Seq (Leaf j) t) =
+    further (in_series (back (as_one_strand (suc k) j)) (same t)) (to_the_right (Leaf (suc k)) (Leaf j) t)
 leaf_is_before (suc k) _ = same _
 
 part_is_before : (part t : Tree) → Regrouped (part_before part t) (Seq part t)
@@ -45,10 +47,12 @@ part_is_before part _ = same _
 is_before : (t later : Tree) → Regrouped (before t later) (Seq t later)
 is_before (Leaf k) later = leaf_is_before k later
 is_before (Seq a b) later =
-    further (is_before a (before b later)) (further (in_series (same a) (is_before b later)) (back (to_the_right a b later)))
+    further (is_before a (before b later))
+    (further (in_series (same a) (is_before b later)) (back (to_the_right a b later)))
 is_before (Par child rest) later =
     further (part_is_before (Par (before child (Leaf 0)) (before rest (Leaf 0))) later)
-    (in_series (in_fork (further (is_before child (Leaf 0)) (nothing_after child)) (further (is_before rest (Leaf 0)) (nothing_after rest))) (same later))
+    (in_series (in_fork (further (is_before child (Leaf 0)) (nothing_after child))
+    (further (is_before rest (Leaf 0)) (nothing_after rest))) (same later))
 is_before (Marked mark t) later =
     further (part_is_before (Marked mark (before t (Leaf 0))) later)
     (in_series (in_mark mark (further (is_before t (Leaf 0)) (nothing_after t))) (same later))
@@ -102,8 +106,11 @@ same_calls site (in_series r s) = omega (arith, same_calls site r, same_calls si
 same_calls site (in_fork r s) = omega (arith, same_calls site r, same_calls site s)
 same_calls site (in_mark mark r) = rw (same_calls site r) refl
 
-pub weight-append : (site : ℕ) (xs ys : List (ℕ × ℕ)) → weight_of_site site (xs ++ ys) ≡ weight_of_site site xs + weight_of_site site ys
-weight-append site xs ys = rw filter-append (sum_by-append (λ (leaf : ℕ × ℕ). leaf.1) (filter (λ leaf. leaf.0 == site) xs) (filter (λ leaf. leaf.0 == site) ys))
+pub weight-append : (site : ℕ) (xs ys : List (ℕ × ℕ))
+    → weight_of_site site (xs ++ ys) ≡ weight_of_site site xs + weight_of_site site ys
+weight-append site xs ys =
+    rw filter-append (sum_by-append (λ (leaf : ℕ × ℕ). leaf.1) (filter (λ leaf. leaf.0 == site) xs)
+    (filter (λ leaf. leaf.0 == site) ys))
 
 -- a leaf's weight is a site's, or none of it
 abbrev pub weight_if : Bool → ℕ → ℕ
@@ -118,9 +125,11 @@ weight_of_leaf site outer k = by_test (outer == site)
     by_test false = refl
 
 weight_of_joined : (site outer j k : ℕ) →
-    weight_of_site site ((outer, j) ∷ []) + weight_of_site site ((outer, k) ∷ []) ≡ weight_of_site site ((outer, j + k) ∷ [])
+    weight_of_site site ((outer, j) ∷ []) + weight_of_site site ((outer, k) ∷ [])
+    ≡ weight_of_site site ((outer, j + k) ∷ [])
 weight_of_joined site outer j k =
-    rw (weight_of_leaf site outer j, weight_of_leaf site outer k, weight_of_leaf site outer (j + k)) (by_test (outer == site))
+    rw (weight_of_leaf site outer j, weight_of_leaf site outer k, weight_of_leaf site outer (j + k))
+    (by_test (outer == site))
   where
     by_test : (b : Bool) → weight_if b j + weight_if b k ≡ weight_if b (j + k)
     by_test true = refl
@@ -133,20 +142,34 @@ no_weight site outer = weight_of_leaf site outer 0 ∙ by_test (outer == site)
     by_test true = refl
     by_test false = refl
 
-same_leaves : (site outer : ℕ) {t u : Tree} → Regrouped t u → weight_of_site site (leaves outer t) ≡ weight_of_site site (leaves outer u)
+same_leaves : (site outer : ℕ) {t u : Tree} → Regrouped t u
+    → weight_of_site site (leaves outer t) ≡ weight_of_site site (leaves outer u)
 same_leaves site outer (same t) = refl
 same_leaves site outer (back r) = sym (same_leaves site outer r)
 same_leaves site outer (further r s) = same_leaves site outer r ∙ same_leaves site outer s
 same_leaves site outer (to_the_right a b c) = rw append_assoc refl
-same_leaves site outer (as_one_strand j k) = weight-append site ((outer, j) ∷ []) ((outer, k) ∷ []) ∙ weight_of_joined site outer j k
+same_leaves site outer (as_one_strand j k) =
+    weight-append site ((outer, j) ∷ []) ((outer, k) ∷ []) ∙ weight_of_joined site outer j k
 same_leaves site outer (nothing_before t) =
-    weight-append site ((outer, 0) ∷ []) (leaves outer t) ∙ ap (λ n. n + weight_of_site site (leaves outer t)) (no_weight site outer) ∙ add.zero _
+    weight-append site ((outer, 0) ∷ []) (leaves outer t) ∙ ap (λ n. n + weight_of_site site (leaves outer t))
+    (no_weight site outer) ∙ add.zero _
 same_leaves site outer (nothing_after t) =
-    weight-append site (leaves outer t) ((outer, 0) ∷ []) ∙ ap (λ n. weight_of_site site (leaves outer t) + n) (no_weight site outer) ∙ add-zero _
+    weight-append site (leaves outer t) ((outer, 0) ∷ []) ∙ ap (λ n. weight_of_site site (leaves outer t) + n)
+    (no_weight site outer) ∙ add-zero _
 same_leaves site outer (in_series {a = a} {a' = a'} {b = b} {b' = b'} r s) =
-    rw (weight-append site (leaves outer a) (leaves outer b), weight-append site (leaves outer a') (leaves outer b'), same_leaves site outer r, same_leaves site outer s) refl
+    rw (
+      weight-append site (leaves outer a) (leaves outer b),
+      weight-append site (leaves outer a') (leaves outer b'),
+      same_leaves site outer r,
+      same_leaves site outer s,
+    ) refl
 same_leaves site outer (in_fork {child = a} {child' = a'} {rest = b} {rest' = b'} r s) =
-    rw (weight-append site (leaves outer a) (leaves outer b), weight-append site (leaves outer a') (leaves outer b'), same_leaves site outer r, same_leaves site outer s) refl
+    rw (
+      weight-append site (leaves outer a) (leaves outer b),
+      weight-append site (leaves outer a') (leaves outer b'),
+      same_leaves site outer r,
+      same_leaves site outer s,
+    ) refl
 same_leaves site outer (in_mark mark r) = same_leaves site (site_inside mark outer) r
 
 -- the same choice between what weighs the same
@@ -159,42 +182,68 @@ same_choice site m n m' n' xs ys xs' ys' e f g h = rw (e, f) (by_test (nat_le m'
     by_test true = g
     by_test false = h
 
-same_chosen : (site outer : ℕ) {t u : Tree} → Regrouped t u → weight_of_site site (chosen_leaves outer t) ≡ weight_of_site site (chosen_leaves outer u)
+same_chosen : (site outer : ℕ) {t u : Tree} → Regrouped t u
+    → weight_of_site site (chosen_leaves outer t) ≡ weight_of_site site (chosen_leaves outer u)
 same_chosen site outer (same t) = refl
 same_chosen site outer (back r) = sym (same_chosen site outer r)
 same_chosen site outer (further r s) = same_chosen site outer r ∙ same_chosen site outer s
 same_chosen site outer (to_the_right a b c) = rw append_assoc refl
-same_chosen site outer (as_one_strand j k) = weight-append site ((outer, j) ∷ []) ((outer, k) ∷ []) ∙ weight_of_joined site outer j k
+same_chosen site outer (as_one_strand j k) =
+    weight-append site ((outer, j) ∷ []) ((outer, k) ∷ []) ∙ weight_of_joined site outer j k
 same_chosen site outer (nothing_before t) =
-    weight-append site ((outer, 0) ∷ []) (chosen_leaves outer t) ∙ ap (λ n. n + weight_of_site site (chosen_leaves outer t)) (no_weight site outer) ∙ add.zero _
+    weight-append site ((outer, 0) ∷ []) (chosen_leaves outer t) ∙ ap
+    (λ n. n + weight_of_site site (chosen_leaves outer t)) (no_weight site outer) ∙ add.zero _
 same_chosen site outer (nothing_after t) =
-    weight-append site (chosen_leaves outer t) ((outer, 0) ∷ []) ∙ ap (λ n. weight_of_site site (chosen_leaves outer t) + n) (no_weight site outer) ∙ add-zero _
+    weight-append site (chosen_leaves outer t) ((outer, 0) ∷ []) ∙ ap
+    (λ n. weight_of_site site (chosen_leaves outer t) + n) (no_weight site outer) ∙ add-zero _
 same_chosen site outer (in_series {a = a} {a' = a'} {b = b} {b' = b'} r s) =
-    rw (weight-append site (chosen_leaves outer a) (chosen_leaves outer b), weight-append site (chosen_leaves outer a') (chosen_leaves outer b'), same_chosen site outer r, same_chosen site outer s) refl
+    rw (
+      weight-append site (chosen_leaves outer a) (chosen_leaves outer b),
+      weight-append site (chosen_leaves outer a')
+          (chosen_leaves outer b'),
+      same_chosen site outer r,
+      same_chosen site outer s,
+    ) refl
 same_chosen site outer (in_fork {child = a} {child' = a'} {rest = b} {rest' = b'} r s) =
-    same_choice site (span b) (span a) (span b') (span a') _ _ _ _ (same_burdened 0 s) (same_burdened 0 r) (same_chosen site outer r) (same_chosen site outer s)
+    same_choice site (span b) (span a) (span b') (span a') _ _ _ _ (same_burdened 0 s) (same_burdened 0 r)
+    (same_chosen site outer r) (same_chosen site outer s)
 same_chosen site outer (in_mark mark r) = same_chosen site (site_inside mark outer) r
 
 -- a reading of the marked parts, summed over the outermost ones
-module _ (reading : Tree → ℕ) (marked : Mark → Bool) (keeps : (t u : Tree) → Regrouped t u → reading t ≡ reading u) where
-  same_outermost : {t u : Tree} → Regrouped t u → sum_by reading (outermost marked t) ≡ sum_by reading (outermost marked u)
-  same_outermost (same t) = refl
-  same_outermost (back r) = sym (same_outermost r)
-  same_outermost (further r s) = same_outermost r ∙ same_outermost s
-  same_outermost (to_the_right a b c) = rw append_assoc refl
-  same_outermost (as_one_strand j k) = refl
-  same_outermost (nothing_before t) = refl
-  same_outermost (nothing_after t) = rw append-nil refl
-  same_outermost (in_series {a = a} {a' = a'} {b = b} {b' = b'} r s) =
-      rw (sum_by-append reading (outermost marked a) (outermost marked b), sum_by-append reading (outermost marked a') (outermost marked b'), same_outermost r, same_outermost s) refl
-  same_outermost (in_fork {child = a} {child' = a'} {rest = b} {rest' = b'} r s) =
-      rw (sum_by-append reading (outermost marked a) (outermost marked b), sum_by-append reading (outermost marked a') (outermost marked b'), same_outermost r, same_outermost s) refl
-  same_outermost (in_mark {t = t} {t' = t'} mark r) = by_test (marked mark) (same_outermost r)
-    where
-      by_test : (b : Bool) → sum_by reading (outermost marked t) ≡ sum_by reading (outermost marked t') →
-          sum_by reading (if b then t ∷ [] else outermost marked t) ≡ sum_by reading (if b then t' ∷ [] else outermost marked t')
-      by_test true e = ap (λ n. 0 + n) (keeps t t' r)
-      by_test false e = e
+module _ (reading : Tree → ℕ) (marked : Mark → Bool) (keeps : (t u : Tree) → Regrouped t u → reading t ≡ reading u)
+  where
+    same_outermost : {t u : Tree} → Regrouped t u
+        → sum_by reading (outermost marked t) ≡ sum_by reading (outermost marked u)
+    same_outermost (same t) = refl
+    same_outermost (back r) = sym (same_outermost r)
+    same_outermost (further r s) = same_outermost r ∙ same_outermost s
+    same_outermost (to_the_right a b c) = rw append_assoc refl
+    same_outermost (as_one_strand j k) = refl
+    same_outermost (nothing_before t) = refl
+    same_outermost (nothing_after t) = rw append-nil refl
+    same_outermost (in_series {a = a} {a' = a'} {b = b} {b' = b'} r s) =
+        rw (
+          sum_by-append reading (outermost marked a) (outermost marked b),
+          sum_by-append reading (outermost marked a')
+              (outermost marked b'),
+          same_outermost r,
+          same_outermost s,
+        ) refl
+    same_outermost (in_fork {child = a} {child' = a'} {rest = b} {rest' = b'} r s) =
+        rw (
+          sum_by-append reading (outermost marked a) (outermost marked b),
+          sum_by-append reading (outermost marked a')
+              (outermost marked b'),
+          same_outermost r,
+          same_outermost s,
+        ) refl
+    same_outermost (in_mark {t = t} {t' = t'} mark r) = by_test (marked mark) (same_outermost r)
+      where
+        by_test : (b : Bool) → sum_by reading (outermost marked t) ≡ sum_by reading (outermost marked t') →
+            sum_by reading (if b then t ∷ [] else outermost marked t)
+            ≡ sum_by reading (if b then t' ∷ [] else outermost marked t')
+        by_test true e = ap (λ n. 0 + n) (keeps t t' r)
+        by_test false e = e
 
 pub same_readings : (t u : Tree) → Regrouped t u → ReadSame t u
 same_readings t u r = record {

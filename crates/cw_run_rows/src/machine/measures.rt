@@ -58,7 +58,7 @@ fn region(work: u64, span: u64, burdened: u128) -> RegionRow {
 
 // int fib(int n) { if (n < 2) return n; a = spawn fib(n - 1); b = fib(n - 2); sync; return a + b; }: 8 instructions up
 // to the spawn, 4 beside the child, and 5 after the join; 6 where n is below 2.
-fn fib_body() -> [Instr; 19] {
+pub(crate) fn fib_body() -> [Instr; 19] {
     let minus = Instr::Binary(Operator::Minus, 1);
     [
         Instr::Load(0),

@@ -14,13 +14,15 @@ module _ {A : Type 0} where
   outs_offer x [] = refl
   outs_offer x (e ∷ es) = ap (if_lies e.1 e.0) (outs_offer x es) ∙ lies_on e.1 e.0 (outs es) x
 
-  newest_on : (f : Fate) (y : A) (xs : List A) → is_some (oldest xs) ≡ true → if_lies f y (but_newest xs) ≡ but_newest (if_lies f y xs)
+  newest_on : (f : Fate) (y : A) (xs : List A) → is_some (oldest xs) ≡ true
+      → if_lies f y (but_newest xs) ≡ but_newest (if_lies f y xs)
   newest_on f y [] h = cc
   newest_on Lies y (x ∷ xs) h = refl
   newest_on Back y (x ∷ xs) h = refl
   newest_on (Gone by) y (x ∷ xs) h = refl
 
-  newest_here : (f : Fate) (y : A) (xs : List A) → is_some (oldest xs) ≡ false → if_lies (taken_back f) y xs ≡ but_newest (if_lies f y xs)
+  newest_here : (f : Fate) (y : A) (xs : List A) → is_some (oldest xs) ≡ false
+      → if_lies (taken_back f) y xs ≡ but_newest (if_lies f y xs)
   newest_here f y (x ∷ xs) h = cc
   newest_here Lies y [] h = refl
   newest_here Back y [] h = refl
@@ -30,11 +32,14 @@ module _ {A : Type 0} where
   outs_retake [] = refl
   outs_retake (e ∷ es) = cases (is_some (oldest (outs es))) refl (outs_retake es)
     where
-      cases : (b : Bool) → is_some (oldest (outs es)) ≡ b → outs (ledger_retake es) ≡ but_newest (outs es) → outs (if b then e ∷ ledger_retake es else (e.0, taken_back e.1) ∷ es) ≡ but_newest (if_lies e.1 e.0 (outs es))
+      cases : (b : Bool) → is_some (oldest (outs es)) ≡ b → outs (ledger_retake es) ≡ but_newest (outs es)
+          → outs (if b then e ∷ ledger_retake es else (e.0, taken_back e.1) ∷ es)
+          ≡ but_newest (if_lies e.1 e.0 (outs es))
       cases true h later = ap (if_lies e.1 e.0) later ∙ newest_on e.1 e.0 (outs es) h
       cases false h later = newest_here e.1 e.0 (outs es) h
 
-  steal_on : (p : ℕ) (f : Fate) (x : A) (es rest : List (A × Fate)) → outs rest ≡ but_oldest (outs es) → outs (steal_at p x f es rest) ≡ but_oldest (if_lies f x (outs es))
+  steal_on : (p : ℕ) (f : Fate) (x : A) (es rest : List (A × Fate)) → outs rest ≡ but_oldest (outs es)
+      → outs (steal_at p x f es rest) ≡ but_oldest (if_lies f x (outs es))
   steal_on p Lies x es rest h = refl
   steal_on p Back x es rest h = h
   steal_on p (Gone by) x es rest h = h

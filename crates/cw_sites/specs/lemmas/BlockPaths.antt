@@ -20,24 +20,31 @@ abbrev pub StandsFor : (before : Path) → PathCounters → BlockPath → Type 0
 StandsFor before (Unsynced l k) L = StandsAt before l k L
 StandsFor before (Synced p l k) L = StandsAt (plus before p) l k L
 
-pub stands_extended : (f : Path) (l : Option Path) (k p : Path) (L : BlockPath) → StandsAt f l k L → StandsAt f l (plus k p) (extended p L)
+pub stands_extended : (f : Path) (l : Option Path) (k p : Path) (L : BlockPath) → StandsAt f l k L
+    → StandsAt f l (plus k p) (extended p L)
 stands_extended f None k p (Straight n) h = sym (plus-assoc f k p) ∙ ap (λ (x : Path). plus x p) h
 stands_extended f None k p (Split b l n) h = absurd h
 stands_extended f (Some l) k p (Straight n) h = absurd h
 stands_extended f (Some l) k p (Split b None n) h = absurd h
-stands_extended f (Some l) k p (Split b (Some c) n) h = (h.0, sym (plus-assoc f k p) ∙ ap (λ (x : Path). plus x p) h.1 ∙ plus-assoc b n p)
+stands_extended f (Some l) k p (Split b (Some c) n) h =
+    (h.0, sym (plus-assoc f k p) ∙ ap (λ (x : Path). plus x p) h.1 ∙ plus-assoc b n p)
 
-pub takes_later : (b l n c : Path) → l.weight < n.weight + c.weight → child_ended c (Split b (Some l) n) ≡ Split (plus b n) (Some c) nowhere
+pub takes_later : (b l n c : Path) → l.weight < n.weight + c.weight
+    → child_ended c (Split b (Some l) n) ≡ Split (plus b n) (Some c) nowhere
 takes_later b l n c h = grind (arith, nat_tests)
 
-pub keeps_longest : (b l n c : Path) → n.weight + c.weight ≤ l.weight → child_ended c (Split b (Some l) n) ≡ Split b (Some l) n
+pub keeps_longest : (b l n c : Path) → n.weight + c.weight ≤ l.weight
+    → child_ended c (Split b (Some l) n) ≡ Split b (Some l) n
 keeps_longest b l n c h = grind (arith, nat_tests)
 
-weights : (f l k b c n d : Path) → plus f l ≡ plus b c → plus f k ≡ plus b n → (f.weight + l.weight ≡ b.weight + c.weight) × (f.weight + k.weight ≡ b.weight + n.weight)
+weights : (f l k b c n d : Path) → plus f l ≡ plus b c → plus f k ≡ plus b n
+    → (f.weight + l.weight ≡ b.weight + c.weight) × (f.weight + k.weight ≡ b.weight + n.weight)
 weights f l k b c n d g h = (ap (λ (p : Path). p.weight) g, ap (λ (p : Path). p.weight) h)
 
-pub stands_forked : (f : Path) (l : Option Path) (k c : Path) (L : BlockPath) → StandsAt f l k L → StandsAt f (either l (Some (plus k c))) k (child_ended c L)
-stands_forked f None k c (Straight n) h = (sym (plus-assoc f k c) ∙ ap (λ (x : Path). plus x c) h, h ∙ sym (plus-nowhere_last n))
+pub stands_forked : (f : Path) (l : Option Path) (k c : Path) (L : BlockPath) → StandsAt f l k L
+    → StandsAt f (either l (Some (plus k c))) k (child_ended c L)
+stands_forked f None k c (Straight n) h =
+    (sym (plus-assoc f k c) ∙ ap (λ (x : Path). plus x c) h, h ∙ sym (plus-nowhere_last n))
 stands_forked f None k c (Split b l n) h = absurd h
 stands_forked f (Some l) k c (Straight n) h = absurd h
 stands_forked f (Some l) k c (Split b None n) h = absurd h
@@ -55,37 +62,70 @@ stands_forked f (Some l) k c (Split b (Some d) n) h =
           subst P (sym (keeps_longest b d n c more)) (subst Q (sym (takes_first l (plus k c) (omega arith))) h)
     ]
 
-stands_finished : (f : Path) (l : Option Path) (k : Path) (L : BlockPath) → StandsAt f l k L → plus f (best l k) ≡ finished L
+stands_finished : (f : Path) (l : Option Path) (k : Path) (L : BlockPath) → StandsAt f l k L
+    → plus f (best l k) ≡ finished L
 stands_finished f None k (Straight n) h = h
 stands_finished f None k (Split b l n) h = absurd h
 stands_finished f (Some l) k (Straight n) h = absurd h
 stands_finished f (Some l) k (Split b None n) h = absurd h
-stands_finished f (Some l) k (Split b (Some d) n) h = plus-heavier f l k ∙ ap (λ (x : Path). heavier x (plus f k)) h.0 ∙ ap (heavier (plus b d)) h.1 ∙ sym (plus-heavier b d n)
+stands_finished f (Some l) k (Split b (Some d) n) h =
+    plus-heavier f l k ∙ ap (λ (x : Path). heavier x (plus f k)) h.0 ∙ ap (heavier (plus b d)) h.1 ∙ sym
+    (plus-heavier b d n)
 
-one_more : (site here : ℕ) (before : Path) (w : PathCounters) (L : BlockPath) (e : Event) → StandsFor before w L → StandsFor before (onward w (of_event site here e)) (after site here L e)
-one_more site here before (Unsynced l k) L (Work n) h = let P : Option Path → Type 0 = λ x. StandsAt before x (plus k (steps_of site here n)) (extended (steps_of site here n) L) in subst P (sym (either-none l)) (stands_extended before l k (steps_of site here n) L h)
-one_more site here before (Synced p l k) L (Work n) h = let P : Option Path → Type 0 = λ x. StandsAt (plus before p) x (plus k (steps_of site here n)) (extended (steps_of site here n) L) in subst P (sym (either-none l)) (stands_extended (plus before p) l k (steps_of site here n) L h)
-one_more site here before (Unsynced l k) L (Series t) h = let P : Option Path → Type 0 = λ x. StandsAt before x (plus k (chosen site here t)) (extended (chosen site here t) L) in subst P (sym (either-none l)) (stands_extended before l k (chosen site here t) L h)
-one_more site here before (Synced p l k) L (Series t) h = let P : Option Path → Type 0 = λ x. StandsAt (plus before p) x (plus k (chosen site here t)) (extended (chosen site here t) L) in subst P (sym (either-none l)) (stands_extended (plus before p) l k (chosen site here t) L h)
-one_more site here before (Unsynced l k) L (Fork t) h = let P : Path → Type 0 = λ x. StandsAt before (either l (Some (plus k (chosen site here t)))) x (child_ended (chosen site here t) L) in subst P (sym (plus-nowhere_last k)) (stands_forked before l k (chosen site here t) L h)
-one_more site here before (Synced p l k) L (Fork t) h = let P : Path → Type 0 = λ x. StandsAt (plus before p) (either l (Some (plus k (chosen site here t)))) x (child_ended (chosen site here t) L) in subst P (sym (plus-nowhere_last k)) (stands_forked (plus before p) l k (chosen site here t) L h)
+one_more : (site here : ℕ) (before : Path) (w : PathCounters) (L : BlockPath) (e : Event) → StandsFor before w L
+    → StandsFor before (onward w (of_event site here e)) (after site here L e)
+one_more site here before (Unsynced l k) L (Work n) h =
+    let P : Option Path
+    → Type 0 = λ x. StandsAt before x (plus k (steps_of site here n)) (extended (steps_of site here n) L) in subst P
+    (sym (either-none l)) (stands_extended before l k (steps_of site here n) L h)
+one_more site here before (Synced p l k) L (Work n) h =
+    let P : Option Path
+    → Type 0 = λ x. StandsAt (plus before p) x (plus k (steps_of site here n)) (extended (steps_of site here n) L) in
+    subst P (sym (either-none l)) (stands_extended (plus before p) l k (steps_of site here n) L h)
+one_more site here before (Unsynced l k) L (Series t) h =
+    let P : Option Path
+    → Type 0 = λ x. StandsAt before x (plus k (chosen site here t)) (extended (chosen site here t) L) in subst P
+    (sym (either-none l)) (stands_extended before l k (chosen site here t) L h)
+one_more site here before (Synced p l k) L (Series t) h =
+    let P : Option Path
+    → Type 0 = λ x. StandsAt (plus before p) x (plus k (chosen site here t)) (extended (chosen site here t) L) in
+    subst P (sym (either-none l)) (stands_extended (plus before p) l k (chosen site here t) L h)
+one_more site here before (Unsynced l k) L (Fork t) h =
+    let P : Path
+    → Type 0 = λ x. StandsAt before (either l (Some (plus k (chosen site here t)))) x
+    (child_ended (chosen site here t) L) in subst P (sym (plus-nowhere_last k))
+    (stands_forked before l k (chosen site here t) L h)
+one_more site here before (Synced p l k) L (Fork t) h =
+    let P : Path
+    → Type 0 = λ x. StandsAt (plus before p) (either l (Some (plus k (chosen site here t)))) x
+    (child_ended (chosen site here t) L) in subst P (sym (plus-nowhere_last k))
+    (stands_forked (plus before p) l k (chosen site here t) L h)
 one_more site here before (Unsynced l k) L Join h =
-    plus-nowhere_last (plus before (best l (plus k nowhere))) ∙ ap (λ (x : Path). plus before (best l x)) (plus-nowhere_last k) ∙ stands_finished before l k L h
+    plus-nowhere_last (plus before (best l (plus k nowhere))) ∙ ap (λ (x : Path). plus before (best l x))
+    (plus-nowhere_last k) ∙ stands_finished before l k L h
 one_more site here before (Synced p l k) L Join h =
-    ap (plus (plus before p)) (plus-nowhere_last (best l (plus k nowhere))) ∙ ap (λ (x : Path). plus (plus before p) (best l x)) (plus-nowhere_last k) ∙ stands_finished (plus before p) l k L h
+    ap (plus (plus before p)) (plus-nowhere_last (best l (plus k nowhere))) ∙ ap
+    (λ (x : Path). plus (plus before p) (best l x)) (plus-nowhere_last k) ∙ stands_finished (plus before p) l k L h
 
-pub all_more : (site here : ℕ) (before : Path) (w : PathCounters) (L : BlockPath) (es : List Event) → StandsFor before w L → StandsFor before (onward w (of_events site here es)) (after_all site here L es)
-all_more site here before w L [] h = let P : PathCounters → Type 0 = λ x. StandsFor before x L in subst P (sym (onward-fresh_last w)) h
+pub all_more : (site here : ℕ) (before : Path) (w : PathCounters) (L : BlockPath) (es : List Event)
+    → StandsFor before w L → StandsFor before (onward w (of_events site here es)) (after_all site here L es)
+all_more site here before w L [] h =
+    let P : PathCounters → Type 0 = λ x. StandsFor before x L in subst P (sym (onward-fresh_last w)) h
 all_more site here before w L (e ∷ es) h =
     let P : PathCounters → Type 0 = λ x. StandsFor before x (after_all site here (after site here L e) es) in
-    subst P (onward-assoc w (of_event site here e) (of_events site here es)) (all_more site here before (onward w (of_event site here e)) (after site here L e) es (one_more site here before w L e h))
+    subst P (onward-assoc w (of_event site here e) (of_events site here es))
+    (all_more site here before (onward w (of_event site here e)) (after site here L e) es
+    (one_more site here before w L e h))
 
-pub stands_reading : (before : Path) (w : PathCounters) (L : BlockPath) → StandsFor before w L → plus before (reading w) ≡ finished L
+pub stands_reading : (before : Path) (w : PathCounters) (L : BlockPath) → StandsFor before w L
+    → plus before (reading w) ≡ finished L
 stands_reading before (Unsynced l k) L h = stands_finished before l k L h
-stands_reading before (Synced p l k) L h = sym (plus-assoc before p (best l k)) ∙ stands_finished (plus before p) l k L h
+stands_reading before (Synced p l k) L h =
+    sym (plus-assoc before p (best l k)) ∙ stands_finished (plus before p) l k L h
 
 -- THE LAW OF A BLOCK: it adds the chosen path of its tree to what came before
-pub finished-after_all : (site here : ℕ) (before : Path) (es : List Event) → finished (after_all site here (Straight before) es) ≡ plus before (chosen site here (tree_of es))
+pub finished-after_all : (site here : ℕ) (before : Path) (es : List Event)
+    → finished (after_all site here (Straight before) es) ≡ plus before (chosen site here (tree_of es))
 finished-after_all site here before es =
     let begun : StandsFor before fresh (Straight before) = plus-nowhere_last before in
     let all = all_more site here before fresh (Straight before) es begun in

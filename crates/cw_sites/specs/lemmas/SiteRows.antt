@@ -26,10 +26,13 @@ span_marked : (mark : Option Mark) (t : Tree) → span (marked mark t) ≡ span 
 span_marked None t = refl
 span_marked (Some m) t = refl
 
-ended_weight : (site base : ℕ) (o : Open) (os : List Open) (es : List Event) → has_spawned es ≡ false → path_in site base (o ∷ os) es ≡ path_in site base (o ∷ os) [] + span (tree_of es)
+ended_weight : (site base : ℕ) (o : Open) (os : List Open) (es : List Event) → has_spawned es ≡ false
+    → path_in site base (o ∷ os) es ≡ path_in site base (o ∷ os) [] + span (tree_of es)
 ended_weight site base o os es f =
     let before = now_of (enters o.spawned (block_path site base os o.outer)) in
-    let p = ap (λ (L : BlockPath). (now_of L).weight) (ended_path site base o os es before (enters_is o.spawned (block_path site base os o.outer)) f) in
+    let p =
+    ap (λ (L : BlockPath). (now_of L).weight)
+    (ended_path site base o os es before (enters_is o.spawned (block_path site base os o.outer)) f) in
     let w = chosen-weight site (here_in base os) (marked o.mark (tree_of es)) in
     let s = span_marked o.mark (tree_of es) in omega arith
 
@@ -44,10 +47,12 @@ path_meters site base = record {
 pub calls_adds : (site : ℕ) → Adds (calls_of site)
 calls_adds site = record { nothing = refl; series = λ a b. refl; fork = λ a b. refl }
 
-pub weight-append : (site : ℕ) (a b : List (ℕ × ℕ)) → weight_of_site site (a ++ b) ≡ weight_of_site site a + weight_of_site site b
+pub weight-append : (site : ℕ) (a b : List (ℕ × ℕ))
+    → weight_of_site site (a ++ b) ≡ weight_of_site site a + weight_of_site site b
 weight-append site a b =
     ap (sum_by (λ (leaf : ℕ × ℕ). leaf.1)) (filter-append (λ (leaf : ℕ × ℕ). leaf.0 == site) a b)
-    ∙ sum_by-append (λ (leaf : ℕ × ℕ). leaf.1) (filter (λ (leaf : ℕ × ℕ). leaf.0 == site) a) (filter (λ (leaf : ℕ × ℕ). leaf.0 == site) b)
+    ∙ sum_by-append (λ (leaf : ℕ × ℕ). leaf.1) (filter (λ (leaf : ℕ × ℕ). leaf.0 == site) a)
+    (filter (λ (leaf : ℕ × ℕ). leaf.0 == site) b)
 
 abbrev pub steps_if : Bool → ℕ → ℕ
 steps_if b k = if b then k else 0
@@ -70,25 +75,33 @@ own_adds site here = record {
 }
 
 -- one event more in the block that runs
-pub calls_append : (site : ℕ) (os : List Open) (es fs : List Event) → calls_in site os (es ++ fs) ≡ calls_in site os es + calls_of site (tree_of fs)
+pub calls_append : (site : ℕ) (os : List Open) (es fs : List Event)
+    → calls_in site os (es ++ fs) ≡ calls_in site os es + calls_of site (tree_of fs)
 calls_append site [] es fs = adds_append (calls_of site) (calls_adds site) es fs
 calls_append site (o ∷ os) es fs = let a = adds_append (calls_of site) (calls_adds site) es fs in omega arith
 
-pub calls_more : (site : ℕ) (os : List Open) (es : List Event) (e : Event) → calls_in site os (es ++ e ∷ []) ≡ calls_in site os es + calls_of site (tree_in e)
+pub calls_more : (site : ℕ) (os : List Open) (es : List Event) (e : Event)
+    → calls_in site os (es ++ e ∷ []) ≡ calls_in site os es + calls_of site (tree_in e)
 calls_more site [] es e = adds_more (calls_of site) (calls_adds site) es e
 calls_more site (o ∷ os) es e = let a = adds_more (calls_of site) (calls_adds site) es e in omega arith
 
-pub own_more : (site base : ℕ) (os : List Open) (es : List Event) (e : Event) → own_in site base os (es ++ e ∷ []) ≡ own_in site base os es + own_tree site (here_in base os) (tree_in e)
+pub own_more : (site base : ℕ) (os : List Open) (es : List Event) (e : Event)
+    → own_in site base os (es ++ e ∷ []) ≡ own_in site base os es + own_tree site (here_in base os) (tree_in e)
 own_more site base [] es e = adds_more (own_tree site base) (own_adds site base) es e
-own_more site base (o ∷ os) es e = let a = adds_more (own_tree site (here_in base (o ∷ os))) (own_adds site (here_in base (o ∷ os))) es e in omega arith
+own_more site base (o ∷ os) es e =
+    let a = adds_more (own_tree site (here_in base (o ∷ os))) (own_adds site (here_in base (o ∷ os))) es e in omega
+    arith
 
 -- a part that is no invocation of the site begins
-pub row_other : (site base busy : ℕ) (o : Open) (os : List Open) (r : Row) → is_counted (is_site site) o.mark ≡ false → CountsSite site base busy os o.outer r → CountsSite site base busy (o ∷ os) [] r
+pub row_other : (site base busy : ℕ) (o : Open) (os : List Open) (r : Row) → is_counted (is_site site) o.mark ≡ false
+    → CountsSite site base busy os o.outer r → CountsSite site base busy (o ∷ os) [] r
 row_other site base busy o os r e h =
     let n : one_if (is_counted (is_site site) o.mark) ≡ 0 = ap one_if e in
     record {
       calls_is = let b = h.calls_is in let a = adds_none (calls_of site) (calls_adds site) in omega arith;
-      own_is = let b = h.own_is in let a = adds_none (own_tree site (here_in base (o ∷ os))) (own_adds site (here_in base (o ∷ os))) in omega arith;
+      own_is =
+          let b = h.own_is in let a = adds_none (own_tree site (here_in base (o ∷ os)))
+          (own_adds site (here_in base (o ∷ os))) in omega arith;
       work_is = counts_other work work_in (is_site site) busy o os (work_tally r) e h.work_is;
       span_is = counts_other span (path_in site base) (is_site site) busy o os (span_tally r) e h.span_is;
     }
@@ -97,7 +110,8 @@ abbrev one_given : Bool → ℕ
 one_given b = if b then 1 else 0
 
 -- what a part that has ended adds
-calls_marked : (site : ℕ) (mark : Option Mark) (t : Tree) → calls_of site (marked mark t) ≡ one_if (is_counted (is_site site) mark) + calls_of site t
+calls_marked : (site : ℕ) (mark : Option Mark) (t : Tree)
+    → calls_of site (marked mark t) ≡ one_if (is_counted (is_site site) mark) + calls_of site t
 calls_marked site None t = omega arith
 calls_marked site (Some m) t = ap (λ (n : ℕ). n + calls_of site t) (one (is_site site m))
   where
@@ -105,24 +119,29 @@ calls_marked site (Some m) t = ap (λ (n : ℕ). n + calls_of site t) (one (is_s
     one true = refl
     one false = refl
 
-own_marked : (site here : ℕ) (mark : Option Mark) (t : Tree) → own_tree site here (marked mark t) ≡ own_tree site (inside mark here) t
+own_marked : (site here : ℕ) (mark : Option Mark) (t : Tree)
+    → own_tree site here (marked mark t) ≡ own_tree site (inside mark here) t
 own_marked site here None t = refl
 own_marked site here (Some m) t = refl
 
-pub left_calls : (site : ℕ) (o : Open) (os : List Open) (es : List Event) → calls_in site os (closed o es) ≡ calls_in site (o ∷ os) es
+pub left_calls : (site : ℕ) (o : Open) (os : List Open) (es : List Event)
+    → calls_in site os (closed o es) ≡ calls_in site (o ∷ os) es
 left_calls site o os es =
     let a = calls_more site os o.outer (event_of o es) in
     let b = ap (calls_of site) (tree_in-part_of o.spawned (marked o.mark (tree_of es))) in
     let c = calls_marked site o.mark (tree_of es) in omega arith
 
-pub left_own : (site base : ℕ) (o : Open) (os : List Open) (es : List Event) → own_in site base os (closed o es) ≡ own_in site base (o ∷ os) es
+pub left_own : (site base : ℕ) (o : Open) (os : List Open) (es : List Event)
+    → own_in site base os (closed o es) ≡ own_in site base (o ∷ os) es
 left_own site base o os es =
     let a = own_more site base os o.outer (event_of o es) in
     let b = ap (own_tree site (here_in base os)) (tree_in-part_of o.spawned (marked o.mark (tree_of es))) in
     let c = own_marked site (here_in base os) o.mark (tree_of es) in omega arith
 
 -- a part that is no invocation of the site ends
-pub row_other_left : (site base busy : ℕ) (o : Open) (os : List Open) (es : List Event) (r : Row) → is_counted (is_site site) o.mark ≡ false → CountsSite site base busy (o ∷ os) es r → CountsSite site base busy os (closed o es) r
+pub row_other_left : (site base busy : ℕ) (o : Open) (os : List Open) (es : List Event) (r : Row)
+    → is_counted (is_site site) o.mark ≡ false → CountsSite site base busy (o ∷ os) es r
+    → CountsSite site base busy os (closed o es) r
 row_other_left site base busy o os es r e h = record {
   calls_is = h.calls_is ∙ sym (left_calls site o os es);
   own_is = h.own_is ∙ sym (left_own site base o os es);

@@ -29,17 +29,23 @@ quiet_inside (Some (Execution tag)) here h = refl
 pub quiet_parts : (base : ℕ) (busy : ℕ → ℕ) (os : List Open) (table : SiteTable) → QuietParts base busy os table
 quiet_parts base busy os table = record {
   begins = λ mark es quiet h. record {
-    rows = λ q. row_other q base (busy q) (record { spawned = false; mark = mark; outer = es }) os (row_of table.rows q) (quiet_calls mark q quiet) (h.rows q);
+    rows =
+        λ q. row_other q base (busy q) (record { spawned = false; mark = mark; outer = es }) os (row_of table.rows q)
+        (quiet_calls mark q quiet) (h.rows q);
     paths = λ q. shows_entered q base os es (strand_path q table.paths) mark (h.paths q);
     laid = h.laid;
     noted_is = let a = h.noted_is in let d = adds_none work work_adds in omega arith;
     here_is = h.here_is ∙ sym (quiet_inside mark (here_in base os) quiet);
   };
   ends = λ mark outer es quiet n h. record {
-    rows = λ q. row_other_left q base (busy q) (record { spawned = false; mark = mark; outer = outer }) os es (row_of table.rows q) (quiet_calls mark q quiet) (h.rows q);
+    rows =
+        λ q. row_other_left q base (busy q) (record { spawned = false; mark = mark; outer = outer }) os es
+        (row_of table.rows q) (quiet_calls mark q quiet) (h.rows q);
     paths = λ q. shows_left q base mark outer os es (strand_path q table.paths) n (h.paths q);
     laid = h.laid;
-    noted_is = let a = h.noted_is in let d = left_work (record { spawned = false; mark = mark; outer = outer }) os es in omega arith;
+    noted_is =
+        let a = h.noted_is in let d = left_work (record { spawned = false; mark = mark; outer = outer }) os es in omega
+        arith;
     here_is = h.here_is ∙ quiet_inside mark (here_in base os) quiet;
   };
 }

@@ -9,7 +9,11 @@ less (suc n) = n
 
 abbrev double : Placed → Placed
 double s =
-    record { items = s.items; spot = record { ptr = s.spot.ptr; frees = s.spot.frees; frozen = s.spot.frozen; halved = less s.spot.halved } }
+    record {
+      items = s.items;
+      spot = record
+          { ptr = s.spot.ptr; frees = s.spot.frees; frozen = s.spot.frozen; halved = less s.spot.halved };
+    }
 
 -- two shares with the same half are the same
 pub half_of_one : (a b : Placed) → half a ≡ half b → a ≡ b

@@ -54,7 +54,9 @@ right t frees p zero = tt
 right t frees p (suc n) = frees _ p
 
 pub title_send : (A : RattleType) (g : Ghosts A.Denot) → IsSend A → Frees g g.dealloc_token → IsSend (Title.the_row A g)
-title_send A g s f = owning_send (Title.the_type A g) (search sendable) (λ d. right (g.dealloc_token d.heap) (f.frees d.heap) d.at d.frees) (λ k x w. tt)
+title_send A g s f =
+    owning_send (Title.the_type A g) (search sendable)
+    (λ d. right (g.dealloc_token d.heap) (f.frees d.heap) d.at d.frees) (λ k x w. tt)
 
 global_send : IsSend G.the_row
 global_send = search sendable
@@ -82,10 +84,14 @@ cells_keyless zero p n xs fs d = (tt, inside p (slots i64 p xs fs) (places xs p 
 cells_keyless (suc a) p n xs fs d = (tt, (tt, places_lent xs p fs (a ∷ [])))
 
 pub hold_send : IsSend Hold.the_row
-hold_send = owning_send Hold.the_type (search sendable) (λ d. cells_keyless d.frozen d.ptr d.len d.items d.filled d.halved) (λ k x w. tt)
+hold_send =
+    owning_send Hold.the_type (search sendable) (λ d. cells_keyless d.frozen d.ptr d.len d.items d.filled d.halved)
+    (λ k x w. tt)
 
 pub due_send : IsSend Due.the_row
-due_send = owning_send Due.the_type (search sendable) (λ d. (tt, inside d.at (slots i64 d.at d.items d.filled) (places d.items d.at d.filled))) (λ k x w. tt)
+due_send =
+    owning_send Due.the_type (search sendable)
+    (λ d. (tt, inside d.at (slots i64 d.at d.items d.filled) (places d.items d.at d.filled))) (λ k x w. tt)
 
 cell_keyless : (p : Ptr) (c : Option ℤ) → Keyless (cell_owned p c)
 cell_keyless p (Some x) = lies i64 number_send p x
@@ -97,18 +103,26 @@ kept_keyless (c ∷ cs) p = (cell_keyless p c, kept_keyless cs _)
 
 pub kept_send : IsSend Kept.the_row
 kept_send =
-    owning_send Kept.the_type (search sendable) (λ d. (tt, inside d.ptr (cells_in d.ptr d.cells) (kept_keyless d.cells d.ptr)))
+    owning_send Kept.the_type (search sendable)
+    (λ d. (tt, inside d.ptr (cells_in d.ptr d.cells) (kept_keyless d.cells d.ptr)))
     (λ k x w. tt)
 
 owed_inside_send : IsSend (declared.row OwedInside.the_type)
-owed_inside_send = recorded_send (OwedInside.the_field).row _ _ (OwedInside.the_type).to_one (struct_send (declared.shape OwedInside.the_type) (due_send, (search sendable, (title_global, (search sendable, tt)))))
+owed_inside_send =
+    recorded_send (OwedInside.the_field).row _ _ (OwedInside.the_type).to_one
+    (struct_send (declared.shape OwedInside.the_type)
+    (due_send, (search sendable, (title_global, (search sendable, tt)))))
 
 -- so may the right to have a slice back
 pub owed_send : IsSend Owed.the_row
-owed_send = view_send (declared.row OwedInside.the_type) TheOwed owed_code Owed.the_view Owed.the_invariant owed_inside_send
+owed_send =
+    view_send (declared.row OwedInside.the_type) TheOwed owed_code Owed.the_view Owed.the_invariant owed_inside_send
 
 inside_send : IsSend (declared.row Inside.the_type)
-inside_send = recorded_send (Inside.the_field).row _ _ (Inside.the_type).to_one (struct_send (declared.shape Inside.the_type) (hold_send, (search sendable, (title_global, (search sendable, tt)))))
+inside_send =
+    recorded_send (Inside.the_field).row _ _ (Inside.the_type).to_one
+    (struct_send (declared.shape Inside.the_type)
+    (hold_send, (search sendable, (title_global, (search sendable, tt)))))
 
 -- a check at a thread's start finds this where it is listed
 pub slice_send : IsSend C.the_row
@@ -117,8 +131,11 @@ slice_send = view_send (declared.row Inside.the_type) Placed placed_code C.the_v
 block_inside_send : IsSend (declared.row BlockInside.the_type)
 block_inside_send =
     recorded_send (BlockInside.the_field).row _ _ (BlockInside.the_type).to_one
-    (struct_send (declared.shape BlockInside.the_type) (kept_send, (search sendable, (search sendable, (title_global, (search sendable, tt))))))
+    (struct_send (declared.shape BlockInside.the_type)
+    (kept_send, (search sendable, (search sendable, (title_global, (search sendable, tt))))))
 
 -- and a block
 pub block_send : IsSend Block.the_row
-block_send = view_send (declared.row BlockInside.the_type) Lodged lodged_code Block.the_view Block.the_invariant block_inside_send
+block_send =
+    view_send (declared.row BlockInside.the_type) Lodged lodged_code Block.the_view Block.the_invariant
+    block_inside_send

@@ -25,12 +25,20 @@ use Rattle.cw_strands.specs.Jobs.{joins}
 use Rattle.cw_strands.specs.Strands.{Turn, Goes, turn_call, turn_in, turn_of}
 
 module _ (code : Code) (s : State) (P : (joins : Bool) → Turn → Transition → Type 0) where
-  -- what holds of each kind of move, with what it is to a strand: on in the same call and block, into a call, into a block, at a join, out of a block, and out of a call
+  -- what holds of each kind of move, with what it is to a strand: on in the same call and block, into a call, into a
+  -- block, at a join, out of a block, and out of a call
   pub record Moves : Type 0 where
     pub stuck : (j : Bool) (turn : Turn) → P j turn Stuck
     pub stops : (j : Bool) (turn : Turn) (trap : Trap) (line : ℕ) (lines : List ℤ) → P j turn (Stops trap line lines)
-    pub local : (place : ℕ) (operands : List ℤ) (slots : Slots ℤ) (arrays : Slots (List ℤ)) (lines : List ℤ) (additions : List (Name × ℤ))
-        → P false Goes (On (record s { place = place; operands = operands; slots = slots; arrays = arrays; trace = joined s.trace (record { lines = lines; additions = additions; events = works 1 }) }))
+    pub local : (place : ℕ) (operands : List ℤ) (slots : Slots ℤ) (arrays : Slots (List ℤ)) (lines : List ℤ)
+        (additions : List (Name × ℤ))
+        → P false Goes (On (record s {
+          place = place;
+          operands = operands;
+          slots = slots;
+          arrays = arrays;
+          trace = joined s.trace (record { lines = lines; additions = additions; events = works 1 });
+        }))
     pub enters : (e : Entering) → P false (turn_call e.kind e.target e.taken) (On (begun s e))
     pub opens : (operands : List ℤ) (arrays : Slots (List ℤ)) (tag : Option Name) (cut : Option Halves) →
         P false Goes (opened (record s { operands = operands; arrays = arrays }) tag cut)
@@ -83,7 +91,9 @@ module _ (code : Code) (s : State) (P : (joins : Bool) → Turn → Transition �
     names (Some name) v rest = moves.local (s.place + 1) rest s.slots s.arrays [] ((name, v) ∷ [])
 
     begin : (e : Entering) → P false (turn_call e.kind e.target e.taken) (begins s e)
-    begin e = either false (turn_call e.kind e.target e.taken) (may_begin s e) (On (begun s e)) Stuck (moves.enters e) (moves.stuck false (turn_call e.kind e.target e.taken))
+    begin e =
+        either false (turn_call e.kind e.target e.taken) (may_begin s e) (On (begun s e)) Stuck (moves.enters e)
+        (moves.stuck false (turn_call e.kind e.target e.taken))
 
     with_arrays : (turn : Turn) (o : Option (List (List ℤ))) (go : List (List ℤ) → Transition) →
         ((given : List (List ℤ)) → P false turn (go given)) → P false turn (on_arrays o go)
@@ -94,9 +104,12 @@ module _ (code : Code) (s : State) (P : (joins : Bool) → Turn → Transition �
         P false (turn_call kind c.target (map (λ a. Whole a) passed)) (enter s kind c passed o)
     calls kind c passed None = moves.stuck false (turn_call kind c.target (map (λ a. Whole a) passed))
     calls kind c passed (Some f) =
-        either false (turn_call kind c.target (map (λ a. Whole a) passed)) (nat_lt MOST_DEPTH (s.depth + 1)) (Stops trap.TooDeep c.line s.trace.lines) (on_arrays (arrays_in passed s.arrays) (λ given. begins s (call_of s kind c passed f given)))
+        either false (turn_call kind c.target (map (λ a. Whole a) passed)) (nat_lt MOST_DEPTH (s.depth + 1))
+        (Stops trap.TooDeep c.line s.trace.lines)
+        (on_arrays (arrays_in passed s.arrays) (λ given. begins s (call_of s kind c passed f given)))
         (moves.stops false (turn_call kind c.target (map (λ a. Whole a) passed)) trap.TooDeep c.line s.trace.lines)
-        (with_arrays (turn_call kind c.target (map (λ a. Whole a) passed)) (arrays_in passed s.arrays) _ (λ given. begin (call_of s kind c passed f given)))
+        (with_arrays (turn_call kind c.target (map (λ a. Whole a) passed)) (arrays_in passed s.arrays) _
+        (λ given. begin (call_of s kind c passed f given)))
 
     recurs : (kind : CallKind) (passed : List ℕ) (o : Option Func) →
         P false (turn_call kind None (map (λ a. Whole a) passed)) (recur s kind passed o)
@@ -136,12 +149,16 @@ module _ (code : Code) (s : State) (P : (joins : Bool) → Turn → Transition �
     starts : (line : ℕ) (passed : List ℕ) (o : Option Func) → P false Goes (start s line passed o)
     starts line passed None = moves.stuck false Goes
     starts line passed (Some f) =
-        with_arrays Goes (arrays_in passed s.arrays) _ (λ given. ranges (arguments_of f s.operands) _ (λ low high captured. loops line passed f given low captured (loop_turns low high given)))
+        with_arrays Goes (arrays_in passed s.arrays) _
+        (λ given. ranges (arguments_of f s.operands) _
+        (λ low high captured. loops line passed f given low captured (loop_turns low high given)))
 
     cut_at : (h : Halves) (line : ℕ) (xs rest : List ℤ) (r : Result) → P false Goes (cuts s h line xs rest r)
     cut_at h line xs rest (Fails trap) = moves.stops false Goes trap line s.trace.lines
     cut_at h line xs rest (Value v) =
-        either false Goes (may_cut h s.arrays) (opened (record s { operands = rest; arrays = cut_arrays h xs (natural v) s.arrays }) None (Some h)) Stuck (moves.opens rest (cut_arrays h xs (natural v) s.arrays) None (Some h)) (moves.stuck false Goes)
+        either false Goes (may_cut h s.arrays)
+        (opened (record s { operands = rest; arrays = cut_arrays h xs (natural v) s.arrays }) None (Some h)) Stuck
+        (moves.opens rest (cut_arrays h xs (natural v) s.arrays) None (Some h)) (moves.stuck false Goes)
 
     regions : (o : Option Name) → P false Goes (opened_region s o)
     regions None = moves.stuck false Goes
@@ -150,7 +167,9 @@ module _ (code : Code) (s : State) (P : (joins : Bool) → Turn → Transition �
     closes : (around : List Around) → s.around ≡ around → P true Goes (closed (put_in s) around)
     closes [] e = moves.stuck true Goes
     closes (Caller w ∷ around) e = moves.stuck true Goes
-    closes (Block o ∷ around) e = either true Goes (is_none o.cut) (resumes (put_in s) o around) Stuck (moves.leaves (settled s.arrived s.arrays) o around e) (moves.stuck true Goes)
+    closes (Block o ∷ around) e =
+        either true Goes (is_none o.cut) (resumes (put_in s) o around) Stuck
+        (moves.leaves (settled s.arrived s.arrays) o around e) (moves.stuck true Goes)
 
     uncuts : (around : List Around) → s.around ≡ around → P true Goes (cut_ends (put_in s) around)
     uncuts [] e = moves.stuck true Goes
@@ -175,20 +194,28 @@ module _ (code : Code) (s : State) (P : (joins : Bool) → Turn → Transition �
     acts_by (Some (instr.Push v)) = moves.local (s.place + 1) (v ∷ s.operands) s.slots s.arrays [] []
     acts_by (Some (instr.Load a)) =
         on_it (slice_get s.slots a) _ (λ v. moves.local (s.place + 1) (v ∷ s.operands) s.slots s.arrays [] [])
-    acts_by (Some (instr.Store a)) = top false Goes _ (λ v rest. either false Goes (is_full (slice_get s.slots a)) _ Stuck (moves.local (s.place + 1) rest (slice_set s.slots a (Some v)) s.arrays [] []) (moves.stuck false Goes))
+    acts_by (Some (instr.Store a)) =
+        top false Goes _ (λ v rest. either false Goes (is_full (slice_get s.slots a)) _ Stuck
+        (moves.local (s.place + 1) rest (slice_set s.slots a (Some v)) s.arrays [] []) (moves.stuck false Goes))
     acts_by (Some (instr.Unary operator line)) =
         top false Goes _ (λ v rest. operates line rest (apply_unary operator v))
     acts_by (Some (instr.Binary operator line)) = two _ (λ v w rest. operates line rest (apply operator v w))
     acts_by (Some (instr.Skip n)) = moves.local (s.place + 1 + n) s.operands s.slots s.arrays [] []
-    acts_by (Some (instr.SkipIfZero n)) = top false Goes _ (λ v rest. moves.local (if is_zero v then s.place + 1 + n else s.place + 1) rest s.slots s.arrays [] [])
+    acts_by (Some (instr.SkipIfZero n)) =
+        top false Goes _
+        (λ v rest. moves.local (if is_zero v then s.place + 1 + n else s.place + 1) rest s.slots s.arrays [] [])
     acts_by (Some (instr.GoBack n)) = moves.local (s.place - n) s.operands s.slots s.arrays [] []
     acts_by (Some (instr.Call kind c)) = calls kind c (passed_by code c.passed) (slice_get code.funcs c.function)
     acts_by (Some (instr.Recur kind c)) = recurs kind (passed_by code c.passed) (slice_get code.funcs c.function)
     acts_by (Some (instr.Start c line)) = starts line (passed_by code c.passed) (slice_get code.funcs c.function)
     acts_by (Some (instr.NewArray a line)) =
         on_it (slice_get s.arrays a) _ (λ old. top false Goes _ (λ v rest. sets a line rest _ (new_length v)))
-    acts_by (Some (instr.Length a)) = on_it (slice_get s.arrays a) _ (λ xs. moves.local (s.place + 1) (pos (length xs) ∷ s.operands) s.slots s.arrays [] [])
-    acts_by (Some (instr.Element a line)) = on_it (slice_get s.arrays a) _ (λ xs. top false Goes _ (λ v rest. operates line rest (in_bounds (element xs v))))
+    acts_by (Some (instr.Length a)) =
+        on_it (slice_get s.arrays a) _
+        (λ xs. moves.local (s.place + 1) (pos (length xs) ∷ s.operands) s.slots s.arrays [] [])
+    acts_by (Some (instr.Element a line)) =
+        on_it (slice_get s.arrays a) _
+        (λ xs. top false Goes _ (λ v rest. operates line rest (in_bounds (element xs v))))
     acts_by (Some (instr.SetElement a line)) =
         on_it (slice_get s.arrays a) _ (λ xs. two _ (λ i v rest. sets a line rest _ (written xs i v)))
     acts_by (Some (instr.Cut h line)) =

@@ -26,7 +26,8 @@ takes_then a c f g h p q = record {
   next = λ n. ap f (omega arith) ∙ p.next (c + n) ∙ q.next n;
   short = λ m lt. elim (cases_lt m a) [
     | inl less ↦ p.short m less
-    | inr more ↦ ap f (let e : m ≡ a + (m - a) = omega (arith, more) in e) ∙ p.next (m - a) ∙ q.short (m - a) (omega (arith, more, lt))
+    | inr more ↦ ap f (let e : m ≡ a + (m - a) = omega (arith, more) in e) ∙ p.next (m - a) ∙ q.short (m - a)
+        (omega (arith, more, lt))
   ];
 }
 
@@ -45,8 +46,11 @@ Exact budget run Lost = Unit {0}
 after_one : (budget left : ℕ) (run run' later : ℕ → Came) → run' 0 ≡ Beyond → ((n : ℕ) → run' (suc n) ≡ run n) →
     (left ≤ budget) × Takes (budget - left) run later → (left ≤ suc budget) × Takes (suc budget - left) run' later
 after_one budget left run run' later none same p =
-    let le : left ≤ budget = p.0 in
-    (omega (arith, le), takes_cost (1 + (budget - left)) (suc budget - left) run' later (omega (arith, le)) (takes_then 1 (budget - left) run' run later (takes_one 1 run' run refl none same) p.1))
+    let le : left ≤ budget = p.0 in (
+      omega (arith, le),
+      takes_cost (1 + (budget - left)) (suc budget - left) run' later (omega (arith, le))
+          (takes_then 1 (budget - left) run' run later (takes_one 1 run' run refl none same) p.1),
+    )
 
 one_more : (budget : ℕ) (run run' : ℕ → Came) (c : Came) → run' 0 ≡ Beyond → ((n : ℕ) → run' (suc n) ≡ run n) →
     Exact budget run c → Exact (suc budget) run' c
@@ -66,27 +70,36 @@ one_more budget run run' Lost none same p = tt
 module _ (x : Extent) (code : Code) where
   pub come_at : (n : ℕ) (s : State) → has_come x code s ≡ true → travel x code n s ≡ Arrives (standing s) s.trace n
   come_at zero s e = taken (has_come x code s) (Arrives (standing s) s.trace zero) Beyond e
-  come_at (suc n) s e = taken (has_come x code s) (Arrives (standing s) s.trace (suc n)) (moved (step code s) n (λ s'. travel x code n s')) e
+  come_at (suc n) s e =
+      taken (has_come x code s) (Arrives (standing s) s.trace (suc n))
+      (moved (step code s) n (λ s'. travel x code n s')) e
 
   pub none_left : (s : State) → has_come x code s ≡ false → travel x code 0 s ≡ Beyond
   none_left s e = not_taken (has_come x code s) (Arrives (standing s) s.trace zero) Beyond e
 
   pub go_one : (n : ℕ) (s : State) → has_come x code s ≡ false →
       travel x code (suc n) s ≡ moved (step code s) n (λ s'. travel x code n s')
-  go_one n s e = not_taken (has_come x code s) (Arrives (standing s) s.trace (suc n)) (moved (step code s) n (λ s'. travel x code n s')) e
+  go_one n s e =
+      not_taken (has_come x code s) (Arrives (standing s) s.trace (suc n))
+      (moved (step code s) n (λ s'. travel x code n s')) e
 
   -- one instruction
   pub takes_step : (s : State) (w : Transition) → has_come x code s ≡ false → step code s ≡ w →
       Takes 1 (λ n. travel x code n s) (λ n. moved w n (λ s'. travel x code n s'))
-  takes_step s w e same = takes_one 1 (λ n. travel x code n s) (λ n. moved w n (λ s'. travel x code n s')) refl (none_left s e) (λ n. go_one n s e ∙ ap (λ w'. moved w' n (λ s'. travel x code n s')) same)
+  takes_step s w e same =
+      takes_one 1 (λ n. travel x code n s) (λ n. moved w n (λ s'. travel x code n s')) refl (none_left s e)
+      (λ n. go_one n s e ∙ ap (λ w'. moved w' n (λ s'. travel x code n s')) same)
 
   pub exact : (budget : ℕ) (s : State) → Exact budget (λ n. travel x code n s) (travel x code budget s)
   exact zero s = cases (has_come x code s) refl
     where
       cases : (c : Bool) → has_come x code s ≡ c → Exact zero (λ n. travel x code n s) (travel x code zero s)
       cases true e =
-          subst (λ c. Exact zero (λ n. travel x code n s) c) (sym (come_at zero s e))
-          (omega arith, takes_none (zero - zero) (λ n. travel x code n s) (λ n. Arrives (standing s) s.trace n) (omega arith) (λ n. come_at n s e))
+          subst (λ c. Exact zero (λ n. travel x code n s) c) (sym (come_at zero s e)) (
+            omega arith,
+            takes_none (zero - zero) (λ n. travel x code n s) (λ n. Arrives (standing s) s.trace n)
+                (omega arith) (λ n. come_at n s e),
+          )
       cases false e =
           subst (λ c. Exact zero (λ n. travel x code n s) c) (sym (none_left s e))
           (λ m le. ap (λ k. travel x code k s) (let z : m ≡ 0 = omega (arith, le) in z) ∙ none_left s e)
@@ -96,8 +109,11 @@ module _ (x : Extent) (code : Code) where
           ((s' : State) → Exact n (λ k. travel x code k s') (travel x code n s')) →
           Exact (suc n) (λ k. travel x code k s) (travel x code (suc n) s)
       cases true e more =
-          subst (λ c. Exact (suc n) (λ k. travel x code k s) c) (sym (come_at (suc n) s e))
-          (omega arith, takes_none (suc n - suc n) (λ k. travel x code k s) (λ k. Arrives (standing s) s.trace k) (omega arith) (λ k. come_at k s e))
+          subst (λ c. Exact (suc n) (λ k. travel x code k s) c) (sym (come_at (suc n) s e)) (
+            omega arith,
+            takes_none (suc n - suc n) (λ k. travel x code k s) (λ k. Arrives (standing s) s.trace k)
+                (omega arith) (λ k. come_at k s e),
+          )
       cases false e more =
           subst (λ c. Exact (suc n) (λ k. travel x code k s) c) (sym (go_one n s e)) (went (step code s) refl)
         where
@@ -106,14 +122,24 @@ module _ (x : Extent) (code : Code) where
           went (On s') same =
               one_more n (λ k. travel x code k s') (λ k. travel x code k s) (travel x code n s') (none_left s e)
               (λ k. go_one k s e ∙ ap (λ w'. moved w' k (λ s2. travel x code k s2)) same) (more s')
-          went (Ends v arrays t) same = (omega arith, takes_cost 1 (suc n - n) (λ k. travel x code k s) (λ k. Returns v arrays t k) (omega arith) (takes_step s (Ends v arrays t) e same))
-          went (Stops trap line lines) same = (omega arith, takes_cost 1 (suc n - n) (λ k. travel x code k s) (λ k. Falls trap line lines k) (omega arith) (takes_step s (Stops trap line lines) e same))
+          went (Ends v arrays t) same = (
+            omega arith,
+            takes_cost 1 (suc n - n) (λ k. travel x code k s) (λ k. Returns v arrays t k) (omega arith)
+                (takes_step s (Ends v arrays t) e same),
+          )
+          went (Stops trap line lines) same = (
+            omega arith,
+            takes_cost 1 (suc n - n) (λ k. travel x code k s) (λ k. Falls trap line lines k)
+                (omega arith) (takes_step s (Stops trap line lines) e same),
+          )
           went Stuck same = tt
 
 module _ (code : Code) (job : Job) where
   came_so : (cost : ℕ) (later : ℕ → Came) → cost ≤ job.limit → Takes cost (course code job) later →
       course code job job.limit ≡ later (job.limit - cost)
-  came_so cost later le t = ap (course code job) (let e : job.limit ≡ cost + (job.limit - cost) = omega (arith, le) in e) ∙ t.next (job.limit - cost)
+  came_so cost later le t =
+      ap (course code job) (let e : job.limit ≡ cost + (job.limit - cost) = omega (arith, le) in e) ∙ t.next
+      (job.limit - cost)
 
   back_again : (cost limit : ℕ) → cost ≤ limit → cost ≡ limit - (limit - cost)
   back_again cost limit le = omega (arith, le)
@@ -121,12 +147,17 @@ module _ (code : Code) (job : Job) where
   pub stands_meaning : (e : Effect) → job.before + cost_of e ≤ job.limit → StandsFor code job e → JobMeaning code job e
   stands_meaning (Ended v arrays t cost) le h =
       let fits : cost ≤ job.limit = omega (arith, le) in
-      Same (subst (λ c. IsOf c job.limit (Ended v arrays t cost)) (sym (came_so cost (λ n. Returns v arrays t n) fits h)) (ap (λ c. Ended v arrays t c) (back_again cost job.limit fits)))
+      Same (subst (λ c. IsOf c job.limit (Ended v arrays t cost))
+      (sym (came_so cost (λ n. Returns v arrays t n) fits h))
+      (ap (λ c. Ended v arrays t c) (back_again cost job.limit fits)))
   stands_meaning (Joined frame t cost) le h =
       let fits : cost ≤ job.limit = omega (arith, le) in
-      Same (subst (λ c. IsOf c job.limit (Joined frame t cost)) (sym (came_so cost (λ n. Arrives frame t n) fits h)) (ap (λ c. Joined frame t c) (back_again cost job.limit fits)))
+      Same (subst (λ c. IsOf c job.limit (Joined frame t cost)) (sym (came_so cost (λ n. Arrives frame t n) fits h))
+      (ap (λ c. Joined frame t c) (back_again cost job.limit fits)))
   stands_meaning (TrapIn trap line lines cost) le h =
       let fits : cost ≤ job.limit = omega (arith, le) in
-      Same (subst (λ c. IsOf c job.limit (TrapIn trap line lines cost)) (sym (came_so cost (λ n. Falls trap line lines n) fits h)) (ap (λ c. TrapIn trap line lines c) (back_again cost job.limit fits)))
+      Same (subst (λ c. IsOf c job.limit (TrapIn trap line lines cost))
+      (sym (came_so cost (λ n. Falls trap line lines n) fits h))
+      (ap (λ c. TrapIn trap line lines c) (back_again cost job.limit fits)))
   stands_meaning OverLimit le h = Passed refl (h (job.limit - job.before) (omega (arith, le)))
   stands_meaning Memory le h = Short refl

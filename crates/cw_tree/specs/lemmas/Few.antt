@@ -50,13 +50,16 @@ pub functions_few : (program : Program) → limit_faults program ≡ [] → leng
 functions_few program h =
     let lines = map (λ (f : model.Function). f.line) program.functions in
     let some : length lines ≤ 1024 = none_left 1024 lines (left_none (drop 1024 lines) _ h) in
-    let same : length lines ≡ length program.functions = length-map program.functions (λ (f : model.Function). f.line) in
+    let same : length lines ≡ length program.functions =
+    length-map program.functions (λ (f : model.Function). f.line) in
     omega (arith, some, same)
 
 pub reducers_few : (program : Program) → limit_faults program ≡ [] → length program.reducers ≤ 32
 reducers_few program h =
     let lines = map (λ (r : Reducer). r.line) program.reducers in
-    let some : length lines ≤ 32 = none_left 32 lines (left_none (drop 32 lines) _ (right_none (lines_beyond 1024 (map (λ (f : model.Function). f.line) program.functions)) _ h)) in
+    let some : length lines ≤ 32 =
+    none_left 32 lines (left_none (drop 32 lines) _
+    (right_none (lines_beyond 1024 (map (λ (f : model.Function). f.line) program.functions)) _ h)) in
     let same : length lines ≡ length program.reducers = length-map program.reducers (λ (r : Reducer). r.line) in
     omega (arith, some, same)
 
@@ -70,7 +73,8 @@ pub tags_few : (program : Program) → limit_faults program ≡ [] → length (f
 tags_few program h =
     let places = first_places (regions_of program) [] in
     let lines = map (λ (d : Name × ℕ). d.1) places in
-    let last = right_none (flat_map (λ (d : Name × ℕ). unless (nat_le (length d.0) MOST_TAG_BYTES) d.1) (regions_of program)) _
+    let last =
+    right_none (flat_map (λ (d : Name × ℕ). unless (nat_le (length d.0) MOST_TAG_BYTES) d.1) (regions_of program)) _
     (right_none (flat_map function_limits program.functions) _
     (right_none (lines_beyond 32 (map (λ (r : Reducer). r.line) program.reducers)) _
     (right_none (lines_beyond 1024 (map (λ (f : model.Function). f.line) program.functions)) _ h))) in
@@ -86,7 +90,10 @@ pub small_head : (f : model.Function) → function_limits f ≡ [] → length f.
 small_head f h =
     let lines = map (λ (p : Param). f.line) f.params in
     let declared = declaring_lines_in f.body in
-    let few : length (lines ++ declared) ≤ MOST_DECLARED = none_left MOST_DECLARED (lines ++ declared) (right_none (unless (nat_le (length f.params) MOST_PARAMETERS) f.line) (drop MOST_DECLARED (lines ++ declared)) h) in
+    let few : length (lines ++ declared) ≤ MOST_DECLARED =
+    none_left MOST_DECLARED (lines ++ declared)
+    (right_none (unless (nat_le (length f.params) MOST_PARAMETERS) f.line)
+    (drop MOST_DECLARED (lines ++ declared)) h) in
     let all = length-append lines declared in
     let count : length lines ≡ length f.params = length-map f.params (λ (p : Param). f.line) in
     let more = as_many f.body in
@@ -95,11 +102,15 @@ small_head f h =
 small_function : (f : Function) → function_limits (parsed.function_of f) ≡ [] → IsSmall f
 small_function f h =
     let few = small_head (parsed.function_of f) h in
-    let same : length (map parsed.param_of f.params.items) ≡ length f.params.items = length-map f.params.items parsed.param_of in
+    let same : length (map parsed.param_of f.params.items) ≡ length f.params.items =
+    length-map f.params.items parsed.param_of in
     omega (arith, few, same)
 
 pub all_small : (fs : List Function) → flat_map function_limits (map parsed.function_of fs) ≡ [] → All IsSmall fs
 all_small [] h = λ k d lt. absurd (omega (arith, lt))
 all_small (f ∷ fs) h =
-    All-cons IsSmall f fs (small_function f (left_none (function_limits (parsed.function_of f)) (flat_map function_limits (map parsed.function_of fs)) h))
-    (all_small fs (right_none (function_limits (parsed.function_of f)) (flat_map function_limits (map parsed.function_of fs)) h))
+    All-cons IsSmall f fs (small_function f
+    (left_none (function_limits (parsed.function_of f)) (flat_map function_limits (map parsed.function_of fs))
+    h))
+    (all_small fs
+    (right_none (function_limits (parsed.function_of f)) (flat_map function_limits (map parsed.function_of fs)) h))

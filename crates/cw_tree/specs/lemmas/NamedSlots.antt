@@ -7,7 +7,9 @@ use Rattle.cw_model.specs.Names.{same_name, is_among}
 use Rattle.cw_tree.specs.Resolved.{slot_of}
 
 pub turned : (x y : Name) → same_name x y ≡ same_name y x
-turned x y = one (same_name x y) (same_name y x) (bytes_eq-Decides x y).0 (bytes_eq-Decides x y).1 (bytes_eq-Decides y x).0 (bytes_eq-Decides y x).1
+turned x y =
+    one (same_name x y) (same_name y x) (bytes_eq-Decides x y).0 (bytes_eq-Decides x y).1 (bytes_eq-Decides y x).0
+    (bytes_eq-Decides y x).1
   where
     one : (a b : Bool) → (a ≡ true → x ≡ y) → (x ≡ y → a ≡ true) → (b ≡ true → y ≡ x) → (y ≡ x → b ≡ true) → a ≡ b
     one true true f g h i = refl
@@ -31,12 +33,15 @@ not_same : (x y z : Name) → same_name z y ≡ true → same_name x y ≡ false
 not_same x y z ea eb = turned z x ∙ ap (λ w. same_name x w) ((bytes_eq-Decides z y).0 ea) ∙ eb
 
 -- two names have one slot where they are one, if one of them is known
-pub one_slot : (z x : Name) (names : List Name) → is_among x names ≡ true → (slot_of z names == slot_of x names) ≡ same_name z x
+pub one_slot : (z x : Name) (names : List Name) → is_among x names ≡ true
+    → (slot_of z names == slot_of x names) ≡ same_name z x
 one_slot z x [] h = cc
 one_slot z x (y ∷ names) h = first (same_name z y) (same_name x y) refl refl (one_slot z x names) h
   where
-    first : (a b : Bool) → same_name z y ≡ a → same_name x y ≡ b → (is_among x names ≡ true → (slot_of z names == slot_of x names) ≡ same_name z x) →
-        (if b then true else is_among x names) ≡ true → ((if a then 0 else suc (slot_of z names)) == (if b then 0 else suc (slot_of x names))) ≡ same_name z x
+    first : (a b : Bool) → same_name z y ≡ a → same_name x y ≡ b
+        → (is_among x names ≡ true → (slot_of z names == slot_of x names) ≡ same_name z x) →
+        (if b then true else is_among x names) ≡ true
+        → ((if a then 0 else suc (slot_of z names)) == (if b then 0 else suc (slot_of x names))) ≡ same_name z x
     first true true ea eb h g = sym (sym (same_as_third x z y eb) ∙ ea)
     first true false ea eb h g = not_suc (slot_of x names) ∙ sym (not_same x y z ea eb)
     first false true ea eb h g = suc_not (slot_of z names) ∙ sym (sym (same_as_third x z y eb) ∙ ea)
@@ -47,7 +52,8 @@ pub slot_in : (x : Name) (names : List Name) → is_among x names ≡ true → s
 slot_in x [] h = cc
 slot_in x (y ∷ names) h = first (same_name x y) (slot_in x names) h
   where
-    first : (b : Bool) → (is_among x names ≡ true → slot_of x names < length names) → (if b then true else is_among x names) ≡ true → (if b then 0 else suc (slot_of x names)) < suc (length names)
+    first : (b : Bool) → (is_among x names ≡ true → slot_of x names < length names)
+        → (if b then true else is_among x names) ≡ true → (if b then 0 else suc (slot_of x names)) < suc (length names)
     first true f g = omega arith
     first false f g = let e = f g in omega (arith, e)
 
@@ -55,12 +61,14 @@ pub slot_out : (x : Name) (names : List Name) → is_among x names ≡ false →
 slot_out x [] h = refl
 slot_out x (y ∷ names) h = first (same_name x y) (slot_out x names) h
   where
-    first : (b : Bool) → (is_among x names ≡ false → slot_of x names ≡ length names) → (if b then true else is_among x names) ≡ false → (if b then 0 else suc (slot_of x names)) ≡ suc (length names)
+    first : (b : Bool) → (is_among x names ≡ false → slot_of x names ≡ length names)
+        → (if b then true else is_among x names) ≡ false → (if b then 0 else suc (slot_of x names)) ≡ suc (length names)
     first true f g = cc
     first false f g = ap suc (f g)
 
 -- what is among the names and one more
-pub among_push : (x : Name) (names : List Name) (y : Name) → is_among x (names ++ y ∷ []) ≡ (is_among x names || same_name x y)
+pub among_push : (x : Name) (names : List Name) (y : Name)
+    → is_among x (names ++ y ∷ []) ≡ (is_among x names || same_name x y)
 among_push x [] y = alone (same_name x y)
   where
     alone : (b : Bool) → (if b then true else false) ≡ b
@@ -74,11 +82,13 @@ among_push x (z ∷ names) y = first (same_name x z) (among_push x names y)
     first false h = h
 
 -- the slot of a known name stays, whatever comes behind
-pub slot_stays : (x : Name) (names more : List Name) → is_among x names ≡ true → slot_of x (names ++ more) ≡ slot_of x names
+pub slot_stays : (x : Name) (names more : List Name) → is_among x names ≡ true
+    → slot_of x (names ++ more) ≡ slot_of x names
 slot_stays x [] more h = cc
 slot_stays x (y ∷ names) more h = first (same_name x y) (slot_stays x names more) h
   where
-    first : (b : Bool) → (is_among x names ≡ true → slot_of x (names ++ more) ≡ slot_of x names) → (if b then true else is_among x names) ≡ true →
+    first : (b : Bool) → (is_among x names ≡ true → slot_of x (names ++ more) ≡ slot_of x names)
+        → (if b then true else is_among x names) ≡ true →
         (if b then 0 else suc (slot_of x (names ++ more))) ≡ (if b then 0 else suc (slot_of x names))
     first true f g = refl
     first false f g = ap suc (f g)

@@ -28,7 +28,8 @@ ints_after l (model.Region tag b) = omega arith
 ints_after l (model.Print e) = omega arith
 ints_after l (model.Return e) = omega arith
 
-arrays_after : (l : spec.Locals) (s : model.Stmt) → length (spec.locals_after l s).arrays ≤ length l.arrays + declares_in s
+arrays_after : (l : spec.Locals) (s : model.Stmt)
+    → length (spec.locals_after l s).arrays ≤ length l.arrays + declares_in s
 arrays_after l (model.Declare x e) = omega arith
 arrays_after l (model.DeclareArray a e) = let one = one_more l.arrays a in omega (arith, one)
 arrays_after l (model.Assign x e) = omega arith
@@ -49,7 +50,8 @@ arrays_after l (model.Print e) = omega arith
 arrays_after l (model.Return e) = omega arith
 
 mutual
-  few_ints : (lists : spec.Lists) (l : spec.Locals) (n : ℕ) (s : model.Stmt) → spec.ints_in n (spec.resolved_stmt lists l s) ≤ max n (length l.ints + declares_in s)
+  few_ints : (lists : spec.Lists) (l : spec.Locals) (n : ℕ) (s : model.Stmt)
+      → spec.ints_in n (spec.resolved_stmt lists l s) ≤ max n (length l.ints + declares_in s)
   few_ints lists l n (model.Declare x e) = omega arith
   few_ints lists l n (model.DeclareArray a e) = omega arith
   few_ints lists l n (model.Assign x e) = omega arith
@@ -75,15 +77,19 @@ mutual
   few_ints lists l n (model.Print e) = omega arith
   few_ints lists l n (model.Return e) = omega arith
 
-  pub few_ints_in : (lists : spec.Lists) (l : spec.Locals) (n : ℕ) (b : model.Block) → spec.ints_in_block n (spec.resolved_block lists l b) ≤ max n (length l.ints + declares_in_block b)
+  pub few_ints_in : (lists : spec.Lists) (l : spec.Locals) (n : ℕ) (b : model.Block)
+      → spec.ints_in_block n (spec.resolved_block lists l b) ≤ max n (length l.ints + declares_in_block b)
   few_ints_in lists l n model.End = omega arith
   few_ints_in lists l n (model.Then line s b) =
       let here = few_ints lists l n s in
       let after = ints_after l s in
-      let rest = few_ints_in lists (spec.locals_after l s) (spec.ints_in n (spec.resolved_stmt lists l s)) b in omega (arith, here, after, rest)
+      let rest =
+      few_ints_in lists (spec.locals_after l s) (spec.ints_in n (spec.resolved_stmt lists l s)) b in omega
+      (arith, here, after, rest)
 
 mutual
-  few_arrays : (lists : spec.Lists) (l : spec.Locals) (n : ℕ) (s : model.Stmt) → spec.arrays_in n (spec.resolved_stmt lists l s) ≤ max n (length l.arrays + declares_in s)
+  few_arrays : (lists : spec.Lists) (l : spec.Locals) (n : ℕ) (s : model.Stmt)
+      → spec.arrays_in n (spec.resolved_stmt lists l s) ≤ max n (length l.arrays + declares_in s)
   few_arrays lists l n (model.Declare x e) = omega arith
   few_arrays lists l n (model.DeclareArray a e) = omega arith
   few_arrays lists l n (model.Assign x e) = omega arith
@@ -105,17 +111,22 @@ mutual
   few_arrays lists l n (model.Cut a e left right b) =
       let one = one_more l.arrays left in
       let two = one_more (l.arrays ++ left ∷ []) right in
-      let body = few_arrays_in lists (spec.with_array right (spec.with_array left l)) (max n (suc (length (l.arrays ++ left ∷ [])))) b in omega (arith, one, two, body)
+      let body =
+      few_arrays_in lists (spec.with_array right (spec.with_array left l))
+      (max n (suc (length (l.arrays ++ left ∷ [])))) b in omega (arith, one, two, body)
   few_arrays lists l n (model.Region tag b) = few_arrays_in lists l n b
   few_arrays lists l n (model.Print e) = omega arith
   few_arrays lists l n (model.Return e) = omega arith
 
-  pub few_arrays_in : (lists : spec.Lists) (l : spec.Locals) (n : ℕ) (b : model.Block) → spec.arrays_in_block n (spec.resolved_block lists l b) ≤ max n (length l.arrays + declares_in_block b)
+  pub few_arrays_in : (lists : spec.Lists) (l : spec.Locals) (n : ℕ) (b : model.Block)
+      → spec.arrays_in_block n (spec.resolved_block lists l b) ≤ max n (length l.arrays + declares_in_block b)
   few_arrays_in lists l n model.End = omega arith
   few_arrays_in lists l n (model.Then line s b) =
       let here = few_arrays lists l n s in
       let after = arrays_after l s in
-      let rest = few_arrays_in lists (spec.locals_after l s) (spec.arrays_in n (spec.resolved_stmt lists l s)) b in omega (arith, here, after, rest)
+      let rest =
+      few_arrays_in lists (spec.locals_after l s) (spec.arrays_in n (spec.resolved_stmt lists l s)) b in omega
+      (arith, here, after, rest)
 
 -- each parameter is an integer or an array
 pub params_count : (ps : List Param) → length (spec.locals_of ps).ints + length (spec.locals_of ps).arrays ≡ length ps
@@ -123,19 +134,23 @@ params_count [] = refl
 params_count (p ∷ ps) = first p.is_array (params_count ps)
   where
     first : (b : Bool) → length (spec.locals_of ps).ints + length (spec.locals_of ps).arrays ≡ length ps →
-        length (map (λ p. p.name) (if not b then p ∷ filter (λ p. not p.is_array) ps else filter (λ p. not p.is_array) ps))
-        + length (map (λ p. p.name) (if b then p ∷ filter (λ p. p.is_array) ps else filter (λ p. p.is_array) ps)) ≡ suc (length ps)
+        length
+        (map (λ p. p.name) (if not b then p ∷ filter (λ p. not p.is_array) ps else filter (λ p. not p.is_array) ps))
+        + length (map (λ p. p.name) (if b then p ∷ filter (λ p. p.is_array) ps else filter (λ p. p.is_array) ps))
+        ≡ suc (length ps)
     first true h = omega (arith, h)
     first false h = omega (arith, h)
 
-pub ints_fit : (lists : spec.Lists) (ints arrays : List Name) (ps : List Param) (b : model.Block) → ints ≡ (spec.locals_of ps).ints → length ps + declares_in_block b ≤ 256 →
+pub ints_fit : (lists : spec.Lists) (ints arrays : List Name) (ps : List Param) (b : model.Block)
+    → ints ≡ (spec.locals_of ps).ints → length ps + declares_in_block b ≤ 256 →
     spec.ints_in_block (length ints) (spec.resolved_block lists (record { ints = ints; arrays = arrays }) b) ≤ 256
 ints_fit lists ints arrays ps b same few =
     let body = few_ints_in lists (record { ints = ints; arrays = arrays }) (length ints) b in
     let counted = params_count ps in
     let as_long = ap length same in omega (arith, few, body, counted, as_long)
 
-pub arrays_fit : (lists : spec.Lists) (ints arrays : List Name) (ps : List Param) (b : model.Block) → arrays ≡ (spec.locals_of ps).arrays → length ps + declares_in_block b ≤ 256 →
+pub arrays_fit : (lists : spec.Lists) (ints arrays : List Name) (ps : List Param) (b : model.Block)
+    → arrays ≡ (spec.locals_of ps).arrays → length ps + declares_in_block b ≤ 256 →
     spec.arrays_in_block (length arrays) (spec.resolved_block lists (record { ints = ints; arrays = arrays }) b) ≤ 256
 arrays_fit lists ints arrays ps b same few =
     let body = few_arrays_in lists (record { ints = ints; arrays = arrays }) (length arrays) b in

@@ -13,26 +13,26 @@ use Rattle.cw_machine.proofs.machine.Machine.set_element.Goals as goal
 
 pub get-i-requires : goal.get-i-requires
 get-i-requires c =
-    let there : c.args.self.now.first + (c.args.d + 1) < length c.args.self.now.cells.items = ∥∥₁_elim c.requires le_prop (λ r. moves.set_there c.args.code.now r.running.ok c.args.self.now r.running.state r.running.shows c.args.d c.args.a c.args.line r.is) in
+    let there : c.args.self.now.first + (c.args.d + 1) < length c.args.self.now.cells.items = ∥∥₁_elim c.requires le_prop (λ r. moves.set_there c.args._code.now r.running.ok c.args.self.now r.running.state r.running.shows c.args.d c.args.a c.args.line r.is) in
     omega arith
 
 pub overflow_add-d : goal.overflow_add-d
 overflow_add-d c =
-    let there : c.args.self.now.first + (c.args.d + 1) < length c.args.self.now.cells.items = ∥∥₁_elim c.requires le_prop (λ r. moves.set_there c.args.code.now r.running.ok c.args.self.now r.running.state r.running.shows c.args.d c.args.a c.args.line r.is) in
+    let there : c.args.self.now.first + (c.args.d + 1) < length c.args.self.now.cells.items = ∥∥₁_elim c.requires le_prop (λ r. moves.set_there c.args._code.now r.running.ok c.args.self.now r.running.state r.running.shows c.args.d c.args.a c.args.line r.is) in
     search rules
 
 pub get-x-requires : goal.get-x-requires
-get-x-requires c = ∥∥₁_elim c.requires le_prop (λ r. moves.set_there c.args.code.now r.running.ok c.args.self.now r.running.state r.running.shows c.args.d c.args.a c.args.line r.is)
+get-x-requires c = ∥∥₁_elim c.requires le_prop (λ r. moves.set_there c.args._code.now r.running.ok c.args.self.now r.running.state r.running.shows c.args.d c.args.a c.args.line r.is)
 
 pub view-v-requires : goal.view-v-requires
-view-v-requires c = ∥∥₁_elim c.requires le_prop (λ r. moves.set_within c.args.code.now r.running.ok c.args.self.now r.running.state r.running.shows c.args.d c.args.a c.args.line r.is)
+view-v-requires c = ∥∥₁_elim c.requires le_prop (λ r. moves.set_within c.args._code.now r.running.ok c.args.self.now r.running.state r.running.shows c.args.d c.args.a c.args.line r.is)
 
 pub returns-then-not-is_within : goal.returns-then-not-is_within
 returns-then-not-is_within c = λ ok s is shows may.
     let same_i : to_z w64 (of_z w64 c.get-i.result) ≡ c.get-i.result = search (rules, to_z-of_z) in
     let len = ap (λ (w : View). w.len) c.view-v.ensures in
     let out : is_index c.get-i.result (view c.args.self.now.views.items (c.args.self.now.first_array + c.args.a)).len ≡ false = sym (ap (λ z. is_index z (view c.args.self.now.views.items (c.args.self.now.first_array + c.args.a)).len) same_i) ∙ sym (ap (λ l. is_index (to_z w64 (of_z w64 c.get-i.result)) l) len) ∙ sym c.is_within.ensures ∙ c.if-not-is_within.true in
-    moves.set_traps c.args.code.now ok c.args.self.now s shows c.args.d c.args.a c.args.line c.get-i.result c.get-x.result c.args.self.now is c.get-i.ensures c.get-x.ensures out refl
+    moves.set_traps c.args._code.now ok c.args.self.now s shows c.args.d c.args.a c.args.line c.get-i.result c.get-x.result c.args.self.now is c.get-i.ensures c.get-x.ensures out refl
 
 pub overflow_add-v : goal.overflow_add-v
 overflow_add-v c =
@@ -41,7 +41,7 @@ overflow_add-v c =
     let within : is_index c.get-i.result (view c.args.self.now.views.items (c.args.self.now.first_array + c.args.a)).len ≡ true = sym (ap (λ z. is_index z (view c.args.self.now.views.items (c.args.self.now.first_array + c.args.a)).len) same_i) ∙ sym (ap (λ l. is_index (to_z w64 (of_z w64 c.get-i.result)) l) len) ∙ sym c.is_within.ensures ∙ c.if-not-is_within.false in
     let abs = ap nat_abs same_i ∙ blocks.abs_is c.get-i.result (view c.args.self.now.views.items (c.args.self.now.first_array + c.args.a)).len within in
     let from = ap (λ (w : View). w.from) c.view-v.ensures in
-    let there = blocks.plainly (found (blocks_of c.args.self.now) (view c.args.self.now.views.items (c.args.self.now.first_array + c.args.a)).block ((view c.args.self.now.views.items (c.args.self.now.first_array + c.args.a)).from + natural c.get-i.result)) (∥∥₁_map c.requires (λ r. moves.set_place c.args.code.now r.running.ok c.args.self.now r.running.state r.running.shows r.running.above c.args.d c.args.a c.args.line c.get-i.result r.is within)) in
+    let there = blocks.plainly (found (blocks_of c.args.self.now) (view c.args.self.now.views.items (c.args.self.now.first_array + c.args.a)).block ((view c.args.self.now.views.items (c.args.self.now.first_array + c.args.a)).from + natural c.get-i.result)) (∥∥₁_map c.requires (λ r. moves.set_place c.args._code.now r.running.ok c.args.self.now r.running.state r.running.shows r.running.above c.args.d c.args.a c.args.line c.get-i.result r.is within)) in
     let small = (blocks.found_is (blocks_of c.args.self.now) (view c.args.self.now.views.items (c.args.self.now.first_array + c.args.a)).block ((view c.args.self.now.views.items (c.args.self.now.first_array + c.args.a)).from + natural c.get-i.result) there.0 there.1).0 in
     omega (arith, small, abs, from)
 
@@ -52,12 +52,12 @@ set_at-requires c =
     let within : is_index c.get-i.result (view c.args.self.now.views.items (c.args.self.now.first_array + c.args.a)).len ≡ true = sym (ap (λ z. is_index z (view c.args.self.now.views.items (c.args.self.now.first_array + c.args.a)).len) same_i) ∙ sym (ap (λ l. is_index (to_z w64 (of_z w64 c.get-i.result)) l) len) ∙ sym c.is_within.ensures ∙ c.if-not-is_within.false in
     let abs = ap nat_abs same_i ∙ blocks.abs_is c.get-i.result (view c.args.self.now.views.items (c.args.self.now.first_array + c.args.a)).len within in
     let from = ap (λ (w : View). w.from) c.view-v.ensures in
-    let there = blocks.plainly (found (blocks_of c.args.self.now) (view c.args.self.now.views.items (c.args.self.now.first_array + c.args.a)).block ((view c.args.self.now.views.items (c.args.self.now.first_array + c.args.a)).from + natural c.get-i.result)) (∥∥₁_map c.requires (λ r. moves.set_place c.args.code.now r.running.ok c.args.self.now r.running.state r.running.shows r.running.above c.args.d c.args.a c.args.line c.get-i.result r.is within)) in
+    let there = blocks.plainly (found (blocks_of c.args.self.now) (view c.args.self.now.views.items (c.args.self.now.first_array + c.args.a)).block ((view c.args.self.now.views.items (c.args.self.now.first_array + c.args.a)).from + natural c.get-i.result)) (∥∥₁_map c.requires (λ r. moves.set_place c.args._code.now r.running.ok c.args.self.now r.running.state r.running.shows r.running.above c.args.d c.args.a c.args.line c.get-i.result r.is within)) in
     (there.0, ap (λ k. found (blocks_of c.args.self.now) c.view-v.result.block (c.view-v.result.from + k)) abs ∙ ap (λ (w : View). found (blocks_of c.args.self.now) w.block (w.from + natural c.get-i.result)) c.view-v.ensures ∙ there.1)
 
 pub overflow_add-self : goal.overflow_add-self
 overflow_add-self c =
-    let next : c.args.self.now.place + 1 < 2 ^ 64 = ∥∥₁_elim c.requires le_prop (λ r. moves.set_next c.args.code.now r.running.ok c.args.self.now r.running.state r.running.shows c.args.d c.args.a c.args.line r.is) in
+    let next : c.args.self.now.place + 1 < 2 ^ 64 = ∥∥₁_elim c.requires le_prop (λ r. moves.set_next c.args._code.now r.running.ok c.args.self.now r.running.state r.running.shows c.args.d c.args.a c.args.line r.is) in
     let same = c.set_at.ensures.rest.place in
     omega (arith, next, same)
 
@@ -73,5 +73,5 @@ returns c = λ ok s is shows may.
     let e_blocks =
     c.set_at.ensures.blocks ∙ ap (λ z. put (blocks_of c.args.self.now) c.view-v.result.block (c.view-v.result.from + nat_abs (to_z w64 (of_z w64 c.get-i.result))) z) same_x
     ∙ ap (λ k. put (blocks_of c.args.self.now) c.view-v.result.block (c.view-v.result.from + k) c.get-x.result) abs ∙ ap (λ (w : View). put (blocks_of c.args.self.now) w.block (w.from + natural c.get-i.result) c.get-x.result) c.view-v.ensures in
-    moves.set_follows c.args.code.now ok c.args.self.now s shows may c.args.d c.args.a c.args.line c.get-i.result c.get-x.result _ is c.get-i.ensures c.get-x.ensures within e_blocks
-    (moves.kept c.args.code.now ok c.args.self.now s shows _ c.args.self.now.cells.items (c.args.self.now.place + 1) rest.cells (ap (λ p. p + 1) rest.place) (record { first = rest.first; frames = rest.frames; lines = rest.lines; views = c.set_at.ensures.views; blocks = refl; first_array = rest.first_array; depth = rest.depth; sums = rest.sums }))
+    moves.set_follows c.args._code.now ok c.args.self.now s shows may c.args.d c.args.a c.args.line c.get-i.result c.get-x.result _ is c.get-i.ensures c.get-x.ensures within e_blocks
+    (moves.kept c.args._code.now ok c.args.self.now s shows _ c.args.self.now.cells.items (c.args.self.now.place + 1) rest.cells (ap (λ p. p + 1) rest.place) (record { first = rest.first; frames = rest.frames; lines = rest.lines; views = c.set_at.ensures.views; blocks = refl; first_array = rest.first_array; depth = rest.depth; sums = rest.sums; cuts = rest.cuts }))

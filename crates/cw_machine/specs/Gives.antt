@@ -1,0 +1,232 @@
+-- A rest of the call that runs, which ran elsewhere, comes back: the machine goes on from where it came to.
+use Rattle.std.specs.Prelude.{◌≡◌, ◌≢◌, ℕ, zero, suc, ◌+◌, ◌<◌, ◌≤◌, ◌^◌, ℤ, true, if◌then◌else◌, List, [], ◌∷◌, ◌++◌, length, Option, Some, None, slice_get, slice_set}
+use Rattle.std.specs.Option.{option_flatten}
+use Rattle.cw_slices.specs.Placed.{Placed, IsOwn}
+use Rattle.cw_slices.specs.Blocks.{Lodged, ins}
+use Rattle.cw_code.specs.Code.{code_view}
+use Rattle.cw_code.specs.Run.{Slots, Results, Around, Caller, Block, State, is_full, settled}
+use Rattle.cw_code.specs.Good.{IsNotAmong, slots_in, Seat, GoodState}
+use Rattle.cw_strands.specs.Jobs.{Standing}
+use Rattle.cw_verify.specs.declared.verified.Verified.{Verified}
+use Rattle.cw_jobs.specs.declared.call.Rest.{Rest}
+use Rattle.cw_jobs.specs.Calls.{placed, HasArrays, HoldsFrame}
+use Rattle.cw_jobs.specs.Jobs.{KeepsHomes, KeepsFixed, IsOwnIn, home_of}
+use Rattle.cw_machine.specs.declared.machine.Machine.{Machine}
+use Rattle.cw_jobs.specs.Cuts.{parts_round}
+use Rattle.cw_machine.specs.Arrays.{Out, Ok, AllAbove, taken_round}
+use Rattle.cw_machine.specs.Shows.{cell, Shows, StaysBut}
+use Rattle.cw_machine.specs.Rests.{lending}
+
+-- what a slot of new arrays holds once its array has gone home: the new one, where one was made
+abbrev pub new_in : Option (Option Placed) → Placed → Option (Option Placed)
+new_in (Some (Some own)) p = Some (Some p)
+new_in (Some None) p = Some None
+new_in None p = None
+
+-- a slice is taken out of a slot
+pub record IsTaken (slices : List Placed) (a : ℕ) (slices' : List Placed) : Type 0 where
+  pub left : Placed
+  pub bare : left.items ≡ []
+  pub rest : slices' ≡ slice_set slices a left
+
+-- the new array of a slot is taken in exchange for the slot's own
+pub record IsExchanged (slices : List Placed) (replaced : List (Option Placed)) (a : ℕ)
+    (replaced' : List (Option Placed))
+    : Type 0 where
+  pub here : slice_get replaced' a ≡ new_in (slice_get replaced a) (placed slices a)
+  pub others : (b : ℕ) → b ≢ a → slice_get replaced' b ≡ slice_get replaced b
+
+-- each new array in exchange for the own one of its slot
+abbrev pub AreMade : (back : List Placed) → (replaced made : List (Option Placed)) → Type 0
+AreMade back replaced made =
+    (a : ℕ) → a < length back → slice_get made a ≡ new_in (slice_get replaced a) (placed back a)
+
+-- other numbers in the array of a slot that has one
+abbrev pub refilled : Slots (List ℤ) → (slot : ℕ) → List ℤ → Slots (List ℤ)
+refilled arrays a xs = if is_full (slice_get arrays a) then slice_set arrays a (Some xs) else arrays
+
+-- the arrays of the first slots, so many of them, have the numbers that came home to them
+abbrev pub homed : Slots (List ℤ) → (back : List Placed) → (replaced : List (Option Placed)) → (count : ℕ)
+    → Slots (List ℤ)
+homed arrays back replaced zero = arrays
+homed arrays back replaced (suc n) = refilled (homed arrays back replaced n) n (home_of back replaced n).items
+
+-- a slot has a new array, where there is one for it
+abbrev pub with_new : Slots (List ℤ) → (slot : ℕ) → Option Placed → Slots (List ℤ)
+with_new arrays a (Some p) = slice_set arrays a (Some p.items)
+with_new arrays a None = arrays
+
+-- the first slots, so many of them, have their new arrays
+abbrev pub remade : Slots (List ℤ) → (made : List (Option Placed)) → (count : ℕ) → Slots (List ℤ)
+remade arrays made zero = arrays
+remade arrays made (suc n) = with_new (remade arrays made n) n (option_flatten (slice_get made n))
+
+-- a machine holds a state while slices of the call that runs are out, and these come home to them: as many, as long and
+-- in the same places; and where the call has no array, with the same numbers
+pub record ComesBack (v : Verified) (ok : Ok v) (o : Out) (m : Machine) (s : State) (back : List Placed)
+    (replaced : List (Option Placed)) : Type 0 where
+  pub shows : Shows v (lending ok o) m s
+  pub above : AllAbove ok.outs (length s.around)
+  pub level : o.level ≡ length s.around
+  pub first : o.first ≡ m.first_array
+  pub had : HasArrays o.slices s.arrays
+  pub wide : length s.arrays ≡ length o.slices
+  pub homes : KeepsHomes o.slices back replaced
+  pub empty : (a : ℕ) → slice_get s.arrays a ≡ Some None → (home_of back replaced a).items ≡ (placed o.slices a).items
+
+-- a machine holds some state while these slices come home
+pub record MayHome (m : Machine) (back : List Placed) (replaced : List (Option Placed)) : Type 0 where
+  pub code : Verified
+  pub ok : Ok code
+  pub out : Out
+  pub state : State
+  pub comes : ComesBack code ok out m state back replaced
+
+-- each state that it held it holds with the numbers that came home
+abbrev pub LaysHomes : Machine → List Placed → List (Option Placed) → Machine → Type 0
+LaysHomes m back replaced m' =
+    (v : Verified) (ok : Ok v) (o : Out) (s : State) → ComesBack v ok o m s back replaced
+    → Shows v ok m' (record s { arrays = homed s.arrays back replaced (length back) })
+
+-- a slot of the call that runs may have a new array: no cut has its part there, and no call that waits its array
+pub record IsFree (v : Verified) (ok : Ok v) (s : State) (a : ℕ) : Type 0 where
+  pub full : is_full (slice_get s.arrays a) ≡ true
+  pub apart : IsNotAmong a (parts_round s.around)
+  pub past : taken_round ok.params s.around ≤ a
+
+-- a machine holds a state with nothing out of the call that runs, whose slots are so many, and may have these arrays
+pub record MakesNew (v : Verified) (ok : Ok v) (m : Machine) (s : State) (made : List (Option Placed)) (count : ℕ)
+    : Type 0 where
+  pub shows : Shows v ok m s
+  pub above : AllAbove ok.outs (length s.around)
+  pub wide : length s.arrays ≡ count
+  pub each : (a : ℕ) (p : Placed) → slice_get made a ≡ Some (Some p) → a < count → IsFree v ok s a × IsOwn p
+
+-- a machine holds some state that may have these new arrays
+pub record MayMake (m : Machine) (made : List (Option Placed)) (count : ℕ) : Type 0 where
+  pub code : Verified
+  pub ok : Ok code
+  pub state : State
+  pub makes : MakesNew code ok m state made count
+
+-- each state that it held it holds with the new arrays
+abbrev pub LaysMade : Machine → List (Option Placed) → (count : ℕ) → Machine → Type 0
+LaysMade m made count m' =
+    (v : Verified) (ok : Ok v) (s : State) → MakesNew v ok m s made count
+    → Shows v ok m' (record s { arrays = remade s.arrays made count })
+
+-- a new array lies in the block of a cell, and nothing else changed
+pub record HasMade (m : Machine) (cell : ℕ) (xs : List ℤ) (m' : Machine) : Type 0 where
+  pub block : Lodged
+  pub are : block.cells ≡ ins xs
+  pub small : length xs < 2 ^ 60
+  pub blocks : m'.blocks.items ≡ slice_set m.blocks.items cell block
+  pub views : m'.views.items ≡ slice_set m.views.items cell (record { block = cell; from = 0; len = length xs })
+  pub rest : StaysBut m m'
+
+-- nothing changed
+pub record HasStayed (m m' : Machine) : Type 0 where
+  pub blocks : m'.blocks.items ≡ m.blocks.items
+  pub views : m'.views.items ≡ m.views.items
+  pub rest : StaysBut m m'
+
+-- a new array may become that of a cell, where there is one
+abbrev pub MayTakeNew : Machine → (cell : ℕ) → Option Placed → Type 0
+MayTakeNew m cell (Some p) = IsOwn p × (cell < length m.views.items) × (cell < length m.blocks.items)
+MayTakeNew m cell None = Unit {0}
+
+-- and it is that
+abbrev pub HasNew : Machine → (cell : ℕ) → Option Placed → Machine → Type 0
+HasNew m cell (Some p) m' = HasMade m cell p.items m'
+HasNew m cell None m' = HasStayed m m'
+
+-- a cell of a call has a value that came back, but for the slot that has the result of its call already
+pub record HasCell (first k : ℕ) (x : ℤ) (target : Option ℕ) (old new : List ℤ) : Type 0 where
+  pub kept : target ≡ Some k → new ≡ old
+  pub laid : Some k ≢ target → new ≡ slice_set old (first + k) x
+
+-- the cells of a call have the values that came back, but for the slot that has the result of its call already
+pub record HasFilled (first : ℕ) (back : List ℤ) (target : Option ℕ) (old new : List ℤ) : Type 0 where
+  pub as_many : length new ≡ length old
+  pub below : (k : ℕ) → k < first → cell new k ≡ cell old k
+  pub kept : (a : ℕ) → target ≡ Some a → cell new (first + a) ≡ cell old (first + a)
+  pub laid : (a : ℕ) → a < length back → first + a < length old → Some a ≢ target → cell new (first + a) ≡ cell back a
+
+-- what waits for the join of a block: the newest came of its own spawns, and the others waited before its run began
+pub record Waits (s : State) : Type 0 where
+  pub newest : Results ℤ
+  pub others : Results ℤ
+  pub are : s.results ≡ newest ++ others
+  pub newest_arrays : Results (List ℤ)
+  pub other_arrays : Results (List ℤ)
+  pub are_arrays : s.arrived ≡ newest_arrays ++ other_arrays
+
+-- the block goes on from a join: what came of its own spawns goes back into its slots, and the others wait on
+abbrev pub went_on : (s : State) → Standing → Waits s → State
+went_on s frame waits = record s {
+  place = frame.place;
+  operands = frame.operands;
+  slots = settled waits.newest frame.slots;
+  arrays = settled waits.newest_arrays frame.arrays;
+  results = waits.others;
+  arrived = waits.other_arrays;
+}
+
+-- each result that waits lies in the cell of its slot, but for that of one slot
+abbrev pub ComesBut : (target : Option ℕ) → List ℤ → Results ℤ → Type 0
+ComesBut target cells [] = Unit {0}
+ComesBut target cells (r ∷ results) = (Some r.0 ≢ target → cell cells r.0 ≡ r.1) × ComesBut target cells results
+
+-- and so does each that the open blocks of a call wait for
+abbrev pub RoundComesBut : (target : Option ℕ) → List ℤ → List Around → Type 0
+RoundComesBut target cells [] = Unit {0}
+RoundComesBut target cells (Caller w ∷ around) = Unit {0}
+RoundComesBut target cells (Block o ∷ around) = ComesBut target cells o.results × RoundComesBut target cells around
+
+-- two places lie in the same function
+abbrev pub AreTogether : (v : Verified) → Ok v → (place place' : ℕ) → Type 0
+AreTogether v ok place place' =
+    (seat : Seat (code_view v.code) ok.verified.fits place) (seat' : Seat (code_view v.code) ok.verified.fits place')
+    → seat'.index ≡ seat.index
+
+-- what came back for the array slots that were empty: what they had, and no new array
+pub record KeepsSlots (s : State) (o : Out) (back : Rest) (replaced : List (Option Placed)) : Type 0 where
+  pub own : (a : ℕ) → slice_get s.arrays a ≡ Some None → IsOwnIn replaced a
+  pub items : (a : ℕ) → slice_get s.arrays a ≡ Some None
+      → (placed back.slices.items a).items ≡ (placed o.slices a).items
+
+-- a machine holds a state while slices of the call that runs are out, and their rest came back at this frame
+pub record IsGiving (v : Verified) (ok : Ok v) (o : Out) (m : Machine) (s : State) (frame : Standing) (waits : Waits s)
+    (back : Rest) (replaced : List (Option Placed)) (target : Option ℕ) : Type 0 where
+  pub shows : Shows v (lending ok o) m s
+  pub above : AllAbove ok.outs (length s.around)
+  pub level : o.level ≡ length s.around
+  -- what went out was the arrays that the call has
+  pub had : HasArrays o.slices s.arrays
+  pub together : AreTogether v ok s.place frame.place
+  pub good : GoodState (code_view v.code) ok.verified.fits (went_on s frame waits)
+  pub holds : HoldsFrame back frame
+  pub homes : KeepsHomes o.slices back.slices.items replaced
+  pub fixed : KeepsFixed v ok.verified s.place replaced
+  pub slots : KeepsSlots s o back replaced
+  -- what waited as the rest went out lies in its cells still
+  pub comes : ComesBut target back.cells.items s.results
+  pub round : RoundComesBut target back.cells.items s.around
+  -- the result of the call that was spawned waits for its slot
+  pub awaits : (a : ℕ) → target ≡ Some a → IsNotAmong a (slots_in waits.newest) → ⊥
+
+-- each state that a machine held while the rest ran it holds now at the join to which the rest came
+abbrev pub Gives : Machine → Rest → List (Option Placed) → Option ℕ → Machine → Type 0
+Gives m back replaced target m' =
+    (v : Verified) (ok : Ok v) (o : Out) (s : State) (frame : Standing) (waits : Waits s)
+    → IsGiving v ok o m s frame waits back replaced target → Shows v ok m' (went_on s frame waits)
+
+-- a machine holds some state while the rest ran that comes back
+pub record MayGive (m : Machine) (back : Rest) (replaced : List (Option Placed)) (target : Option ℕ) : Type 0 where
+  pub code : Verified
+  pub ok : Ok code
+  pub out : Out
+  pub state : State
+  pub frame : Standing
+  pub waits : Waits state
+  pub gives : IsGiving code ok out m state frame waits back replaced target

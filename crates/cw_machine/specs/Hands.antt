@@ -1,0 +1,151 @@
+-- The rest of a block is handed out at a spawn: arrays of the call that waits are out, and the machine goes on showing
+-- the same state.
+use Rattle.std.specs.Prelude.{◌≡◌, ℕ, zero, suc, ◌+◌, ◌-◌, ◌<◌, ◌≤◌, ℤ, Bool, true, false, if◌then◌else◌, nat_lt, nat_eq, List, [], ◌∷◌, ◌++◌, length, map, reverse, Some, slice_get, slice_set}
+use Rattle.cw_slices.specs.Placed.{Placed, IsOwn, after}
+use Rattle.cw_slices.specs.Blocks.{Lodged, outs, patched, Have, AreIn}
+use Rattle.cw_model.specs.declared.syntax.CallKind.TheVariants.{Spawned}
+use Rattle.cw_code.specs.Run.{slot_taken, Waiting, Around, Caller, Block, State}
+use Rattle.cw_strands.specs.Strands.{rest_of}
+use Rattle.cw_jobs.specs.declared.call.Extent.TheVariants as extent
+use Rattle.cw_jobs.specs.declared.call.Parts.{Parts}
+use Rattle.cw_jobs.specs.declared.call.Rest.{Rest}
+use Rattle.cw_jobs.specs.Cuts.{AreNone, AreOwn}
+use Rattle.cw_jobs.specs.Jobs.{IsJob}
+use Rattle.cw_verify.specs.declared.verified.Verified.{Verified}
+use Rattle.cw_machine.specs.declared.machine.Frame.{Frame}
+use Rattle.cw_machine.specs.declared.machine.Machine.{Machine}
+use Rattle.cw_machine.specs.declared.machine.View.{View}
+use Rattle.cw_machine.specs.Arrays.{Out, Ok, AllAbove, view, block}
+use Rattle.cw_machine.specs.Shows.{cell, Comes, Shows, StaysBut}
+use Rattle.cw_machine.specs.Rests.{lending, AreBare}
+
+-- a number is one of these
+abbrev pub is_among : (a : ℕ) → List ℕ → Bool
+is_among a [] = false
+is_among a (b ∷ bs) = if nat_eq b a then true else is_among a bs
+
+-- a cell is among those of arrays that are cut, the newest first, before the first one below another cell: the newest
+-- are those of the call that waits nearest, and those of the calls below it lie below its first cell
+abbrev pub is_cut_among : (cell first : ℕ) → List ℕ → Bool
+is_cut_among cell first [] = false
+is_cut_among cell first (c ∷ cells) =
+    if nat_lt c first then false else (if nat_eq c cell then true else is_cut_among cell first cells)
+
+-- the array in a slot of the call at a first cell stays here: a spawn took it, or an open cut of that call has it
+abbrev pub stays_here : (cuts : List ℕ) (first : ℕ) (passed : List ℕ) (slot : ℕ) → Bool
+stays_here cuts first passed a =
+    if is_among a passed then true else is_cut_among (first + a) first (reverse cuts)
+
+-- the frame at the end of those of the calls that wait
+abbrev pub IsLast : List Frame → Frame → Type 0
+IsLast frames f = slice_get frames (length frames - 1) ≡ Some f
+
+-- so many numbers of an array are lent
+abbrev pub lent_count : (stays : Bool) (len : ℕ) → ℕ
+lent_count true len = 0
+lent_count false len = len
+
+-- an array lies in a machine's own blocks, all in
+pub record HasAll (views : List View) (blocks : List Lodged) (cell : ℕ) : Type 0 where
+  pub there : (view views cell).block < length blocks
+  pub within : (view views cell).from + (view views cell).len ≤ length (block blocks (view views cell).block).cells
+  pub all : AreIn (block blocks (view views cell).block).cells (view views cell).from (view views cell).len
+
+-- the array of a cell may be lent, where there is one to lend
+pub record MayLend (m : Machine) (cell : ℕ) (stays : Bool) : Type 0 where
+  pub seen : cell < length m.views.items
+  pub there : 0 < lent_count stays (view m.views.items cell).len → HasAll m.views.items m.blocks.items cell
+
+-- so many numbers from where a view lies are out
+abbrev pub parted : List Lodged → View → (count : ℕ) → List Lodged
+parted blocks w zero = blocks
+parted blocks w (suc n) =
+    let old = block blocks w.block in
+    slice_set blocks w.block (record { cells = patched w.from (outs (suc n)) old.cells; spot = old.spot })
+
+-- the array of a cell was lent, if it does not stay, and nothing else changed
+pub record HasLentOut (m : Machine) (cell : ℕ) (stays : Bool) (p : Placed) (m' : Machine) : Type 0 where
+  pub own : IsOwn p
+  pub count : length p.items ≡ lent_count stays (view m.views.items cell).len
+  pub items : 0 < length p.items
+      → Have (block m.blocks.items (view m.views.items cell).block).cells (view m.views.items cell).from p.items
+  pub place : 0 < length p.items
+      → p.spot ≡ after (view m.views.items cell).from (block m.blocks.items (view m.views.items cell).block).spot
+  pub blocks : m'.blocks.items ≡ parted m.blocks.items (view m.views.items cell) (length p.items)
+  pub views : m'.views.items ≡ m.views.items
+  pub rest : StaysBut m m'
+
+-- slices of a call that waits are out, from a cell on below another, with so many blocks and calls round it
+abbrev pub out_of : (level first floor : ℕ) → List Placed → Out
+out_of level first floor slices = record { level = level; first = first; floor = floor; slices = slices }
+
+-- what waits for the joins of the open blocks of a call lies in the cells of its slots
+abbrev pub ComesRound : List ℤ → (first slots : ℕ) → List Around → Type 0
+ComesRound cells first slots [] = Unit {0}
+ComesRound cells first slots (Caller w ∷ around) = Unit {0}
+ComesRound cells first slots (Block o ∷ around) =
+    Comes cells first slots o.results × ComesRound cells first slots around
+
+-- the call that waits nearest is handed out, whose first array slot has this cell: the machine shows the same state
+-- with
+-- its arrays out; the rest, as parts that go to the join, is the job of the rest of the block; what waits for the joins
+-- of that call lies in the rest too; and the rest has nothing of what the spawn took
+pub record HandedOut (v : Verified) (ok : Ok v) (m : Machine) (s : State) (w : Waiting) (around : List Around)
+    (passed : List ℕ) (first : ℕ) (m' : Machine) (r : Rest) : Type 0 where
+  pub shows : Shows v (lending ok (out_of (length around) first m.first_array r.slices.items)) m' s
+  pub job : (p : Parts) → p.rest ≡ r → p.extent ≡ extent.ToJoin → IsJob v ok.verified p (rest_of w p.limit p.before)
+  pub comes : Comes r.cells.items 0 (length w.slots) w.results × ComesRound r.cells.items 0 (length w.slots) around
+  pub taken : AreNone r.slices.items passed
+
+-- a spawn has just begun its call: the call that spawned waits nearest, with no operand, these slots were taken, and
+-- all that is out is of calls below it
+pub record Hands (v : Verified) (ok : Ok v) (m : Machine) (s : State) (w : Waiting) (around : List Around)
+    (passed : List ℕ) : Type 0 where
+  pub shows : Shows v ok m s
+  pub is : s.around ≡ Caller w ∷ around
+  pub spawned : w.kind ≡ Spawned
+  pub none : w.operands ≡ []
+  pub taken : map slot_taken w.taken ≡ passed
+  pub above : AllAbove ok.outs (length around)
+
+-- a machine may hand out the call that waits nearest
+pub record MayHand (m : Machine) (passed : List ℕ) : Type 0 where
+  pub code : Verified
+  pub ok : Ok code
+  pub state : State
+  pub waiting : Waiting
+  pub around : List Around
+  pub hands : Hands code ok m state waiting around passed
+
+-- a machine may hand out the arrays of the call that waits nearest, which has so many, from a cell on
+pub record MayHandArrays (m : Machine) (first : ℕ) (passed : List ℕ) (count : ℕ) : Type 0 where
+  pub may : MayHand m passed
+  pub ends : first + length may.waiting.arrays ≡ m.first_array
+  pub as_many : count ≡ length may.waiting.arrays
+
+-- the arrays of that call are out as these slices, each with what its array has that does not stay here
+pub record HandsArrays (m : Machine) (first : ℕ) (passed : List ℕ) (m' : Machine) (slices : List Placed) : Type 0 where
+  pub stays : StaysBut m m'
+  pub own : AreOwn slices
+  pub counts : (a : ℕ) (p : Placed) → slice_get slices a ≡ Some p
+      → length p.items ≡ lent_count (stays_here m.cuts.items first passed a) (view m.views.items (first + a)).len
+  pub shows : (v : Verified) (ok : Ok v) (s : State) (w : Waiting) (around : List Around)
+      → Hands v ok m s w around passed → first + length w.arrays ≡ m.first_array → length slices ≡ length w.arrays
+      → Shows v (lending ok (out_of (length around) first m.first_array slices)) m' s
+
+-- whatever state it held, it holds it while the call is out
+abbrev pub HandsOut : Machine → List ℕ → (first : ℕ) → Machine → Rest → Type 0
+HandsOut m passed first m' r =
+    (v : Verified) (ok : Ok v) (s : State) (w : Waiting) (around : List Around)
+    → Hands v ok m s w around passed → HandedOut v ok m s w around passed first m' r
+
+-- more slices, which have no numbers
+abbrev pub HasMoreBare : List Placed → List Placed → Type 0
+HasMoreBare slices slices' = (more : List Placed) × AreBare more × (slices' ≡ slices ++ more)
+
+-- a rest is as it was, but that it may have more slices without numbers
+pub record HasGrown (r r' : Rest) : Type 0 where
+  pub place : r'.place ≡ r.place
+  pub depth : r'.depth ≡ r.depth
+  pub cells : r'.cells.items ≡ r.cells.items
+  pub slices : HasMoreBare r.slices.items r'.slices.items

@@ -1,0 +1,297 @@
+-- The machine of a job: how it begins, and what is made of it at its end.
+use Rattle.std.specs.Prelude.{◌≡◌, ◌≢◌, ◌⊎◌, ℕ, ◌+◌, ◌-◌, ◌^◌, ◌<◌, ◌≤◌, ℤ, pos, List, [], ◌∷◌, ◌++◌, length, replicate, Option, Some, None, slice_get}
+use Rattle.cw_slices.specs.Placed.{Placed, IsOwn}
+use Rattle.cw_slices.specs.Blocks.{Lodged, ins, Have}
+use Rattle.cw_model.specs.Outcome.{quiet}
+use Rattle.cw_code.specs.Code.{code_view}
+use Rattle.cw_code.specs.Run.{Results, Around, Caller, Block, State}
+use Rattle.cw_code.specs.Good.{GoodState}
+use Rattle.cw_strands.specs.Jobs.{WholeCall, Job, job_start, standing}
+use Rattle.cw_strands.specs.Over.{under}
+use Rattle.cw_jobs.specs.declared.call.Parts.{Parts}
+use Rattle.cw_jobs.specs.declared.call.Rest.{Rest}
+use Rattle.cw_jobs.specs.Calls.{cell, placed, HoldsCall, HoldsFrame}
+use Rattle.cw_jobs.specs.Cuts.{cut_slots, AreNone, AreOwn, AreThere, RoundThere}
+use Rattle.cw_jobs.specs.Jobs.{AreBlocks, IsOutermost, IsJob, own_or, home_of, IsOwnIn, KeepsHomes, KeepsEmpty, KeepsFixed}
+use Rattle.cw_verify.specs.declared.verified.Verified.{Verified}
+use Rattle.cw_machine.specs.declared.machine.Machine.{Machine}
+use Rattle.cw_machine.specs.declared.machine.View.{View}
+use Rattle.cw_machine.specs.Arrays.{IsFit, Ok, view, block}
+use Rattle.cw_machine.specs.Shows.{Shows}
+
+-- these cells, and zeros up to so many
+abbrev pub HasCells : (own : List ℤ) → (room : ℕ) → List ℤ → Type 0
+HasCells own room cells = cells ≡ own ++ replicate (room - length own) (pos 0)
+
+-- where the array of a slot lies that is a block of its own
+abbrev pub home_in : List Placed → (slot : ℕ) → View
+home_in slices a = record { block = a; from = 0; len = length (placed slices a).items }
+
+-- no slice is too long
+abbrev pub AreSmall : List Placed → Type 0
+AreSmall slices = (a : ℕ) → a < length slices → length (placed slices a).items < 2 ^ 60
+
+-- the cells from one on
+pub record AreFrom (cells : List ℤ) (first : ℕ) (own : List ℤ) : Type 0 where
+  pub as_many : length cells ≤ first + length own
+  pub are : (a : ℕ) → first + a < length cells → cell own a ≡ cell cells (first + a)
+
+-- a view more for each slice, as a block of its own
+pub record HasViews (old : List View) (slices : List Placed) (new : List View) : Type 0 where
+  pub as_many : length new ≡ length old + length slices
+  pub old_are : (k : ℕ) → k < length old → view new k ≡ view old k
+  pub are : (a : ℕ) → a < length slices → view new (length old + a) ≡ home_in slices a
+  pub small : AreSmall slices
+
+-- so many blocks more, without numbers
+pub record HasBlocks (old : List Lodged) (count : ℕ) (new : List Lodged) : Type 0 where
+  pub as_many : length new ≡ length old + count
+  pub old_are : (k : ℕ) → k < length old → block new k ≡ block old k
+  pub bare : (k : ℕ) → length old ≤ k → (block new k).cells ≡ []
+
+-- a slice, as a block that is all in
+abbrev pub lodged : Placed → Lodged
+lodged p = record { cells = ins p.items; spot = p.spot }
+
+-- a machine with room for a rest, where its slices will lie
+pub record HasRoomFor (rest : Rest) (room reducers : ℕ) (m : Machine) : Type 0 where
+  pub place : m.place ≡ rest.place
+  pub first : m.first ≡ 0
+  pub first_array : m.first_array ≡ length rest.slices.items
+  pub depth : m.depth ≡ rest.depth
+  pub frames : m.frames.items ≡ []
+  pub lines : m.lines.items ≡ []
+  pub cuts : m.cuts.items ≡ []
+  pub cells : HasCells rest.cells.items room m.cells.items
+  pub views : length m.views.items ≡ length rest.slices.items + length rest.slices.items
+  pub low : (a : ℕ) → a < length rest.slices.items → view m.views.items a ≡ home_in rest.slices.items a
+  pub high : (a : ℕ) → a < length rest.slices.items →
+      view m.views.items (length rest.slices.items + a) ≡ home_in rest.slices.items a
+  pub small : AreSmall rest.slices.items
+  pub blocks : length m.blocks.items ≡ length rest.slices.items + length rest.slices.items
+  pub bare : (k : ℕ) → (block m.blocks.items k).cells ≡ []
+  pub sums : m.sums.items ≡ replicate reducers (pos 0)
+
+-- slices are the first blocks of a machine, and its other blocks have no numbers
+pub record HasSlices (slices : List Placed) (m : Machine) : Type 0 where
+  pub lodges : (a : ℕ) → a < length slices → block m.blocks.items a ≡ lodged (placed slices a)
+  pub bare : (a : ℕ) → length slices ≤ a → (block m.blocks.items a).cells ≡ []
+
+-- all but the blocks is as it was
+pub record KeepsAll (m m' : Machine) : Type 0 where
+  pub place : m'.place ≡ m.place
+  pub first : m'.first ≡ m.first
+  pub first_array : m'.first_array ≡ m.first_array
+  pub depth : m'.depth ≡ m.depth
+  pub frames : m'.frames.items ≡ m.frames.items
+  pub lines : m'.lines.items ≡ m.lines.items
+  pub cuts : m'.cuts.items ≡ m.cuts.items
+  pub cells : m'.cells.items ≡ m.cells.items
+  pub views : m'.views.items ≡ m.views.items
+  pub sums : m'.sums.items ≡ m.sums.items
+  pub blocks : length m'.blocks.items ≡ length m.blocks.items
+
+-- a rest whose slices were moved out keeps as many without numbers, and all else
+pub record IsEmptied (r r' : Rest) : Type 0 where
+  pub place : r'.place ≡ r.place
+  pub depth : r'.depth ≡ r.depth
+  pub cells : r'.cells.items ≡ r.cells.items
+  pub as_many : length r'.slices.items ≡ length r.slices.items
+  pub bare : (a : ℕ) → (placed r'.slices.items a).items ≡ []
+
+-- the run of a job on these slices, with so many parameters and blocks round it
+abbrev pub ok_of : (v : Verified) → IsFit v → (params : ℕ) → List Placed → (round : ℕ) → Ok v
+ok_of v is params slices round =
+    record { verified = is; outer = round; params = params; home = home_in slices; given = slices; outs = [] }
+
+-- the values that wait for slots lie in their cells
+abbrev pub WaitIn : List ℤ → Results ℤ → Type 0
+WaitIn cells [] = Unit {0}
+WaitIn cells (r ∷ results) = (cell cells r.0 ≡ r.1) × WaitIn cells results
+
+-- the arrays that wait for slots lie in their slices
+abbrev pub ArraysWaitIn : List Placed → Results (List ℤ) → Type 0
+ArraysWaitIn slices [] = Unit {0}
+ArraysWaitIn slices (r ∷ results) = ((placed slices r.0).items ≡ r.1) × ArraysWaitIn slices results
+
+-- and so in all blocks of the call
+abbrev pub RoundWaitsIn : Rest → List Around → Type 0
+RoundWaitsIn r [] = Unit {0}
+RoundWaitsIn r (Caller w ∷ around) = Unit {0}
+RoundWaitsIn r (Block o ∷ around) =
+    WaitIn r.cells.items o.results × ArraysWaitIn r.slices.items o.arrived × RoundWaitsIn r around
+
+-- the block in which a job began, where what waits for the empty slots is what the job's rest has in them
+pub record IsBase (v : Verified) (is : IsFit v) (j : Job) (r : Rest) (base : State) : Type 0 where
+  pub holds : HoldsCall r j
+  pub own : AreOwn r.slices.items
+  pub good : GoodState (code_view v.code) is.fits (under base (job_start j))
+  pub begins : base.trace ≡ quiet
+  pub blocks : AreBlocks base.around
+  pub waits : WaitIn r.cells.items base.results × ArraysWaitIn r.slices.items base.arrived × RoundWaitsIn r base.around
+  pub bare : AreNone r.slices.items (cut_slots base.around)
+  pub there : AreThere (length j.slots) base.results × AreThere (length j.arrays) base.arrived
+      × RoundThere (length j.slots) (length j.arrays) base.around
+  pub outermost : j.extent ≡ WholeCall → IsOutermost base
+
+-- what the run of a job stands in
+abbrev pub job_ok : (v : Verified) (is : IsFit v) (j : Job) (r : Rest) (base : State) → IsBase v is j r base → Ok v
+job_ok v is j r base b = ok_of v is b.good.seat.func.array_params r.slices.items (length base.around)
+
+-- a machine holds a state of the run of a job, with nothing out
+pub record HoldsOf (v : Verified) (is : IsFit v) (j : Job) (r : Rest) (m : Machine) (s : State) : Type 0 where
+  pub base : State
+  pub is_base : IsBase v is j r base
+  pub shows : Shows v (job_ok v is j r base is_base) m (under base s)
+
+-- the machine of a job, whichever of the definitions the job is
+abbrev pub BeginsJob : Verified → Rest → Machine → Type 0
+BeginsJob v rest m =
+    (is : IsFit v) (p : Parts) (j : Job) → p.rest ≡ rest → IsJob v is p j → HoldsOf v is j rest m (job_start j)
+
+-- all cells of a block are in
+abbrev pub AllIn : List (Option ℤ) → Type 0
+AllIn cells = (k : ℕ) → slice_get cells k ≡ Some None → ⊥
+
+-- what a run was given is its first blocks still, all in, where it lay
+pub record KeepsGiven (given : List Placed) (m : Machine) : Type 0 where
+  pub there : length given ≤ length m.blocks.items
+  pub all_in : (a : ℕ) → a < length given → AllIn (block m.blocks.items a).cells
+  pub spot : (a : ℕ) → a < length given → (block m.blocks.items a).spot ≡ (placed given a).spot
+  pub len : (a : ℕ) → a < length given → length (block m.blocks.items a).cells ≡ length (placed given a).items
+
+-- so many slices that a machine was given may be moved out
+pub record MayGiveUp (m : Machine) (count : ℕ) : Type 0 where
+  pub there : count ≤ length m.blocks.items
+  pub all_in : (a : ℕ) → a < count → AllIn (block m.blocks.items a).cells
+
+-- whatever a run was given comes back where it lay
+abbrev pub GivesUp : Machine → (count : ℕ) → List Placed → Type 0
+GivesUp m count back = (given : List Placed) → length given ≡ count → KeepsGiven given m → KeepsHomes given back []
+
+-- numbers are where a view lies
+pub record Seen (blocks : List Lodged) (w : View) (xs : List ℤ) : Type 0 where
+  pub len : w.len ≡ length xs
+  pub have : Have (block blocks w.block).cells w.from xs
+
+-- numbers lie within a block
+abbrev pub Within : (from len : ℕ) → List (Option ℤ) → Type 0
+Within from len cells = 0 < len → from + len ≤ length cells
+
+-- copies of what lies in a block from a place on
+pub record Copies (cells : List (Option ℤ)) (from len : ℕ) (p : Placed) : Type 0 where
+  pub own : IsOwn p
+  pub are : (xs : List ℤ) → length xs ≡ len → Have cells from xs → p.items ≡ xs
+
+-- where the array in a slot of the first call lies, which was given so many
+abbrev pub slot_view : Machine → (count slot : ℕ) → View
+slot_view m count a = view m.views.items (count + a)
+
+-- the cells of the block where a view lies
+abbrev pub cells_at : Machine → View → List (Option ℤ)
+cells_at m w = (block m.blocks.items w.block).cells
+
+-- the block where a view lies is a slot's: that of the slot's own slice, or of what was made in the slot
+abbrev pub IsSlots : (count slot : ℕ) → View → Type 0
+IsSlots count a w = (w.block ≡ a) ⊎ (w.block ≡ count + a)
+
+-- all arrays of the first call of a machine, so many, lie in its blocks, and all are in
+pub record MaySee (m : Machine) (count : ℕ) : Type 0 where
+  pub views : count + count ≤ length m.views.items
+  pub blocks : count + count ≤ length m.blocks.items
+  pub all_in : (b : ℕ) → AllIn (block m.blocks.items b).cells
+  pub there : (a : ℕ) → a < count → (slot_view m count a).block < length m.blocks.items
+  pub within : (a : ℕ) → a < count →
+      let w = slot_view m count a in Within w.from w.len (cells_at m w)
+
+-- an array is all of a block that is its slot's: the slot's own slice, or what was made in the slot
+pub record IsWhole (m : Machine) (count a : ℕ) : Type 0 where
+  pub from : (slot_view m count a).from ≡ 0
+  pub len : (slot_view m count a).len ≡ length (cells_at m (slot_view m count a))
+  pub which : IsSlots count a (slot_view m count a)
+
+-- the array in a slot is such a block, or was copied
+abbrev pub IsCopied : Machine → (count a : ℕ) → Option Placed → Type 0
+IsCopied m count a None = IsWhole m count a
+IsCopied m count a (Some p) =
+    let w = slot_view m count a in Copies (cells_at m w) w.from w.len p
+
+-- so many slots have their copies
+pub record HasCopies (m : Machine) (count upto : ℕ) (copies : List (Option Placed)) : Type 0 where
+  pub as_many : length copies ≡ upto
+  pub each : (a : ℕ) (o : Option Placed) → slice_get copies a ≡ Some o → IsCopied m count a o
+
+-- the copy of an array may be moved out, or the block that it is
+pub record MayMove (m : Machine) (count a : ℕ) (copy : Option Placed) : Type 0 where
+  pub slot : a < count
+  pub views : count + count ≤ length m.views.items
+  pub blocks : count + count ≤ length m.blocks.items
+  pub own : AllIn (block m.blocks.items a).cells
+  pub made : AllIn (block m.blocks.items (count + a)).cells
+  pub which : copy ≡ None → IsSlots count a (slot_view m count a)
+  pub owned : (p : Placed) → copy ≡ Some p → IsOwn p
+
+-- the array in a slot was moved out: the slot's own slice comes home, and has the array where it is as long
+pub record IsMoved (m : Machine) (count a : ℕ) (copy : Option Placed) (slice : Placed) (rep : Option Placed)
+    : Type 0 where
+  pub spot : (own_or (Some rep) slice).spot ≡ (block m.blocks.items a).spot
+  pub len : length (own_or (Some rep) slice).items ≡ length (block m.blocks.items a).cells
+  pub copied : (p : Placed) → copy ≡ Some p → slice.items ≡ p.items
+  pub whole : copy ≡ None → ins slice.items ≡ cells_at m (slot_view m count a)
+  pub own : IsOwn slice
+  pub same : length slice.items ≡ length (block m.blocks.items a).cells → (p : Placed) → rep ≢ Some p
+
+-- a machine of which the blocks of a slot were taken
+pub record LeavesOthers (m : Machine) (count a : ℕ) (m' : Machine) : Type 0 where
+  pub others : (b : ℕ) → b ≢ a → b ≢ count + a → block m'.blocks.items b ≡ block m.blocks.items b
+  pub as_many : length m'.blocks.items ≡ length m.blocks.items
+  pub views : m'.views.items ≡ m.views.items
+  pub place : m'.place ≡ m.place
+  pub depth : m'.depth ≡ m.depth
+
+-- what comes of the array in a slot: the slot's own slice comes home, the array's numbers are in what comes back, and
+-- where it is as long as the slot's own slice it is in that
+pub record SlotEnds (m : Machine) (count a : ℕ) (back : List Placed) (replaced : List (Option Placed)) : Type 0 where
+  pub spot : (home_of back replaced a).spot ≡ (block m.blocks.items a).spot
+  pub len : length (home_of back replaced a).items ≡ length (block m.blocks.items a).cells
+  pub items : (xs : List ℤ) → Seen m.blocks.items (slot_view m count a) xs → (placed back a).items ≡ xs
+  pub own : IsOwn (placed back a)
+  pub same : length (placed back a).items ≡ length (block m.blocks.items a).cells → IsOwnIn replaced a
+
+-- what comes of the arrays of the first call
+pub record SlotsEnd (m : Machine) (count : ℕ) (back : List Placed) (replaced : List (Option Placed)) : Type 0 where
+  pub as_many : length back ≡ count
+  pub places : length replaced ≡ count
+  pub each : (a : ℕ) → a < count → SlotEnds m count a back replaced
+
+-- a machine holds a state of the run of a job at the join of its block: nothing is out, and nothing stands round it
+pub record HasCome (v : Verified) (is : IsFit v) (j : Job) (r : Rest) (m : Machine) (s : State) : Type 0 where
+  pub holds : HoldsOf v is j r m s
+  pub none : s.around ≡ []
+  -- the call has as many array slots as the job's
+  pub arrays : length s.arrays ≡ length j.arrays
+
+-- a job came to its join
+pub record CanEnd (m : Machine) (count : ℕ) : Type 0 where
+  pub code : Verified
+  pub is : IsFit code
+  pub job : Job
+  pub rest : Rest
+  pub state : State
+  pub come : HasCome code is job rest m state
+  pub as_many : length rest.slices.items ≡ count
+
+-- what a machine of a job hands back at the join: the call as it stands, each slice where it lay, what the empty slots
+-- had, and no new array where one must come back
+pub record Ends (v : Verified) (is : IsFit v) (j : Job) (r : Rest) (s : State) (back : Rest)
+    (replaced : List (Option Placed)) : Type 0 where
+  pub holds : HoldsFrame back (standing s)
+  pub empty : KeepsEmpty j r back replaced
+  pub homes : KeepsHomes r.slices.items back.slices.items replaced
+  pub fixed : KeepsFixed v is j.place replaced
+  pub own : AreOwn back.slices.items
+
+abbrev pub EndsJob : Machine → (count : ℕ) → Rest → List (Option Placed) → Type 0
+EndsJob m count back replaced =
+    (v : Verified) (is : IsFit v) (j : Job) (r : Rest) (s : State) → HasCome v is j r m s →
+    length r.slices.items ≡ count → Ends v is j r s back replaced

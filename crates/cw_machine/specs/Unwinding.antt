@@ -1,0 +1,60 @@
+-- Arrays that are out come home into a machine that stopped.
+use Rattle.std.specs.Prelude.{◌≡◌, ℕ, ◌+◌, ◌≤◌, ◌<◌, ◌⊎◌, List, [], ◌∷◌, length, Option, Some, slice_get}
+use Rattle.cw_slices.specs.Placed.{Placed}
+use Rattle.cw_code.specs.Run.{Around, Caller, Block, State}
+use Rattle.cw_verify.specs.declared.verified.Verified.{Verified}
+use Rattle.cw_jobs.specs.Jobs.{KeepsHomes}
+use Rattle.cw_machine.specs.declared.machine.Machine.{Machine}
+use Rattle.cw_machine.specs.Arrays.{Out, Ok}
+use Rattle.cw_machine.specs.Shows.{Shows, Remains}
+use Rattle.cw_machine.specs.Rests.{lending}
+use Rattle.cw_machine.specs.JobRuns.{KeepsGiven, MayGiveUp}
+
+-- what is out is of cells below this one
+abbrev pub LieBelow : List Out → (first : ℕ) → Type 0
+LieBelow outs first = (j : ℕ) (q : Out) → slice_get outs j ≡ Some q → q.first + length q.slices ≤ first
+
+-- so many blocks and calls stand round a call that waits
+abbrev pub IsLevel : (level : ℕ) → List Around → Type 0
+IsLevel level [] = ⊥
+IsLevel level (Caller w ∷ around) = (level ≡ length around) ⊎ IsLevel level around
+IsLevel level (Block o ∷ around) = IsLevel level around
+
+-- what is out of calls with fewer blocks and calls round lies below what is out of a call that waits, or of the one
+-- that
+-- runs
+abbrev pub OutsLieApart : Type 0
+OutsLieApart =
+    (v : Verified) (ok : Ok v) (m : Machine) (s : State) (i j : ℕ) (o q : Out) → Shows v ok m s
+    → slice_get ok.outs i ≡ Some o → slice_get ok.outs j ≡ Some q → q.level < o.level
+    → (o.level ≡ length s.around) ⊎ IsLevel o.level s.around → q.first + length q.slices ≤ o.first
+
+-- a machine that shows a state remains so
+abbrev pub ShownRemain : Type 0
+ShownRemain = (v : Verified) (ok : Ok v) (m : Machine) (s : State) → Shows v ok m s → Remains v ok m
+
+-- with nothing out all that a run was given lies where it lay, and may be given up
+abbrev pub RestsAreKept : Type 0
+RestsAreKept =
+    (v : Verified) (ok : Ok v) (m : Machine) → Remains v ok m → ok.outs ≡ []
+    → KeepsGiven ok.given m × MayGiveUp m (length ok.given)
+
+-- slices come home to what is out of a call, the newest that is out: as many, as long and in the same places
+pub record ComesTo (v : Verified) (ok : Ok v) (o : Out) (m : Machine) (cell : ℕ) (back : List Placed)
+    (replaced : List (Option Placed)) : Type 0 where
+  pub remains : Remains v (lending ok o) m
+  pub first : o.first ≡ cell
+  pub below : LieBelow ok.outs cell
+  pub homes : KeepsHomes o.slices back replaced
+
+-- they come home to some
+pub record MayComeHome (m : Machine) (cell : ℕ) (back : List Placed) (replaced : List (Option Placed)) : Type 0 where
+  pub code : Verified
+  pub ok : Ok code
+  pub out : Out
+  pub comes : ComesTo code ok out m cell back replaced
+
+-- whatever they came home to is out no more
+abbrev pub ComesHome : Machine → (cell : ℕ) → List Placed → List (Option Placed) → Machine → Type 0
+ComesHome m cell back replaced m' =
+    (v : Verified) (ok : Ok v) (o : Out) → ComesTo v ok o m cell back replaced → Remains v ok m'

@@ -1,0 +1,2 @@
+-- Lemmas on machines, which the proofs of crates above cite.
+pub mod Joins

@@ -1,0 +1,101 @@
+-- A rest came back to a run of a job: what the run's own spawns left goes back into its slots, and what waited before
+-- it began waits on.
+use Rattle.std.proofs.Common.{◌≡◌, ℕ, zero, suc, ◌+◌, ◌<◌, ℤ, true, Option, Some, None, List, [], ◌∷◌, ◌++◌, length, refl, sym, ap, ◌∙◌, arith}
+use Rattle.std.specs.Prelude.{slice_get}
+use Rattle.std.proofs.lemmas.List.{append-nil}
+use Rattle.cw_model.specs.Outcome.{Trace, quiet, joined}
+use Rattle.cw_code.specs.Run.{Slots, Results, Around, Caller, Block, State, is_full}
+use Rattle.cw_code.specs.Good.{IsNotAmong, slots_in, ints_round, all_of}
+use Rattle.cw_strands.specs.Jobs.{Standing}
+use Rattle.cw_strands.specs.Over.{trace_under, under}
+use Rattle.cw_strands.specs.Strands.{resumed}
+use Rattle.cw_strands.specs.lemmas.Under.{same_trace}
+use Rattle.cw_machine.specs.Shows.{cell, Comes}
+use Rattle.cw_machine.specs.Gives.{Waits, went_on, ComesBut, RoundComesBut}
+use Rattle.cw_machine.specs.Hands.{ComesRound}
+
+joined_quiet : (t : Trace) → joined t quiet ≡ t
+joined_quiet t = same_trace (joined t quiet) t (append-nil t.lines) (append-nil t.additions) (append-nil t.events)
+
+abbrev pub waits_at : (b s : State) (around : List Around) → Waits (under b (record s { around = around }))
+waits_at b s [] =
+    record {
+      newest = s.results;
+      others = b.results;
+      are = refl;
+      newest_arrays = s.arrived;
+      other_arrays = b.arrived;
+      are_arrays = refl;
+    }
+waits_at b s (a ∷ around) =
+    record {
+      newest = s.results;
+      others = [];
+      are = sym (append-nil s.results);
+      newest_arrays = s.arrived;
+      other_arrays = [];
+      are_arrays = sym (append-nil s.arrived);
+    }
+
+-- what waits in a run that stands upon what waited before it
+abbrev pub waits_under : (b s : State) → Waits (under b s)
+waits_under b s = waits_at b s s.around
+
+-- a run that goes on from a join goes on upon what it stands upon
+pub went_under : (b s : State) (frame : Standing)
+    → went_on (under b s) frame (waits_under b s) ≡ under b (resumed s frame quiet)
+went_under b s frame = at s.around
+  where
+    at : (around : List Around)
+        → went_on (under b (record s { around = around })) frame (waits_at b s around)
+        ≡ under b (resumed (record s { around = around }) frame quiet)
+    at [] =
+        ap (λ t. record (went_on (under b (record s { around = [] })) frame (waits_at b s []))
+        { trace = trace_under b [] t }) (sym (joined_quiet s.trace))
+    at (a ∷ around) =
+        ap (λ t. record (went_on (under b (record s { around = a ∷ around })) frame (waits_at b s (a ∷ around)))
+        { trace = trace_under b (a ∷ around) t }) (sym (joined_quiet s.trace))
+
+empty_there : (slots : Slots ℤ) (a : ℕ) → a < length slots → (is_full (slice_get slots a) ≡ true → ⊥)
+    → slice_get slots a ≡ Some None
+empty_there [] a lt n = absurd (omega (arith, lt))
+empty_there (None ∷ slots) zero lt n = refl
+empty_there (Some x ∷ slots) zero lt n = absurd (n refl)
+empty_there (x ∷ slots) (suc a) lt n = empty_there slots a (omega (arith, lt)) n
+
+-- what waited as a rest went out lies in its cells as it comes back, where it kept the cells of its empty slots
+pub comes_back : (target : Option ℕ) (slots : Slots ℤ) (out back : List ℤ)
+    → ((a : ℕ) → slice_get slots a ≡ Some None → cell back a ≡ cell out a)
+    → (results : Results ℤ) → ((a : ℕ) → is_full (slice_get slots a) ≡ true → IsNotAmong a (slots_in results))
+    → Comes out 0 (length slots) results → ComesBut target back results
+comes_back target slots out back kept [] apart h = tt
+comes_back target slots out back kept (r ∷ results) apart h =
+    let at : 0 + r.0 ≡ r.0 = omega arith in
+    let empty = empty_there slots r.0 h.0 (λ full. (apart r.0 full).0 refl) in (
+      (λ other. kept r.0 empty ∙ ap (cell out) (sym at) ∙ h.1),
+      comes_back target slots out back kept results
+          (λ a full. (apart a full).1) h.2,
+    )
+
+not_first : (a : ℕ) (xs ys : List ℕ) → IsNotAmong a (xs ++ ys) → IsNotAmong a xs
+not_first a [] ys h = tt
+not_first a (x ∷ xs) ys h = (h.0, not_first a xs ys h.1)
+
+not_second : (a : ℕ) (xs ys : List ℕ) → IsNotAmong a (xs ++ ys) → IsNotAmong a ys
+not_second a [] ys h = h
+not_second a (x ∷ xs) ys h = not_second a xs ys h.1
+
+-- and what the open blocks round it wait for
+pub comes_back_round : (target : Option ℕ) (slots : Slots ℤ) (out back : List ℤ)
+    → ((a : ℕ) → slice_get slots a ≡ Some None → cell back a ≡ cell out a)
+    → (around : List Around)
+    → ((a : ℕ) → is_full (slice_get slots a) ≡ true → IsNotAmong a (all_of (ints_round around)))
+    → ComesRound out 0 (length slots) around → RoundComesBut target back around
+comes_back_round target slots out back kept [] apart h = tt
+comes_back_round target slots out back kept (Caller w ∷ around) apart h = tt
+comes_back_round target slots out back kept (Block o ∷ around) apart h = (
+  comes_back target slots out back kept o.results
+      (λ a full. not_first a (slots_in o.results) (all_of (ints_round around)) (apart a full)) h.0,
+  comes_back_round target slots out back kept around
+      (λ a full. not_second a (slots_in o.results) (all_of (ints_round around)) (apart a full)) h.1,
+)

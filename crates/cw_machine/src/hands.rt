@@ -1,0 +1,134 @@
+//! The rest of a block is handed out at a spawn, with the arrays of the call that waits.
+
+ghost use Rattle.std.specs.Prelude.{◌≡◌, ◌+◌, ◌-◌, ◌<◌, ◌≤◌, ◌^◌, length, reverse, slice_range, IfOk, OnOk, OnErr};
+ghost use Rattle.cw_machine.specs.Shows.{StaysBut};
+ghost use Rattle.cw_machine.specs.Hands as hands;
+ghost use Rattle.cw_machine.specs.Hands.{stays_here, IsLast, MayLend, HasLentOut, MayHand, MayHandArrays, HandsArrays, HandsOut, HasMoreBare, HasGrown};
+
+use crate::machine::{Frame, Machine};
+use cw_jobs::call::Rest;
+use cw_slices::Slice;
+use std::alloc::AllocError;
+
+// Whether a slot is among some.
+fn is_among(a: usize, slots: &[u32]) -> bool
+    ensures { result ≡ hands.is_among a slots.now }
+{
+    for slot in slots {
+        if *slot as usize == a {
+            return true;
+        }
+    }
+    false
+}
+
+// Slices without numbers, so that there are so many at least.
+fn make_slices(slices: &mut Vec<Slice>, count: usize) -> Result<(), AllocError>
+    ensures more { HasMoreBare slices.old.items slices.new.items }
+    ensures enough { OnOk result (count ≤ length slices.new.items) }
+{
+    let alloc = *slices.allocator();
+    for _k in slices.len()..count {
+        slices.push(Slice::empty(alloc))?;
+    }
+    Ok(())
+}
+
+impl Machine {
+    // Whether the array of a cell is cut by an open block of the call at a first cell, the newest that has any. Cells
+    // of arrays that are cut rise with the calls, so the search ends at the first one below that cell.
+    fn is_cut(&self, cell: usize, first: usize) -> bool
+        ensures { result ≡ hands.is_cut_among cell first (reverse self.now.cuts.items) }
+    {
+        let count = self.cuts.len();
+        for k in 0..count {
+            let c = self.cuts[count - 1 - k];
+            if c < first {
+                return false;
+            }
+            if c == cell {
+                return true;
+            }
+        }
+        false
+    }
+
+    // Whether the array in a slot of the call at a first cell stays here: the spawn took it, or an open cut has it.
+    fn stays(&self, first: usize, a: usize, passed: &[u32]) -> bool
+        requires { first + a < 2 ^ 64 }
+        ensures { result ≡ stays_here self.now.cuts.items first passed.now a }
+    {
+        is_among(a, passed) || self.is_cut(first + a, first)
+    }
+
+    // The frame of the call that waits nearest.
+    #[inline(always)]
+    fn waiting(&self) -> Frame
+        requires { 0 < length self.now.frames.items }
+        ensures { IsLast self.now.frames.items result }
+    {
+        self.frames[self.frames.len() - 1]
+    }
+
+    // These cells, into as many others.
+    fn copy_cells(&self, from: usize, to: usize, cells: &mut Vec<i64>)
+        requires order { from ≤ to }
+        requires there { to ≤ length self.now.cells.items }
+        requires many { length cells.old.items ≡ to - from }
+        ensures { cells.new.items ≡ slice_range self.now.cells.items from to }
+    {
+        cells.copy_from_slice(&self.cells[from..to]);
+    }
+
+    // The array of a cell is lent, where it doesn't stay here and has elements.
+    #[inline(always)]
+    fn lend_out(&mut self, cell: usize, stays: bool) -> Slice
+        requires { MayLend self.old cell stays }
+        ensures { HasLentOut self.old cell stays result self.new }
+    {
+        let v = self.views[cell];
+        if stays || v.len == 0 {
+            let alloc = *self.blocks.allocator();
+            return Slice::empty(alloc);
+        }
+        self.blocks[v.block].lend(v.from, v.len)
+    }
+
+    // The arrays of the call that waits nearest, whose first cell is this one, each into the slice of its slot.
+    fn hand_arrays(&mut self, first: usize, passed: &[u32], slices: &mut Vec<Slice>)
+        requires { ∥ MayHandArrays self.old first passed.now (length slices.old.items) ∥₁ }
+        ensures out { HandsArrays self.old first passed.now self.new slices.new.items }
+        ensures as_many { length slices.new.items ≡ length slices.old.items }
+    {
+        for a in 0..slices.len() {
+            let stays = self.stays(first, a, passed);
+            slices[a] = self.lend_out(first + a, stays);
+        }
+    }
+
+    /// The rest of the block that has just spawned a call: the slots and arrays of the call that waits nearest, into
+    /// a rest whose vectors are used again, whatever it held. `passed` are the array slots that the spawn took. The
+    /// machine goes on as it was while the arrays are out; `take_back` brings them home. The value is the cell of the
+    /// first array slot of that call.
+    ///
+    /// The error is want of memory. Then the machine is as it was, and so is the rest, but that it may have more
+    /// slices without numbers.
+    pub fn hand_out(&mut self, passed: &[u32], rest: &mut Rest) -> Result<usize, AllocError>
+        requires { ∥ MayHand self.old passed.now ∥₁ }
+        ensures out { IfOk result (λ first. HandsOut self.old passed.now first self.new rest.new) }
+        ensures rest { OnOk result (StaysBut self.old self.new) }
+        ensures same { OnErr result (self.new ≡ self.old) }
+        ensures left { OnErr result (HasGrown rest.old rest.new) }
+    {
+        let f = self.waiting();
+        let count = self.first_array - f.first_array;
+        make_slices(&mut rest.slices, count)?;
+        rest.cells.resize(self.first - f.first, 0)?;
+        rest.slices.truncate(count);
+        self.copy_cells(f.first, self.first, &mut rest.cells);
+        rest.place = f.place;
+        rest.depth = f.depth;
+        self.hand_arrays(f.first_array, passed, &mut rest.slices);
+        Ok(f.first_array)
+    }
+}

@@ -1,0 +1,72 @@
+-- Events whose codes are kept where their tree is brought into normal form.
+use Rattle.std.specs.Prelude.{zero, suc, Bool, true, false, List, [], ◌∷◌, ◌++◌}
+use Rattle.cw_model.specs.Trees.{Tree, Leaf, Seq, Par, Marked, Event, Work, Series, Join, before, normal}
+use Rattle.cw_model.specs.Trees as e
+use Rattle.cw_measure.specs.OpenParts.{Open}
+use Rattle.cw_greedy.specs.Blocks.{Stands, InSeries, AsChild, AsRest, codes_of}
+use Rattle.cw_recorded.specs.Merging.{Same}
+
+-- the end of a block, or of the rest of one
+abbrev pub stands : Bool → Stands
+stands true = AsRest
+stands false = InSeries
+
+-- a tree in normal form that a part before it stays beside, and that is no call
+abbrev pub IsMore : Tree → Type 0
+IsMore (Leaf zero) = ⊥
+IsMore (Leaf (suc k)) = Unit {0}
+IsMore (Seq t u) = Unit {0}
+IsMore (Par child rest) = Unit {0}
+IsMore (Marked mark t) = ⊥
+
+-- in series anything may come after a part, in a rest it must be more
+abbrev pub Enough : (rest : Bool) → Tree → Type 0
+Enough true later = IsMore later
+Enough false later = Unit {0}
+
+-- a part's codes stand before those of what comes after it
+abbrev pub Holds : (rest : Bool) → Tree → Tree → Type 0
+Holds rest t later =
+    Same (codes_of (stands rest) (before t later)) (codes_of InSeries t ++ codes_of (stands rest) later)
+
+-- so it is whatever comes after it, or where that is enough
+abbrev pub IsApart : Tree → Type 0
+IsApart t = (rest : Bool) (later : Tree) → Holds rest t later
+
+abbrev pub IsFollowed : Tree → Type 0
+IsFollowed t = (rest : Bool) (later : Tree) → Enough rest later → Holds rest t later
+
+-- a part before these events: an instruction stands next to it, or it needs none
+abbrev pub StandsBefore : Tree → List Event → Type 0
+StandsBefore t [] = IsApart t
+StandsBefore t (Work zero ∷ es) = IsApart t
+StandsBefore t (Work (suc k) ∷ es) = IsFollowed t
+StandsBefore t (Series u ∷ es) = IsApart t
+StandsBefore t (e.Fork u ∷ es) = IsApart t
+StandsBefore t (Join ∷ es) = IsApart t
+
+-- a spawned part has the codes of its normal form
+abbrev pub IsChild : Tree → Type 0
+IsChild t = Same (codes_of AsChild (normal t)) (codes_of AsChild t)
+
+-- each part of these events is such
+abbrev pub StandApart : List Event → Type 0
+StandApart [] = Unit {0}
+StandApart (Work k ∷ es) = StandApart es
+StandApart (Series t ∷ es) = StandsBefore t es × StandApart es
+StandApart (e.Fork t ∷ es) = IsChild t × StandApart es
+StandApart (Join ∷ es) = StandApart es
+
+-- and of the events round the parts that are open
+abbrev pub AreOpenApart : List Open → List Event → Type 0
+AreOpenApart [] es = StandApart es
+AreOpenApart (o ∷ os) es = StandApart es × AreOpenApart os o.outer
+
+-- and of the events round the parts that are open; a whole run is one part, and stands for itself
+abbrev pub AreApart : List Open → List Event → Type 0
+AreApart [] [] = Unit {0}
+AreApart [] (Series t ∷ es) = IsChild t
+AreApart [] (Work k ∷ es) = Unit {0}
+AreApart [] (e.Fork t ∷ es) = Unit {0}
+AreApart [] (Join ∷ es) = Unit {0}
+AreApart (o ∷ os) es = StandApart es × AreOpenApart os o.outer

@@ -1,0 +1,196 @@
+-- The record of a run so far: what is noted of it, and what a recorder keeps.
+use Rattle.std.specs.Prelude.{ℕ, ◌+◌, ◌-◌, ◌≡◌, ◌≤◌, ◌<◌, Bool, true, false, not, List, [], ◌∷◌, ◌++◌, reverse, Option, Some, None, IsSome}
+use Rattle.cw_model.specs.declared.limits.TheConstants.{MOST_LIMIT}
+use Rattle.cw_model.specs.Trees.{Tree, Marked, Mark, Invocation, Execution, Event, Work, Series, Join, normal, tree_of}
+use Rattle.cw_model.specs.Trees as e
+use Rattle.cw_measure.specs.OpenParts.{Open, has_spawned, closed}
+use Rattle.cw_meter.specs.Meters.{ticked, synced, begun}
+use Rattle.cw_meter.specs.Origins.{main_open}
+use Rattle.cw_greedy.specs.Records.{IsRecordOf}
+use Rattle.cw_greedy.specs.declared.code.Code.{Code}
+use Rattle.cw_greedy.specs.declared.code.Code.TheVariants.{Instructions, Spawned, Ended, Called}
+use Rattle.cw_greedy.specs.declared.code.TheConstants.{MOST_STRANDS}
+use Rattle.cw_greedy.specs.Recorded.{Recorded, cuts}
+use Rattle.cw_greedy.specs.Blocks.{AsChild, codes_of, record_of, strand_count}
+use Rattle.cw_recorded.specs.declared.recorder.PartKind.{PartKind}
+use Rattle.cw_recorded.specs.declared.recorder.PartKind.TheVariants as kind
+use Rattle.cw_recorded.specs.declared.recorder.Part.{Part}
+use Rattle.cw_recorded.specs.declared.recorder.Recorder.{Recorder}
+use Rattle.cw_recorded.specs.Merging.{Same, to_join}
+use Rattle.cw_recorded.specs.Normal.{AreApart}
+
+-- the cut with which a part begins in a block of which a child is out, or none is
+abbrev pub opening : (spawned : Bool) → Option Mark → (out : Bool) → List Code
+opening true mark out = Spawned (not out) ∷ []
+opening false (Some (Invocation site)) out = Called ∷ []
+opening false (Some (Execution tag)) out = []
+opening false None out = []
+
+-- the cut with which it ends
+abbrev pub ending : (spawned : Bool) → Option Mark → List Code
+ending true mark = Ended ∷ []
+ending false (Some (Invocation site)) = Called ∷ []
+ending false (Some (Execution tag)) = []
+ending false None = []
+
+-- the codes of a whole run, whose one event is its call of main: no code begins or ends it
+abbrev pub of_whole : List Event → List Code
+of_whole [] = []
+of_whole (Series t ∷ es) = codes_of AsChild t ++ record_of false es
+of_whole (Work k ∷ es) = record_of false (Work k ∷ es)
+of_whole (e.Fork t ∷ es) = record_of false (e.Fork t ∷ es)
+of_whole (Join ∷ es) = record_of false es
+
+-- the codes of a run so far: of the blocks round the innermost, each up to the part that is open in it, and of that
+-- block; the run itself, which is the outermost part, is cut by nothing
+abbrev pub codes_in : List Open → List Event → List Code
+codes_in [] es = of_whole es
+codes_in (o ∷ []) es = record_of false es
+codes_in (o ∷ p ∷ os) es =
+    codes_in (p ∷ os) o.outer ++ (opening o.spawned o.mark (has_spawned o.outer) ++ record_of false es)
+
+-- the cut with which the innermost part ends, round which these are open
+abbrev pub ending_in : Open → List Open → List Code
+ending_in o [] = []
+ending_in o (p ∷ os) = ending o.spawned o.mark
+
+-- a part that is open is kept so
+abbrev pub IsOfKind : Open → PartKind → Type 0
+IsOfKind o kind.Child = o.spawned ≡ true
+IsOfKind o kind.Call = (o.spawned ≡ false) × ((site : ℕ) × (o.mark ≡ Some (Invocation site)))
+IsOfKind o kind.Quiet = (o.spawned ≡ false) × ((site : ℕ) → o.mark ≡ Some (Invocation site) → ⊥)
+
+-- whether a child is out once a part has ended
+abbrev pub out_behind : (spawned out : Bool) → Bool
+out_behind true out = true
+out_behind false out = out
+
+-- the parts that are open inside of the run, the innermost first
+abbrev pub AreParts : List Open → List Part → Type 0
+AreParts [] [] = Unit {0}
+AreParts [] (p ∷ ps) = ⊥
+AreParts (o ∷ []) [] = Unit {0}
+AreParts (o ∷ []) (p ∷ ps) = ⊥
+AreParts (o ∷ q ∷ os) [] = ⊥
+AreParts (o ∷ q ∷ os) (p ∷ ps) =
+    IsOfKind o p.kind × (p.out ≡ out_behind o.spawned (has_spawned o.outer)) × AreParts (q ∷ os) ps
+
+-- these codes are kept, but for so many instructions behind them
+abbrev pub Keeps : (since : ℕ) → List Code → Recorded → Type 0
+Keeps since codes None = MOST_STRANDS ≤ cuts codes
+Keeps since codes (Some kept) = (cuts kept < MOST_STRANDS) × Same (kept ++ Instructions since ∷ []) codes
+
+-- what is kept of the parts that are open, unless there are too many strands
+pub record KeepsParts (os : List Open) (es : List Event) (r : Recorder) : Type 0 where
+  pub out : r.out ≡ has_spawned es
+  pub parts : AreParts os (reverse r.parts.items)
+
+-- the outermost part is the call of main by the run itself
+abbrev pub IsFromMain : List Open → Type 0
+IsFromMain [] = Unit {0}
+IsFromMain (o ∷ []) = (o.outer ≡ []) × (o.spawned ≡ false) × (o.mark ≡ Some (Invocation 0))
+IsFromMain (o ∷ p ∷ os) = IsFromMain (p ∷ os)
+
+-- a recorder keeps the strands of a run so far
+pub record RecordsIn (count : ℕ) (os : List Open) (es : List Event) (r : Recorder) : Type 0 where
+  pub goes_on : r.noted ≤ count
+  pub keeps : Keeps (count - r.noted) (codes_in os es) r.kept
+  pub parts : IsSome r.kept → KeepsParts os es r
+  pub from_main : IsFromMain os
+  pub apart : AreApart os es
+
+-- a part is open
+abbrev pub IsOpen : List Open → Type 0
+IsOpen [] = ⊥
+IsOpen (o ∷ os) = Unit {0}
+
+-- what a recorder keeps goes from one run so far to another
+abbrev pub Tells : (old new : Recorder) → (count : ℕ) → (os os' : List Open) → (es es' : List Event) → Type 0
+Tells old new count os os' es es' =
+    count < MOST_LIMIT → IsOpen os → RecordsIn count os es old → RecordsIn (count + 1) os' es' new
+
+-- no call of a call statement
+abbrev pub IsQuiet : Option Mark → Type 0
+IsQuiet None = Unit {0}
+IsQuiet (Some (Execution tag)) = Unit {0}
+IsQuiet (Some (Invocation site)) = ⊥
+
+-- a spawned part begins, a call in place, or any other part in place
+abbrev pub BeginsChild : (old new : Recorder) → (count : ℕ) → Type 0
+BeginsChild old new count =
+    (mark : Option Mark) (os : List Open) (es : List Event) → Tells old new count os (begun true mark es os) es []
+
+abbrev pub BeginsCall : (old new : Recorder) → (count : ℕ) → Type 0
+BeginsCall old new count =
+    (site : ℕ) (os : List Open) (es : List Event)
+    → Tells old new count os (begun false (Some (Invocation site)) es os) es []
+
+abbrev pub BeginsQuiet : (old new : Recorder) → (count : ℕ) → Type 0
+BeginsQuiet old new count =
+    (mark : Option Mark) (os : List Open) (es : List Event) → IsQuiet mark
+    → Tells old new count os (begun false mark es os) es []
+
+-- a scope, a cut or a region joins and ends, and its end is an instruction of the block round it
+abbrev pub Ends : (old new : Recorder) → (count : ℕ) → Type 0
+Ends old new count =
+    (o : Open) (os : List Open) (es : List Event) → o.spawned ≡ false
+    → Tells old new count (o ∷ os) os es (ticked (closed o es))
+
+-- a call joins and ends, by an instruction of its own
+abbrev pub Returns : (old new : Recorder) → (count : ℕ) → Type 0
+Returns old new count =
+    (o : Open) (os : List Open) (es : List Event) → Tells old new count (o ∷ os) os es (closed o (synced es))
+
+-- the block that runs joins
+abbrev pub Syncs : (old new : Recorder) → (count : ℕ) → Type 0
+Syncs old new count = (os : List Open) (es : List Event) → Tells old new count os os es (synced es)
+
+-- an instruction that begins, ends and joins nothing needs no call
+abbrev pub InstructionsNeedNoCall : Type 0
+InstructionsNeedNoCall =
+    (r : Recorder) (count : ℕ) (os : List Open) (es : List Event) → Tells r r count os os es (ticked es)
+
+-- all up to this count is noted, and then these codes; nothing else changes
+pub record Notes (old new : Recorder) (count : ℕ) (codes : List Code) : Type 0 where
+  pub noted : old.noted ≤ count → new.noted ≡ count
+  pub keeps : (from : ℕ) (before : List Code) → old.noted ≤ from → from ≤ count
+      → Keeps (from - old.noted) before old.kept → Keeps 0 (before ++ Instructions (count - from) ∷ codes) new.kept
+  pub out : new.out ≡ old.out
+  pub parts : new.parts.items ≡ old.parts.items
+
+-- a part of this kind begins, of which a child of the block round it is out once it has ended, or none is
+pub record Stacks (old new : Recorder) (kind : PartKind) (after : Bool) : Type 0 where
+  pub pushed : new.parts.items ≡ old.parts.items ++ record { kind = kind; out = after } ∷ []
+  pub out : new.out ≡ false
+  pub kept : new.kept ≡ old.kept
+  pub noted : new.noted ≡ old.noted
+
+-- the block that runs joins: no instruction is noted where no child is out
+abbrev pub Joins : (old new : Recorder) → (count : ℕ) → Type 0
+Joins old new count =
+    (codes : List Code) → old.noted ≤ count → Keeps (count - old.noted) codes old.kept
+    → (new.noted ≤ count) × Keeps (count - new.noted) (codes ++ to_join old.out) new.kept
+
+-- the innermost part ends, whose block has joined
+abbrev pub Closes : (old new : Recorder) → (count : ℕ) → Type 0
+Closes old new count =
+    (codes : List Code) (o : Open) (os : List Open) (es : List Event) → IsFromMain (o ∷ os)
+    → old.out ≡ false → AreParts (o ∷ os) (reverse old.parts.items)
+    → old.noted ≤ count → Keeps (count - old.noted) codes old.kept
+    → (new.noted ≤ count) × Keeps (count - new.noted) (codes ++ ending_in o os) new.kept
+    × KeepsParts os (closed o es) new
+
+-- the recorder of a run that begins
+abbrev pub Starts : Recorder → Type 0
+Starts r = RecordsIn 0 main_open [] r
+
+-- what is kept of the strands of a run: their record, or that they are too many
+abbrev pub IsKept : Tree → Recorded → Type 0
+IsKept t None = MOST_STRANDS < strand_count t
+IsKept t (Some codes) = (strand_count t ≤ MOST_STRANDS) × IsRecordOf t (Some codes)
+
+-- a recorder, at the end of a run, keeps what its tree comes to
+abbrev pub Reads : Recorder → (count : ℕ) → Recorded → Type 0
+Reads r count kept =
+    (es : List Event) → RecordsIn count [] (Series (Marked (Invocation 0) (tree_of es)) ∷ []) r
+    → IsKept (normal (Marked (Invocation 0) (tree_of es))) kept

@@ -1,0 +1,22 @@
+//! The strands of a run, kept as it goes.
+//!
+//! A [`Recorder`] is told of a run as a meter is: each call stands for one instruction, and is told the count of
+//! instructions before it. At each cut it notes the instructions since the last one, and then the cut.
+//!
+//! | instruction | call | code |
+//! |---|---|---|
+//! | a spawned call, or half of a loop that is spawned | `spawn(count)` | `Spawned`, and `Ended` where it ends |
+//! | a call in place | `call(count)` | `Called` there and where it ends |
+//! | a scope, a cut, a region, or a function of a loop in place | `begin(count)` | none |
+//! | a scope, a cut or a region joins and ends | `end(count)` | `Joined`, where a child is out |
+//! | a call, or a function of a loop, joins and ends | `give_back(count)` | `Joined`, where a child is out |
+//! | a join of the block that runs | `sync(count)` | `Joined`, where a child is out |
+//! | any other | none (`laws::instructions_need_no_call`) | none |
+//!
+//! Once the strands are too many, no call does anything.
+#![tactic(auto)]
+
+pub mod laws;
+mod recorder;
+
+pub use recorder::Recorder;

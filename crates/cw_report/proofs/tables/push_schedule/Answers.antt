@@ -1,0 +1,14 @@
+use Rattle.cw_report.proofs.tables.push_schedule.Goals as goal
+
+pub returns : goal.returns
+returns c =
+    rw (
+      c.as_bytes.ensures.value,
+      c.format.ensures.text,
+      c.as_bytes-2.ensures.value,
+      c.format-2.ensures.text,
+      c.as_bytes-3.ensures.value,
+      c.format-3.ensures.text,
+      c.as_bytes-4.ensures.value,
+      c.format-4.ensures.text,
+    ) at c.push.ensures

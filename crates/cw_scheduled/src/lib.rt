@@ -1,0 +1,4 @@
+//! How long greedy schedules of a program's run take.
+#![tactic(auto)]
+
+pub mod schedules;
