@@ -15,6 +15,7 @@ The last line is `all as expected`, or the count of rows that were not. Expected
 docs/LANGUAGE.md.
 """
 
+import os
 import pathlib
 import resource
 import subprocess
@@ -42,18 +43,21 @@ def answer(program, words, source, memory=None):
                 resource.setrlimit(resource.RLIMIT_AS, (memory, memory))
 
         began = time.monotonic()
-        # /usr/bin/time would count itself: wait4 tells what the child took
-        child = subprocess.Popen(
-            [program, words[0], file.name, *words[1:]],
-            stdin=subprocess.DEVNULL,
-            stdout=subprocess.PIPE,
-            stderr=subprocess.PIPE,
-            preexec_fn=limits,
-        )
-        out, err = child.communicate()
-        seconds = time.monotonic() - began
-    peak = resource.getrusage(resource.RUSAGE_CHILDREN).ru_maxrss * 1024
-    return child.returncode, out.decode(), err.decode(), seconds, peak
+        # into files, since `wait4`, which tells what this child alone took, leaves nothing for `communicate`
+        with tempfile.TemporaryFile() as out, tempfile.TemporaryFile() as err:
+            child = subprocess.Popen(
+                [program, words[0], file.name, *words[1:]],
+                stdin=subprocess.DEVNULL,
+                stdout=out,
+                stderr=err,
+                preexec_fn=limits,
+            )
+            _, ended, used = os.wait4(child.pid, 0)
+            seconds = time.monotonic() - began
+            child.returncode = os.waitstatus_to_exitcode(ended)
+            out.seek(0)
+            err.seek(0)
+            return child.returncode, out.read().decode(), err.read().decode(), seconds, used.ru_maxrss << 10
 
 
 def gives(value):
@@ -238,7 +242,7 @@ DEEP = (
     + "cilk_scope { cilk_spawn e(); " * 55 + "g(n - 1); " + "} " * 55 + "}\nint main(int n) { g(n); return 0; }\n"
 )
 SITES = "site,kind,line,callee,calls,own_work,own_span,work,span\n"
-# name, source, words, how the answer begins, most seconds, most bytes: the least memory first
+# name, source, words, how the answer begins, most seconds, most bytes
 PATHS = [
     (
         "10,000,000 spawns without a join",

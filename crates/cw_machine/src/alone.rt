@@ -113,8 +113,8 @@ fn finished(
     })
 }
 
-/// The rows under their numbers. A number of a site has 32 bits, and a map has no room for as many rows as that.
-pub fn by_number(alloc: Global, rows: &[SiteRow]) -> Result<IndexMap<u32, SiteRow>, AllocError>
+// The rows under their numbers. A number of a site has 32 bits, and a map has no room for as many rows as that.
+fn by_number(alloc: Global, rows: &[SiteRow]) -> Result<IndexMap<u32, SiteRow>, AllocError>
     ensures { IfOk result (λ m. m.entries ≡ enumerate_from 0 rows.now) }
 {
     let mut sites = IndexMap::with_capacity(alloc, rows.len())?;
@@ -125,8 +125,8 @@ pub fn by_number(alloc: Global, rows: &[SiteRow]) -> Result<IndexMap<u32, SiteRo
     Ok(sites)
 }
 
-/// The rows under their tags, of which no two are the same.
-pub fn by_tag(
+// The rows under their tags, of which no two are the same.
+fn by_tag(
     alloc: Global,
     tags: &[Name],
     rows: &[RegionRow],
@@ -142,15 +142,15 @@ pub fn by_tag(
     Ok(regions)
 }
 
-/// How many arguments `main` takes.
-pub fn main_takes(code: &Verified) -> usize
+// How many arguments `main` takes.
+pub(crate) fn main_takes(code: &Verified) -> usize
     ensures { result ≡ fits.main_params (code_view code.now.code) }
 {
     code.func(code.code.main as usize).params
 }
 
-/// The value that a call gave, and 0 where it gave none.
-pub fn int_given(value: Option<i64>) -> i64
+// The value that a call gave, and 0 where it gave none.
+pub(crate) fn int_given(value: Option<i64>) -> i64
     ensures { result ≡ answers.int_given value }
 {
     match value {

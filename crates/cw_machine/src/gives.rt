@@ -91,7 +91,7 @@ impl Machine {
     {
         for a in 0..slices.len() {
             let home = take_home(slices, replaced, a);
-            self.lay_home(a, home);
+            self.lay_at(self.first_array, a, home);
         }
     }
 

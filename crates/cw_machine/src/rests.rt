@@ -8,16 +8,17 @@ use cw_jobs::call::Rest;
 use cw_slices::Slice;
 
 impl Machine {
-    // A slice goes home to the array in a slot of the call that runs; one without numbers has none.
+    // A slice goes home to the array in a slot of a call, whose first array slot is this cell; one without numbers has
+    // none.
     #[inline(always)]
-    pub(crate) fn lay_home(&mut self, a: usize, slice: Slice)
-        requires { MayLay self.old (self.old.first_array + a) slice }
-        ensures { HasLaid self.old (self.old.first_array + a) slice.items self.new }
+    pub(crate) fn lay_at(&mut self, first: usize, a: usize, slice: Slice)
+        requires { MayLay self.old (first + a) slice }
+        ensures { HasLaid self.old (first + a) slice.items self.new }
     {
         if slice.len() == 0 {
             return;
         }
-        let v = self.views[self.first_array + a];
+        let v = self.views[first + a];
         self.blocks[v.block].give_back(v.from, slice);
     }
 
@@ -35,7 +36,7 @@ impl Machine {
     {
         for a in 0..rest.slices.len() {
             let slice = rest.slices[a].take();
-            self.lay_home(a, slice);
+            self.lay_at(self.first_array, a, slice);
         }
     }
 }

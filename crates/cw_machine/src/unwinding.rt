@@ -1,7 +1,7 @@
 //! Arrays that are out come home into a machine that stopped, one call after another, the newest first.
 
-ghost use Rattle.std.specs.Prelude.{◌≡◌, ◌+◌, length};
-ghost use Rattle.cw_machine.specs.Rests.{AreBare, HasLaid, MayLay};
+ghost use Rattle.std.specs.Prelude.{◌≡◌, length};
+ghost use Rattle.cw_machine.specs.Rests.{AreBare};
 ghost use Rattle.cw_machine.specs.Shows.{StaysBut};
 ghost use Rattle.cw_machine.specs.Unwinding.{ComesHome, MayComeHome};
 
@@ -10,20 +10,6 @@ use crate::machine::Machine;
 use cw_slices::Slice;
 
 impl Machine {
-    // A slice goes home to the array in a slot of a call, whose first array slot is this cell; one without numbers has
-    // none.
-    #[inline(always)]
-    fn lay_at(&mut self, first: usize, a: usize, slice: Slice)
-        requires { MayLay self.old (first + a) slice }
-        ensures { HasLaid self.old (first + a) slice.items self.new }
-    {
-        if slice.len() == 0 {
-            return;
-        }
-        let v = self.views[first + a];
-        self.blocks[v.block].give_back(v.from, slice);
-    }
-
     /// Takes home the arrays of the newest call that is out, whose first array slot is the cell `first`, into a machine
     /// that stopped, whatever it did before: a rest of the call came back unrun, or with what became of it. Where a new
     /// array was made in a slot, the slot's own is in `replaced`, and the new one stays there. The slices are left

@@ -11,25 +11,25 @@ use cw_verify::verify::verify;
 use std::alloc::{AllocError, Global};
 use std::sync::Arc;
 
-const FIRST: i64 = -1;
+const FIRST: i128 = -1;
 
-const NEXT: i64 = -2;
+const NEXT: i128 = -2;
 
-const ENDED: i64 = -3;
+const ENDED: i128 = -3;
 
-const JOINED: i64 = -4;
+const JOINED: i128 = -4;
 
-const CALLED: i64 = -5;
+const CALLED: i128 = -5;
 
 // What is kept of a run, each code as a number; nothing where the strands are too many.
-fn kept(alloc: Global, code: Code) -> Result<Vec<i64>, Fault> {
+fn kept(alloc: Global, code: Code) -> Result<Vec<i128>, Fault> {
     let verified = verify(alloc, code)?;
     let strands = strands_alone(alloc, Arc::new(alloc, verified)?, &[], 1_000_000)?;
     let mut numbers = Vec::new(alloc);
     if strands.fits() {
         for code in strands.codes() {
             numbers.push(match *code {
-                Kept::Instructions(n) => n as i64,
+                Kept::Instructions(n) => i128::from(n),
                 Kept::Spawned(true) => FIRST,
                 Kept::Spawned(false) => NEXT,
                 Kept::Ended => ENDED,
