@@ -142,8 +142,8 @@ fn by_tag(
     Ok(regions)
 }
 
-// How many arguments `main` takes.
-pub(crate) fn main_takes(code: &Verified) -> usize
+/// How many arguments `main` takes.
+pub fn main_takes(code: &Verified) -> usize
     ensures { result ≡ fits.main_params (code_view code.now.code) }
 {
     code.func(code.code.main as usize).params
