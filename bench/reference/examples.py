@@ -3,8 +3,8 @@
 
     examples.py [--check]
 
-Beside NAME.cilk and NAME.args (an argument a line) stand NAME.out (what `cilkwork run` prints), NAME.scale.csv and
-NAME.sites.csv. All of them are also written as constants of tests, into crates/cw_rows/src/examples.
+Beside NAME.cilk and NAME.args (an argument a line) stand NAME.out (what `cilkwork run` prints), NAME.scale.csv,
+NAME.sites.csv and NAME.greedy.csv (of `cilkwork greedy 8`). All of them are also written as constants of tests, into crates/cw_rows/src/examples.
 """
 import glob
 import os
@@ -15,7 +15,8 @@ from ref import Program, Run, report
 from rules import broken
 
 TOP = os.path.normpath(os.path.join(os.path.dirname(os.path.abspath(__file__)), "..", ".."))
-MODES = [("run", ".out"), ("scale", ".scale.csv"), ("sites", ".sites.csv")]
+MODES = [("run", ".out"), ("scale", ".scale.csv"), ("sites", ".sites.csv"), ("greedy", ".greedy.csv")]
+PROCESSORS = 8
 
 
 def read(path):
@@ -40,7 +41,7 @@ def texts_of(name, path):
     if why:
         raise SystemExit("%s.cilk: refused %d line %d: %s" % ((path,) + why))
     run = Run(Program(source), [int(word) for word in arguments], 1000000000)
-    texts = {path + ending: report(mode, run, 15000)[1] for mode, ending in MODES}
+    texts = {path + ending: report(mode, run, 15000, PROCESSORS)[1] for mode, ending in MODES}
     fields = [("words", " ".join([name + ".cilk"] + arguments)), ("source", source)]
     fields += [(mode, texts[path + ending]) for mode, ending in MODES]
     texts[os.path.join(TOP, "crates", "cw_rows", "src", "examples", name + ".rt")] = constant(name, fields)

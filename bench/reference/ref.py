@@ -2,6 +2,7 @@
 """Another implementation of the profile: meaning, costs, strand tree and reports, for expected values.
 
     ref.py run|scale|sites FILE [ARGS..] [--limit N] [--burden B]
+    ref.py greedy P FILE [ARGS..] [--limit N]
 
 It takes programs that `cilkwork check` accepts, and writes and answers what `cilkwork` should.
 """
@@ -11,6 +12,7 @@ import threading
 
 sys.path.insert(0, os.path.dirname(os.path.abspath(__file__)))
 from syntax import Program
+from greedy import greedy_length
 from trees import Block, Mark, Rows, Tree, burdened_span
 
 LEAST, GREATEST = -2**63, 2**63 - 1
@@ -405,13 +407,27 @@ def sites_text(run):
     return text
 
 
-def report(mode, run, burden):
-    """The exit status, standard output and standard error of this run."""
+def greedy_text(run, processors):
+    fields = (processors, run.tree.work, run.tree.span, greedy_length(run.tree, processors))
+    return "processors,work,span,greedy\n%d,%d,%d,%d\n" % fields
+
+
+def text_of(mode, run, burden, processors):
+    """What is written of a run that ended."""
+    if mode == "run":
+        return run_text(run)
+    if mode == "scale":
+        return scale_text(run, burden)
+    return sites_text(run) if mode == "sites" else greedy_text(run, processors)
+
+
+def report(mode, run, burden, processors=1):
+    """The exit status, standard output and standard error of this run. That its strands are too many is not told."""
     if run.is_over:
         return 4, "", "over limit\n"
     if run.trap:
         return 3, run_text(run) if mode == "run" else "", "trap %d line %d\n" % (run.trap.code, run.trap.line)
-    return 0, run_text(run) if mode == "run" else scale_text(run, burden) if mode == "scale" else sites_text(run), ""
+    return 0, text_of(mode, run, burden, processors), ""
 
 
 def main():
@@ -424,10 +440,12 @@ def main():
             burden = int(words.pop(0))
         else:
             positions.append(word)
-    mode, path, *arguments = positions
+    mode = positions.pop(0)
+    processors = int(positions.pop(0)) if mode == "greedy" else 1
+    path, *arguments = positions
     with open(path) as file:
         run = Run(Program(file.read()), [int(word) for word in arguments], limit)
-    status, out, err = report(mode, run, burden)
+    status, out, err = report(mode, run, burden, processors)
     sys.stdout.write(out)
     sys.stderr.write(err)
     return status

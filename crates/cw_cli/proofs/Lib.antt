@@ -8,6 +8,7 @@ mod Told
 mod Refusals
 mod Stages
 mod Rows
+mod Scheduling
 mod Runs
 mod Tools
 pub mod ReadWords

@@ -1,5 +1,5 @@
 -- The walk over words that start with no hyphen.
-use Rattle.std.proofs.Common.{◌≡◌, ◌≢◌, ◌∙◌, ◌<◌, ◌^◌, ◌==◌, ◌++◌, ap, ap₂, sym, refl, subst, arith, ℕ, cond, slice_get, nat_eq, suc, Bool, false, List, [], ◌∷◌, drop, length, Option, Some, None, codes, unwrap_or, is_some}
+use Rattle.std.proofs.Common.{◌≡◌, ◌∙◌, ◌<◌, ◌^◌, ◌==◌, ◌++◌, ap, ap₂, sym, refl, subst, arith, ℕ, cond, slice_get, nat_eq, suc, Bool, false, List, [], ◌∷◌, drop, length, Option, Some, None, codes, unwrap_or, is_some}
 use Rattle.std.specs.List.{All, fold}
 use Rattle.std.specs.Prelude.{if◌then◌else◌}
 use Rattle.std.specs.Option.{option_map_or}
@@ -13,11 +13,11 @@ use Rattle.clap.specs.Walk.{first_of, long_or_other, short_or_plain, trailing, H
 use Rattle.clap.specs.Simple.{App, Shape, built, names_of, entered, new_shape, subcommand_of}
 use Rattle.clap.specs.Faults.{flag_word_fault, bundle_fault, other_fault, turn_fault, walk_fault, step_fault, settle_fault, defaults_fault, check_fault, entered_fault}
 use Rattle.clap.proofs.OnLiterals.{clap_on_literals}
-use Rattle.cw_cli.specs.Command.{burden_row, command_line, command_name, limit_row}
+use Rattle.cw_cli.specs.Command.{burden_row, command_line, command_name, limit_row, processors_row}
 use Rattle.cw_cli.specs.Requests.{AreRead, HaveCommand, Words, faults, numbers_of, texts_of}
-use Rattle.cw_cli.specs.WordLaws.{IsPlain, checking}
-use Rattle.cw_cli.specs.declared.asked.Mode.{Mode}
-use Rattle.cw_cli.specs.declared.asked.Mode.TheVariants as mode
+use Rattle.cw_cli.specs.WordLaws.{IsPlain, TakesBurden, checking}
+use Rattle.cw_cli.specs.declared.verb.Verb.{Verb}
+use Rattle.cw_cli.specs.declared.verb.Verb.TheVariants as verb
 
 -- ---- one word, of any command without subcommands
 
@@ -48,12 +48,12 @@ met : (c : List Rule) (waiting : Waiting) (position : ℕ) (word : Text) (h : He
     → subcommand_or_other c (subcommand_met [] waiting word) waiting position word h ≡ plain_word c waiting word h
 met c waiting position word h none plain = ap (λ o. subcommand_or_other c o waiting position word h) none ∙ no_flag c waiting position word h plain
 
-step : (c : List Rule) (waiting : Waiting) (position : ℕ) (word : Text) (h : Held) → subcommand_met [] waiting word ≡ None → IsPlain word
+pub step : (c : List Rule) (waiting : Waiting) (position : ℕ) (word : Text) (h : Held) → subcommand_met [] waiting word ≡ None → IsPlain word
     → walked c [] (at waiting position h) word ≡ after_step c word (at waiting position h) (plain_word c waiting word h).0 (plain_word c waiting word h).1
 unfolding walked
 step c waiting position word h none plain = ap (λ (m : Held × Step). after_step c word (at waiting position h) m.0 m.1) (met c waiting position word h none plain)
 
-turn : (s : Shape) (waiting : Waiting) (position : ℕ) (word : Text) (h : Held) → subcommand_met [] waiting word ≡ None → IsPlain word
+pub turn : (s : Shape) (waiting : Waiting) (position : ℕ) (word : Text) (h : Held) → subcommand_met [] waiting word ≡ None → IsPlain word
     → turn_fault s [] (at waiting position h) word ≡ step_fault s position (plain_word s.rules waiting word h).0 (plain_word s.rules waiting word h).1
 turn s waiting position word h none plain =
     ap₂ (λ (k : Kinds) (m : Held × Step). or_else k (step_fault s position m.0 m.1))
@@ -80,26 +80,31 @@ scale = first_shape (drop 2 line.subs)
 abbrev pub sites : Shape
 sites = first_shape (drop 3 line.subs)
 
-abbrev pub shape_of : Mode → Shape
-shape_of mode.Check = check
-shape_of mode.Run = run
-shape_of mode.Scale = scale
-shape_of mode.Sites = sites
+abbrev pub greedy : Shape
+greedy = first_shape (drop 4 line.subs)
 
--- a command that runs a program has the rules of `run`
+abbrev pub shape_of : Verb → Shape
+shape_of verb.Check = check
+shape_of verb.Run = run
+shape_of verb.Scale = scale
+shape_of verb.Sites = sites
+shape_of verb.Greedy = greedy
+
+-- a command that takes a burden has the rules of `run`
 abbrev running : Text → Shape
 running name = record run { name = name }
 
-is_running : (m : Mode) → m ≢ mode.Check → shape_of m ≡ running (command_name m)
-is_running mode.Check runs = absurd (runs refl)
-is_running mode.Run runs = refl
-is_running mode.Scale runs = refl
-is_running mode.Sites runs = refl
+is_running : (m : Verb) → TakesBurden m → shape_of m ≡ running (command_name m)
+is_running verb.Check runs = absurd runs
+is_running verb.Greedy runs = absurd runs
+is_running verb.Run runs = refl
+is_running verb.Scale runs = refl
+is_running verb.Sites runs = refl
 
-abbrev held : List Row → Option (Text × List Text) → Held
+abbrev pub held : List Row → Option (Text × List Text) → Held
 held rows pending = record { rows = rows; pending = pending; skip = 0 }
 
--- ---- the words after a command that runs a program
+-- ---- the words after a command that takes a burden
 
 -- what is given before the source: no number, a limit or a burden
 pub data Given : Type 0 where
@@ -149,7 +154,7 @@ next_step g file v vs word plain = step run.rules positional 2 word (args_met g 
 next_turn : (name : Text) (g : Given) (file v : Text) (vs : List Text) (word : Text) → IsPlain word → turn_fault (running name) [] (args_met g file v vs) word ≡ []
 next_turn name g file v vs word plain = turn (running name) positional 2 word (args_met g file v vs).held refl plain
 
-all_rest : (x : Text) (xs : List Text) → All IsPlain (x ∷ xs) → All IsPlain xs
+pub all_rest : (x : Text) (xs : List Text) → All IsPlain (x ∷ xs) → All IsPlain xs
 all_rest x xs h k d lt = h (suc k) d (omega (arith, lt))
 
 rest_walk : (g : Given) (file v : Text) (vs rest : List Text) → All IsPlain rest → fold (walked run.rules []) (args_met g file v vs) rest ≡ args_met g file v (vs ++ rest)
@@ -271,11 +276,11 @@ check_walk_fault file plain = ap (λ k. or_else k []) (check_turn file plain)
 
 -- ---- the checks after the words
 
-values_accepted : (b : Bool) (vs : List Text) → values_kinds b vp.String vs ≡ []
+pub values_accepted : (b : Bool) (vs : List Text) → values_kinds b vp.String vs ≡ []
 values_accepted b [] = refl
 values_accepted b (v ∷ vs) = values_accepted b vs
 
-range_fits : (n : ℕ) → n < 2 ^ 64 → range_kinds 0 usize_max n ≡ []
+pub range_fits : (n : ℕ) → n < 2 ^ 64 → range_kinds 0 usize_max n ≡ []
 range_fits n lt = rw (le-ltb n 0 (omega arith), le-ltb usize_max n (omega (arith, lt))) refl
 
 -- past the first steps of a level
@@ -283,7 +288,7 @@ abbrev pub level : Shape → Walk → Bool → Kinds → Kinds → Kinds → Kin
 level s w has walk below settle =
     or_else walk (or_else below (or_else settle (or_else (defaults_fault (settled s.rules w.held).rows s.rules) (check_fault s (finished s.rules w.held) has))))
 
-abbrev command_level : Shape → Walk → Kinds → Kinds
+abbrev pub command_level : Shape → Walk → Kinds → Kinds
 command_level s w walk = level s w false walk [] (settle_fault s.rules s.args_override_self w.held)
 
 end_level : (name : Text) (g : Given) (file : Text) (args : List Text) → length args < 2 ^ 64 → command_level (running name) (end g file args) [] ≡ []
@@ -304,19 +309,21 @@ check_level file = refl
 abbrev pub stopped_at : Text → List Text → Walk
 stopped_at name words = record { held = nothing_held; waiting = idle; position = 1; is_trailing = false; stopped = Some (name, words) }
 
-command_step : (m : Mode) → walked line.top.rules (names_of line) (walk_from nothing_held) (command_name m) ≡ stopped_at (command_name m) []
+command_step : (m : Verb) → walked line.top.rules (names_of line) (walk_from nothing_held) (command_name m) ≡ stopped_at (command_name m) []
 unfolding clap_on_literals
-command_step mode.Check = refl
-command_step mode.Run = refl
-command_step mode.Scale = refl
-command_step mode.Sites = refl
+command_step verb.Check = refl
+command_step verb.Run = refl
+command_step verb.Scale = refl
+command_step verb.Sites = refl
+command_step verb.Greedy = refl
 
-command_turn : (m : Mode) → turn_fault line.top (names_of line) (walk_from nothing_held) (command_name m) ≡ []
+command_turn : (m : Verb) → turn_fault line.top (names_of line) (walk_from nothing_held) (command_name m) ≡ []
 unfolding clap_on_literals
-command_turn mode.Check = refl
-command_turn mode.Run = refl
-command_turn mode.Scale = refl
-command_turn mode.Sites = refl
+command_turn verb.Check = refl
+command_turn verb.Run = refl
+command_turn verb.Scale = refl
+command_turn verb.Sites = refl
+command_turn verb.Greedy = refl
 
 pub stopped_walk : (name : Text) (words rest : List Text) → fold (walked line.top.rules (names_of line)) (stopped_at name words) rest ≡ stopped_at name (words ++ rest)
 unfolding walked
@@ -328,10 +335,10 @@ unfolding walked walk_fault
 stopped_fault name words [] = refl
 stopped_fault name words (w ∷ rest) = stopped_fault name (words ++ w ∷ []) rest
 
-top_walk : (m : Mode) (rest : List Text) → walk line.top.rules (names_of line) nothing_held (command_name m ∷ rest) ≡ stopped_at (command_name m) rest
+top_walk : (m : Verb) (rest : List Text) → walk line.top.rules (names_of line) nothing_held (command_name m ∷ rest) ≡ stopped_at (command_name m) rest
 top_walk m rest = ap (λ w. fold (walked line.top.rules (names_of line)) w rest) (command_step m) ∙ stopped_walk (command_name m) [] rest
 
-top_fault : (m : Mode) (rest : List Text) → walk_fault line.top (names_of line) (walk_from nothing_held) (command_name m ∷ rest) ≡ []
+top_fault : (m : Verb) (rest : List Text) → walk_fault line.top (names_of line) (walk_from nothing_held) (command_name m ∷ rest) ≡ []
 unfolding walk_fault
 top_fault m rest = ap₂ (λ k w. or_else k (walk_fault line.top (names_of line) w rest)) (command_turn m) (command_step m) ∙ stopped_fault (command_name m) [] rest
 
@@ -339,31 +346,33 @@ abbrev top_level : Walk → Kinds → Kinds
 top_level w walk = level line.top w (is_some (entered line w.stopped)) walk (entered_fault line w.stopped) (settle_fault line.top.rules line.top.args_override_self w.held)
 
 -- after the word for a command the words go to its own level
-command_faults : (m : Mode) (rest : List Text) → command_level (shape_of m) (walk (shape_of m).rules [] nothing_held rest) (walk_fault (shape_of m) [] (walk_from nothing_held) rest) ≡ []
+pub command_faults : (m : Verb) (rest : List Text) → command_level (shape_of m) (walk (shape_of m).rules [] nothing_held rest) (walk_fault (shape_of m) [] (walk_from nothing_held) rest) ≡ []
     → faults (command_name m ∷ rest) ≡ []
 unfolding defaults_fault
-command_faults mode.Check rest none = ap₂ top_level (top_walk mode.Check rest) (top_fault mode.Check rest) ∙ ap (λ k. or_else k []) none
-command_faults mode.Run rest none = ap₂ top_level (top_walk mode.Run rest) (top_fault mode.Run rest) ∙ ap (λ k. or_else k []) none
-command_faults mode.Scale rest none = ap₂ top_level (top_walk mode.Scale rest) (top_fault mode.Scale rest) ∙ ap (λ k. or_else k []) none
-command_faults mode.Sites rest none = ap₂ top_level (top_walk mode.Sites rest) (top_fault mode.Sites rest) ∙ ap (λ k. or_else k []) none
+command_faults verb.Check rest none = ap₂ top_level (top_walk verb.Check rest) (top_fault verb.Check rest) ∙ ap (λ k. or_else k []) none
+command_faults verb.Run rest none = ap₂ top_level (top_walk verb.Run rest) (top_fault verb.Run rest) ∙ ap (λ k. or_else k []) none
+command_faults verb.Scale rest none = ap₂ top_level (top_walk verb.Scale rest) (top_fault verb.Scale rest) ∙ ap (λ k. or_else k []) none
+command_faults verb.Sites rest none = ap₂ top_level (top_walk verb.Sites rest) (top_fault verb.Sites rest) ∙ ap (λ k. or_else k []) none
+command_faults verb.Greedy rest none = ap₂ top_level (top_walk verb.Greedy rest) (top_fault verb.Greedy rest) ∙ ap (λ k. or_else k []) none
 
-command_rows : (m : Mode) (rest : List Text) → subcommand_of command_line (command_name m ∷ rest) ≡ Some (command_name m, finished (shape_of m).rules (walk (shape_of m).rules [] nothing_held rest).held)
-command_rows mode.Check rest = ap (λ w. entered line w.stopped) (top_walk mode.Check rest)
-command_rows mode.Run rest = ap (λ w. entered line w.stopped) (top_walk mode.Run rest)
-command_rows mode.Scale rest = ap (λ w. entered line w.stopped) (top_walk mode.Scale rest)
-command_rows mode.Sites rest = ap (λ w. entered line w.stopped) (top_walk mode.Sites rest)
+pub command_rows : (m : Verb) (rest : List Text) → subcommand_of command_line (command_name m ∷ rest) ≡ Some (command_name m, finished (shape_of m).rules (walk (shape_of m).rules [] nothing_held rest).held)
+command_rows verb.Check rest = ap (λ w. entered line w.stopped) (top_walk verb.Check rest)
+command_rows verb.Run rest = ap (λ w. entered line w.stopped) (top_walk verb.Run rest)
+command_rows verb.Scale rest = ap (λ w. entered line w.stopped) (top_walk verb.Scale rest)
+command_rows verb.Sites rest = ap (λ w. entered line w.stopped) (top_walk verb.Sites rest)
+command_rows verb.Greedy rest = ap (λ w. entered line w.stopped) (top_walk verb.Greedy rest)
 
 -- ---- what the words are read as
 
 abbrev numbers_given : Given → List Text
-numbers_given nothing = limit_row.usual ∷ burden_row.usual ∷ []
-numbers_given (limited n) = n ∷ burden_row.usual ∷ []
-numbers_given (burdened n) = limit_row.usual ∷ n ∷ []
+numbers_given nothing = limit_row.usual ∷ burden_row.usual ∷ processors_row.usual ∷ []
+numbers_given (limited n) = n ∷ burden_row.usual ∷ processors_row.usual ∷ []
+numbers_given (burdened n) = limit_row.usual ∷ n ∷ processors_row.usual ∷ []
 
-abbrev ran : Mode → Given → Text → List Text → Words
-ran m g file args = record { mode = m; file = file; args = args; numbers = numbers_given g }
+abbrev ran : Verb → Given → Text → List Text → Words
+ran m g file args = record { verb = m; file = file; args = args; numbers = numbers_given g }
 
-end_rows : (words : List Text) (m : Mode) (g : Given) (file : Text) (args : List Text) → HaveCommand words m (finished run.rules (end g file args).held) → AreRead words (ran m g file args)
+end_rows : (words : List Text) (m : Verb) (g : Given) (file : Text) (args : List Text) → HaveCommand words m (finished run.rules (end g file args).held) → AreRead words (ran m g file args)
 end_rows words m nothing file [] h = record { rows = _; command = h; file_is = refl; args_are = refl; numbers_are = refl }
 end_rows words m nothing file (v ∷ vs) h = record { rows = _; command = h; file_is = refl; args_are = refl; numbers_are = refl }
 end_rows words m (limited n) file [] h = record { rows = _; command = h; file_is = refl; args_are = refl; numbers_are = refl }
@@ -372,13 +381,13 @@ end_rows words m (burdened n) file [] h = record { rows = _; command = h; file_i
 end_rows words m (burdened n) file (v ∷ vs) h = record { rows = _; command = h; file_is = refl; args_are = refl; numbers_are = refl }
 
 -- what a level says of the words, and the rows that it ends with
-abbrev level_of : Shape → List Text → Kinds
+abbrev pub level_of : Shape → List Text → Kinds
 level_of s rest = command_level s (walk s.rules [] nothing_held rest) (walk_fault s [] (walk_from nothing_held) rest)
 
-abbrev rows_at : Shape → List Text → List Row
+abbrev pub rows_at : Shape → List Text → List Row
 rows_at s rest = finished s.rules (walk s.rules [] nothing_held rest).held
 
-pub are_read : (m : Mode) (g : Given) (file : Text) (args : List Text) → m ≢ mode.Check → IsGiven g → IsPlain file → All IsPlain args → length args < 2 ^ 64
+pub are_read : (m : Verb) (g : Given) (file : Text) (args : List Text) → TakesBurden m → IsGiven g → IsPlain file → All IsPlain args → length args < 2 ^ 64
     → AreRead (command_name m ∷ number_words g ++ file ∷ args) (ran m g file args)
 are_read m g file args runs given plain plains few =
     let rest = number_words g ++ file ∷ args in
@@ -400,7 +409,7 @@ check_is_read file plain =
     let none = ap₂ (command_level check) walked_is (check_walk_fault file plain) ∙ check_level file in
     record {
       rows = finished check.rules (check_met file).held;
-      command = (command_faults mode.Check rest none, command_rows mode.Check rest ∙ ap (λ w. Some (codes "check", finished check.rules w.held)) walked_is);
+      command = (command_faults verb.Check rest none, command_rows verb.Check rest ∙ ap (λ w. Some (codes "check", finished check.rules w.held)) walked_is);
       file_is = refl;
       args_are = refl;
       numbers_are = refl;
@@ -416,36 +425,37 @@ abbrev name_in : Option (Text × List Row) → Text
 name_in None = []
 name_in (Some p) = p.0
 
-pub same_rows : (words : List Text) (m m' : Mode) (rows rows' : List Row) → HaveCommand words m rows → HaveCommand words m' rows' → rows ≡ rows'
+pub same_rows : (words : List Text) (m m' : Verb) (rows rows' : List Row) → HaveCommand words m rows → HaveCommand words m' rows' → rows ≡ rows'
 same_rows words m m' rows rows' h k = ap rows_in (sym h.1 ∙ k.1)
 
 -- the command that a name is of, told by its length and its second letter
-abbrev named : Text → Mode
-named name = cond (nat_eq (length name) 3) mode.Run (by_letter (slice_get name 1))
+abbrev named : Text → Verb
+named name = cond (nat_eq (length name) 3) verb.Run (by_letter (slice_get name 1))
   where
-    by_letter : Option ℕ → Mode
-    by_letter None = mode.Check
-    by_letter (Some x) = cond (x == 104) mode.Check (cond (x == 99) mode.Scale mode.Sites)
+    by_letter : Option ℕ → Verb
+    by_letter None = verb.Check
+    by_letter (Some x) = cond (x == 104) verb.Check (cond (x == 99) verb.Scale (cond (x == 114) verb.Greedy verb.Sites))
 
-named_by : (m : Mode) → named (command_name m) ≡ m
-named_by mode.Check = refl
-named_by mode.Run = refl
-named_by mode.Scale = refl
-named_by mode.Sites = refl
+named_by : (m : Verb) → named (command_name m) ≡ m
+named_by verb.Check = refl
+named_by verb.Run = refl
+named_by verb.Scale = refl
+named_by verb.Sites = refl
+named_by verb.Greedy = refl
 
-same_mode : (m m' : Mode) → command_name m ≡ command_name m' → m ≡ m'
-same_mode m m' e = sym (named_by m) ∙ ap named e ∙ named_by m'
+same_verb : (m m' : Verb) → command_name m ≡ command_name m' → m ≡ m'
+same_verb m m' e = sym (named_by m) ∙ ap named e ∙ named_by m'
 
-words_are : (a b : Words) → a.mode ≡ b.mode → a.file ≡ b.file → a.args ≡ b.args → a.numbers ≡ b.numbers → a ≡ b
+words_are : (a b : Words) → a.verb ≡ b.verb → a.file ≡ b.file → a.args ≡ b.args → a.numbers ≡ b.numbers → a ≡ b
 words_are a b m f xs ns =
-    ap (λ x. record a { mode = x }) m ∙ ap (λ x. record a { mode = b.mode; file = x }) f
-    ∙ ap (λ x. record a { mode = b.mode; file = b.file; args = x }) xs ∙ ap (λ x. record b { numbers = x }) ns
+    ap (λ x. record a { verb = x }) m ∙ ap (λ x. record a { verb = b.verb; file = x }) f
+    ∙ ap (λ x. record a { verb = b.verb; file = b.file; args = x }) xs ∙ ap (λ x. record b { numbers = x }) ns
 
 pub read_once : (given : List Text) (words words' : Words) → AreRead given words → AreRead given words' → words ≡ words'
 read_once given words words' h k =
-    let same = same_rows given words.mode words'.mode h.rows k.rows h.command k.command in
+    let same = same_rows given words.verb words'.verb h.rows k.rows h.command k.command in
     words_are words words'
-    (same_mode words.mode words'.mode (ap name_in (sym h.command.1 ∙ k.command.1)))
+    (same_verb words.verb words'.verb (ap name_in (sym h.command.1 ∙ k.command.1)))
     (ap (λ o. unwrap_or o []) (sym h.file_is ∙ ap (first_of (codes "FILE")) same ∙ k.file_is))
     (sym h.args_are ∙ ap (λ rows. texts_of rows (codes "ARGS")) same ∙ k.args_are)
     (sym h.numbers_are ∙ ap numbers_of same ∙ k.numbers_are)

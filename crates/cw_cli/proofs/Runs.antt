@@ -1,6 +1,6 @@
 -- From what a run of code answers to what its program means.
 use Rattle.std.proofs.Common.{◌≡◌, ◌≢◌, ℕ, ℤ, Bool, true, false, ◌&&◌, ◌≤◌, List, [], ◌∷◌, ◌++◌, length, Some, Result, Ok, Err, IsErrAnd, flat_map, refl, sym, ap, ◌∙◌, subst, arith}
-use Rattle.std.specs.Prelude.{nat_eq, nat_le, codes, MatchResult}
+use Rattle.std.specs.Prelude.{nat_eq, nat_le, codes, decimal, MatchResult}
 use Rattle.std.specs.Global.{Vec}
 use Rattle.std.specs.List.{list_all}
 use Rattle.cw_model.specs.Ints.{fits}
@@ -11,7 +11,11 @@ use Rattle.cw_model.specs.Trees.{Tree}
 use Rattle.cw_model.specs.Answers.{Answer, Ended, TrappedAt, OverLimit}
 use Rattle.cw_model.specs.declared.trap.Trap.{Trap}
 use Rattle.cw_model.specs.Report as report
-use Rattle.cw_model.specs.Report.{check_text, value_line, sum_lines, report_text}
+use Rattle.cw_model.specs.Report.{check_text, csv_line, value_line, sum_lines, report_text}
+use Rattle.cw_greedy.specs.Greedy.{greedy_length}
+use Rattle.cw_schedule.specs.State.{IsWithin}
+use Rattle.cw_scheduled.specs.declared.schedules.TheConstants.{MOST_PROCESSORS}
+use Rattle.cw_scheduled.specs.Schedules.{IsNotScheduled, Schedules, is_asked, is_counted}
 use Rattle.cw_code.specs.Code.{Code}
 use Rattle.cw_code.specs.Run.{code_serial}
 use Rattle.cw_code.specs.Fits.{main_params}
@@ -23,7 +27,7 @@ use Rattle.cw_text.specs.declared.fault.Fault.TheVariants as fault
 use Rattle.cw_report.specs.Seen.{Seen}
 use Rattle.cw_report.specs.Sinks.{Writes, WritesAll, WritesPart}
 use Rattle.cw_report.specs.Answers.{AnswersLess}
-use Rattle.cw_report.specs.Texts.{sums_text, handed_text}
+use Rattle.cw_report.specs.Texts.{sums_text, handed_text, schedule_header, schedule_report}
 use Rattle.cw_gen.specs.Generates.{Generates}
 use Rattle.cw_tree.specs.Resolved.{reducer_names}
 use Rattle.cw_cli.specs.Compiled.{IsCompiled}
@@ -32,7 +36,9 @@ use Rattle.cw_cli.specs.Analyses as analyses
 use Rattle.cw_cli.specs.declared.asked.Mode.{Mode}
 use Rattle.cw_cli.specs.declared.asked.Mode.TheVariants as mode
 use Rattle.cw_cli.specs.declared.asked.Options.{Options}
-use Rattle.cw_cli.specs.Told.{told_of}
+use Rattle.cw_cli.specs.Requests.{IsModeInRange}
+use Rattle.cw_cli.specs.Schedules.{HasTooManyStrands, IsScheduled, IsScheduledIn}
+use Rattle.cw_cli.specs.Told.{HasTables, told_of}
 use Rattle.cw_cli.proofs.Rows.{scale_is, sites_are}
 use Rattle.cw_model.specs.SiteLaw.{SitesAreNumbered}
 use Rattle.cw_model.specs.Sites.{call_sites, are_numbered}
@@ -89,137 +95,271 @@ values_are program code burden e tree g =
     (ap (λ names. sums_text names e.sums.items) g.reducers ∙ named_lines program.reducers e.sums.items)
 
 -- the report that is asked for of what is counted
-report_is : (m : Mode) (program : Program) (code : Code) (args : List ℤ) (n burden : ℕ) (e : run.Ended) (r : Runs code args n burden e) → m ≢ mode.Check → m ≢ mode.Run
+report_is : (m : Mode) (program : Program) (code : Code) (args : List ℤ) (n burden : ℕ) (e : run.Ended) (r : Runs code args n burden e) → HasTables m
     → Generates program code → are_numbered 0 (call_sites program) ≡ true
-    → told_of m code (Ok e) ≡ report_text (analyses.mode_of m) program burden (Ended e.value e.lines.items e.sums.items r.tree)
-report_is mode.Check program code args n burden e r runs counts g numbered = absurd (runs refl)
-report_is mode.Run program code args n burden e r runs counts g numbered = absurd (counts refl)
-report_is mode.Scale program code args n burden e r runs counts g numbered = scale_is program code burden e r.tree g.tags r.tags r.measure r.regions
-report_is mode.Sites program code args n burden e r runs counts g numbered = sites_are program code e r.tree g.sites g.main_line numbered r.sites
+    → told_of m code (Ok e) ≡ analyses.text_in m program burden (Ended e.value e.lines.items e.sums.items r.tree)
+report_is mode.Scale program code args n burden e r has g numbered = scale_is program code burden e r.tree g.tags r.tags r.measure r.regions
+report_is mode.Sites program code args n burden e r has g numbered = sites_are program code e r.tree g.sites g.main_line numbered r.sites
+report_is _ program code args n burden e r has g numbered = absurd has
 
-printed_is : (m : Mode) (program : Program) (code : Code) (burden : ℕ) (trap : Trap) (line : ℕ) (lines : Vec ℤ) → m ≢ mode.Check → m ≢ mode.Run
-    → told_of m code (Err (fault.Trap trap line lines)) ≡ report_text (analyses.mode_of m) program burden (TrappedAt trap line lines.items)
-printed_is mode.Check program code burden trap line lines runs counts = absurd (runs refl)
-printed_is mode.Run program code burden trap line lines runs counts = absurd (counts refl)
-printed_is mode.Scale program code burden trap line lines runs counts = refl
-printed_is mode.Sites program code burden trap line lines runs counts = refl
+printed_is : (m : Mode) (program : Program) (code : Code) (burden : ℕ) (trap : Trap) (line : ℕ) (lines : Vec ℤ) → HasTables m
+    → told_of m code (Err (fault.Trap trap line lines)) ≡ analyses.text_in m program burden (TrappedAt trap line lines.items)
+printed_is mode.Scale program code burden trap line lines has = refl
+printed_is mode.Sites program code burden trap line lines has = refl
+printed_is _ program code burden trap line lines has = absurd has
 
--- of a run that did not start or passed its limit nothing is told
+-- of a run that has no tables for another reason nothing is told
 over_is : (m : Mode) (code : Code) → told_of m code (Err fault.OverLimit) ≡ []
 over_is mode.Check code = refl
 over_is mode.Run code = refl
 over_is mode.Scale code = refl
 over_is mode.Sites code = refl
+over_is (mode.Greedy processors) code = refl
 
 memory_is : (m : Mode) (code : Code) → told_of m code (Err fault.Memory) ≡ []
 memory_is mode.Check code = refl
 memory_is mode.Run code = refl
 memory_is mode.Scale code = refl
 memory_is mode.Sites code = refl
+memory_is (mode.Greedy processors) code = refl
 
 arguments_are : (m : Mode) (code : Code) → told_of m code (Err fault.Arguments) ≡ []
 arguments_are mode.Check code = refl
 arguments_are mode.Run code = refl
 arguments_are mode.Scale code = refl
 arguments_are mode.Sites code = refl
+arguments_are (mode.Greedy processors) code = refl
+
+strands_are : (m : Mode) (code : Code) → told_of m code (Err fault.Strands) ≡ []
+strands_are mode.Check code = refl
+strands_are mode.Run code = refl
+strands_are mode.Scale code = refl
+strands_are mode.Sites code = refl
+strands_are (mode.Greedy processors) code = refl
+
+-- a mode with tables asks for no schedule
+tables_in_range : (m : Mode) → HasTables m → IsModeInRange m
+tables_in_range mode.Scale has = tt
+tables_in_range mode.Sites has = tt
+tables_in_range _ has = absurd has
+
+tables_scheduled : (m : Mode) (a : Answer) → HasTables m → IsScheduledIn m a
+tables_scheduled mode.Scale a has = tt
+tables_scheduled mode.Sites a has = tt
+tables_scheduled _ a has = absurd has
+
+-- of a trap no schedule is told
+trap_scheduled : (m : Mode) (trap : Trap) (line : ℕ) (lines : List ℤ) → IsScheduledIn m (TrappedAt trap line lines)
+trap_scheduled mode.Check trap line lines = tt
+trap_scheduled mode.Run trap line lines = tt
+trap_scheduled mode.Scale trap line lines = tt
+trap_scheduled mode.Sites trap line lines = tt
+trap_scheduled (mode.Greedy processors) trap line lines = tt
+
+-- the row of a schedule
+row_is : (p p' work work' span span' steps steps' : ℕ) → p ≡ p' → work ≡ work' → span ≡ span' → steps ≡ steps'
+    → csv_line (decimal p ∷ decimal work ∷ decimal span ∷ decimal steps ∷ []) ≡ csv_line (decimal p' ∷ decimal work' ∷ decimal span' ∷ decimal steps' ∷ [])
+row_is p p' work work' span span' steps steps' a b c d =
+    ap (λ x. csv_line (decimal x ∷ decimal work ∷ decimal span ∷ decimal steps ∷ [])) a
+    ∙ ap (λ x. csv_line (decimal p' ∷ decimal x ∷ decimal span ∷ decimal steps ∷ [])) b
+    ∙ ap (λ x. csv_line (decimal p' ∷ decimal work' ∷ decimal x ∷ decimal steps ∷ [])) c
+    ∙ ap (λ x. csv_line (decimal p' ∷ decimal work' ∷ decimal span' ∷ decimal x ∷ [])) d
 
 -- a sink that stayed as it was counts no further failed write
 no_part : {W : Type 0} (seen : W → Seen) (old new : W) (text : List ℕ) → new ≡ old → WritesPart (seen old) (seen new) text → ⊥
 no_part seen old new text same part = let e : (seen new).failures ≡ (seen old).failures = ap (λ w. (seen w).failures) same in omega (arith, e, part.failed)
 
 module _ (bytes : List ℕ) (args : List ℤ) (words : list_all fits args ≡ true) (options : Options) (code : Code) (compiled : IsCompiled bytes code) where
-  may : is_request code args options.limit options.burden ≡ true → analyses.MayRun compiled.program args options
-  may h =
-      let n = both (nat_eq (length args) (main_params code)) (nat_le 1 options.limit && (nat_le options.limit MOST_LIMIT && nat_le options.burden MOST_BURDEN)) h in
-      let l = both (nat_le 1 options.limit) (nat_le options.limit MOST_LIMIT && nat_le options.burden MOST_BURDEN) n.1 in
-      let b = both (nat_le options.limit MOST_LIMIT) (nat_le options.burden MOST_BURDEN) l.1 in
+  abbrev May : Type 0
+  May = analyses.MayRun compiled.program args options
+
+  abbrev answer : Answer
+  answer = analyses.answer_to compiled.program args options
+
+  -- a run asks for what is in range
+  may : (burden : ℕ) → IsModeInRange options.mode → options.burden ≤ MOST_BURDEN → is_request code args options.limit burden ≡ true → May
+  may burden of_mode low h =
+      let n = both (nat_eq (length args) (main_params code)) (nat_le 1 options.limit && (nat_le options.limit MOST_LIMIT && nat_le burden MOST_BURDEN)) h in
+      let l = both (nat_le 1 options.limit) (nat_le options.limit MOST_LIMIT && nat_le burden MOST_BURDEN) n.1 in
+      let b = both (nat_le options.limit MOST_LIMIT) (nat_le burden MOST_BURDEN) l.1 in
       record {
         count = is_same (length args) (main_params code) n.0 ∙ compiled.generates.params;
-        in_range = record { some_limit = is_most 1 options.limit l.0; limit = is_most options.limit MOST_LIMIT b.0; burden = is_most options.burden MOST_BURDEN b.1 };
+        in_range = record { mode = of_mode; some_limit = is_most 1 options.limit l.0; limit = is_most options.limit MOST_LIMIT b.0; burden = low };
       }
 
-  must : analyses.MayRun compiled.program args options → is_request code args options.limit options.burden ≡ true
-  must m =
+  -- with the burden of the options
+  burden_of : is_request code args options.limit options.burden ≡ true → options.burden ≤ MOST_BURDEN
+  burden_of h =
+      let n = both (nat_eq (length args) (main_params code)) (nat_le 1 options.limit && (nat_le options.limit MOST_LIMIT && nat_le options.burden MOST_BURDEN)) h in
+      let l = both (nat_le 1 options.limit) (nat_le options.limit MOST_LIMIT && nat_le options.burden MOST_BURDEN) n.1 in
+      is_most options.burden MOST_BURDEN (both (nat_le options.limit MOST_LIMIT) (nat_le options.burden MOST_BURDEN) l.1).1
+
+  may_run_so : IsModeInRange options.mode → is_request code args options.limit options.burden ≡ true → May
+  may_run_so of_mode h = may options.burden of_mode (burden_of h) h
+
+  must : (burden : ℕ) → burden ≤ MOST_BURDEN → May → is_request code args options.limit burden ≡ true
+  must burden low m =
       true_both (nat_eq (length args) (main_params code)) _ (same_is (length args) (main_params code) (m.count ∙ sym compiled.generates.params))
       (true_both (nat_le 1 options.limit) _ (most_is 1 options.limit m.in_range.some_limit)
-      (true_both (nat_le options.limit MOST_LIMIT) _ (most_is options.limit MOST_LIMIT m.in_range.limit) (most_is options.burden MOST_BURDEN m.in_range.burden)))
+      (true_both (nat_le options.limit MOST_LIMIT) _ (most_is options.limit MOST_LIMIT m.in_range.limit) (most_is burden MOST_BURDEN low)))
 
-  run_of : analyses.MayRun compiled.program args options → analyses.IsRunOf bytes args options compiled.program
+  run_of : May → analyses.IsRunOf bytes args options compiled.program
   run_of m = record { compiles = compiled.compiles; may = m }
 
-  answer_is : analyses.MayRun compiled.program args options → (a : Answer) → code_serial code args options.limit ≡ Some a → analyses.answer_to compiled.program args options ≡ a
+  answer_is : May → (a : Answer) → code_serial code args options.limit ≡ Some a → answer ≡ a
   answer_is m a e = some_is _ _ (sym (compiled.generates.serial args words m.count options.limit) ∙ e)
 
   -- the report of an answer, in the mode that is asked for
   abbrev pub report_of : Answer → List ℕ
-  report_of a = report_text (analyses.mode_of options.mode) compiled.program options.burden a
+  report_of a = analyses.text_in options.mode compiled.program options.burden a
 
   -- a run that ended: what the code means by it, and what is told of it
   pub record EndsAs (text : List ℕ) : Type 0 where
-    pub asked : is_request code args options.limit options.burden ≡ true
-    pub answer : Answer
-    pub ended : analyses.HasEnded answer
-    pub serial : code_serial code args options.limit ≡ Some answer
-    pub told : text ≡ report_of answer
+    pub may_run : May
+    pub end : Answer
+    pub ended : analyses.HasEnded end
+    pub is : answer ≡ end
+    pub scheduled : IsScheduledIn options.mode end
+    pub told : text ≡ report_of end
+
+  -- why there is nothing to tell
+  abbrev pub IsUnrun : Fault → Type 0
+  IsUnrun fault.OverLimit = May × (answer ≡ OverLimit)
+  IsUnrun (fault.Trap trap line lines) = May × (answer ≡ TrappedAt trap line lines.items)
+  IsUnrun fault.Strands = May × HasTooManyStrands options.mode answer
+  IsUnrun fault.Arguments = ¬ May
+  IsUnrun fault.Memory = Unit {0}
+  IsUnrun _ = ⊥
 
   -- what is told of the outcome of a run is its report
-  pub record Tells {V : Type 0} (ran : V → Type 0) (told : Result V Fault → List ℕ) : Type 0 where
+  pub record Tells {V : Type 0} (ran : V → Type 0) (failed : Fault → Type 0) (told : Result V Fault → List ℕ) : Type 0 where
     pub ended : (e : V) → ran e → EndsAs (told (Ok e))
+    pub unrun : (f : Fault) → failed f → IsUnrun f
     pub printed : (trap : Trap) (line : ℕ) (lines : Vec ℤ) → told (Err (fault.Trap trap line lines)) ≡ report_of (TrappedAt trap line lines.items)
     pub over : told (Err fault.OverLimit) ≡ []
     pub memory : told (Err fault.Memory) ≡ []
     pub arguments : told (Err fault.Arguments) ≡ []
+    pub strands : told (Err fault.Strands) ≡ []
+
+  -- a run with another mode than a schedule
+  unrun_of : IsModeInRange options.mode → (f : Fault) → IsFailure code args options.limit options.burden f → IsUnrun f
+  unrun_of of_mode fault.OverLimit h = let m = may_run_so of_mode h.0 in (m, answer_is m OverLimit h.1)
+  unrun_of of_mode (fault.Trap trap line lines) h = let m = may_run_so of_mode h.0 in (m, answer_is m (TrappedAt trap line lines.items) h.1)
+  unrun_of of_mode fault.Arguments h = λ m. false_true (sym h ∙ must options.burden m.in_range.burden m)
+  unrun_of of_mode fault.Memory h = tt
+  unrun_of of_mode _ h = absurd h
 
   -- the values of a run
-  pub values_tell : options.mode ≡ mode.Run → Tells (Gives code args options.limit options.burden) (handed_text code)
-  values_tell is = record {
-    ended = λ e r. record {
-      asked = r.asked;
-      answer = Ended e.value e.lines.items e.sums.items r.tree;
-      ended = tt;
-      serial = r.answer;
-      told = values_are compiled.program code options.burden e r.tree compiled.generates
-          ∙ ap (λ m. report_text (analyses.mode_of m) compiled.program options.burden (Ended e.value e.lines.items e.sums.items r.tree)) (sym is);
-    };
-    printed = λ trap line lines. ap (λ m. report_text (analyses.mode_of m) compiled.program options.burden (TrappedAt trap line lines.items)) (sym is);
-    over = refl;
-    memory = refl;
-    arguments = refl;
-  }
+  pub values_tell : options.mode ≡ mode.Run → Tells (Gives code args options.limit options.burden) (IsFailure code args options.limit options.burden) (handed_text code)
+  values_tell is =
+      let of_mode : IsModeInRange options.mode = subst IsModeInRange (sym is) tt in
+      record {
+        ended = λ e r.
+            let m = may_run_so of_mode r.asked in
+            let end = Ended e.value e.lines.items e.sums.items r.tree in
+            record {
+              may_run = m;
+              end = end;
+              ended = tt;
+              is = answer_is m end r.answer;
+              scheduled = subst (λ k. IsScheduledIn k end) (sym is) tt;
+              told = values_are compiled.program code options.burden e r.tree compiled.generates
+                  ∙ ap (λ k. analyses.text_in k compiled.program options.burden end) (sym is);
+            };
+        unrun = unrun_of of_mode;
+        printed = λ trap line lines. ap (λ k. analyses.text_in k compiled.program options.burden (TrappedAt trap line lines.items)) (sym is);
+        over = refl;
+        memory = refl;
+        arguments = refl;
+        strands = refl;
+      }
 
   -- what is counted of a run
-  pub tables_tell : options.mode ≢ mode.Check → options.mode ≢ mode.Run → SitesAreNumbered → Tells (Runs code args options.limit options.burden) (told_of options.mode code)
-  tables_tell runs counts law =
+  pub tables_tell : HasTables options.mode → SitesAreNumbered → Tells (Runs code args options.limit options.burden) (IsFailure code args options.limit options.burden) (told_of options.mode code)
+  tables_tell has law =
       let source = compiled.compiles.accepted.source in
       let numbered : are_numbered 0 (call_sites compiled.program) ≡ true = law bytes source.tokens compiled.program source.parsed.derived in
+      let of_mode = tables_in_range options.mode has in
       record {
-        ended = λ e r. record {
-          asked = r.asked;
-          answer = Ended e.value e.lines.items e.sums.items r.tree;
-          ended = tt;
-          serial = r.answer;
-          told = report_is options.mode compiled.program code args options.limit options.burden e r runs counts compiled.generates numbered;
-        };
-        printed = λ trap line lines. printed_is options.mode compiled.program code options.burden trap line lines runs counts;
+        ended = λ e r.
+            let m = may_run_so of_mode r.asked in
+            let end = Ended e.value e.lines.items e.sums.items r.tree in
+            record {
+              may_run = m;
+              end = end;
+              ended = tt;
+              is = answer_is m end r.answer;
+              scheduled = tables_scheduled options.mode end has;
+              told = report_is options.mode compiled.program code args options.limit options.burden e r has compiled.generates numbered;
+            };
+        unrun = unrun_of of_mode;
+        printed = λ trap line lines. printed_is options.mode compiled.program code options.burden trap line lines has;
         over = over_is options.mode code;
         memory = memory_is options.mode code;
         arguments = arguments_are options.mode code;
+        strands = strands_are options.mode code;
       }
 
+  -- the schedule of a run on so many processors, where the burden is in range
+  module _ (p : ℕ) (is : options.mode ≡ mode.Greedy p) (low : options.burden ≤ MOST_BURDEN) where
+    asked_may : is_asked code args options.limit p ≡ true → May
+    asked_may h =
+        let counted = both (is_counted p) (is_request code args options.limit 0) h in
+        let range = both (nat_le 1 p) (nat_le p MOST_PROCESSORS) counted.0 in
+        let of_mode : IsModeInRange options.mode = subst IsModeInRange (sym is) (is_most 1 p range.0, is_most p MOST_PROCESSORS range.1) in
+        may 0 of_mode low counted.1
+
+    must_ask : May → is_asked code args options.limit p ≡ true
+    must_ask m =
+        let range : IsModeInRange (mode.Greedy p) = subst IsModeInRange is m.in_range.mode in
+        true_both (is_counted p) _ (true_both (nat_le 1 p) _ (most_is 1 p range.0) (most_is p MOST_PROCESSORS range.1)) (must 0 (omega arith) m)
+
+    unscheduled : (f : Fault) → IsNotScheduled code args options.limit p f → IsUnrun f
+    unscheduled fault.OverLimit h = let m = asked_may h.0 in (m, answer_is m OverLimit h.1)
+    unscheduled (fault.Trap trap line lines) h = let m = asked_may h.0 in (m, answer_is m (TrappedAt trap line lines.items) h.1)
+    unscheduled fault.Strands h =
+        let m = asked_may h.asked in
+        let end = Ended h.ends.value h.ends.lines h.ends.sums h.tree in
+        let many : HasTooManyStrands (mode.Greedy p) end = h.many in
+        (m, subst (λ a. HasTooManyStrands options.mode a) (sym (answer_is m end h.ends.answer)) (subst (λ k. HasTooManyStrands k end) (sym is) many))
+    unscheduled fault.Arguments h = λ m. false_true (sym h ∙ must_ask m)
+    unscheduled fault.Memory h = tt
+    unscheduled _ h = absurd h
+
+    pub schedule_tells : Tells (Schedules code args options.limit p) (IsNotScheduled code args options.limit p) schedule_report
+    schedule_tells = record {
+      ended = λ s r.
+          let m = asked_may r.asked in
+          let end = Ended r.ends.value r.ends.lines r.ends.sums r.tree in
+          let scheduled : IsScheduled p r.tree = record { few = r.fits; bounds = subst (λ n. IsWithin p n r.tree) r.greedy r.bounds } in
+          record {
+            may_run = m;
+            end = end;
+            ended = tt;
+            is = answer_is m end r.ends.answer;
+            scheduled = subst (λ k. IsScheduledIn k end) (sym is) scheduled;
+            told = ap (λ row. schedule_header ++ row) (row_is s.processors p s.work _ s.span _ s.greedy (greedy_length p r.tree) r.processors r.work r.span r.greedy)
+                ∙ ap (λ k. analyses.text_in k compiled.program options.burden end) (sym is);
+          };
+      unrun = unscheduled;
+      printed = λ trap line lines. ap (λ k. analyses.text_in k compiled.program options.burden (TrappedAt trap line lines.items)) (sym is);
+      over = refl;
+      memory = refl;
+      arguments = refl;
+      strands = refl;
+    }
+
   -- a text that is the report of the answer
-  text_is : (a : Answer) (text : List ℕ) → analyses.answer_to compiled.program args options ≡ a → text ≡ report_of a → text ≡ analyses.text_of compiled.program args options
+  text_is : (a : Answer) (text : List ℕ) → answer ≡ a → text ≡ report_of a → text ≡ analyses.text_of compiled.program args options
   text_is a text e told = told ∙ sym (ap report_of e)
 
-  module _ {V : Type 0} (ran : V → Type 0) (told : Result V Fault → List ℕ) (tells : Tells ran told) {W : Type 0} (seen : W → Seen) (old new : W) where
+  module _ {V : Type 0} (ran : V → Type 0) (failed : Fault → Type 0) (told : Result V Fault → List ℕ) (tells : Tells ran failed told) {W : Type 0} (seen : W → Seen) (old new : W) where
     -- a run gives what the code's meaning gives, or tells why not
     abbrev RanAs : Result V Fault → Type 0
-    RanAs r = MatchResult r ran (IsFailure code args options.limit options.burden)
+    RanAs r = MatchResult r ran failed
 
-    answer_of : (e : V) (r : ran e) → analyses.answer_to compiled.program args options ≡ (tells.ended e r).answer
-    answer_of e r = let ends = tells.ended e r in answer_is (may ends.asked) ends.answer ends.serial
-
-    trap_of : (trap : Trap) (line : ℕ) (lines : Vec ℤ) → IsFailure code args options.limit options.burden (fault.Trap trap line lines) → analyses.answer_to compiled.program args options ≡ TrappedAt trap line lines.items
-    trap_of trap line lines h = answer_is (may h.0) (TrappedAt trap line lines.items) h.1
+    scheduled_of : (e : V) (r : ran e) → analyses.IsScheduleOf compiled.program args options
+    scheduled_of e r = let ends = tells.ended e r in subst (IsScheduledIn options.mode) (sym ends.is) ends.scheduled
 
     -- a run that ended, and its text was written
     reported : (e : V) → ran e → WritesAll (seen old) (seen new) (told (Ok e)) → analyses.IsReported seen old new bytes args options
@@ -227,27 +367,31 @@ module _ (bytes : List ℕ) (args : List ℤ) (words : list_all fits args ≡ tr
         let ends = tells.ended e r in
         record {
           program = compiled.program;
-          run = run_of (may ends.asked);
-          ended = subst analyses.HasEnded (sym (answer_of e r)) ends.ended;
-          took = subst (λ text. WritesAll (seen old) (seen new) text) (text_is ends.answer (told (Ok e)) (answer_of e r) ends.told) took;
+          run = run_of ends.may_run;
+          ended = subst analyses.HasEnded (sym ends.is) ends.ended;
+          scheduled = scheduled_of e r;
+          took = subst (λ text. WritesAll (seen old) (seen new) text) (text_is ends.end (told (Ok e)) ends.is ends.told) took;
         }
 
     -- a run that did not end, and what is told of it was written
-    unreported : (f : Fault) → IsFailure code args options.limit options.burden f → WritesAll (seen old) (seen new) (told (Err f)) → (told (Err f) ≡ [] → new ≡ old) → analyses.IsUnreported seen old new bytes args options f
-    unreported fault.OverLimit h took idle =
-        record { program = compiled.program; run = run_of (may h.0); over = answer_is (may h.0) OverLimit h.1; untouched = idle tells.over }
-    unreported (fault.Trap trap line lines) h took idle =
-        let e = trap_of trap line lines h in
-        record {
-          program = compiled.program;
-          run = run_of (may h.0);
-          trapped = e;
-          took = subst (λ text. WritesAll (seen old) (seen new) text) (text_is (TrappedAt trap line lines.items) (told (Err (fault.Trap trap line lines))) e (tells.printed trap line lines)) took;
-        }
-    unreported fault.Memory h took idle = idle tells.memory
-    unreported fault.Arguments h took idle =
-        record { program = compiled.program; compiles = compiled.compiles; misused = λ m. false_true (sym h ∙ must m); untouched = idle tells.arguments }
-    unreported _ h took idle = absurd h
+    unreported_as : (f : Fault) → IsUnrun f → WritesAll (seen old) (seen new) (told (Err f)) → (told (Err f) ≡ [] → new ≡ old) → analyses.IsUnreported seen old new bytes args options f
+    unreported_as fault.OverLimit h took idle =
+        record { program = compiled.program; run = run_of h.0; over = h.1; untouched = idle tells.over }
+    unreported_as (fault.Trap trap line lines) h took idle = record {
+      program = compiled.program;
+      run = run_of h.0;
+      trapped = h.1;
+      took = subst (λ text. WritesAll (seen old) (seen new) text) (text_is (TrappedAt trap line lines.items) (told (Err (fault.Trap trap line lines))) h.1 (tells.printed trap line lines)) took;
+    }
+    unreported_as fault.Memory h took idle = idle tells.memory
+    unreported_as fault.Arguments h took idle =
+        record { program = compiled.program; compiles = compiled.compiles; misused = h; untouched = idle tells.arguments }
+    unreported_as fault.Strands h took idle =
+        record { program = compiled.program; run = run_of h.0; many = h.1; untouched = idle tells.strands }
+    unreported_as _ h took idle = absurd h
+
+    unreported : (f : Fault) → failed f → WritesAll (seen old) (seen new) (told (Err f)) → (told (Err f) ≡ [] → new ≡ old) → analyses.IsUnreported seen old new bytes args options f
+    unreported f h took idle = unreported_as f (tells.unrun f h) took idle
 
     finished_itself : (ended : Result V Fault) → RanAs ended → WritesAll (seen old) (seen new) (told ended) → (told ended ≡ [] → new ≡ old) → analyses.IsRun seen old new bytes args options (result_of ended)
     finished_itself (Ok e) r took idle = reported e r took
@@ -264,27 +408,31 @@ module _ (bytes : List ℕ) (args : List ℤ) (words : list_all fits args ≡ tr
         subst (λ r. analyses.IsRun seen old new bytes args options (result_of r)) same (finished_itself ended h took idle)
 
     -- a write that failed
+    cut_short_as : (f : Fault) → IsUnrun f → WritesPart (seen old) (seen new) (told (Err f)) → (told (Err f) ≡ [] → new ≡ old) → analyses.IsCutShort seen old new bytes args options
+    cut_short_as (fault.Trap trap line lines) h part idle = record {
+      program = compiled.program;
+      run = run_of h.0;
+      within = λ over. trap_not_over (sym h.1 ∙ over);
+      scheduled = subst (IsScheduledIn options.mode) (sym h.1) (trap_scheduled options.mode trap line lines.items);
+      took = subst (λ text. WritesPart (seen old) (seen new) text) (text_is (TrappedAt trap line lines.items) (told (Err (fault.Trap trap line lines))) h.1 (tells.printed trap line lines)) part;
+    }
+    cut_short_as fault.OverLimit h part idle = absurd (no_part seen old new _ (idle tells.over) part)
+    cut_short_as fault.Memory h part idle = absurd (no_part seen old new _ (idle tells.memory) part)
+    cut_short_as fault.Arguments h part idle = absurd (no_part seen old new _ (idle tells.arguments) part)
+    cut_short_as fault.Strands h part idle = absurd (no_part seen old new _ (idle tells.strands) part)
+    cut_short_as _ h part idle = absurd h
+
     cut_short : (ended : Result V Fault) → RanAs ended → WritesPart (seen old) (seen new) (told ended) → (told ended ≡ [] → new ≡ old) → analyses.IsCutShort seen old new bytes args options
     cut_short (Ok e) r part idle =
         let ends = tells.ended e r in
         record {
           program = compiled.program;
-          run = run_of (may ends.asked);
-          within = λ over. not_over ends.answer ends.ended (sym (answer_of e r) ∙ over);
-          took = subst (λ text. WritesPart (seen old) (seen new) text) (text_is ends.answer (told (Ok e)) (answer_of e r) ends.told) part;
+          run = run_of ends.may_run;
+          within = λ over. not_over ends.end ends.ended (sym ends.is ∙ over);
+          scheduled = scheduled_of e r;
+          took = subst (λ text. WritesPart (seen old) (seen new) text) (text_is ends.end (told (Ok e)) ends.is ends.told) part;
         }
-    cut_short (Err (fault.Trap trap line lines)) h part idle =
-        let e = trap_of trap line lines h in
-        record {
-          program = compiled.program;
-          run = run_of (may h.0);
-          within = λ over. trap_not_over (sym e ∙ over);
-          took = subst (λ text. WritesPart (seen old) (seen new) text) (text_is (TrappedAt trap line lines.items) (told (Err (fault.Trap trap line lines))) e (tells.printed trap line lines)) part;
-        }
-    cut_short (Err fault.OverLimit) h part idle = absurd (no_part seen old new _ (idle tells.over) part)
-    cut_short (Err fault.Memory) h part idle = absurd (no_part seen old new _ (idle tells.memory) part)
-    cut_short (Err fault.Arguments) h part idle = absurd (no_part seen old new _ (idle tells.arguments) part)
-    cut_short (Err _) h part idle = absurd h
+    cut_short (Err f) h part idle = cut_short_as f (tells.unrun f h) part idle
 
     -- a text that was not written
     pub unwritten : (ended : Result V Fault) → RanAs ended → (told ended ≡ [] → new ≡ old) → (f : Fault) → AnswersLess seen old new (told ended) f → analyses.IsUnreported seen old new bytes args options f
@@ -300,7 +448,7 @@ module _ {W : Type 0} (seen : W → Seen) (old new : W) (bytes : List ℕ) (args
   in_mode m is r h = subst (λ k. analyses.IsAnalysedIn seen old new bytes args options k r) (sym is) h
 
   check_text_is : (program : Program) → options.mode ≡ mode.Check → check_text ≡ analyses.text_of program args options
-  check_text_is program is = ap (λ m. report_text (analyses.mode_of m) program options.burden (analyses.answer_to program args options)) (sym is)
+  check_text_is program is = ap (λ m. analyses.text_in m program options.burden (analyses.answer_to program args options)) (sym is)
 
   -- bytes that compile, and the text of a check
   pub checked : (code : Code) → IsCompiled bytes code → options.mode ≡ mode.Check → (r : Result (Unit {0}) Fault) → Writes (seen old) (seen new) check_text r → analyses.IsAnalysed seen old new bytes args options r
@@ -320,6 +468,7 @@ module _ {W : Type 0} (seen : W → Seen) (old new : W) (bytes : List ℕ) (args
   in_running_mode mode.Run runs r h = h
   in_running_mode mode.Scale runs r h = h
   in_running_mode mode.Sites runs r h = h
+  in_running_mode (mode.Greedy processors) runs r h = h
 
   -- what a run answers, where a run is asked for
   pub run_is : options.mode ≢ mode.Check → (r : Result (Unit {0}) Fault) → analyses.IsRun seen old new bytes args options r → analyses.IsAnalysed seen old new bytes args options r
@@ -350,6 +499,7 @@ refused_in seen old bytes args options mode.Check f h = check_refusal seen old b
 refused_in seen old bytes args options mode.Run f h = run_refusal seen old bytes args options f h
 refused_in seen old bytes args options mode.Scale f h = run_refusal seen old bytes args options f h
 refused_in seen old bytes args options mode.Sites f h = run_refusal seen old bytes args options f h
+refused_in seen old bytes args options (mode.Greedy processors) f h = run_refusal seen old bytes args options f h
 
 -- bytes that are refused, in any mode
 pub refusal : {W : Type 0} (seen : W → Seen) (old : W) (bytes : List ℕ) (args : List ℤ) (options : Options) (f : Fault) → IsRefused bytes f → (r : Result (Unit {0}) Fault) → IsErrAnd r (λ x. x ≡ f) → analyses.IsAnalysed seen old old bytes args options r

@@ -13,9 +13,9 @@ use Rattle.clap.specs.Faults.{other_fault, turn_fault, walk_fault, step_fault, f
 use Rattle.clap.specs.declared.error.ErrorKind.TheVariants as kind
 use Rattle.cw_cli.specs.Command.{command_name}
 use Rattle.cw_cli.specs.Requests.{AreRead, Words, faults, words_in}
-use Rattle.cw_cli.specs.declared.asked.Mode.{Mode}
-use Rattle.cw_cli.specs.declared.asked.Mode.TheVariants as mode
-use Rattle.cw_cli.proofs.Reading.{check, line, run, scale, sites, level, shape_of, stopped_at, stopped_walk}
+use Rattle.cw_cli.specs.declared.verb.Verb.{Verb}
+use Rattle.cw_cli.specs.declared.verb.Verb.TheVariants as verb
+use Rattle.cw_cli.proofs.Reading.{check, greedy, line, run, scale, sites, level, shape_of, stopped_at, stopped_walk}
 use Rattle.cw_cli.proofs.Filled.{NamesNoSource, NotSource, filled_finished, given_first}
 
 both_none : (a b : Kinds) → or_else a b ≡ [] → (a ≡ []) × (b ≡ [])
@@ -95,7 +95,7 @@ none_of = []
 
 -- the walk stops at a command, or at no word
 abbrev Stops : Walk → Type 0
-Stops w = (w.stopped ≡ None) ⊎ ((m : Mode) × (rest : List Text) × (w ≡ stopped_at (command_name m) rest))
+Stops w = (w.stopped ≡ None) ⊎ ((m : Verb) × (rest : List Text) × (w ≡ stopped_at (command_name m) rest))
 
 abbrev walk_on : Walk → List Text → Walk
 walk_on w words = fold (walked rules names) w words
@@ -131,7 +131,7 @@ dashes_stop word words true e met is h =
     subst (λ w. Stops (walk_on w words)) (sym same) (trailing_stops words (subst (λ w. walk_fault line.top names w words ≡ []) same h))
 dashes_stop word words false e met is h = absurd (flag_refused (long_of word) word e)
 
-by_name : (o : Option Text) (word : Text) (words : List Text) → (o ≡ None) ⊎ (((m : Mode) × (o ≡ Some (command_name m))) ⊎ (o ≡ Some (codes "help"))) → turn_by o word ≡ []
+by_name : (o : Option Text) (word : Text) (words : List Text) → (o ≡ None) ⊎ (((m : Verb) × (o ≡ Some (command_name m))) ⊎ (o ≡ Some (codes "help"))) → turn_by o word ≡ []
     → walk_fault line.top names (walked_by o word) words ≡ [] → Stops (walk_on (walked_by o word) words)
 by_name None word words is e h = dashes_stop word words (bytes_eq word (45 ∷ 45 ∷ [])) e _ refl h
 by_name (Some name) word words (inl is) e h = cc
@@ -143,24 +143,26 @@ by_name (Some name) word words (inr (inr is)) e h = absurd (no (subst (λ o. tur
     no : turn_by (Some (codes "help")) word ≡ [] → ⊥
     no t = cc
 
-subcommand_is : (word : Text) → (subcommand_met names idle word ≡ None) ⊎ (((m : Mode) × (subcommand_met names idle word ≡ Some (command_name m))) ⊎ (subcommand_met names idle word ≡ Some (codes "help")))
+subcommand_is : (word : Text) → (subcommand_met names idle word ≡ None) ⊎ (((m : Verb) × (subcommand_met names idle word ≡ Some (command_name m))) ⊎ (subcommand_met names idle word ≡ Some (codes "help")))
 subcommand_is word =
-    go (bytes_eq (codes "check") word) (bytes_eq (codes "run") word) (bytes_eq (codes "scale") word) (bytes_eq (codes "sites") word) (bytes_eq (codes "help") word)
+    go (bytes_eq (codes "check") word) (bytes_eq (codes "run") word) (bytes_eq (codes "scale") word) (bytes_eq (codes "sites") word) (bytes_eq (codes "greedy") word) (bytes_eq (codes "help") word)
   where
     met : Bool → Text → Option (Text × List Text) → Option (Text × List Text)
     met b name rest = cond (b || false) (Some (name, [])) rest
 
-    name : (a b c d e : Bool) → Option Text
-    name a b c d e =
-        option_map (λ (s : Text × List Text). s.0) (met a (codes "check") (met b (codes "run") (met c (codes "scale") (met d (codes "sites") (met e (codes "help") None)))))
+    name : (a b c d e f : Bool) → Option Text
+    name a b c d e f =
+        option_map (λ (s : Text × List Text). s.0) (met a (codes "check") (met b (codes "run") (met c (codes "scale")
+        (met d (codes "sites") (met e (codes "greedy") (met f (codes "help") None))))))
 
-    go : (a b c d e : Bool) → (name a b c d e ≡ None) ⊎ (((m : Mode) × (name a b c d e ≡ Some (command_name m))) ⊎ (name a b c d e ≡ Some (codes "help")))
-    go true b c d e = inr (inl (mode.Check, refl))
-    go false true c d e = inr (inl (mode.Run, refl))
-    go false false true d e = inr (inl (mode.Scale, refl))
-    go false false false true e = inr (inl (mode.Sites, refl))
-    go false false false false true = inr (inr refl)
-    go false false false false false = inl refl
+    go : (a b c d e f : Bool) → (name a b c d e f ≡ None) ⊎ (((m : Verb) × (name a b c d e f ≡ Some (command_name m))) ⊎ (name a b c d e f ≡ Some (codes "help")))
+    go true b c d e f = inr (inl (verb.Check, refl))
+    go false true c d e f = inr (inl (verb.Run, refl))
+    go false false true d e f = inr (inl (verb.Scale, refl))
+    go false false false true e f = inr (inl (verb.Sites, refl))
+    go false false false false true f = inr (inl (verb.Greedy, refl))
+    go false false false false false true = inr (inr refl)
+    go false false false false false false = inl refl
 
 stops : (words : List Text) → walk_fault line.top names start words ≡ [] → Stops (walk_on start words)
 unfolding walk_fault walked
@@ -186,28 +188,44 @@ no_number_of_source = (
   (λ x. number_or_help false false (has_short (first (drop 4 run.rules)) x)),
 )
 
-no_flag_of_source : (m : Mode) → NamesNoSource (shape_of m).rules
-no_flag_of_source mode.Check = (
+limit_or_help : (a b : Bool) → NotSource (cond a (Some (first (drop 3 greedy.rules))) (cond b (Some (first (drop 4 greedy.rules))) None))
+limit_or_help true b = λ is. cc
+limit_or_help false true = λ is. cc
+limit_or_help false false = tt
+
+no_flag_of_source : (m : Verb) → NamesNoSource (shape_of m).rules
+no_flag_of_source verb.Check = (
   (λ name. help_or_none (has_long (first (drop 1 check.rules)) name)),
   (λ x. help_or_none (has_short (first (drop 1 check.rules)) x)),
 )
-no_flag_of_source mode.Run = no_number_of_source
-no_flag_of_source mode.Scale = no_number_of_source
-no_flag_of_source mode.Sites = no_number_of_source
+no_flag_of_source verb.Run = no_number_of_source
+no_flag_of_source verb.Scale = no_number_of_source
+no_flag_of_source verb.Sites = no_number_of_source
+no_flag_of_source verb.Greedy = (
+  (λ name. limit_or_help (has_long (first (drop 3 greedy.rules)) name) (has_long (first (drop 4 greedy.rules)) name)),
+  (λ x. limit_or_help false (has_short (first (drop 4 greedy.rules)) x)),
+)
 
 -- a source is required
-source_given : (m : Mode) (rows : List Row) → check_fault (shape_of m) rows false ≡ [] → is_given (codes "FILE") rows ≡ true
-source_given m rows h = go (is_given (codes "FILE") rows) (of_mode m h)
+source_given : (m : Verb) (rows : List Row) → check_fault (shape_of m) rows false ≡ [] → is_given (codes "FILE") rows ≡ true
+source_given m rows h = of_verb m h
   where
     go : (g : Bool) → (if not g || false then kind.MissingRequiredArgument ∷ [] else none_of) ≡ [] → g ≡ true
     go true e = refl
     go false e = cc
 
-    of_mode : (m : Mode) → check_fault (shape_of m) rows false ≡ [] → (if not (is_given (codes "FILE") rows) || false then kind.MissingRequiredArgument ∷ [] else none_of) ≡ []
-    of_mode mode.Check e = e
-    of_mode mode.Run e = e
-    of_mode mode.Scale e = e
-    of_mode mode.Sites e = e
+    -- behind the processors
+    behind : (p g : Bool) → (if not p || (not g || false) then kind.MissingRequiredArgument ∷ [] else none_of) ≡ [] → g ≡ true
+    behind p true e = refl
+    behind true false e = cc
+    behind false false e = cc
+
+    of_verb : (m : Verb) → check_fault (shape_of m) rows false ≡ [] → is_given (codes "FILE") rows ≡ true
+    of_verb verb.Check e = go (is_given (codes "FILE") rows) e
+    of_verb verb.Run e = go (is_given (codes "FILE") rows) e
+    of_verb verb.Scale e = go (is_given (codes "FILE") rows) e
+    of_verb verb.Sites e = go (is_given (codes "FILE") rows) e
+    of_verb verb.Greedy e = behind (is_given (codes "P") rows) (is_given (codes "FILE") rows) e
 
 -- and a subcommand
 stopped_somewhere : (rows : List Row) (w : Walk) → w.stopped ≡ None → check_fault line.top rows (is_some (entered line w.stopped)) ≡ [] → ⊥
@@ -237,18 +255,20 @@ at_level s rest h =
     let end = walk s.rules [] nothing_held rest in
     (level_passes s end false (walk_fault s [] start rest) [] (settle_fault s.rules s.args_override_self end.held) h).2
 
-below_of : (m : Mode) (rest : List Text) → entered_fault line (Some (command_name m, rest)) ≡ []
+below_of : (m : Verb) (rest : List Text) → entered_fault line (Some (command_name m, rest)) ≡ []
     → check_fault (shape_of m) (finished (shape_of m).rules (walk (shape_of m).rules [] nothing_held rest).held) false ≡ []
-below_of mode.Check rest h = at_level check rest h
-below_of mode.Run rest h = at_level run rest h
-below_of mode.Scale rest h = at_level scale rest h
-below_of mode.Sites rest h = at_level sites rest h
+below_of verb.Check rest h = at_level check rest h
+below_of verb.Run rest h = at_level run rest h
+below_of verb.Scale rest h = at_level scale rest h
+below_of verb.Sites rest h = at_level sites rest h
+below_of verb.Greedy rest h = at_level greedy rest h
 
-entered_is : (m : Mode) (rest : List Text) → entered line (Some (command_name m, rest)) ≡ Some (command_name m, finished (shape_of m).rules (walk (shape_of m).rules [] nothing_held rest).held)
-entered_is mode.Check rest = refl
-entered_is mode.Run rest = refl
-entered_is mode.Scale rest = refl
-entered_is mode.Sites rest = refl
+entered_is : (m : Verb) (rest : List Text) → entered line (Some (command_name m, rest)) ≡ Some (command_name m, finished (shape_of m).rules (walk (shape_of m).rules [] nothing_held rest).held)
+entered_is verb.Check rest = refl
+entered_is verb.Run rest = refl
+entered_is verb.Scale rest = refl
+entered_is verb.Sites rest = refl
+entered_is verb.Greedy rest = refl
 
 pub taken : (given : List Text) → faults given ≡ [] → (words : Words) × AreRead given words
 taken given h =

@@ -7,7 +7,10 @@ use Rattle.clap.proofs.WalkLemmas.{first_value-rows, raw_values-rows}
 use Rattle.clap.specs.declared.parser.matches.Found.{Found}
 use Rattle.cw_model.specs.Pieces.{decimal_value}
 use Rattle.cw_cli.specs.Command.{NumberRow}
-use Rattle.cw_cli.specs.Requests.{texts_of, values_of, number_text, IsArgument, IsFaultUnless}
+use Rattle.cw_cli.specs.Requests.{AreOptionsOf, texts_of, values_of, number_text, mode_with, IsArgument, IsFaultUnless}
+use Rattle.cw_cli.specs.declared.verb.Verb.{Verb}
+use Rattle.cw_cli.specs.declared.asked.Mode.{Mode}
+use Rattle.cw_cli.specs.declared.asked.Options.{Options}
 use Rattle.cw_text.specs.declared.fault.Fault.{Fault}
 use Rattle.cw_text.specs.declared.fault.Fault.TheVariants as fault
 
@@ -67,3 +70,13 @@ unless_weaker P Q fault.OverLimit w h = h
 unless_weaker P Q (fault.Trap t l o) w h = h
 unless_weaker P Q fault.Write w h = h
 unless_weaker P Q fault.Strands w h = h
+
+-- the options of numbers that the words write
+pub options_given : (v : Verb) (m : Mode) (limit burden processors l b p : ℕ) → m ≡ mode_with v processors → limit ≡ l → burden ≡ b → processors ≡ p
+    → AreOptionsOf v (l ∷ b ∷ p ∷ []) (record { mode = m; limit = limit; burden = burden })
+options_given v m limit burden processors l b p is limit_is burden_is processors_is =
+    ap (λ x. with_numbers x limit burden) (is ∙ ap (mode_with v) processors_is)
+    ∙ ap (λ n. with_numbers (mode_with v p) n burden) limit_is ∙ ap (with_numbers (mode_with v p) l) burden_is
+  where
+    with_numbers : Mode → (limit burden : ℕ) → Options
+    with_numbers m limit burden = record { mode = m; limit = limit; burden = burden }

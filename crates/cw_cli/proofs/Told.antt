@@ -6,21 +6,21 @@ use Rattle.cw_text.specs.declared.fault.Fault.{Fault}
 use Rattle.cw_text.specs.declared.fault.Fault.TheVariants as fault
 use Rattle.cw_cli.specs.Command.{command_line, number_rows}
 use Rattle.cw_cli.specs.Requests.{AreProper, AreWithin, HaveBadNumber, HaveCommand, IsArgument, IsFaultUnless, IsSaidOf, NamesNoCommand, faults}
-use Rattle.cw_cli.specs.declared.asked.Mode.{Mode}
+use Rattle.cw_cli.specs.declared.verb.Verb.{Verb}
 use Rattle.cw_cli.specs.declared.asked.Said.TheVariants as said
 use Rattle.cw_cli.proofs.Reading.{same_rows}
 use Rattle.cw_cli.proofs.Taken.{taken}
 
 -- words that are taken enter a command
 pub has_command : (given : List Text) → faults given ≡ [] → NamesNoCommand (subcommand_of command_line given) → ⊥
-has_command given none nothing = let t = taken given none in nothing t.0.mode t.1.rows t.1.command.1
+has_command given none nothing = let t = taken given none in nothing t.0.verb t.1.rows t.1.command.1
 
 -- rows that make no request have a bad number
-bad_number : (given : List Text) (m : Mode) (rows : List Row) → HaveCommand given m rows → ¬ (AreProper rows) → HaveBadNumber given
+bad_number : (given : List Text) (m : Verb) (rows : List Row) → HaveCommand given m rows → ¬ (AreProper rows) → HaveBadNumber given
 bad_number given m rows h bad =
     let t = taken given h.0 in
     let read = t.1 in
-    let same = same_rows given t.0.mode m read.rows rows read.command h in
+    let same = same_rows given t.0.verb m read.rows rows read.command h in
     record {
       words = t.0;
       read = read;
@@ -34,7 +34,7 @@ bad_number given m rows h bad =
     }
 
 -- a fault of the rows of a command is one of the words
-pub fault_by_rows : (given : List Text) (m : Mode) (rows : List Row) (f : Fault) → HaveCommand given m rows → IsFaultUnless (AreProper rows) f → IsSaidOf given (said.Fault f)
+pub fault_by_rows : (given : List Text) (m : Verb) (rows : List Row) (f : Fault) → HaveCommand given m rows → IsFaultUnless (AreProper rows) f → IsSaidOf given (said.Fault f)
 fault_by_rows given m rows fault.Arguments h bad = bad_number given m rows h bad
 fault_by_rows given m rows fault.Memory h bad = tt
 fault_by_rows given m rows _ h bad = absurd bad

@@ -92,7 +92,7 @@ module _ (bytes : List ℕ) (long : MOST_SOURCE_BYTES < length bytes) where
     unreported_whole (fault.Ownership p) h = refused_for (fault.Ownership p) h
     unreported_whole (fault.Size p) h = refused_for (fault.Size p) h
     unreported_whole fault.Code h = absurd h.refused
-    unreported_whole fault.Strands h = absurd h.refused
+    unreported_whole fault.Strands h = absurd (no_source h.run.compiles.accepted.source.has_tokens.text)
 
     unchecked_whole : (f : Fault) → analyses.IsUnchecked seen old new (take most_read bytes) args options f → analyses.IsUnchecked seen old new bytes args options f
     unchecked_whole fault.OverLimit h = h
@@ -118,6 +118,7 @@ module _ (bytes : List ℕ) (long : MOST_SOURCE_BYTES < length bytes) where
     long_whole mode.Run r h = run_whole r h
     long_whole mode.Scale r h = run_whole r h
     long_whole mode.Sites r h = run_whole r h
+    long_whole (mode.Greedy processors) r h = run_whole r h
 
 module _ {W : Type 0} (seen : W → Seen) (old new : W) (args : List ℤ) (options : Options) where
   -- what an analysis of the bytes that were read answers is answered for the whole source
@@ -162,6 +163,7 @@ module _ {W E : Type 0} (seen : W → Seen) (seen' : E → Seen) (old new : W) (
       untouched bytes mode.Run = same
       untouched bytes mode.Scale = same
       untouched bytes mode.Sites = same
+      untouched bytes (mode.Greedy processors) = same
 
   module _ {D : Type 0} (remaining : D → Option (List ℕ)) (source inner : D) (limit : ℕ) (before read slice : List ℕ) (args : List ℤ) where
     -- what the bytes that were read come to is the answer on the source

@@ -11,19 +11,21 @@ use Rattle.cw_text.specs.declared.fault.Fault.TheVariants as fault
 use Rattle.cw_report.specs.Seen.{Seen}
 use Rattle.cw_report.specs.Sinks.{WritesAll, WritesPart}
 use Rattle.cw_cli.specs.Requests.{AreInRange}
+use Rattle.cw_cli.specs.Schedules.{greedy_text, IsScheduledIn, HasTooManyStrands}
 use Rattle.cw_cli.specs.Sources.{Compiles, IsRefused}
 use Rattle.cw_cli.specs.declared.asked.Mode.{Mode}
 use Rattle.cw_cli.specs.declared.asked.Mode.TheVariants as mode
 use Rattle.cw_cli.specs.declared.asked.Options.{Options}
 
--- the report that a mode of the command line asks for
-abbrev pub mode_of : Mode → report.Mode
-mode_of mode.Check = report.Check
-mode_of mode.Run = report.Run
-mode_of mode.Scale = report.Scale
-mode_of mode.Sites = report.Sites
+-- the report of an answer, in each mode
+abbrev pub text_in : Mode → Program → (burden : ℕ) → Answer → List ℕ
+text_in mode.Check program burden answer = report_text report.Check program burden answer
+text_in mode.Run program burden answer = report_text report.Run program burden answer
+text_in mode.Scale program burden answer = report_text report.Scale program burden answer
+text_in mode.Sites program burden answer = report_text report.Sites program burden answer
+text_in (mode.Greedy processors) program burden answer = greedy_text processors answer
 
--- main has so many parameters, and the limit and the burden are in range
+-- main has so many parameters, and the options are in range
 pub record MayRun (program : Program) (args : List ℤ) (options : Options) : Type 0 where
   pub count : length args ≡ length (function_named main_name program.functions).params
   pub in_range : AreInRange options
@@ -40,7 +42,11 @@ answer_to program args options = serial_answer program args options.limit
 -- the report of a program; that of a check says nothing of what the program answers, and of a trap only a run writes what it
 -- printed before
 abbrev pub text_of : Program → List ℤ → Options → List ℕ
-text_of program args options = report_text (mode_of options.mode) program options.burden (answer_to program args options)
+text_of program args options = text_in options.mode program options.burden (answer_to program args options)
+
+-- what is told of a schedule that is asked for
+abbrev pub IsScheduleOf : Program → List ℤ → Options → Type 0
+IsScheduleOf program args options = IsScheduledIn options.mode (answer_to program args options)
 
 -- the run ended with a value: it neither trapped nor passed its limit
 abbrev pub HasEnded : Answer → Type 0
@@ -89,6 +95,7 @@ module _ {W : Type 0} (seen : W → Seen) (old new : W) where
       pub program : Program
       pub run : IsRunOf bytes args options program
       pub ended : HasEnded (answer_to program args options)
+      pub scheduled : IsScheduleOf program args options
       pub took : Took (text_of program args options)
 
     -- its serial elision costs more than the limit
@@ -110,9 +117,17 @@ module _ {W : Type 0} (seen : W → Seen) (old new : W) where
       pub program : Program
       pub run : IsRunOf bytes args options program
       pub within : answer_to program args options ≢ OverLimit
+      pub scheduled : IsScheduleOf program args options
       pub took : TookPart (text_of program args options)
 
-    -- its main has another count of parameters, or the limit or the burden is out of range
+    -- a schedule is asked for, and the run ended with too many strands
+    pub record HasNoSchedule : Type 0 where
+      pub program : Program
+      pub run : IsRunOf bytes args options program
+      pub many : HasTooManyStrands options.mode (answer_to program args options)
+      pub untouched : new ≡ old
+
+    -- its main has another count of parameters, or an option is out of range
     pub record IsMisused : Type 0 where
       pub program : Program
       pub compiles : Compiles bytes program
@@ -126,6 +141,7 @@ module _ {W : Type 0} (seen : W → Seen) (old new : W) where
     IsUnreported fault.Memory = new ≡ old
     IsUnreported fault.Write = IsCutShort
     IsUnreported fault.Arguments = IsMisused
+    IsUnreported fault.Strands = HasNoSchedule
     IsUnreported f = IsRefusedFor f
 
     -- what a mode that runs the program answers

@@ -5,11 +5,12 @@ use Rattle.clap.specs.Words.{AddsSubcommand, App, Rule, Text, app_of, new_app, n
 use Rattle.clap.specs.declared.builder.Command.{Command}
 use Rattle.clap.specs.declared.builder.ArgAction.TheVariants.{Append, Set}
 use Rattle.cw_model.specs.declared.limits.TheConstants.{MOST_LIMIT, MOST_BURDEN}
-use Rattle.cw_cli.specs.declared.asked.Mode.{Mode}
-use Rattle.cw_cli.specs.declared.asked.Mode.TheVariants as mode
+use Rattle.cw_scheduled.specs.declared.schedules.TheConstants.{MOST_PROCESSORS}
+use Rattle.cw_cli.specs.declared.verb.Verb.{Verb}
+use Rattle.cw_cli.specs.declared.verb.Verb.TheVariants as verb
 
--- an option that takes a number: its name, the least and the greatest number that it takes, and the word for the number
--- where it is not given
+-- a number that a command takes: its name, the least and the greatest that it is, and the word for it where it is not
+-- given
 pub record NumberRow : Type 0 where
   pub name : Text
   pub least : ℕ
@@ -24,9 +25,17 @@ limit_row = record { name = codes "limit"; least = 1; most = MOST_LIMIT; usual =
 abbrev pub burden_row : NumberRow
 burden_row = record { name = codes "burden"; least = 0; most = MOST_BURDEN; usual = codes "15000" }
 
--- the options that take a number
+-- the processors of a schedule, which is a word of its own; the commands that take none have one
+abbrev pub processors_row : NumberRow
+processors_row = record { name = codes "P"; least = 1; most = MOST_PROCESSORS; usual = codes "1" }
+
+-- the numbers, in their order
 abbrev pub number_rows : List NumberRow
-number_rows = limit_row ∷ burden_row ∷ []
+number_rows = limit_row ∷ burden_row ∷ processors_row ∷ []
+
+-- the options that take a number
+abbrev pub option_rows : List NumberRow
+option_rows = limit_row ∷ burden_row ∷ []
 
 -- the words for the numbers that are not given
 abbrev pub usual_numbers : List Text
@@ -36,29 +45,41 @@ usual_numbers = map (λ row. row.usual) number_rows
 abbrev pub number_rule : NumberRow → Rule
 number_rule row = record (new_rule row.name) { long = Some row.name; value_names = 1; action = Some Set; defaults = row.usual ∷ [] }
 
--- the source, which has to be there
+-- a word that has to be there
+abbrev pub needed_rule : Text → Rule
+needed_rule name = record (new_rule name) { required = true; action = Some Set }
+
+-- the source
 abbrev pub file_rule : Rule
-file_rule = record (new_rule (codes "FILE")) { required = true; action = Some Set }
+file_rule = needed_rule (codes "FILE")
 
 -- the arguments of main: any number of words
 abbrev pub args_rule : Rule
 args_rule = record (new_rule (codes "ARGS")) { range = Some (record { start_inclusive = 0; end_inclusive = usize_max }); action = Some Append }
 
 -- the name of a command
-abbrev pub command_name : Mode → Text
-command_name mode.Check = codes "check"
-command_name mode.Run = codes "run"
-command_name mode.Scale = codes "scale"
-command_name mode.Sites = codes "sites"
+abbrev pub command_name : Verb → Text
+command_name verb.Check = codes "check"
+command_name verb.Run = codes "run"
+command_name verb.Scale = codes "scale"
+command_name verb.Sites = codes "sites"
+command_name verb.Greedy = codes "greedy"
 
--- a command that runs a program: with its source, its arguments and the numbers
+-- a command that runs a program and takes a burden: with its source, its arguments and the options
 abbrev pub running_line : Text → App
-running_line name = fold with_rule (with_rule (with_rule (new_app name) file_rule) args_rule) (map number_rule number_rows)
+running_line name =
+    fold with_rule (with_rule (with_rule (new_app name) file_rule) args_rule) (map number_rule option_rows)
+
+-- the command for a schedule: with its processors before its source, its arguments and the limit
+abbrev pub greedy_line : App
+greedy_line = fold with_rule (new_app (codes "greedy"))
+    (needed_rule processors_row.name ∷ file_rule ∷ args_rule ∷ number_rule limit_row ∷ [])
 
 -- the words of each command: a check has its source alone
-abbrev pub line_of : Mode → App
-line_of mode.Check = with_rule (new_app (codes "check")) file_rule
-line_of m = running_line (command_name m)
+abbrev pub line_of : Verb → App
+line_of verb.Check = with_rule (new_app (codes "check")) file_rule
+line_of verb.Greedy = greedy_line
+line_of v = running_line (command_name v)
 
 -- a command is of this line, also below another one
 pub record IsCommandOf (line : App) (c : Command) : Type 0 where
@@ -70,9 +91,10 @@ abbrev pub with_words_alone : App → App
 with_words_alone a = record a { top = record a.top { no_binary_name = true; subcommand_required = true } }
 
 -- the commands, in their order
-abbrev pub modes : List Mode
-modes = mode.Check ∷ mode.Run ∷ mode.Scale ∷ mode.Sites ∷ []
+abbrev pub verbs : List Verb
+verbs = verb.Check ∷ verb.Run ∷ verb.Scale ∷ verb.Sites ∷ verb.Greedy ∷ []
 
 -- the whole command line
 abbrev pub command_line : App
-command_line = fold (λ above m. with_subcommand above (line_of m).top) (with_words_alone (new_app (codes "cilkwork"))) modes
+command_line =
+    fold (λ above v. with_subcommand above (line_of v).top) (with_words_alone (new_app (codes "cilkwork"))) verbs

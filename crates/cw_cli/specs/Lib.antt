@@ -2,6 +2,7 @@ pub mod Numbers
 pub mod Command
 pub mod Requests
 pub mod Rows
+pub mod Schedules
 pub mod Sources
 pub mod Compiled
 pub mod Analyses

@@ -10,6 +10,9 @@ use Rattle.cw_text.specs.declared.fault.Fault.{Fault}
 use Rattle.cw_text.specs.declared.fault.Fault.TheVariants as fault
 use Rattle.cw_cli.specs.Numbers.{IsNumberWithin}
 use Rattle.cw_cli.specs.Command.{NumberRow, command_line, command_name, number_rows}
+use Rattle.cw_scheduled.specs.declared.schedules.TheConstants.{MOST_PROCESSORS}
+use Rattle.cw_cli.specs.declared.verb.Verb.{Verb}
+use Rattle.cw_cli.specs.declared.verb.Verb.TheVariants as verb
 use Rattle.cw_cli.specs.declared.asked.Mode.{Mode}
 use Rattle.cw_cli.specs.declared.asked.Mode.TheVariants as mode
 use Rattle.cw_cli.specs.declared.asked.Options.{Options}
@@ -17,8 +20,14 @@ use Rattle.cw_cli.specs.declared.asked.Request.{Request}
 use Rattle.cw_cli.specs.declared.asked.Said.{Said}
 use Rattle.cw_cli.specs.declared.asked.Said.TheVariants as said
 
--- the limit and the burden are in range
+-- a schedule is for processors in range
+abbrev pub IsModeInRange : Mode → Type 0
+IsModeInRange (mode.Greedy processors) = (1 ≤ processors) × (processors ≤ MOST_PROCESSORS)
+IsModeInRange _ = Unit {0}
+
+-- the limit and the burden are in range, and the processors of a schedule
 pub record AreInRange (options : Options) : Type 0 where
+  pub mode : IsModeInRange options.mode
   pub some_limit : 1 ≤ options.limit
   pub limit : options.limit ≤ MOST_LIMIT
   pub burden : options.burden ≤ MOST_BURDEN
@@ -28,24 +37,34 @@ abbrev pub usual_options : Options
 usual_options = record { mode = mode.Run; limit = USUAL_LIMIT; burden = USUAL_BURDEN }
 
 -- the command of this name, if there is one
-abbrev pub IsModeNamed : Text → Option Mode → Type 0
-IsModeNamed name None = (m : Mode) → command_name m ≢ name
-IsModeNamed name (Some m) = command_name m ≡ name
+abbrev pub IsVerbNamed : Text → Option Verb → Type 0
+IsVerbNamed name None = (v : Verb) → command_name v ≢ name
+IsVerbNamed name (Some v) = command_name v ≡ name
+
+-- the mode that a command asks for, with so many processors where it is a schedule
+abbrev pub mode_with : Verb → (processors : ℕ) → Mode
+mode_with verb.Check processors = mode.Check
+mode_with verb.Run processors = mode.Run
+mode_with verb.Scale processors = mode.Scale
+mode_with verb.Sites processors = mode.Sites
+mode_with verb.Greedy processors = mode.Greedy processors
 
 -- what is entered is no command
 abbrev pub NamesNoCommand : Option (Text × List Row) → Type 0
-NamesNoCommand entered = (m : Mode) (rows : List Row) → entered ≢ Some (command_name m, rows)
+NamesNoCommand entered = (v : Verb) (rows : List Row) → entered ≢ Some (command_name v, rows)
 
--- what a command's words are: its mode, its source, the arguments of main, and a word for each row of the table of numbers
+-- what a command's words are: its verb, its source, the arguments of main, and a word for each row of the table of numbers
 pub record Words : Type 0 where
-  pub mode : Mode
+  pub verb : Verb
   pub file : Text
   pub args : List Text
   pub numbers : List Text
 
--- the numbers of the options, in the order of the table
-abbrev pub option_numbers : Options → List ℕ
-option_numbers o = o.limit ∷ o.burden ∷ []
+-- the options of a command with these numbers, in the order of the table
+abbrev pub AreOptionsOf : Verb → List ℕ → Options → Type 0
+AreOptionsOf v (limit ∷ burden ∷ processors ∷ []) o =
+    o ≡ record { mode = mode_with v processors; limit = limit; burden = burden }
+AreOptionsOf v _ o = ⊥
 
 -- what the rows have for an argument that is given any number of times
 abbrev pub texts_of : List Row → Text → List Text
@@ -77,7 +96,7 @@ AreWithin [] [] = Unit {0}
 AreWithin (row ∷ rows) (text ∷ texts) = IsNumberWithin row.least row.most text × AreWithin rows texts
 AreWithin _ _ = ⊥
 
--- the arguments and the numbers of the options are numbers in range
+-- the arguments and the numbers are numbers in range
 abbrev pub AreNumbers : (args numbers : List Text) → Type 0
 AreNumbers args numbers = All IsArgument args × AreWithin number_rows numbers
 
@@ -86,17 +105,16 @@ pub record IsRequestOf (words : Words) (r : Request) : Type 0 where
   pub in_range : AreNumbers words.args words.numbers
   pub file_is : string_bytes r.file ≡ words.file
   pub args_are : r.args.items ≡ values_of words.args
-  pub mode_is : r.options.mode ≡ words.mode
-  pub numbers_are : option_numbers r.options ≡ map decimal_value words.numbers
+  pub options_are : AreOptionsOf words.verb (map decimal_value words.numbers) r.options
 
 -- the words that the rows of a command have, of this source
-abbrev pub words_in : Mode → Text → List Row → Words
-words_in m file rows = record { mode = m; file = file; args = texts_of rows (codes "ARGS"); numbers = numbers_of rows }
+abbrev pub words_in : Verb → Text → List Row → Words
+words_in v file rows = record { verb = v; file = file; args = texts_of rows (codes "ARGS"); numbers = numbers_of rows }
 
 -- the request that the rows of a command make
-pub record IsAskedBy (m : Mode) (rows : List Row) (r : Request) : Type 0 where
+pub record IsAskedBy (v : Verb) (rows : List Row) (r : Request) : Type 0 where
   pub file : first_of (codes "FILE") rows ≡ Some (string_bytes r.file)
-  pub request : IsRequestOf (words_in m (string_bytes r.file) rows) r
+  pub request : IsRequestOf (words_in v (string_bytes r.file) rows) r
 
 -- the rows make a request
 abbrev pub AreProper : List Row → Type 0
@@ -107,13 +125,13 @@ abbrev pub faults : List Text → Kinds
 faults given = fault_of command_line given
 
 -- the words are taken, and have this command with these rows
-abbrev pub HaveCommand : List Text → Mode → List Row → Type 0
-HaveCommand given m rows = (faults given ≡ []) × (subcommand_of command_line given ≡ Some (command_name m, rows))
+abbrev pub HaveCommand : List Text → Verb → List Row → Type 0
+HaveCommand given v rows = (faults given ≡ []) × (subcommand_of command_line given ≡ Some (command_name v, rows))
 
 -- what is given is taken, and read as these words
 pub record AreRead (given : List Text) (words : Words) : Type 0 where
   pub rows : List Row
-  pub command : HaveCommand given words.mode rows
+  pub command : HaveCommand given words.verb rows
   pub file_is : first_of (codes "FILE") rows ≡ Some words.file
   pub args_are : texts_of rows (codes "ARGS") ≡ words.args
   pub numbers_are : numbers_of rows ≡ words.numbers
@@ -124,7 +142,7 @@ pub record Asks (given : List Text) (r : Request) : Type 0 where
   pub read : AreRead given words
   pub request : IsRequestOf words r
 
--- what is given is read, and an argument or a number of an option is no number or out of range
+-- what is given is read, and an argument or a number is no number or out of range
 pub record HaveBadNumber (given : List Text) : Type 0 where
   pub words : Words
   pub read : AreRead given words

@@ -8,10 +8,17 @@ use Rattle.cw_report.specs.Texts.{scale_report, sites_of}
 use Rattle.cw_cli.specs.declared.asked.Mode.{Mode}
 use Rattle.cw_cli.specs.declared.asked.Mode.TheVariants as mode
 
--- the tables of a run; a check has none, and a run of values alone
+-- the mode tells of what is counted of a run
+abbrev pub HasTables : Mode → Type 0
+HasTables mode.Scale = Unit {0}
+HasTables mode.Sites = Unit {0}
+HasTables _ = ⊥
+
+-- the tables of a run; a check has none, nor a run of values alone or a schedule
 abbrev pub told_of : Mode → Code → Result Ended Fault → List ℕ
 told_of mode.Check code ended = []
 told_of mode.Run code ended = []
+told_of (mode.Greedy processors) code ended = []
 told_of mode.Scale code ended = scale_report ended
 told_of mode.Sites code ended = sites_of code ended
 

@@ -4,10 +4,10 @@ use Rattle.clap.specs.Words.{Text}
 use Rattle.clap.specs.declared.error.ErrorKind.TheVariants as kind
 use Rattle.cw_model.specs.declared.limits.TheConstants.{USUAL_LIMIT, USUAL_BURDEN}
 use Rattle.cw_model.specs.Pieces.{decimal_value}
-use Rattle.cw_cli.specs.Command.{command_name, limit_row, burden_row, number_rows, usual_numbers}
+use Rattle.cw_cli.specs.Command.{command_name, limit_row, burden_row, processors_row, number_rows, usual_numbers}
 use Rattle.cw_cli.specs.Requests.{AreRead, AreWithin, Words, faults}
-use Rattle.cw_cli.specs.declared.asked.Mode.{Mode}
-use Rattle.cw_cli.specs.declared.asked.Mode.TheVariants as mode
+use Rattle.cw_cli.specs.declared.verb.Verb.{Verb}
+use Rattle.cw_cli.specs.declared.verb.Verb.TheVariants as verb
 
 -- the word starts with no hyphen
 abbrev pub IsPlain : Text → Type 0
@@ -15,30 +15,63 @@ IsPlain word = slice_get word 0 ≢ Some 45
 
 -- a check of this source
 abbrev pub checking : Text → Words
-checking file = record { mode = mode.Check; file = file; args = []; numbers = usual_numbers }
+checking file = record { verb = verb.Check; file = file; args = []; numbers = usual_numbers }
 
--- a run of this source on these arguments, in this mode, with the words for the limit and the burden
-abbrev pub running : Mode → (file : Text) (args : List Text) (limit burden : Text) → Words
-running m file args limit burden = record { mode = m; file = file; args = args; numbers = limit ∷ burden ∷ [] }
+-- a run of this source on these arguments, by this verb, with the words for the limit and the burden
+abbrev pub running : Verb → (file : Text) (args : List Text) (limit burden : Text) → Words
+running v file args limit burden =
+    record { verb = v; file = file; args = args; numbers = limit ∷ burden ∷ processors_row.usual ∷ [] }
+
+-- a schedule of this source on these arguments, with the words for the processors and the limit
+abbrev pub scheduling : (processors file : Text) (args : List Text) (limit : Text) → Words
+scheduling processors file args limit =
+    record { verb = verb.Greedy; file = file; args = args; numbers = limit ∷ burden_row.usual ∷ processors ∷ [] }
+
+-- the command runs a program, and takes a burden
+abbrev pub TakesBurden : Verb → Type 0
+TakesBurden verb.Check = ⊥
+TakesBurden verb.Greedy = ⊥
+TakesBurden _ = Unit {0}
 
 -- such a word after `check` is the source
 abbrev pub CheckIsRead : Type 0
 CheckIsRead = (file : Text) → IsPlain file → AreRead (codes "check" ∷ file ∷ []) (checking file)
 
--- such words after another command are the source and the arguments, in their order, and the numbers are the usual ones
+-- such words after a command with a burden are the source and the arguments, in their order, and the numbers are the
+-- usual ones
 abbrev pub PlainWordsAreRead : Type 0
-PlainWordsAreRead = (m : Mode) (file : Text) (args : List Text) → m ≢ mode.Check → IsPlain file → All IsPlain args → length args < 2 ^ 64 →
-    AreRead (command_name m ∷ file ∷ args) (running m file args limit_row.usual burden_row.usual)
+PlainWordsAreRead =
+    (v : Verb) (file : Text) (args : List Text) → TakesBurden v → IsPlain file → All IsPlain args → length args < 2 ^ 64
+    → AreRead (command_name v ∷ file ∷ args) (running v file args limit_row.usual burden_row.usual)
 
 -- the same with a limit before them
 abbrev pub LimitIsRead : Type 0
-LimitIsRead = (m : Mode) (limit file : Text) (args : List Text) → m ≢ mode.Check → IsPlain limit → IsPlain file → All IsPlain args → length args < 2 ^ 64 →
-    AreRead (command_name m ∷ codes "--limit" ∷ limit ∷ file ∷ args) (running m file args limit burden_row.usual)
+LimitIsRead =
+    (v : Verb) (limit file : Text) (args : List Text) → TakesBurden v
+    → IsPlain limit → IsPlain file → All IsPlain args → length args < 2 ^ 64
+    → AreRead (command_name v ∷ codes "--limit" ∷ limit ∷ file ∷ args) (running v file args limit burden_row.usual)
 
 -- the same with a burden before them
 abbrev pub BurdenIsRead : Type 0
-BurdenIsRead = (m : Mode) (burden file : Text) (args : List Text) → m ≢ mode.Check → IsPlain burden → IsPlain file → All IsPlain args → length args < 2 ^ 64 →
-    AreRead (command_name m ∷ codes "--burden" ∷ burden ∷ file ∷ args) (running m file args limit_row.usual burden)
+BurdenIsRead =
+    (v : Verb) (burden file : Text) (args : List Text) → TakesBurden v
+    → IsPlain burden → IsPlain file → All IsPlain args → length args < 2 ^ 64
+    → AreRead (command_name v ∷ codes "--burden" ∷ burden ∷ file ∷ args) (running v file args limit_row.usual burden)
+
+-- such words after `greedy` are the processors, the source and the arguments, in their order
+abbrev pub GreedyIsRead : Type 0
+GreedyIsRead =
+    (processors file : Text) (args : List Text)
+    → IsPlain processors → IsPlain file → All IsPlain args → length args < 2 ^ 64
+    → AreRead (codes "greedy" ∷ processors ∷ file ∷ args) (scheduling processors file args limit_row.usual)
+
+-- the same with a limit before them
+abbrev pub GreedyLimitIsRead : Type 0
+GreedyLimitIsRead =
+    (limit processors file : Text) (args : List Text)
+    → IsPlain limit → IsPlain processors → IsPlain file → All IsPlain args → length args < 2 ^ 64
+    → AreRead (codes "greedy" ∷ codes "--limit" ∷ limit ∷ processors ∷ file ∷ args)
+    (scheduling processors file args limit)
 
 -- words that are taken are read
 abbrev pub TakenWordsAreRead : Type 0
@@ -48,9 +81,11 @@ TakenWordsAreRead = (given : List Text) → faults given ≡ [] → (words : Wor
 abbrev pub WordsAreReadOnce : Type 0
 WordsAreReadOnce = (given : List Text) (words words' : Words) → AreRead given words → AreRead given words' → words ≡ words'
 
--- the words for the usual numbers are numbers in range, and write the usual limit and the usual burden
+-- the words for the usual numbers are numbers in range, and write the usual limit, the usual burden and one processor
 abbrev pub UsualNumbersAreWritten : Type 0
-UsualNumbersAreWritten = AreWithin number_rows usual_numbers × (map decimal_value usual_numbers ≡ USUAL_LIMIT ∷ USUAL_BURDEN ∷ [])
+UsualNumbersAreWritten =
+    AreWithin number_rows usual_numbers
+    × (map decimal_value usual_numbers ≡ USUAL_LIMIT ∷ USUAL_BURDEN ∷ 1 ∷ [])
 
 -- numbers after the source, attached to their names, and words after `--`
 abbrev pub WordExamples : Type 0
@@ -58,20 +93,25 @@ WordExamples =
     AreRead (codes "check" ∷ codes "f" ∷ []) (checking (codes "f"))
     × AreRead (codes "check" ∷ codes "--" ∷ codes "-f" ∷ []) (checking (codes "-f"))
     × AreRead (codes "run" ∷ codes "f" ∷ codes "4" ∷ codes "7" ∷ codes "--limit" ∷ codes "9" ∷ [])
-    (running mode.Run (codes "f") (codes "4" ∷ codes "7" ∷ []) (codes "9") (codes "15000"))
+    (running verb.Run (codes "f") (codes "4" ∷ codes "7" ∷ []) (codes "9") (codes "15000"))
     × AreRead (codes "run" ∷ codes "f" ∷ codes "4" ∷ codes "--limit" ∷ codes "9" ∷ codes "7" ∷ [])
-    (running mode.Run (codes "f") (codes "4" ∷ codes "7" ∷ []) (codes "9") (codes "15000"))
+    (running verb.Run (codes "f") (codes "4" ∷ codes "7" ∷ []) (codes "9") (codes "15000"))
     × AreRead (codes "run" ∷ codes "--burden" ∷ codes "0" ∷ codes "f" ∷ codes "--limit=9" ∷ [])
-    (running mode.Run (codes "f") [] (codes "9") (codes "0"))
+    (running verb.Run (codes "f") [] (codes "9") (codes "0"))
     × AreRead (codes "run" ∷ codes "--limit=1" ∷ codes "--" ∷ codes "-f" ∷ codes "-1" ∷ [])
-    (running mode.Run (codes "-f") (codes "-1" ∷ []) (codes "1") (codes "15000"))
+    (running verb.Run (codes "-f") (codes "-1" ∷ []) (codes "1") (codes "15000"))
     × AreRead (codes "scale" ∷ codes "f" ∷ codes "4" ∷ codes "--burden=0" ∷ codes "7" ∷ codes "--limit" ∷ codes "9" ∷ [])
-    (running mode.Scale (codes "f") (codes "4" ∷ codes "7" ∷ []) (codes "9") (codes "0"))
+    (running verb.Scale (codes "f") (codes "4" ∷ codes "7" ∷ []) (codes "9") (codes "0"))
     × AreRead (codes "sites" ∷ codes "--burden" ∷ codes "1" ∷ codes "run" ∷ codes "--" ∷ codes "scale" ∷ [])
-    (running mode.Sites (codes "run") (codes "scale" ∷ []) (codes "1000000000") (codes "1"))
+    (running verb.Sites (codes "run") (codes "scale" ∷ []) (codes "1000000000") (codes "1"))
+    × AreRead (codes "greedy" ∷ codes "2" ∷ codes "f" ∷ codes "4" ∷ codes "--limit" ∷ codes "9" ∷ codes "7" ∷ [])
+    (scheduling (codes "2") (codes "f") (codes "4" ∷ codes "7" ∷ []) (codes "9"))
+    × AreRead (codes "greedy" ∷ codes "--limit=9" ∷ codes "007" ∷ codes "--" ∷ codes "-f" ∷ codes "-1" ∷ [])
+    (scheduling (codes "007") (codes "-f") (codes "-1" ∷ []) (codes "9"))
 
--- words that are not taken: none, no source, a word too many for a check, a limit or a burden for a check, an unknown word,
--- a negative number, no limit, two limits, no burden, two burdens, and calls for help
+-- words that are not taken: none, no source, a word too many for a check, a limit or a burden for a check, an unknown
+-- word, a negative number, no limit, two limits, no burden, two burdens, a schedule without processors, without a source
+-- or with a burden, and calls for help
 abbrev pub RefusalExamples : Type 0
 RefusalExamples =
     (faults [] ≡ kind.MissingSubcommand ∷ [])
@@ -88,8 +128,12 @@ RefusalExamples =
     × (faults (codes "run" ∷ codes "f" ∷ codes "--limit=1" ∷ codes "--limit=2" ∷ []) ≡ kind.ArgumentConflict ∷ [])
     × (faults (codes "scale" ∷ codes "f" ∷ codes "--burden" ∷ []) ≡ kind.InvalidValue ∷ [])
     × (faults (codes "sites" ∷ codes "--burden=1" ∷ codes "f" ∷ codes "--burden=2" ∷ []) ≡ kind.ArgumentConflict ∷ [])
+    × (faults (codes "greedy" ∷ []) ≡ kind.MissingRequiredArgument ∷ [])
+    × (faults (codes "greedy" ∷ codes "2" ∷ []) ≡ kind.MissingRequiredArgument ∷ [])
+    × (faults (codes "greedy" ∷ codes "2" ∷ codes "f" ∷ codes "--burden=9" ∷ []) ≡ kind.UnknownArgument ∷ [])
     × (faults (codes "--help" ∷ []) ≡ kind.DisplayHelp ∷ [])
     × (faults (codes "check" ∷ codes "--help" ∷ []) ≡ kind.DisplayHelp ∷ [])
     × (faults (codes "run" ∷ codes "--help" ∷ []) ≡ kind.DisplayHelp ∷ [])
     × (faults (codes "scale" ∷ codes "--help" ∷ []) ≡ kind.DisplayHelp ∷ [])
     × (faults (codes "sites" ∷ codes "f" ∷ codes "--help" ∷ []) ≡ kind.DisplayHelp ∷ [])
+    × (faults (codes "greedy" ∷ codes "--help" ∷ []) ≡ kind.DisplayHelp ∷ [])

@@ -1,12 +1,12 @@
 //! From bytes to a report.
 
-ghost use Rattle.std.specs.Prelude.{◌≡◌, ◌≢◌, ◌<◌, ◌-◌, ◌^◌, ℕ, List, [], true};
+ghost use Rattle.std.specs.Prelude.{◌≡◌, ◌<◌, ◌-◌, ◌^◌, ℕ, List, [], true};
 ghost use Rattle.std.specs.List.{list_all};
 ghost use Rattle.cw_code.specs.Code.{code_view};
 ghost use Rattle.cw_cli.specs.declared.asked.Mode.TheVariants as mode;
 ghost use Rattle.cw_cli.specs.Compiled.{IsCompiled};
 ghost use Rattle.cw_cli.specs.Analyses.{IsAnalysed, IsRun};
-ghost use Rattle.cw_cli.specs.Told.{told_in};
+ghost use Rattle.cw_cli.specs.Told.{HasTables, told_in};
 ghost use Rattle.cw_model.specs.Ints.{fits};
 ghost use Rattle.cw_report.specs.Answers.{AnswersText};
 
@@ -15,7 +15,9 @@ use crate::compiling::compile;
 use cw_machine::alone::{Ended, run_alone};
 use cw_machine::values::values_alone;
 use cw_model::laws::derived_sites_are_numbered;
-use cw_report::{Sink, answer, ok, scale, sites};
+use cw_model::limits::MOST_BURDEN;
+use cw_report::{Sink, answer, ok, scale, schedule, sites};
+use cw_scheduled::schedules::schedule_alone;
 use cw_text::Fault;
 use cw_verify::verified::Verified;
 use std::alloc::Global;
@@ -28,8 +30,9 @@ use std::sync::Arc;
 /// and runs nothing, `Arguments` where the count of the arguments is not that of `main`'s
 /// parameters, or an option is out of range; `OverLimit` where the serial elision costs more than
 /// the limit, `Trap` where it traps: in mode `Run` after what it printed before was written, else
-/// with nothing written. `Write` where a write of the report failed, and `Memory` where memory ran
-/// out: no byte was written then. Nothing is written at any other error but `Trap` and `Write`.
+/// with nothing written; `Strands` in mode `Greedy` where it ends with more than 1,000,000 strands.
+/// `Write` where a write of the report failed, and `Memory` where memory ran out: no byte was
+/// written then. Nothing is written at any other error but `Trap` and `Write`.
 ///
 /// Fewer than 2^64 - 1 writes to the sink failed before.
 pub fn analyse_alone<W: Sink>(
@@ -46,7 +49,8 @@ pub fn analyse_alone<W: Sink>(
     match options.mode {
         Mode::Check => ok(out),
         Mode::Run => run_plain(alloc, code, args, options, out),
-        _ => run(alloc, code, args, options, out),
+        Mode::Scale | Mode::Sites => run(alloc, code, args, options, out),
+        Mode::Greedy(processors) => run_greedy(alloc, code, args, processors, options, out),
     }
 }
 
@@ -80,8 +84,7 @@ fn run<W: Sink>(
     out: &mut W,
 ) -> Result<(), Fault>
     requires { (W.seen out.old).failures < 2 ^ 64 - 1 }
-    ensures { (bytes : List ℕ) → options.mode ≢ mode.Check → options.mode ≢ mode.Run
-        → IsCompiled bytes (code_view code.code)
+    ensures { (bytes : List ℕ) → HasTables options.mode → IsCompiled bytes (code_view code.code)
         → IsRun W.seen out.old out.new bytes args.now options result }
 {
     derived_sites_are_numbered();
@@ -91,6 +94,31 @@ fn run<W: Sink>(
     let ended = run_alone(alloc, share, args, options.limit, options.burden);
     report(alloc, options.mode, &code, &ended, out)?;
     ended?;
+    Ok(())
+}
+
+// Runs code for its greedy schedule on so many processors, and writes what is told of that. The burden is tested as for
+// each run, and changes nothing.
+fn run_greedy<W: Sink>(
+    alloc: Global,
+    code: Verified,
+    args: &[i64],
+    processors: u64,
+    options: Options,
+    out: &mut W,
+) -> Result<(), Fault>
+    requires { (W.seen out.old).failures < 2 ^ 64 - 1 }
+    ensures { (bytes : List ℕ) → options.mode ≡ mode.Greedy processors → IsCompiled bytes (code_view code.code)
+        → IsRun W.seen out.old out.new bytes args.now options result }
+{
+    are_words(args);
+    if options.burden > MOST_BURDEN {
+        return Err(Fault::Arguments);
+    }
+    let code = Arc::new(alloc, code)?;
+    let told = schedule_alone(alloc, code, args, options.limit, processors);
+    schedule(alloc, &told, out)?;
+    told?;
     Ok(())
 }
 
@@ -108,7 +136,8 @@ fn is_word(word: i64)
     ensures { fits word ≡ true }
 {}
 
-// Writes what the mode tells of what is counted of a run. A check and a run of values alone tell nothing of it.
+// Writes what the mode tells of what is counted of a run. A check, a run of values alone and a schedule tell nothing of
+// it.
 fn report<W: Sink>(
     alloc: Global,
     mode: Mode,
@@ -121,8 +150,7 @@ fn report<W: Sink>(
     ensures answers { AnswersText W.seen out.old out.new (told_in mode code.now ended.now) result }
 {
     match mode {
-        Mode::Check => Ok(()),
-        Mode::Run => Ok(()),
+        Mode::Check | Mode::Run | Mode::Greedy(_) => Ok(()),
         Mode::Scale => scale(alloc, ended, out),
         Mode::Sites => sites(alloc, code, ended, out),
     }

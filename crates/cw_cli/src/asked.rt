@@ -18,10 +18,12 @@ pub enum Mode {
     Scale,
     /// Calls, work and span of each call site.
     Sites,
+    /// Work, span, and how many steps a greedy schedule of the run takes on so many processors, from 1 to 1,000,000.
+    Greedy(u64),
 }
 
-/// How to analyse a program. A check uses neither the limit nor the burden; `Run` and `Sites` take the
-/// burden and do not use it.
+/// How to analyse a program. A check uses neither the limit nor the burden; `Run`, `Sites` and `Greedy` take
+/// the burden and do not use it.
 #[derive(Clone, Copy, Debug, PartialEq, Eq)]
 pub struct Options {
     /// What to write.

@@ -4,17 +4,19 @@ ghost use Rattle.std.specs.Prelude.{◌≡◌, IfOk, false};
 ghost use Rattle.clap.specs.Words.{app_of, rule_of};
 ghost use Rattle.cw_cli.specs.Command.{
   IsCommandOf,
+  args_rule,
   command_line,
   file_rule,
   line_of,
+  needed_rule,
   number_rule,
   running_line,
 };
-ghost use Rattle.cw_cli.specs.declared.asked.Mode.TheVariants as mode;
+ghost use Rattle.cw_cli.specs.declared.verb.Verb.TheVariants as verb;
 ghost use Rattle.cw_cli.specs.Rows.{row_of};
 
-use crate::help::{OF_CHECK, OF_PROGRAM, OF_RUN, OF_SCALE, OF_SITES};
-use crate::number::{BURDEN, LIMIT, NumberOption};
+use crate::help::{OF_CHECK, OF_GREEDY, OF_PROGRAM, OF_RUN, OF_SCALE, OF_SITES};
+use crate::number::{BURDEN, LIMIT, NumberOption, PROCESSORS};
 use clap::{Arg, ArgAction, Command};
 use std::alloc::{AllocError, Global};
 
@@ -41,6 +43,7 @@ pub fn command<'a>(alloc: Global) -> Result<Command<'a>, AllocError>
         "Runs a program and writes its work and span by call",
         OF_SITES,
     )?;
+    let greedy = greedy_command(alloc)?;
     let command = Command::new(alloc, "cilkwork")
         .bin_name("cilkwork")?
         .about("Tells how much parallelism a Cilk program has, and where it is lost")
@@ -50,17 +53,31 @@ pub fn command<'a>(alloc: Global) -> Result<Command<'a>, AllocError>
         .subcommand(check)?
         .subcommand(run)?
         .subcommand(scale)?
-        .subcommand(sites)?;
+        .subcommand(sites)?
+        .subcommand(greedy)?;
     Ok(command)
 }
 
 fn check_command<'a>(alloc: Global) -> Result<Command<'a>, AllocError>
-    ensures { IfOk result (IsCommandOf (line_of mode.Check)) }
+    ensures { IfOk result (IsCommandOf (line_of verb.Check)) }
 {
     let command = Command::new(alloc, "check")
         .about("Compiles a program and writes 'ok'")
         .after_help(OF_CHECK)
         .arg(file(alloc))?;
+    Ok(command)
+}
+
+fn greedy_command<'a>(alloc: Global) -> Result<Command<'a>, AllocError>
+    ensures { IfOk result (IsCommandOf (line_of verb.Greedy)) }
+{
+    let command = Command::new(alloc, "greedy")
+        .about("Runs a program and writes how long a greedy schedule of it takes")
+        .after_help(OF_GREEDY)
+        .arg(needed(alloc, PROCESSORS.name, PROCESSORS.help))?
+        .arg(file(alloc))?
+        .arg(main_args(alloc))?
+        .arg(number(alloc, LIMIT))?;
     Ok(command)
 }
 
@@ -73,15 +90,11 @@ fn running_command<'a>(
 ) -> Result<Command<'a>, AllocError>
     ensures { IfOk result (IsCommandOf (running_line name.now)) }
 {
-    let args = Arg::new(alloc, "ARGS")
-        .num_args(0..)
-        .action(ArgAction::Append)
-        .help("The arguments of main");
     let command = Command::new(alloc, name)
         .about(about)
         .after_help(help)
         .arg(file(alloc))?
-        .arg(args)?
+        .arg(main_args(alloc))?
         .arg(number(alloc, LIMIT))?
         .arg(number(alloc, BURDEN))?;
     Ok(command)
@@ -92,10 +105,29 @@ fn file<'a>(alloc: Global) -> Arg<'a>
     ensures rule { rule_of result ≡ file_rule }
     ensures local { result.global ≡ false }
 {
-    Arg::new(alloc, "FILE")
+    needed(alloc, "FILE", "The program's source")
+}
+
+// A word that has to be there.
+fn needed<'a>(alloc: Global, name: &'static str, help: &'static str) -> Arg<'a>
+    ensures rule { rule_of result ≡ needed_rule name.now }
+    ensures local { result.global ≡ false }
+{
+    Arg::new(alloc, name)
         .required(true)
         .action(ArgAction::Set)
-        .help("The program's source")
+        .help(help)
+}
+
+// The arguments of `main`, behind the other words.
+fn main_args<'a>(alloc: Global) -> Arg<'a>
+    ensures rule { rule_of result ≡ args_rule }
+    ensures local { result.global ≡ false }
+{
+    Arg::new(alloc, "ARGS")
+        .num_args(0..)
+        .action(ArgAction::Append)
+        .help("The arguments of main")
 }
 
 // An option that takes a number.

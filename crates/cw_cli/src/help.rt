@@ -14,6 +14,7 @@ What is written to standard output:
   run    printed values, sums of reducers and the value of main, a line each
   scale  a table of work, span and parallelism, of the run and of each tag
   sites  a table of calls, work and span, of each call in the source
+  greedy how many steps the run takes on P processors, in a table of one row
 In a table commas stand between fields, and the first line names the columns.
 Work, span, limit and burden are counted in instructions.
 
@@ -24,6 +25,7 @@ Every command takes these words too, anywhere among the others:
 As the only word: --version writes the name and the version of the program.
 
 A number is one or more decimal digits; zeros in front are allowed:
+  P         from 1 to 1000000
   ARGS      from 0 to 9223372036854775807, as many as main has parameters
   --limit   from 1 to 4611686018427387904; a run that needs all of the default
             may take some seconds
@@ -42,6 +44,7 @@ Exit status and standard error (L is a line of the source):
   3  trap C line L      C is 1 for overflow, 2 division by 0, 3 index, 4 length,
                         5 turns of a loop, 6 depth of calls
   4  over limit         the run costs more than its limit
+  4  too many strands   a run that greedy is asked for has more than 1000000
   5  arguments          not as many arguments as main takes, a number that is
                         none or out of range, or words that are no text
   5  file               the source cannot be opened or read
@@ -104,3 +107,22 @@ How to read them: docs/GUIDE.md.
 
 --explain tells why a source is refused or a run traps. What ARGS and numbers
 may be, and the exit statuses: 'cilkwork --help'.";
+
+/// Of `greedy`, below its options.
+pub const OF_GREEDY: &str = "\
+Writes a table with commas between fields, and none of what the program prints.
+The first line names the columns, the second is of the whole run.
+  processors  P
+  work        instructions that were executed
+  span        instructions on a longest path
+  greedy      steps of the greedy schedule on P processors
+A strand is a part of the run without a call, spawn or join in it. It is ready
+when it is not done and all strands with an edge into it are. In each step the
+first P ready strands, in the order of a serial run, do one instruction each;
+where there are fewer, all of them. The steps are no fewer than work by P, and
+no fewer than the span; P times the steps are at most the work and P - 1 times
+the span. A run has too many strands where they are more than 1000000.
+How to read it: docs/GUIDE.md.
+
+--explain tells why a source is refused or a run traps. What P, ARGS and
+numbers may be, and the exit statuses: 'cilkwork --help'.";

@@ -4,6 +4,8 @@ ghost use Rattle.cw_cli.specs.Laws.{CompiledAreNotRefused, HaveOneProgram, HaveO
 ghost use Rattle.cw_cli.specs.WordLaws.{
   BurdenIsRead,
   CheckIsRead,
+  GreedyIsRead,
+  GreedyLimitIsRead,
   LimitIsRead,
   PlainWordsAreRead,
   RefusalExamples,
@@ -36,14 +38,16 @@ pub fn one_answer()
     cw_parse::laws::no_tree_beside_a_fault();
 }
 
-/// A word after `check` that starts with no hyphen is the source. Such words after another command
-/// are the source and the arguments, and `--limit` or `--burden` with a word before them is that
-/// number.
+/// A word after `check` that starts with no hyphen is the source. Such words after `run`, `scale` or
+/// `sites` are the source and the arguments, and `--limit` or `--burden` with a word before them is that
+/// number; after `greedy` they are the processors, the source and the arguments, and `--limit` is the same.
 pub fn plain_words()
     ensures check { CheckIsRead }
     ensures usual { PlainWordsAreRead }
     ensures limited { LimitIsRead }
     ensures burdened { BurdenIsRead }
+    ensures greedy { GreedyIsRead }
+    ensures greedy_limited { GreedyLimitIsRead }
 {}
 
 /// Words that are taken are read as a command with a source, arguments and numbers, and in one way.

@@ -11,6 +11,7 @@ pub mod laws;
 mod number;
 mod release;
 mod telling;
+mod verb;
 mod words;
 
 pub use analysis::analyse_alone;

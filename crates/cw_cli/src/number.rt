@@ -7,17 +7,18 @@ ghost use Rattle.cw_model.specs.Pieces.{is_digit, decimal_value};
 ghost use Rattle.cw_cli.specs.Numbers.{IsNumber, IsNumberWithin};
 
 use cw_model::limits::{MOST_BURDEN, MOST_LIMIT};
+use cw_scheduled::schedules::MOST_PROCESSORS;
 
-/// An option that takes a number.
+/// A number that a command takes.
 #[derive(Clone, Copy)]
 pub struct NumberOption {
-    /// Its name, without the hyphens.
+    /// Its name, without the hyphens of an option.
     pub name: &'static str,
     /// The least number that it takes.
     pub least: u64,
     /// The greatest number that it takes.
     pub most: u64,
-    /// The word for the number where the option is not given.
+    /// The word for the number where it is not given.
     pub usual: &'static str,
     /// What the help says of it.
     pub help: &'static str,
@@ -39,6 +40,15 @@ pub const BURDEN: NumberOption = NumberOption {
     most: MOST_BURDEN,
     usual: "15000",
     help: "The instructions that a spawn is charged",
+};
+
+/// The processors of a schedule, a word of its own and no option.
+pub const PROCESSORS: NumberOption = NumberOption {
+    name: "P",
+    least: 1,
+    most: MOST_PROCESSORS,
+    usual: "1",
+    help: "How many processors share the strands",
 };
 
 /// The number that the text writes, where it is digits alone, at least one, and the number is in

@@ -24,7 +24,6 @@ ghost use Rattle.cw_cli.specs.Requests.{
   IsArgument,
   IsAskedBy,
   IsFaultUnless,
-  IsModeNamed,
   IsSaidAt,
   IsSaidOf,
   NamesNoCommand,
@@ -32,9 +31,10 @@ ghost use Rattle.cw_cli.specs.Requests.{
 };
 ghost use Rattle.cw_cli.specs.Rows.{IsGivenNumber};
 
-use crate::asked::{Mode, Options, Request, Said};
+use crate::asked::{Options, Request, Said};
 use crate::command::command;
-use crate::number::{BURDEN, LIMIT, NumberOption, read_number};
+use crate::number::{BURDEN, LIMIT, NumberOption, PROCESSORS, read_number};
+use crate::verb::{Verb, mode_of, verb_named};
 use clap::error::ErrorKind;
 use clap::{ArgMatches, Error};
 use cw_model::limits::MOST_NUMBER;
@@ -45,7 +45,7 @@ use std::alloc::Global;
 /// the request explains nothing.
 ///
 /// The error is what to say in place of a run: the help, what is wrong with the words, `Arguments`
-/// where the limit, the burden or an argument of `main` is no number or out of range, or `Memory`.
+/// where the limit, the burden, the processors or an argument of `main` is no number or out of range, or `Memory`.
 pub fn request(alloc: Global, words: &[String]) -> Result<Request, Said>
     ensures ok { IfOk result (Asks (map string_bytes words.now)) }
     ensures why { IfErr result (IsSaidOf (map string_bytes words.now)) }
@@ -54,34 +54,21 @@ pub fn request(alloc: Global, words: &[String]) -> Result<Request, Said>
         Ok(matches) => matches,
         Err(error) => return Err(said_of(alloc, &error)),
     };
-    let Some((mode, given)) = command_given(&matches) else {
+    let Some((verb, given)) = command_given(&matches) else {
         return Err(Said::Fault(Fault::Arguments));
     };
-    let request = asked_by(alloc, mode, given)?;
+    let request = asked_by(alloc, verb, given)?;
     Ok(request)
 }
 
 // The command that is given, with the matches of its words.
-fn command_given<'a, 'b>(words: &'b ArgMatches<'a>) -> Option<(Mode, &'b ArgMatches<'a>)>
+fn command_given<'a, 'b>(words: &'b ArgMatches<'a>) -> Option<(Verb, &'b ArgMatches<'a>)>
     ensures { MatchOption result (NamesNoCommand (subcommand_rows_of words.now))
         (λ p. subcommand_rows_of words.now ≡ Some (command_name p.0, rows_of (found_of p.1.now))) }
 {
     let (name, given) = words.subcommand()?;
-    let mode = mode_named(name)?;
-    Some((mode, given))
-}
-
-// The command of this name, if there is one.
-fn mode_named(name: &str) -> Option<Mode>
-    ensures { IsModeNamed name.now result }
-{
-    match name {
-        "check" => Some(Mode::Check),
-        "run" => Some(Mode::Run),
-        "scale" => Some(Mode::Scale),
-        "sites" => Some(Mode::Sites),
-        _ => None,
-    }
+    let verb = verb_named(name)?;
+    Some((verb, given))
 }
 
 fn matches_of<'a>(alloc: Global, words: &'a [String]) -> Result<ArgMatches<'a>, Error>
@@ -93,21 +80,22 @@ fn matches_of<'a>(alloc: Global, words: &'a [String]) -> Result<ArgMatches<'a>, 
     Ok(matches)
 }
 
-fn asked_by(alloc: Global, mode: Mode, given: &ArgMatches<'_>) -> Result<Request, Fault>
-    ensures ok { IfOk result (IsAskedBy mode (rows_of (found_of given.now))) }
+fn asked_by(alloc: Global, verb: Verb, given: &ArgMatches<'_>) -> Result<Request, Fault>
+    ensures ok { IfOk result (IsAskedBy verb (rows_of (found_of given.now))) }
     ensures why { IfErr result (IsFaultUnless (AreProper (rows_of (found_of given.now)))) }
 {
-    let (Some(file), Some(limit), Some(burden)) = (
+    let (Some(file), Some(limit), Some(burden), Some(processors)) = (
         given.get_str("FILE"),
         number_of(given, LIMIT),
         number_of(given, BURDEN),
+        number_of(given, PROCESSORS),
     ) else {
         return Err(Fault::Arguments);
     };
     let args = args_of(alloc, given.get_strs("ARGS").unwrap_or(&[]))?;
     let file = String::from_str(alloc, file)?;
     let options = Options {
-        mode,
+        mode: mode_of(verb, processors),
         limit,
         burden,
     };
@@ -119,7 +107,7 @@ fn asked_by(alloc: Global, mode: Mode, given: &ArgMatches<'_>) -> Result<Request
     })
 }
 
-// The number that is given for an option, or the usual one.
+// The number that is given, or the usual one.
 fn number_of(given: &ArgMatches<'_>, option: NumberOption) -> Option<u64>
     ensures { IsGivenNumber (rows_of (found_of given.now)) option result }
 {

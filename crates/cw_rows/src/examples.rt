@@ -33,6 +33,7 @@ pub struct Example {
     pub run: &'static str,
     pub scale: &'static str,
     pub sites: &'static str,
+    pub greedy: &'static str,
 }
 
 const EXAMPLES: [Example; 11] = [
@@ -60,7 +61,7 @@ const WITH_LOOPS: [Example; 7] = [
     stencil::EXAMPLE,
 ];
 
-// The exit status, standard output and standard error of the program in this mode.
+// The exit status, standard output and standard error of the program in this mode, with its words before the file.
 fn answer_in(alloc: Global, mode: &str, example: &Example) -> Result<(u8, Vec<u8>, Vec<u8>), Fail> {
     let mut words = String::from_str(alloc, mode)?;
     words.push_str(" ")?;
@@ -73,7 +74,8 @@ fn beside(example: &Example, mode: &str) -> &'static str {
     match mode {
         "run" => example.run,
         "scale" => example.scale,
-        _ => example.sites,
+        "sites" => example.sites,
+        _ => example.greedy,
     }
 }
 
@@ -115,7 +117,8 @@ fn the_examples_report_as_beside_them(rt: HostRuntime) -> Result<(), Fail> {
     all_are_accepted(&rt, rt.alloc(), examples)?;
     all_answer(&rt, rt.alloc(), "run", examples)?;
     all_answer(&rt, rt.alloc(), "scale", examples)?;
-    all_answer(&rt, rt.alloc(), "sites", examples)
+    all_answer(&rt, rt.alloc(), "sites", examples)?;
+    all_answer(&rt, rt.alloc(), "greedy 8", examples)
 }
 
 #[test]
@@ -124,5 +127,6 @@ fn those_with_loops_report_as_beside_them(rt: HostRuntime) -> Result<(), Fail> {
     all_are_accepted(&rt, rt.alloc(), examples)?;
     all_answer(&rt, rt.alloc(), "run", examples)?;
     all_answer(&rt, rt.alloc(), "scale", examples)?;
-    all_answer(&rt, rt.alloc(), "sites", examples)
+    all_answer(&rt, rt.alloc(), "sites", examples)?;
+    all_answer(&rt, rt.alloc(), "greedy 8", examples)
 }

@@ -12,6 +12,8 @@ mod explained;
 #[cfg(test)]
 mod generated;
 #[cfg(test)]
+mod greedy;
+#[cfg(test)]
 mod integers;
 #[cfg(test)]
 mod loops;

@@ -7,7 +7,7 @@ const SCALE: &str = "tag,work,span,parallelism,burdened_span,burdened_parallelis
 
 const SITES: &str = "site,kind,line,callee,calls,own_work,own_span,work,span\n";
 
-const FIB: &[u8] = b"int fib(int n) {
+pub const FIB: &[u8] = b"int fib(int n) {
   if (n < 2) { return n; }
   int x = 0;
   int y = 0;
@@ -23,11 +23,11 @@ int main(int n) {
 }
 ";
 
-const DIVIDED: &[u8] = b"int bad(int z) { int q = 0; q = 1 / z; return q; }
+pub const DIVIDED: &[u8] = b"int bad(int z) { int q = 0; q = 1 / z; return q; }
 int main(int z) { cilk_spawn bad(z); print(7); cilk_sync; return 0; }
 ";
 
-const PRINTED: &[u8] = b"void p(int v) { print(v); } \
+pub const PRINTED: &[u8] = b"void p(int v) { print(v); } \
 int main() { cilk_spawn p(1); cilk_spawn p(2); print(3); cilk_sync; return 0; }";
 
 const TAGGED: &[u8] = b"void p(int v) { print(v); } \

@@ -85,6 +85,20 @@ fn reads_requests(rt: HostRuntime) -> Result<(), Fail> {
             1_000_000_000,
             7,
         ),
+        (
+            "greedy 2 f.cilk",
+            Mode::Greedy(2),
+            [].as_slice(),
+            1_000_000_000,
+            15_000,
+        ),
+        (
+            "greedy --limit 9 0001000000 f.cilk 3",
+            Mode::Greedy(1_000_000),
+            [3].as_slice(),
+            9,
+            15_000,
+        ),
     ] {
         let asked = asked(alloc, line)?;
         let options = Options {
@@ -154,6 +168,20 @@ const REFUSED: &[(&str, &str)] = &[
     (
         "sites f --burden",
         "error: a value is required for '--burden <N>'",
+    ),
+    (
+        "greedy",
+        "error: the following required arguments were not provided:\n",
+    ),
+    (
+        "greedy 2",
+        "error: the following required arguments were not provided:\n",
+    ),
+    ("greedy 0 f", "arguments\n"),
+    ("greedy -1 f", "error: unexpected argument '-1' found\n"),
+    (
+        "greedy 2 f --burden 9",
+        "error: unexpected argument '--burden' found\n",
     ),
     ("scales f", "error: unrecognized subcommand 'scales'\n"),
     ("walk f", "error: unrecognized subcommand 'walk'\n"),
@@ -229,12 +257,26 @@ const HELPED: &[(&str, &str, &str)] = &[
     ("scale --help", "Runs a program", "'cilkwork --help'"),
     ("sites --help", "Runs a program", "  own_span  "),
     ("help sites", "Runs a program", "docs/GUIDE.md"),
+    (
+        "--help",
+        "Tells how much parallelism a Cilk program",
+        "  4  too many strands ",
+    ),
+    ("greedy --help", "Runs a program", "Usage: cilkwork greedy"),
+    ("greedy --help", "Runs a program", "<P> <FILE> [ARGS]..."),
+    ("greedy --help", "Runs a program", "  greedy      "),
 ];
 
 // The one table of exit statuses stands in the help of the program, and 'default' is said of numbers alone.
 #[test]
 fn tells_each_thing_once(rt: HostRuntime) -> Result<(), Fail> {
-    for line in ["check --help", "run --help", "scale --help", "sites --help"] {
+    for line in [
+        "check --help",
+        "run --help",
+        "scale --help",
+        "sites --help",
+        "greedy --help",
+    ] {
         let (_, out, _) = answer(rt.alloc(), line, b"")?;
         let help = String::from_utf8(out).map_err(|_| Fail::from("no text"))?;
         assert!(rt; !help.as_str().contains("write failed"), "{line}");

@@ -46,4 +46,7 @@ return 0
 0,root,19,main,1,64,33,412,184
 1,spawn,22,collatz,5,348,151,348,348
 ",
+    greedy: "processors,work,span,greedy
+8,412,184,184
+",
 };

@@ -38,4 +38,7 @@ int main(int n) {
 2,call,13,fib,10945,128370,6,295116,2783
 3,call,20,fib,1,21,17,295521,333
 ",
+    greedy: "processors,work,span,greedy
+8,295527,339,37026
+",
 };

@@ -52,4 +52,7 @@ int main(int n) {
 5,call,24,fib,33,504,0,275076,65069
 6,call,31,fib,1,21,17,285017,9913
 ",
+    greedy: "processors,work,span,greedy
+8,285023,9919,39332
+",
 };

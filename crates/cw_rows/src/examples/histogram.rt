@@ -46,4 +46,7 @@ return 0
     sites: "site,kind,line,callee,calls,own_work,own_span,work,span
 0,root,11,main,1,33104,1149,33104,1149
 ",
+    greedy: "processors,work,span,greedy
+8,33104,1149,4278
+",
 };

@@ -37,4 +37,7 @@ int main(int a, int b) {
 2,spawn,16,first,1,2,2,2,2
 3,call,19,second,1,2,2,2,2
 ",
+    greedy: "processors,work,span,greedy
+8,24,22,22
+",
 };

@@ -44,4 +44,7 @@ return 0
     sites: "site,kind,line,callee,calls,own_work,own_span,work,span
 0,root,7,main,1,86977,5819,86977,5819
 ",
+    greedy: "processors,work,span,greedy
+8,86977,5819,11221
+",
 };

@@ -65,4 +65,7 @@ return 0
 6,call,40,add,1,16,16,60416,3825
 7,call,41,sums,1,20,20,192812,19713
 ",
+    greedy: "processors,work,span,greedy
+8,253240,23550,43123
+",
 };

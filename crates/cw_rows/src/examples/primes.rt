@@ -59,4 +59,7 @@ int main(int n) {
 3,call,33,primes,63,9091,113,111814,10036
 4,call,40,primes,1,29,29,112584,2765
 ",
+    greedy: "processors,work,span,greedy
+8,112591,2772,15062
+",
 };

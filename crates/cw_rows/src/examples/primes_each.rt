@@ -45,4 +45,7 @@ return 0
 0,root,22,main,1,22009,22000,257707,22746
 1,spawn,25,test,2000,235698,746,235698,235698
 ",
+    greedy: "processors,work,span,greedy
+8,257707,22746,34053
+",
 };

@@ -41,4 +41,7 @@ return 0
 0,root,21,main,1,26544,1728,262242,21022
 1,call,23,test,2000,235698,19294,235698,235698
 ",
+    greedy: "processors,work,span,greedy
+8,262242,21022,38006
+",
 };

@@ -111,4 +111,7 @@ product,328652,20666,15.903,290666,1.130
 17,call,53,add_product,9,99,63,76971,46203
 18,call,68,add_product,1,51,51,328651,20665
 ",
+    greedy: "processors,work,span,greedy
+8,360431,52445,72985
+",
 };

@@ -74,4 +74,7 @@ return 0
 4,call,48,search,3072,178257,743,630485,9409
 5,call,53,search,1,39,39,630739,2475
 ",
+    greedy: "processors,work,span,greedy
+8,630747,2483,79224
+",
 };

@@ -30,4 +30,7 @@ int main() {
 1,spawn,11,same,1,2,0,2,2
 2,call,12,same,1,2,2,2,2
 ",
+    greedy: "processors,work,span,greedy
+8,15,13,13
+",
 };

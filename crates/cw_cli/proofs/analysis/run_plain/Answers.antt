@@ -16,7 +16,7 @@ returns-in_err-answer g c = λ bytes runs compiled_given.
     let ran : GivesAsCode (code_view given.code) c.args.args.now c.args.options.limit c.args.options.burden c.values_alone-values.result =
     subst (λ v. GivesAsCode (code_view v.code) c.args.args.now c.args.options.limit c.args.options.burden c.values_alone-values.result) shared c.values_alone-values.ensures in
     handed_on _ _ _ c.from_residual-in_err-answer.result
-    (unwritten bytes c.args.args.now c.are_words.ensures c.args.options _ compiled _ _ (values_tell bytes c.args.args.now c.are_words.ensures c.args.options _ compiled runs) g.W.Sink.seen c.args.out.now c.answer.new.to c.values_alone-values.result ran c.in_err-answer.ensures.idle _ c.in_err-answer.ensures.answers)
+    (unwritten bytes c.args.args.now c.are_words.ensures c.args.options _ compiled _ _ _ (values_tell bytes c.args.args.now c.are_words.ensures c.args.options _ compiled runs) g.W.Sink.seen c.args.out.now c.answer.new.to c.values_alone-values.result ran c.in_err-answer.ensures.idle _ c.in_err-answer.ensures.answers)
     c.from_residual-in_err-answer.ensures.1
 
 pub returns-in_err-values : goal.returns-in_err-values
@@ -29,7 +29,7 @@ returns-in_err-values g c = λ bytes runs compiled_given.
     subst (λ v. GivesAsCode (code_view v.code) c.args.args.now c.args.options.limit c.args.options.burden c.values_alone-values.result) shared c.values_alone-values.ensures in
     let is : c.values_alone-values.result ≡ Err c.in_err-values.field-0.0 = c.in_err-values.was in
     handed_on _ _ _ c.from_residual-in_err-values.result
-    (stopped bytes c.args.args.now c.are_words.ensures c.args.options _ compiled _ _ (values_tell bytes c.args.args.now c.are_words.ensures c.args.options _ compiled runs) g.W.Sink.seen c.args.out.now c.answer.new.to c.values_alone-values.result _ is ran c.in_ok-answer.ensures.answers c.in_ok-answer.ensures.idle)
+    (stopped bytes c.args.args.now c.are_words.ensures c.args.options _ compiled _ _ _ (values_tell bytes c.args.args.now c.are_words.ensures c.args.options _ compiled runs) g.W.Sink.seen c.args.out.now c.answer.new.to c.values_alone-values.result _ is ran c.in_ok-answer.ensures.answers c.in_ok-answer.ensures.idle)
     c.from_residual-in_err-values.ensures.1
 
 pub returns : goal.returns
@@ -41,4 +41,4 @@ returns g c = λ bytes runs compiled_given.
     let ran : GivesAsCode (code_view given.code) c.args.args.now c.args.options.limit c.args.options.burden c.values_alone-values.result =
     subst (λ v. GivesAsCode (code_view v.code) c.args.args.now c.args.options.limit c.args.options.burden c.values_alone-values.result) shared c.values_alone-values.ensures in
     let is : c.values_alone-values.result ≡ Ok c.in_ok-values.field-0 = c.in_ok-values.was in
-    finished bytes c.args.args.now c.are_words.ensures c.args.options _ compiled _ _ (values_tell bytes c.args.args.now c.are_words.ensures c.args.options _ compiled runs) g.W.Sink.seen c.args.out.now c.answer.new.to c.values_alone-values.result _ is ran c.in_ok-answer.ensures.answers c.in_ok-answer.ensures.idle
+    finished bytes c.args.args.now c.are_words.ensures c.args.options _ compiled _ _ _ (values_tell bytes c.args.args.now c.are_words.ensures c.args.options _ compiled runs) g.W.Sink.seen c.args.out.now c.answer.new.to c.values_alone-values.result _ is ran c.in_ok-answer.ensures.answers c.in_ok-answer.ensures.idle

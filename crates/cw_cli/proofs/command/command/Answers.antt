@@ -1,17 +1,18 @@
 use Rattle.std.proofs.Common.{◌≡◌, ◌∙◌, ap, codes, rules}
 use Rattle.clap.specs.Words.{App, app_of, new_app, with_subcommand}
 use Rattle.cw_cli.specs.Command.{line_of, with_words_alone}
-use Rattle.cw_cli.specs.declared.asked.Mode.{Mode}
-use Rattle.cw_cli.specs.declared.asked.Mode.TheVariants as mode
+use Rattle.cw_cli.specs.declared.verb.Verb.{Verb}
+use Rattle.cw_cli.specs.declared.verb.Verb.TheVariants as verb
 use Rattle.cw_cli.proofs.command.command.Goals as goal
 
-abbrev below : Mode → App → App
+abbrev below : Verb → App → App
 below m above = with_subcommand above (line_of m).top
 
 pub returns : goal.returns
 returns c =
     let new_is : app_of c.subcommand_required.result ≡ with_words_alone (new_app (codes "cilkwork")) = search rules in
-    c.in_ok-sites.ensures.below _ _ c.in_ok-command.ensures
-    ∙ ap (below mode.Sites) (c.in_ok-scale.ensures.below _ _ c.in_ok-subcommand-3.ensures
-    ∙ ap (below mode.Scale) (c.in_ok-run.ensures.below _ _ c.in_ok-subcommand-2.ensures
-    ∙ ap (below mode.Run) (c.in_ok-check.ensures.below _ _ c.in_ok-subcommand.ensures ∙ ap (below mode.Check) new_is)))
+    c.in_ok-greedy.ensures.below _ _ c.in_ok-command.ensures
+    ∙ ap (below verb.Greedy) (c.in_ok-sites.ensures.below _ _ c.in_ok-subcommand-4.ensures
+    ∙ ap (below verb.Sites) (c.in_ok-scale.ensures.below _ _ c.in_ok-subcommand-3.ensures
+    ∙ ap (below verb.Scale) (c.in_ok-run.ensures.below _ _ c.in_ok-subcommand-2.ensures
+    ∙ ap (below verb.Run) (c.in_ok-check.ensures.below _ _ c.in_ok-subcommand.ensures ∙ ap (below verb.Check) new_is))))

@@ -16,7 +16,7 @@ pub returns-in_err-request-clause-why : goal.returns-in_err-request-clause-why
 returns-in_err-request-clause-why c =
     let words : List Text = map string_bytes c.args.words.now in
     let rows : List Row = rows_of (found_of c.in-Some.given.now) in
-    let has : HaveCommand words c.in-Some.mode rows = (c.in-Ok.ensures.kinds, sym c.in-Ok.ensures.rows ∙ c.in-Some.ensures) in
+    let has : HaveCommand words c.in-Some.verb rows = (c.in-Ok.ensures.kinds, sym c.in-Ok.ensures.rows ∙ c.in-Some.ensures) in
     let f = c.in_err-request.field-0.0 in
-    let told : IsSaidOf words (said.Fault f) = fault_by_rows words c.in-Some.mode rows f has c.in_err-request.ensures.why in
+    let told : IsSaidOf words (said.Fault f) = fault_by_rows words c.in-Some.verb rows f has c.in_err-request.ensures.why in
     IfErr-weaker c.from_residual.result (λ s. s ≡ said.Fault f) _ (λ s e. subst (IsSaidOf words) (sym e) told) (search rules)

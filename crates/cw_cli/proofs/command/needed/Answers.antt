@@ -2,7 +2,7 @@ use Rattle.std.proofs.Common.{◌∙◌, ap, Bool, true, Some}
 use Rattle.clap.specs.Words.{Rule, rule_of}
 use Rattle.clap.specs.declared.builder.Arg.{Arg}
 use Rattle.clap.specs.declared.builder.ArgAction.TheVariants.{Set}
-use Rattle.cw_cli.proofs.command.file.Goals as goal
+use Rattle.cw_cli.proofs.command.needed.Goals as goal
 
 abbrev is_global : Arg → Bool
 is_global a = a.global

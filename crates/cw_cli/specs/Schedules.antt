@@ -1,0 +1,39 @@
+-- What is told of the greedy schedule of a run.
+use Rattle.std.specs.Prelude.{◌≤◌, ◌<◌, ℕ, List, [], ◌∷◌, ◌++◌, decimal}
+use Rattle.cw_model.specs.Trees.{Tree, work, span}
+use Rattle.cw_model.specs.Answers.{Answer, Ended, TrappedAt, OverLimit}
+use Rattle.cw_model.specs.Report.{csv_line}
+use Rattle.cw_greedy.specs.declared.code.TheConstants.{MOST_STRANDS}
+use Rattle.cw_greedy.specs.Blocks.{strand_count}
+use Rattle.cw_greedy.specs.Greedy.{greedy_length}
+use Rattle.cw_schedule.specs.State.{IsWithin}
+use Rattle.cw_report.specs.Texts.{schedule_header}
+use Rattle.cw_cli.specs.declared.asked.Mode.{Mode}
+use Rattle.cw_cli.specs.declared.asked.Mode.TheVariants as mode
+
+-- the row of a run with this strand tree: processors, work, span and the length of the greedy schedule
+abbrev pub greedy_row : ℕ → Tree → List ℕ
+greedy_row processors t =
+    csv_line (decimal processors ∷ decimal (work t) ∷ decimal (span t) ∷ decimal (greedy_length processors t) ∷ [])
+
+-- the names of the columns and the row of a run that ended; of another nothing
+abbrev pub greedy_text : ℕ → Answer → List ℕ
+greedy_text processors (Ended v lines sums t) = schedule_header ++ greedy_row processors t
+greedy_text processors (TrappedAt trap line lines) = []
+greedy_text processors OverLimit = []
+
+-- the strands of a run are no more than are kept, and the length of its schedule is no less than work and span need,
+-- and no more than both together
+pub record IsScheduled (processors : ℕ) (t : Tree) : Type 0 where
+  pub few : strand_count t ≤ MOST_STRANDS
+  pub bounds : IsWithin processors (greedy_length processors t) t
+
+-- this holds where a schedule is asked for of a run that ended; of another run, and in another mode, nothing
+abbrev pub IsScheduledIn : Mode → Answer → Type 0
+IsScheduledIn (mode.Greedy processors) (Ended v lines sums t) = IsScheduled processors t
+IsScheduledIn _ _ = Unit {0}
+
+-- a schedule is asked for, and the run ended with more strands than are kept
+abbrev pub HasTooManyStrands : Mode → Answer → Type 0
+HasTooManyStrands (mode.Greedy processors) (Ended v lines sums t) = MOST_STRANDS < strand_count t
+HasTooManyStrands _ _ = ⊥

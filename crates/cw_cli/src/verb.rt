@@ -1,0 +1,43 @@
+//! The words that name commands.
+
+ghost use Rattle.std.specs.Prelude.{◌≡◌};
+ghost use Rattle.cw_cli.specs.Requests.{IsVerbNamed, mode_with};
+
+use crate::asked::Mode;
+
+/// A word that names a command.
+#[derive(Clone, Copy, Debug, PartialEq, Eq)]
+pub enum Verb {
+    Check,
+    Run,
+    Scale,
+    Sites,
+    Greedy,
+}
+
+/// The verb of this name, if there is one.
+pub fn verb_named(name: &str) -> Option<Verb>
+    ensures { IsVerbNamed name.now result }
+{
+    match name {
+        "check" => Some(Verb::Check),
+        "run" => Some(Verb::Run),
+        "scale" => Some(Verb::Scale),
+        "sites" => Some(Verb::Sites),
+        "greedy" => Some(Verb::Greedy),
+        _ => None,
+    }
+}
+
+/// The mode that a verb asks for, on so many processors where it takes them.
+pub fn mode_of(verb: Verb, processors: u64) -> Mode
+    ensures { result ≡ mode_with verb processors }
+{
+    match verb {
+        Verb::Check => Mode::Check,
+        Verb::Run => Mode::Run,
+        Verb::Scale => Mode::Scale,
+        Verb::Sites => Mode::Sites,
+        Verb::Greedy => Mode::Greedy(processors),
+    }
+}
