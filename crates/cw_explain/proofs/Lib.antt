@@ -1,2 +1,9 @@
+mod Breaking
+mod Heading
 mod Misuse
+mod Nesting
+mod Passing
+mod Pieces
+mod Repeating
+mod Telling
 mod Walking

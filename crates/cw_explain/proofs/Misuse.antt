@@ -1,7 +1,6 @@
 -- A name that is misused in a part of an expression is misused in the whole.
-use Rattle.std.proofs.Common.{◌≡◌, ◌∷◌, ◌++◌, List, [], refl, arith, ℕ, zero, suc, ◌<◌, length, get_or, flat_map, map, option_map, slice_get, Option, Some, sym, ap, ◌∙◌, true, false}
+use Rattle.std.proofs.Common.{◌≡◌, ◌∷◌, ◌++◌, List, [], refl, arith, ℕ, zero, suc, ◌<◌, length, get_or, map, option_map, slice_get, Option, Some, sym, ap, ◌∙◌, true, false}
 use Rattle.std.proofs.lemmas.List.Elements.{Contains-append_left, Contains-append_right}
-use Rattle.cw_model.specs.Ownership.{names_in, target_names}
 use Rattle.cw_model.specs.Syntax.{Expr, Function, Name, Program}
 use Rattle.cw_model.specs.Typing.{called}
 use Rattle.cw_tree.specs.declared.syntax.Param.{Param as CodeParam}
@@ -9,24 +8,25 @@ use Rattle.cw_explain.specs.Parts.{IsBrokenCall, IsBrokenList}
 use Rattle.cw_tree.specs.declared.syntax.Expr.{Expr as CodeExpr}
 use Rattle.cw_tree.specs.SyntaxView.{expr_of, exprs_of, param_of}
 use Rattle.cw_explain.specs.Places.{Declared}
+use Rattle.cw_explain.specs.Uses.{Use, as_arrays, uses_as_target, uses_in_argument, uses_in_arguments, uses_in_call}
 use Rattle.cw_explain.specs.Reasons.{IsMisuse, IsMisuseIn, IsNotNew, IsNotNewIn, Misused, Taken, Unfitting, Wrong, is_name}
 use Rattle.cw_explain.specs.declared.typing.IllTyped.{IllTyped}
 
-pub in_left : (program : Program) (locals : List Declared) (xs ys zs : List Name) (r : IllTyped) → zs ≡ xs ++ ys →
+pub in_left : (program : Program) (locals : List Declared) (xs ys zs : List Use) (r : IllTyped) → zs ≡ xs ++ ys →
     IsMisuseIn program locals xs r → IsMisuseIn program locals zs r
 in_left program locals xs ys zs r same h =
     rw same (record { name = h.name; there = Contains-append_left xs ys h.name h.there; misused = h.misused })
 
-pub in_right : (program : Program) (locals : List Declared) (xs ys zs : List Name) (r : IllTyped) → zs ≡ xs ++ ys →
+pub in_right : (program : Program) (locals : List Declared) (xs ys zs : List Use) (r : IllTyped) → zs ≡ xs ++ ys →
     IsMisuseIn program locals ys r → IsMisuseIn program locals zs r
 in_right program locals xs ys zs r same h =
     rw same (record { name = h.name; there = Contains-append_right xs ys h.name h.there; misused = h.misused })
 
-pub in_rest : (program : Program) (locals : List Declared) (x : Name) (ys zs : List Name) (r : IllTyped) → zs ≡ x ∷ ys →
+pub in_rest : (program : Program) (locals : List Declared) (x : Use) (ys zs : List Use) (r : IllTyped) → zs ≡ x ∷ ys →
     IsMisuseIn program locals ys r → IsMisuseIn program locals zs r
 in_rest program locals x ys zs r same h = in_right program locals (x ∷ []) ys zs r same h
 
-pub in_first : (program : Program) (locals : List Declared) (x : Name) (ys zs : List Name) (r : IllTyped) → zs ≡ x ∷ ys →
+pub in_first : (program : Program) (locals : List Declared) (x : Use) (ys zs : List Use) (r : IllTyped) → zs ≡ x ∷ ys →
     IsMisuse program locals x r → IsMisuseIn program locals zs r
 in_first program locals x ys zs r same h =
     rw same (record { name = x; there = Contains-append_left (x ∷ []) ys x (0, omega arith, refl); misused = h })
@@ -36,14 +36,28 @@ pub not_new_at : (program : Program) (locals : List Declared) (x : Name) (xs ys 
 not_new_at program locals x xs ys zs r same h =
     rw same (record { name = x; there = Contains-append_right xs (x ∷ ys) x (Contains-append_left (x ∷ []) ys x (0, omega arith, refl)); not_new = h })
 
-pub in_arguments : (program : Program) (locals : List Declared) (es : List CodeExpr) (k : ℕ) (d : CodeExpr) (r : IllTyped) → k < length es →
-    IsMisuseIn program locals (names_in (expr_of (get_or es k d))) r → IsMisuseIn program locals (flat_map names_in (exprs_of es)) r
-in_arguments program locals [] k d r h m = absurd (omega (arith, h))
-in_arguments program locals (e ∷ es) zero d r h m =
-    in_left program locals (names_in (expr_of e)) (flat_map names_in (exprs_of es)) (flat_map names_in (exprs_of (e ∷ es))) r refl m
-in_arguments program locals (e ∷ es) (suc k) d r h m =
-    in_right program locals (names_in (expr_of e)) (flat_map names_in (exprs_of es)) (flat_map names_in (exprs_of (e ∷ es))) r refl
-    (in_arguments program locals es k d r (omega (arith, h)) m)
+pub in_arguments : (program : Program) (locals : List Declared) (ps : List CodeParam) (es : List CodeExpr) (k : ℕ)
+    (p : CodeParam) (e : CodeExpr) (r : IllTyped) → k < length ps → k < length es →
+    IsMisuseIn program locals (uses_in_argument (get_or ps k p).is_array (expr_of (get_or es k e))) r →
+    IsMisuseIn program locals (uses_in_arguments (map param_of ps) (exprs_of es)) r
+in_arguments program locals [] es k p e r h i m = absurd (omega (arith, h))
+in_arguments program locals (q ∷ ps) [] k p e r h i m = absurd (omega (arith, i))
+in_arguments program locals (q ∷ ps) (f ∷ es) zero p e r h i m =
+    in_left program locals (uses_in_argument q.is_array (expr_of f)) (uses_in_arguments (map param_of ps) (exprs_of es))
+    (uses_in_arguments (map param_of (q ∷ ps)) (exprs_of (f ∷ es))) r refl m
+in_arguments program locals (q ∷ ps) (f ∷ es) (suc k) p e r h i m =
+    in_right program locals (uses_in_argument q.is_array (expr_of f)) (uses_in_arguments (map param_of ps) (exprs_of es))
+    (uses_in_arguments (map param_of (q ∷ ps)) (exprs_of (f ∷ es))) r refl
+    (in_arguments program locals ps es k p e r (omega (arith, h)) (omega (arith, i)) m)
+
+pub in_arrays : (program : Program) (locals : List Declared) (names : List Name) (k : ℕ) (d : Name) (r : IllTyped) →
+    k < length names → IsMisuse program locals (get_or names k d, true) r → IsMisuseIn program locals (as_arrays names) r
+in_arrays program locals [] k d r h m = absurd (omega (arith, h))
+in_arrays program locals (a ∷ names) zero d r h m =
+    in_first program locals (a, true) (as_arrays names) (as_arrays (a ∷ names)) r refl m
+in_arrays program locals (a ∷ names) (suc k) d r h m =
+    in_rest program locals (a, true) (as_arrays names) (as_arrays (a ∷ names)) r refl
+    (in_arrays program locals names k d r (omega (arith, h)) m)
 
 pub param_at : (ps : List CodeParam) (k : ℕ) (d p : CodeParam) → k < length ps → p ≡ get_or ps k d → p.is_array ≡ true →
     slice_get (map param_of ps) k ≡ Some (record { name = p.name; is_array = true })
@@ -60,6 +74,8 @@ argument_at (q ∷ es) (suc k) d e h same a = argument_at es k d e (omega (arith
 pub of_list : (program : Program) (locals : List Declared) (target : Option Name) (callee : Name) (f : Function) (es : List Expr) (r : IllTyped) →
     called callee program.functions ≡ Some f → IsBrokenList program locals f es r → IsBrokenCall program locals target callee es r
 of_list program locals target callee f es r found (Misused m) =
-    Misused (in_right program locals (target_names target) (flat_map names_in es) (target_names target ++ flat_map names_in es) r refl m)
+    Misused (in_right program locals (uses_as_target target) (uses_in_arguments f.params es)
+    (uses_as_target target ++ uses_in_call (called callee program.functions) es) r
+    (ap (λ o. uses_as_target target ++ uses_in_call o es) found) m)
 of_list program locals target callee f es r found (Taken t) = Taken t
 of_list program locals target callee f es r found (Wrong w) = Wrong (Unfitting f found w)

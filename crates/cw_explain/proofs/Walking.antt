@@ -1,10 +1,11 @@
 -- Where a walk over a block is.
-use Rattle.std.proofs.Common.{bytes_eq, map, ◌<◌, Contains, ◌==◌, get_or, zero, ◌≡◌, ℕ, suc, ◌-◌, ◌≤◌, true, false, List, [], ◌∷◌, length, drop, sym, ap, arith}
+use Rattle.std.proofs.Common.{Bool, if◌then◌else◌, refl, ◌++◌, ◌||◌, ◌&&◌, bytes_eq, map, ◌<◌, Contains, ◌==◌, get_or, zero, ◌≡◌, ℕ, suc, ◌-◌, ◌≤◌, true, false, List, [], ◌∷◌, length, drop, sym, ap, arith}
 use Rattle.std.proofs.lemmas.List.{length-map}
 use Rattle.std.proofs.lemmas.List.Elements.{Contains-append_left, Contains-append_right}
 use Rattle.std.proofs.lemmas.Slice.Eq.{bytes_eq-Decides}
-use Rattle.cw_model.specs.Syntax.{Name}
-use Rattle.cw_model.specs.Typing.{block_returns, surely_returns}
+use Rattle.cw_model.specs.Names.{is_among, same_name}
+use Rattle.cw_model.specs.Syntax.{Expr, Name, Param}
+use Rattle.cw_model.specs.Typing.{Known, are_arguments, block_returns, is_argument, surely_returns}
 use Rattle.cw_tree.specs.declared.syntax.Line.{Line, the_lemmas}
 use Rattle.cw_tree.specs.declared.syntax.Reducer.{Reducer as CodeReducer}
 use Rattle.cw_tree.specs.SyntaxView.{block_of, reducer_of, stmt_of}
@@ -45,3 +46,24 @@ left_more count [] h = absurd (omega (arith, h))
 left_more count (l ∷ ls) h =
     let as_many = length-map ls local_view in
     sym (oldest_more (local_view l) (map local_view ls) count (omega (arith, h, as_many)))
+
+-- a name among names in two lists
+pub among_append : (x : Name) (xs ys : List Name) → is_among x (xs ++ ys) ≡ (is_among x xs || is_among x ys)
+among_append x [] ys = refl
+among_append x (y ∷ xs) ys = first (same_name x y) (among_append x xs ys)
+  where
+    first : (b : Bool) → is_among x (xs ++ ys) ≡ (is_among x xs || is_among x ys) →
+        (if b then true else is_among x (xs ++ ys)) ≡ ((if b then true else is_among x xs) || is_among x ys)
+    first true h = refl
+    first false h = h
+
+-- as many arguments as parameters
+pub unequal : (known : Known) (ps : List Param) (es : List Expr) → (length ps ≡ length es → ⊥) → are_arguments known ps es ≡ false
+unequal known [] [] h = absurd (h refl)
+unequal known [] (e ∷ es) h = refl
+unequal known (p ∷ ps) [] h = refl
+unequal known (p ∷ ps) (e ∷ es) h = first (is_argument known p.is_array e) (unequal known ps es (λ k. h (omega (arith, k))))
+  where
+    first : (b : Bool) → are_arguments known ps es ≡ false → (b && are_arguments known ps es) ≡ false
+    first true k = k
+    first false k = refl

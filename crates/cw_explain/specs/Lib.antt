@@ -1,5 +1,12 @@
+pub mod Limits
 pub mod Lines
 pub mod Names
 pub mod Parts
 pub mod Places
 pub mod Reasons
+pub mod Regions
+pub mod Rules
+pub mod Standing
+pub mod Told
+pub mod Uses
+pub mod Unread

@@ -1,6 +1,6 @@
 -- The names that are known, as the definitions have them, and what a name is where it stands.
-use Rattle.std.specs.Prelude.{◌≡◌, Bool, false, not, if◌then◌else◌, List, map}
-use Rattle.cw_model.specs.Syntax.{Name}
+use Rattle.std.specs.Prelude.{ℕ, ◌≡◌, Bool, false, not, if◌then◌else◌, List, map}
+use Rattle.cw_model.specs.Syntax.{Name, Param, Function, Reducer}
 use Rattle.cw_model.specs.Typing.{Known, is_known}
 use Rattle.cw_explain.specs.Places.{Declared, kinds}
 use Rattle.cw_explain.specs.declared.known.Local.{Local}
@@ -25,3 +25,27 @@ IsUnknown x known = (array : Bool) → is_known x array known ≡ false
 -- the newest of this spelling is an array, or an integer, and so not the other
 abbrev pub known_as : Name → Bool → Known → Type 0
 known_as x is_array known = (array : Bool) → is_known x array known ≡ (if array then is_array else not is_array)
+
+-- the names alone
+abbrev pub known_names : Known → List Name
+known_names known = map (λ k. k.0) known
+
+-- the names of functions
+abbrev pub function_names : List Function → List Name
+function_names functions = map (λ f. f.name) functions
+
+-- functions, each by its name and its line
+abbrev pub functions_named : List Function → List (Name × ℕ)
+functions_named fs = map (λ f. (f.name, f.line)) fs
+
+-- reducers, each by its name and its line
+abbrev pub reducers_named : List Reducer → List (Name × ℕ)
+reducers_named rs = map (λ r. (r.name, r.line)) rs
+
+-- the names of parameters
+abbrev pub param_names : List Param → List Name
+param_names params = map (λ p. p.name) params
+
+-- the names of reducers
+abbrev pub reducer_names : List Reducer → List Name
+reducer_names reducers = map (λ r. r.name) reducers

@@ -1,14 +1,14 @@
 -- What it means that a rule of names and types is broken at a line for a reason.
-use Rattle.std.specs.Prelude.{◌≡◌, ℕ, ◌+◌, Bool, true, false, ◌&&◌, nat_le, List, [], ◌∷◌, ◌++◌, Option, Some, None, MatchOption, Contains, flat_map, is_some, length, map, option_map}
+use Rattle.std.specs.Prelude.{◌≡◌, ℕ, ◌+◌, Bool, true, false, ◌&&◌, nat_le, List, [], ◌∷◌, Option, Some, None, MatchOption, Contains, is_some, length, map, option_map}
 use Rattle.std.specs.List.{slice_get}
 use Rattle.cw_model.specs.declared.limits.TheConstants.{MOST_GRAIN}
 use Rattle.cw_model.specs.Answers.{main_name}
 use Rattle.cw_model.specs.Names.{same_name}
-use Rattle.cw_model.specs.Ownership.{names_in, target_names}
-use Rattle.cw_model.specs.Syntax.{Name, Expr, Variable, Stmt, Declare, DeclareArray, Assign, AssignElement, AddTo, Call, If, IfElse, While, For, Cut, Print, Return, Param, Function, Program}
+use Rattle.cw_model.specs.Syntax.{Name, Expr, Variable, Stmt, Declare, DeclareArray, AddTo, Call, For, Cut, Return, Param, Function, Program}
 use Rattle.cw_model.specs.Typing.{Returns, Nowhere, WithInt, Alone, called, is_array, is_int, is_reducer}
 use Rattle.cw_explain.specs.Names.{IsUnknown}
 use Rattle.cw_explain.specs.Places.{Declared, kind_and_line, kinds, name_and_line, newest}
+use Rattle.cw_explain.specs.Uses.{Use, uses}
 use Rattle.cw_explain.specs.declared.typing.IllTyped.{IllTyped}
 use Rattle.cw_explain.specs.declared.typing.IllTyped.TheVariants as reason
 use Rattle.cw_explain.specs.declared.typing.Other.{Other}
@@ -21,19 +21,19 @@ IsOther program locals x other.Array line = option_map kind_and_line (newest x l
 IsOther program locals x other.Function line = option_map (λ f. f.line) (called x program.functions) ≡ Some line
 IsOther program locals x other.Reducer line = Contains (map name_and_line program.reducers) (x, line)
 
--- the reason is of this name: it is not known, or known and no integer, or known and no array, but what it is said
--- to be
-abbrev pub IsMisuse : Program → List Declared → Name → IllTyped → Type 0
-IsMisuse program locals x (reason.Unknown word) = (word.text.now ≡ x) × IsUnknown x (kinds locals)
-IsMisuse program locals x (reason.NotInteger word kind line) =
-    (word.text.now ≡ x) × (is_int (kinds locals) x ≡ false) × IsOther program locals x kind line
-IsMisuse program locals x (reason.NotArray word kind line) =
-    (word.text.now ≡ x) × (is_array (kinds locals) x ≡ false) × IsOther program locals x kind line
-IsMisuse program locals x _ = ⊥
+-- the reason is of this name, where an integer or an array must stand: it is not known, or it is no integer, or it
+-- is no array, but what it is said to be
+abbrev pub IsMisuse : Program → List Declared → Use → IllTyped → Type 0
+IsMisuse program locals (x, array) (reason.Unknown word) = (word.text.now ≡ x) × IsUnknown x (kinds locals)
+IsMisuse program locals (x, array) (reason.NotInteger word kind line) =
+    (word.text.now ≡ x) × (array ≡ false) × (is_int (kinds locals) x ≡ false) × IsOther program locals x kind line
+IsMisuse program locals (x, array) (reason.NotArray word kind line) =
+    (word.text.now ≡ x) × (array ≡ true) × (is_array (kinds locals) x ≡ false) × IsOther program locals x kind line
+IsMisuse program locals (x, array) _ = ⊥
 
 -- the reason is of one of these names
-pub record IsMisuseIn (program : Program) (locals : List Declared) (names : List Name) (r : IllTyped) : Type 0 where
-  pub name : Name
+pub record IsMisuseIn (program : Program) (locals : List Declared) (names : List Use) (r : IllTyped) : Type 0 where
+  pub name : Use
   pub there : Contains names name
   pub misused : IsMisuse program locals name r
 
@@ -54,14 +54,18 @@ pub record IsNotNewIn (program : Program) (locals : List Declared) (names : List
   pub not_new : IsNotNew program locals name r
 
 -- the reason is of a name that is used, of one that is declared, or of something else
-pub data IsPart (program : Program) (locals : List Declared) (used declared : List Name) (Else : Type 0)
-    (r : IllTyped) : Type 0 where
+pub data IsPart (program : Program) (locals : List Declared) (used : List Use) (declared : List Name)
+    (Else : Type 0) (r : IllTyped) : Type 0 where
   Misused : IsMisuseIn program locals used r → IsPart program locals used declared Else r
   Taken : IsNotNewIn program locals declared r → IsPart program locals used declared Else r
   Wrong : Else → IsPart program locals used declared Else r
 
+-- the reason is of a name that is used, or of something else
+abbrev pub IsUsing : Program → List Declared → (used : List Use) → (IllTyped → Type 0) → IllTyped → Type 0
+IsUsing program locals used Else r = IsPart program locals used [] (Else r) r
+
 -- the reason is of a name that is used or declared
-abbrev pub IsNaming : Program → List Declared → (used declared : List Name) → IllTyped → Type 0
+abbrev pub IsNaming : Program → List Declared → (used : List Use) → (declared : List Name) → IllTyped → Type 0
 IsNaming program locals used declared r = IsPart program locals used declared ⊥ r
 
 -- the reason is of this name, which is no reducer's
@@ -93,7 +97,8 @@ IsWrongList f es _ = ⊥
 abbrev pub IsNoCall : Program → Option Name → Name → IllTyped → Type 0
 IsNoCall program target callee (reason.NoFunction word) =
     (word.text.now ≡ callee) × (called callee program.functions ≡ None)
-IsNoCall program target callee reason.CallsMain = same_name callee main_name ≡ true
+IsNoCall program target callee reason.CallsMain =
+    MatchOption (called callee program.functions) ⊥ (λ f. same_name f.name main_name ≡ true)
 IsNoCall program target callee (reason.GivesNothing word line) =
     (word.text.now ≡ callee) × (is_some target ≡ true)
     × MatchOption (called callee program.functions) ⊥ (λ f. (f.gives_int ≡ false) × (f.line ≡ line))
@@ -125,23 +130,6 @@ IsWrongReturn returns value reason.ReturnsNothing = (returns ≡ WithInt) × (va
 IsWrongReturn returns value reason.ReturnsValue = (returns ≡ Alone) × (is_some value ≡ true)
 IsWrongReturn returns value _ = ⊥
 
--- the names that a statement uses, its blocks aside
-abbrev pub names_used : Stmt → List Name
-names_used (Declare x e) = names_in e
-names_used (DeclareArray a e) = names_in e
-names_used (Assign x e) = x ∷ names_in e
-names_used (AssignElement a i e) = a ∷ (names_in i ++ names_in e)
-names_used (AddTo s e) = names_in e
-names_used (Call kind site target f es) = target_names target ++ flat_map names_in es
-names_used (If e b) = names_in e
-names_used (IfElse e b c) = names_in e
-names_used (While e b) = names_in e
-names_used (For x y z from to grain over b) = over ++ (names_in from ++ names_in to)
-names_used (Cut a e l r b) = a ∷ names_in e
-names_used (Print e) = names_in e
-names_used (Return (Some e)) = names_in e
-names_used _ = []
-
 -- the names that a statement declares, its blocks aside
 abbrev pub names_declared : Stmt → List Name
 names_declared (Declare x e) = x ∷ []
@@ -162,4 +150,4 @@ IsWrongStmt program returns _ r = ⊥
 -- the reason is of a name that the statement uses, of one that it declares, or of its kind
 abbrev pub IsBroken : Program → Returns → List Declared → Stmt → IllTyped → Type 0
 IsBroken program returns locals s r =
-    IsPart program locals (names_used s) (names_declared s) (IsWrongStmt program returns s r) r
+    IsPart program locals (uses program s) (names_declared s) (IsWrongStmt program returns s r) r

@@ -1,7 +1,7 @@
 //! Lines of a source with their numbers.
 
 ghost use Rattle.std.specs.Prelude.{◌≡◌};
-ghost use Rattle.cw_explain.specs.Lines.{after_line, first_line};
+ghost use Rattle.cw_explain.specs.Lines.{after_line, first_line, line_text};
 
 use crate::word::Word;
 use std::alloc::AllocError;
@@ -10,9 +10,11 @@ use std::alloc::AllocError;
 const MOST_SHOWN: usize = 160;
 
 /// The text of a line of a source, counted from 1, without its line feed; empty where there is no such line.
-pub fn line_of(source: &[u8], line: u32) -> &[u8] {
+pub fn line_of(source: &[u8], line: u32) -> &[u8]
+    ensures { result.now ≡ line_text line source.now }
+{
     let mut rest = source;
-    for _ in 1..line {
+    for passed in 1..line {
         rest = after_line(rest);
     }
     first_line(rest)

@@ -15,7 +15,15 @@ ghost use Rattle.std.specs.Prelude.{
   length,
   map,
 };
-ghost use Rattle.cw_explain.specs.Names.{IsUnknown, known_as, local_view, locals_of, names_of};
+ghost use Rattle.cw_explain.specs.Names.{
+  IsUnknown,
+  function_names,
+  known_as,
+  known_names,
+  local_view,
+  locals_of,
+  names_of,
+};
 ghost use Rattle.cw_explain.specs.Places.{
   after_stmt,
   kinds,
@@ -118,6 +126,7 @@ impl<'a> Known<'a> {
 
     /// The newest of this spelling.
     pub fn newest(&self, name: &[u8]) -> Option<Local<'a>>
+        ensures there { is_some result ≡ is_among name.now (known_names (names_of self.now)) }
         ensures kinds { MatchOption result (IsUnknown name.now (names_of self.now))
             (λ local. known_as name.now local.is_array (names_of self.now)) }
         ensures newest { MatchOption result (newest name.now (locals_of self.now) ≡ None)
@@ -140,6 +149,8 @@ impl<'a> Known<'a> {
 
 // The first of these names that is spelled so.
 fn newest_of<'a>(locals: &[Local<'a>], name: &[u8]) -> Option<Local<'a>>
+    ensures there { is_some result
+        ≡ is_among name.now (known_names (kinds (map local_view locals.now))) }
     ensures kinds { MatchOption result (IsUnknown name.now (kinds (map local_view locals.now)))
         (λ local. known_as name.now local.is_array (kinds (map local_view locals.now))) }
     ensures newest { MatchOption result (newest name.now (map local_view locals.now) ≡ None)
@@ -155,16 +166,20 @@ fn newest_of<'a>(locals: &[Local<'a>], name: &[u8]) -> Option<Local<'a>>
 
 /// The first function of a name.
 pub fn function_named<'a>(ast: &'a Ast, name: &[u8]) -> Option<&'a Function>
-    ensures { MatchOption result (called name.now (program_of ast.now).functions ≡ None)
+    ensures there { is_some result
+        ≡ is_among name.now (function_names (program_of ast.now).functions) }
+    ensures first { MatchOption result (called name.now (program_of ast.now).functions ≡ None)
         (λ function.
         called name.now (program_of ast.now).functions ≡ Some (function_of function.now)) }
 {
     function_among(ast.functions.as_slice(), name)
 }
 
-// The first of these functions that has the name.
-fn function_among<'a>(functions: &'a [Function], name: &[u8]) -> Option<&'a Function>
-    ensures { MatchOption result (called name.now (map function_of functions.now) ≡ None)
+/// The first of these functions that has the name.
+pub fn function_among<'a>(functions: &'a [Function], name: &[u8]) -> Option<&'a Function>
+    ensures there { is_some result
+        ≡ is_among name.now (function_names (map function_of functions.now)) }
+    ensures first { MatchOption result (called name.now (map function_of functions.now) ≡ None)
         (λ function.
         called name.now (map function_of functions.now) ≡ Some (function_of function.now)) }
 {
@@ -186,8 +201,8 @@ pub fn reducer_named<'a>(ast: &'a Ast, name: &[u8]) -> Option<&'a Reducer>
     reducer_among(ast.reducers.as_slice(), name)
 }
 
-// The first of these reducers that has the name.
-fn reducer_among<'a>(reducers: &'a [Reducer], name: &[u8]) -> Option<&'a Reducer>
+/// The first of these reducers that has the name.
+pub fn reducer_among<'a>(reducers: &'a [Reducer], name: &[u8]) -> Option<&'a Reducer>
     ensures there { is_some result
         ≡ is_among name.now (map (λ r. r.name) (map reducer_of reducers.now)) }
     ensures of_line { IfSome result (λ reducer.

@@ -1,7 +1,8 @@
 //! What in a line is no token.
 
-ghost use Rattle.std.specs.Prelude.{◌≡◌, ◌≤◌, length};
-ghost use Rattle.cw_model.specs.Pieces.{is_digit, is_letter, is_word_byte};
+ghost use Rattle.std.specs.Prelude.{◌≡◌, ◌≤◌, IfSome, is_some, length, not};
+ghost use Rattle.cw_explain.specs.Unread.{HasUnread, IsNotAscii, IsUnread, is_ascii};
+ghost use Rattle.cw_model.specs.Pieces.{is_digit, is_letter, is_separator, is_word_byte, one_byte};
 
 use crate::word::{Word, shown};
 use cw_model::limits::{MOST_NAME_BYTES, MOST_NUMBER, MOST_SOURCE_BYTES};
@@ -63,7 +64,10 @@ impl fmt::Display for Unreadable<'_> {
 }
 
 /// The first byte above 127 in the text of a line, if there is one.
-pub fn not_ascii(line: &[u8]) -> Option<Unreadable<'_>> {
+pub fn not_ascii(line: &[u8]) -> Option<Unreadable<'_>>
+    ensures decides { is_some result ≡ not (is_ascii line.now) }
+    ensures holds { IfSome result (IsNotAscii line.now) }
+{
     for byte in line {
         if *byte > 127 {
             return Some(Unreadable::NotAscii(*byte));
@@ -73,7 +77,9 @@ pub fn not_ascii(line: &[u8]) -> Option<Unreadable<'_>> {
 }
 
 /// The first of what is no token in the text of a line: a byte, a number that is too great, or a name that is too long.
-pub fn no_token(line: &[u8]) -> Option<Unreadable<'_>> {
+pub fn no_token(line: &[u8]) -> Option<Unreadable<'_>>
+    ensures { IfSome result (HasUnread line.now) }
+{
     let mut rest = line;
     while !rest.is_empty() {
         if is_comment(rest) {
@@ -157,10 +163,11 @@ fn is_word_byte(byte: u8) -> bool
 }
 
 // What is wrong with a word, a number or a byte.
-fn of_piece(piece: &[u8]) -> Option<Unreadable<'_>> {
-    let Some(first) = piece.first().copied() else {
-        return None;
-    };
+fn of_piece(piece: &[u8]) -> Option<Unreadable<'_>>
+    requires { 1 ≤ length piece.now }
+    ensures { IfSome result (IsUnread piece.now) }
+{
+    let first = piece[0];
     if is_letter(first) {
         if piece.len() > MOST_NAME_BYTES {
             return Some(Unreadable::LongName(Word { text: piece }));
@@ -173,20 +180,41 @@ fn of_piece(piece: &[u8]) -> Option<Unreadable<'_>> {
         }
         return None;
     }
-    if starts_nothing(first) {
-        return Some(Unreadable::NoToken(first));
+    if is_separator(first) || is_symbol(first) {
+        return None;
     }
-    None
+    Some(Unreadable::NoToken(first))
 }
 
-// Whether a byte, which is no letter and no digit, separates nothing and begins no symbol.
-fn starts_nothing(byte: u8) -> bool {
+fn is_separator(byte: u8) -> bool
+    ensures { result ≡ is_separator byte }
+{
+    byte == b' ' || byte == b'\t' || byte == b'\r' || byte == b'\n'
+}
+
+// Whether a byte begins a symbol.
+fn is_symbol(byte: u8) -> bool
+    ensures { result ≡ is_some (one_byte byte) }
+{
     match byte {
-        b' ' | b'\t' | b'\r' | b'\n' | b'(' | b')' | b'{' | b'}' | b'[' | b']' | b',' | b';' => {
-            false
-        }
-        b'=' | b'+' | b'-' | b'*' | b'/' | b'%' | b'<' | b'>' | b'!' => false,
-        _ => true,
+        b'(' => true,
+        b')' => true,
+        b'{' => true,
+        b'}' => true,
+        b'[' => true,
+        b']' => true,
+        b',' => true,
+        b';' => true,
+        b'=' => true,
+        b'+' => true,
+        b'-' => true,
+        b'*' => true,
+        b'/' => true,
+        b'%' => true,
+        b'<' => true,
+        b'>' => true,
+        b'!' => true,
+        _ => false,
     }
 }
 

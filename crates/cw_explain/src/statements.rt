@@ -1,6 +1,21 @@
 //! Which rule of names and types a statement breaks, the blocks in it aside.
 
-ghost use Rattle.std.specs.Prelude.{◌≡◌, ◌∷◌, ◌++◌, [], IfSome, List, MatchOption, option_map, true};
+ghost use Rattle.std.specs.Prelude.{
+  ◌≡◌,
+  ◌∷◌,
+  ◌++◌,
+  ◌&&◌,
+  ◌||◌,
+  [],
+  IfSome,
+  List,
+  Some,
+  is_some,
+  not,
+  option_map,
+  true,
+};
+ghost use Rattle.std.specs.List.{list_all};
 ghost use Rattle.cw_explain.specs.Names.{IsUnknown, locals_of, names_of};
 ghost use Rattle.cw_explain.specs.Places.{Declared, kinds};
 ghost use Rattle.cw_explain.specs.Reasons.{
@@ -11,6 +26,8 @@ ghost use Rattle.cw_explain.specs.Reasons.{
   IsNoReducer,
   IsNotNew,
   IsOther,
+  IsUsing,
+  IsWrongHead,
   is_name,
 };
 ghost use Rattle.cw_explain.specs.Parts.{
@@ -20,7 +37,15 @@ ghost use Rattle.cw_explain.specs.Parts.{
   IsBrokenList,
   returns_of,
 };
-ghost use Rattle.cw_model.specs.Ownership.{names_in};
+ghost use Rattle.cw_explain.specs.Rules.{
+  is_right_call,
+  is_right_call_of,
+  is_right_cut,
+  is_right_head,
+  keeps_rules,
+};
+ghost use Rattle.cw_explain.specs.Uses.{as_arrays, uses_in, uses_in_argument};
+ghost use Rattle.cw_model.specs.Names.{is_among, same_name};
 ghost use Rattle.cw_model.specs.Syntax as model;
 ghost use Rattle.cw_model.specs.Typing as rule;
 ghost use Rattle.cw_tree.specs.SyntaxView.{expr_of, exprs_of, function_of, program_of, stmt_of};
@@ -49,74 +74,28 @@ pub fn of_stmt<'a>(
     known: &Known<'a>,
     stmt: &'a Stmt,
 ) -> Option<IllTyped<'a>>
-    ensures { IfSome result
+    ensures decides { is_some result
+        ≡ not (keeps_rules (program_of ast.now) (returns_of returns) (names_of known.now)
+        (stmt_of stmt.now)) }
+    ensures holds { IfSome result
         (IsBroken (program_of ast.now) (returns_of returns) (locals_of known.now)
         (stmt_of stmt.now)) }
 {
     match stmt {
-        Stmt::Declare(x, e) => {
-            let reason = of_declare(ast, known, x, e)?;
-            Some(reason)
-        }
-        Stmt::DeclareArray(x, e) => {
-            let reason = of_declare(ast, known, x, e)?;
-            Some(reason)
-        }
-        Stmt::Assign(x, e) => {
-            let reason = of_name_and(ast, known, x, false, e)?;
-            Some(reason)
-        }
-        Stmt::AssignElement(a, i, e) => {
-            let reason = of_assign_element(ast, known, a, i, e)?;
-            Some(reason)
-        }
-        Stmt::AddTo(s, e) => {
-            if let Some(reason) = of_reducer(ast, s) {
-                return Some(reason);
-            }
-            let reason = of_expr(ast, known, e)?;
-            Some(reason)
-        }
-        Stmt::If(e, _) | Stmt::IfElse(e, _, _) | Stmt::While(e, _) | Stmt::Print(e) => {
-            let reason = of_expr(ast, known, e)?;
-            Some(reason)
-        }
-        _ => {
-            let reason = of_further(ast, returns, known, stmt)?;
-            Some(reason)
-        }
-    }
-}
-
-// The same of calls, loops, cuts and returns.
-fn of_further<'a>(
-    ast: &'a Ast,
-    returns: Returns,
-    known: &Known<'a>,
-    stmt: &'a Stmt,
-) -> Option<IllTyped<'a>>
-    ensures { IfSome result
-        (IsBroken (program_of ast.now) (returns_of returns) (locals_of known.now)
-        (stmt_of stmt.now)) }
-{
-    match stmt {
-        Stmt::Call(call) => {
-            let reason = of_call(ast, known, call)?;
-            Some(reason)
-        }
-        Stmt::For(head, _) => {
-            let reason = of_loop(ast, known, head)?;
-            Some(reason)
-        }
-        Stmt::Cut(cut, _) => {
-            let reason = of_cut(ast, known, cut)?;
-            Some(reason)
-        }
-        Stmt::Return(value) => {
-            let reason = of_return(ast, returns, known, value)?;
-            Some(reason)
-        }
-        _ => None,
+        Stmt::Declare(x, e) => Some(of_declare(ast, known, x, e)?),
+        Stmt::DeclareArray(a, e) => Some(of_declare(ast, known, a, e)?),
+        Stmt::Assign(x, e) => Some(of_name_and(ast, known, x, false, e)?),
+        Stmt::AssignElement(a, i, e) => Some(of_assign_element(ast, known, a, i, e)?),
+        Stmt::AddTo(s, e) => Some(of_add(ast, known, s, e)?),
+        Stmt::If(e, _) => Some(of_expr(ast, known, e)?),
+        Stmt::IfElse(e, _, _) => Some(of_expr(ast, known, e)?),
+        Stmt::While(e, _) => Some(of_expr(ast, known, e)?),
+        Stmt::Print(e) => Some(of_expr(ast, known, e)?),
+        Stmt::Call(call) => Some(of_call(ast, known, call)?),
+        Stmt::For(head, _) => Some(of_loop(ast, known, head)?),
+        Stmt::Cut(cut, _) => Some(of_cut(ast, known, cut)?),
+        Stmt::Return(value) => Some(of_return(ast, returns, known, value)?),
+        Stmt::Sync | Stmt::Scope(_) | Stmt::Region(_, _) => None,
     }
 }
 
@@ -127,8 +106,10 @@ fn of_use<'a>(
     name: &'a Name,
     wants_array: bool,
 ) -> Option<IllTyped<'a>>
-    ensures { MatchOption result (rule.is_known name.now wants_array (names_of known.now) ≡ true)
-        (IsMisuse (program_of ast.now) (locals_of known.now) name.now) }
+    ensures decides { is_some result
+        ≡ not (rule.is_known name.now wants_array (names_of known.now)) }
+    ensures holds { IfSome result
+        (IsMisuse (program_of ast.now) (locals_of known.now) (name.now, wants_array)) }
 {
     match known.newest(name.as_bytes()) {
         None => Some(of_unknown(ast, name, wants_array)),
@@ -147,7 +128,7 @@ fn of_use<'a>(
 // A name that no local has stands where an integer or an array must.
 fn of_unknown<'a>(ast: &'a Ast, name: &'a Name, wants_array: bool) -> IllTyped<'a>
     ensures { (locals : List Declared) → IsUnknown name.now (kinds locals) →
-        IsMisuse (program_of ast.now) locals name.now result }
+        IsMisuse (program_of ast.now) locals (name.now, wants_array) result }
 {
     if let Some(function) = function_named(ast, name.as_bytes()) {
         return misused(ast, name, wants_array, Other::Function, function.line);
@@ -168,7 +149,7 @@ fn misused<'a>(
 ) -> IllTyped<'a>
     ensures { (locals : List Declared) → IsUnknown name.now (kinds locals) →
         IsOther (program_of ast.now) locals name.now other line →
-        IsMisuse (program_of ast.now) locals name.now result }
+        IsMisuse (program_of ast.now) locals (name.now, wants_array) result }
 {
     if wants_array {
         return IllTyped::NotArray(Word::of(name), other, line);
@@ -178,13 +159,15 @@ fn misused<'a>(
 
 // A name in an expression is not what must stand there.
 fn of_expr<'a>(ast: &'a Ast, known: &Known<'a>, e: &'a Expr) -> Option<IllTyped<'a>>
-    ensures { MatchOption result (rule.is_fine (names_of known.now) (expr_of e.now) ≡ true)
-        (IsMisuseIn (program_of ast.now) (locals_of known.now) (names_in (expr_of e.now))) }
+    ensures decides { is_some result
+        ≡ not (rule.is_fine (names_of known.now) (expr_of e.now)) }
+    ensures holds { IfSome result
+        (IsMisuseIn (program_of ast.now) (locals_of known.now) (uses_in (expr_of e.now))) }
 {
     match e {
         Expr::Number(_) => None,
-        Expr::Variable(x) => of_use(ast, known, x, false),
-        Expr::Length(a) => of_use(ast, known, a, true),
+        Expr::Variable(x) => Some(of_use(ast, known, x, false)?),
+        Expr::Length(a) => Some(of_use(ast, known, a, true)?),
         Expr::Negative(e) => {
             let reason = of_expr(ast, known, e)?;
             Some(reason)
@@ -212,7 +195,10 @@ fn of_expr<'a>(ast: &'a Ast, known: &Known<'a>, e: &'a Expr) -> Option<IllTyped<
 
 // A name may not be declared.
 fn of_declared<'a>(ast: &'a Ast, known: &Known<'a>, name: &'a Name) -> Option<IllTyped<'a>>
-    ensures { IfSome result (IsNotNew (program_of ast.now) (locals_of known.now) name.now) }
+    ensures decides { is_some result
+        ≡ not (rule.is_new (program_of ast.now) (names_of known.now) name.now) }
+    ensures holds { IfSome result
+        (IsNotNew (program_of ast.now) (locals_of known.now) name.now) }
 {
     match known.newest(name.as_bytes()) {
         Some(local) => Some(IllTyped::Known(Word::of(name), local.line)),
@@ -224,8 +210,11 @@ fn of_declared<'a>(ast: &'a Ast, known: &Known<'a>, name: &'a Name) -> Option<Il
 }
 
 /// A function or a reducer has the name.
+#[tactic(auto, using(crate::proofs::Walking::among_append))]
 pub fn of_global<'a>(ast: &'a Ast, name: &'a Name) -> Option<IllTyped<'a>>
-    ensures { IfSome result (λ r. (locals : List Declared) →
+    ensures decides { is_some result
+        ≡ is_among name.now (rule.globals (program_of ast.now)) }
+    ensures holds { IfSome result (λ r. (locals : List Declared) →
         IsNotNew (program_of ast.now) locals name.now r) }
 {
     if let Some(function) = function_named(ast, name.as_bytes()) {
@@ -239,8 +228,11 @@ pub fn of_global<'a>(ast: &'a Ast, name: &'a Name) -> Option<IllTyped<'a>>
 
 // A declaration names what it may not, or declares what it may not.
 fn of_declare<'a>(ast: &'a Ast, known: &Known<'a>, x: &'a Name, e: &'a Expr) -> Option<IllTyped<'a>>
-    ensures { IfSome result (IsNaming (program_of ast.now) (locals_of known.now)
-        (names_in (expr_of e.now)) (x.now ∷ [])) }
+    ensures decides { is_some result
+        ≡ not (rule.is_fine (names_of known.now) (expr_of e.now)
+        && rule.is_new (program_of ast.now) (names_of known.now) x.now) }
+    ensures holds { IfSome result (IsNaming (program_of ast.now) (locals_of known.now)
+        (uses_in (expr_of e.now)) (x.now ∷ [])) }
 {
     if let Some(reason) = of_expr(ast, known, e) {
         return Some(reason);
@@ -257,8 +249,11 @@ fn of_name_and<'a>(
     wants_array: bool,
     e: &'a Expr,
 ) -> Option<IllTyped<'a>>
-    ensures { IfSome result (IsMisuseIn (program_of ast.now) (locals_of known.now)
-        (x.now ∷ names_in (expr_of e.now))) }
+    ensures decides { is_some result
+        ≡ not (rule.is_known x.now wants_array (names_of known.now)
+        && rule.is_fine (names_of known.now) (expr_of e.now)) }
+    ensures holds { IfSome result (IsMisuseIn (program_of ast.now) (locals_of known.now)
+        ((x.now, wants_array) ∷ uses_in (expr_of e.now))) }
 {
     if let Some(reason) = of_use(ast, known, x, wants_array) {
         return Some(reason);
@@ -275,8 +270,12 @@ fn of_assign_element<'a>(
     i: &'a Expr,
     e: &'a Expr,
 ) -> Option<IllTyped<'a>>
-    ensures { IfSome result (IsMisuseIn (program_of ast.now) (locals_of known.now)
-        (a.now ∷ (names_in (expr_of i.now) ++ names_in (expr_of e.now)))) }
+    ensures decides { is_some result
+        ≡ not (rule.is_array (names_of known.now) a.now
+        && rule.is_fine (names_of known.now) (expr_of i.now)
+        && rule.is_fine (names_of known.now) (expr_of e.now)) }
+    ensures holds { IfSome result (IsMisuseIn (program_of ast.now) (locals_of known.now)
+        ((a.now, true) ∷ (uses_in (expr_of i.now) ++ uses_in (expr_of e.now)))) }
 {
     if let Some(reason) = of_use(ast, known, a, true) {
         return Some(reason);
@@ -287,8 +286,11 @@ fn of_assign_element<'a>(
 
 // One of two expressions names what it may not.
 fn of_two<'a>(ast: &'a Ast, known: &Known<'a>, d: &'a Expr, e: &'a Expr) -> Option<IllTyped<'a>>
-    ensures { IfSome result (IsMisuseIn (program_of ast.now) (locals_of known.now)
-        (names_in (expr_of d.now) ++ names_in (expr_of e.now))) }
+    ensures decides { is_some result
+        ≡ not (rule.is_fine (names_of known.now) (expr_of d.now)
+        && rule.is_fine (names_of known.now) (expr_of e.now)) }
+    ensures holds { IfSome result (IsMisuseIn (program_of ast.now) (locals_of known.now)
+        (uses_in (expr_of d.now) ++ uses_in (expr_of e.now))) }
 {
     if let Some(reason) = of_expr(ast, known, d) {
         return Some(reason);
@@ -299,8 +301,8 @@ fn of_two<'a>(ast: &'a Ast, known: &Known<'a>, d: &'a Expr, e: &'a Expr) -> Opti
 
 // A name is no reducer's.
 fn of_reducer<'a>(ast: &'a Ast, name: &'a Name) -> Option<IllTyped<'a>>
-    ensures { MatchOption result (rule.is_reducer (program_of ast.now) name.now ≡ true)
-        (IsNoReducer (program_of ast.now) name.now) }
+    ensures decides { is_some result ≡ not (rule.is_reducer (program_of ast.now) name.now) }
+    ensures holds { IfSome result (IsNoReducer (program_of ast.now) name.now) }
 {
     match reducer_named(ast, name.as_bytes()) {
         Some(_) => None,
@@ -308,28 +310,85 @@ fn of_reducer<'a>(ast: &'a Ast, name: &'a Name) -> Option<IllTyped<'a>>
     }
 }
 
-// A call does not fit its function.
+// An addition is to no reducer, or adds what names what it may not.
+fn of_add<'a>(ast: &'a Ast, known: &Known<'a>, s: &'a Name, e: &'a Expr) -> Option<IllTyped<'a>>
+    ensures decides { is_some result
+        ≡ not (rule.is_reducer (program_of ast.now) s.now
+        && rule.is_fine (names_of known.now) (expr_of e.now)) }
+    ensures holds { IfSome result (IsUsing (program_of ast.now) (locals_of known.now)
+        (uses_in (expr_of e.now)) (IsNoReducer (program_of ast.now) s.now)) }
+{
+    if let Some(reason) = of_reducer(ast, s) {
+        return Some(reason);
+    }
+    let reason = of_expr(ast, known, e)?;
+    Some(reason)
+}
+
+// A call is of no function, or does not fit it.
 fn of_call<'a>(ast: &'a Ast, known: &Known<'a>, call: &'a Call) -> Option<IllTyped<'a>>
-    ensures { IfSome result (IsBrokenCall (program_of ast.now) (locals_of known.now)
+    ensures decides { is_some result
+        ≡ not (is_right_call (program_of ast.now) (names_of known.now) call.now) }
+    ensures holds { IfSome result (IsBrokenCall (program_of ast.now) (locals_of known.now)
         call.now.target call.now.callee (exprs_of call.now.arguments.items)) }
 {
-    let name = Word::of(&call.callee);
-    let Some(function) = function_named(ast, call.callee.as_bytes()) else {
-        return Some(IllTyped::NoFunction(name));
-    };
-    if name.is(MAIN) {
+    match function_named(ast, call.callee.as_bytes()) {
+        None => Some(IllTyped::NoFunction(Word::of(&call.callee))),
+        Some(function) => {
+            let reason = of_called(ast, known, function, call)?;
+            Some(reason)
+        }
+    }
+}
+
+// A call does not fit its function.
+fn of_called<'a>(
+    ast: &'a Ast,
+    known: &Known<'a>,
+    function: &'a Function,
+    call: &'a Call,
+) -> Option<IllTyped<'a>>
+    requires { rule.called call.now.callee (program_of ast.now).functions
+        ≡ Some (function_of function.now) }
+    ensures decides { is_some result
+        ≡ not (is_right_call_of (names_of known.now) (function_of function.now) call.now) }
+    ensures holds { IfSome result (IsBrokenCall (program_of ast.now) (locals_of known.now)
+        call.now.target call.now.callee (exprs_of call.now.arguments.items)) }
+{
+    if function.name.as_bytes() == MAIN {
         return Some(IllTyped::CallsMain);
     }
-    if let Some(target) = &call.target {
-        if let Some(reason) = of_use(ast, known, target, false) {
-            return Some(reason);
-        }
-        if !function.gives_int {
-            return Some(IllTyped::GivesNothing(name, function.line));
-        }
+    if let Some(reason) = of_target(ast, known, function, call) {
+        return Some(reason);
     }
     let reason = of_arguments(ast, known, function, call.arguments.as_slice())?;
     Some(reason)
+}
+
+// The target of a call is no integer, or its function gives none.
+fn of_target<'a>(
+    ast: &'a Ast,
+    known: &Known<'a>,
+    function: &'a Function,
+    call: &'a Call,
+) -> Option<IllTyped<'a>>
+    requires { rule.called call.now.callee (program_of ast.now).functions
+        ≡ Some (function_of function.now) }
+    ensures decides { is_some result
+        ≡ not (rule.is_target (names_of known.now) (function_of function.now) call.now.target) }
+    ensures holds { IfSome result (IsBrokenCall (program_of ast.now) (locals_of known.now)
+        call.now.target call.now.callee (exprs_of call.now.arguments.items)) }
+{
+    let Some(target) = &call.target else {
+        return None;
+    };
+    if let Some(reason) = of_use(ast, known, target, false) {
+        return Some(reason);
+    }
+    if !function.gives_int {
+        return Some(IllTyped::GivesNothing(Word::of(&call.callee), function.line));
+    }
+    None
 }
 
 // Arguments do not fit the parameters.
@@ -339,7 +398,10 @@ fn of_arguments<'a>(
     function: &'a Function,
     arguments: &'a [Expr],
 ) -> Option<IllTyped<'a>>
-    ensures { IfSome result (IsBrokenList (program_of ast.now) (locals_of known.now)
+    ensures decides { is_some result
+        ≡ not (rule.are_arguments (names_of known.now) (function_of function.now).params
+        (exprs_of arguments.now)) }
+    ensures holds { IfSome result (IsBrokenList (program_of ast.now) (locals_of known.now)
         (function_of function.now) (exprs_of arguments.now)) }
 {
     let name = Word::of(&function.name);
@@ -378,34 +440,33 @@ fn of_argument<'a>(
     param: &Param,
     e: &'a Expr,
 ) -> Option<IllTyped<'a>>
-    ensures { IfSome result (IsMisuseIn (program_of ast.now) (locals_of known.now)
-        (names_in (expr_of e.now))) }
+    ensures decides { is_some result
+        ≡ not (rule.is_argument (names_of known.now) param.now.is_array (expr_of e.now)
+        || (param.now.is_array && not (is_name (expr_of e.now)))) }
+    ensures holds { IfSome result (IsMisuseIn (program_of ast.now) (locals_of known.now)
+        (uses_in_argument param.now.is_array (expr_of e.now))) }
 {
     if !param.is_array {
         let reason = of_expr(ast, known, e)?;
         return Some(reason);
     }
     match e {
-        Expr::Variable(a) => {
-            let reason = of_use(ast, known, a, true)?;
-            Some(reason)
-        }
+        Expr::Variable(a) => Some(of_use(ast, known, a, true)?),
         _ => None,
     }
 }
 
 // The head of a loop breaks a rule.
 fn of_loop<'a>(ast: &'a Ast, known: &Known<'a>, head: &'a Head) -> Option<IllTyped<'a>>
-    ensures { IfSome result (IsBrokenHead (program_of ast.now) (locals_of known.now)
+    ensures decides { is_some result
+        ≡ not (is_right_head (program_of ast.now) (names_of known.now) head.now) }
+    ensures holds { IfSome result (IsBrokenHead (program_of ast.now) (locals_of known.now)
         head.now.variable head.now.tested head.now.stepped
         (expr_of head.now.from) (expr_of head.now.to)
         head.now.grain head.now.over.items) }
 {
-    let variable = Word::of(&head.variable);
-    for other in [&head.tested, &head.stepped] {
-        if !variable.is(other.as_bytes()) {
-            return Some(IllTyped::HeadNames(variable, Word::of(other)));
-        }
+    if let Some(reason) = of_other_name(head) {
+        return Some(reason);
     }
     if head.grain < 1 || head.grain > MOST_GRAIN {
         return Some(IllTyped::Grain(head.grain));
@@ -420,10 +481,30 @@ fn of_loop<'a>(ast: &'a Ast, known: &Known<'a>, head: &'a Head) -> Option<IllTyp
     Some(reason)
 }
 
+// The head of a loop has another name in place of its variable's.
+fn of_other_name<'a>(head: &'a Head) -> Option<IllTyped<'a>>
+    ensures decides { is_some result
+        ≡ not (same_name head.now.tested head.now.variable
+        && same_name head.now.stepped head.now.variable) }
+    ensures holds { IfSome result
+        (IsWrongHead head.now.variable head.now.tested head.now.stepped head.now.grain) }
+{
+    let variable = Word::of(&head.variable);
+    if head.tested.as_bytes() != head.variable.as_bytes() {
+        return Some(IllTyped::HeadNames(variable, Word::of(&head.tested)));
+    }
+    if head.stepped.as_bytes() != head.variable.as_bytes() {
+        return Some(IllTyped::HeadNames(variable, Word::of(&head.stepped)));
+    }
+    None
+}
+
 // One of these names is no array.
 fn of_arrays<'a>(ast: &'a Ast, known: &Known<'a>, names: &'a [Name]) -> Option<IllTyped<'a>>
-    ensures { IfSome result
-        (IsMisuseIn (program_of ast.now) (locals_of known.now) names.now) }
+    ensures decides { is_some result
+        ≡ not (list_all (λ a. rule.is_array (names_of known.now) a) names.now) }
+    ensures holds { IfSome result
+        (IsMisuseIn (program_of ast.now) (locals_of known.now) (as_arrays names.now)) }
 {
     for a in names {
         if let Some(reason) = of_use(ast, known, a, true) {
@@ -435,7 +516,9 @@ fn of_arrays<'a>(ast: &'a Ast, known: &Known<'a>, names: &'a [Name]) -> Option<I
 
 // A cut breaks a rule.
 fn of_cut<'a>(ast: &'a Ast, known: &Known<'a>, cut: &'a Cut) -> Option<IllTyped<'a>>
-    ensures { IfSome result (IsBrokenCut (program_of ast.now) (locals_of known.now)
+    ensures decides { is_some result
+        ≡ not (is_right_cut (program_of ast.now) (names_of known.now) cut.now) }
+    ensures holds { IfSome result (IsBrokenCut (program_of ast.now) (locals_of known.now)
         cut.now.array (expr_of cut.now.at) cut.now.left cut.now.right) }
 {
     if cut.left.as_bytes() == cut.right.as_bytes() {
@@ -458,7 +541,11 @@ fn of_return<'a>(
     known: &Known<'a>,
     value: &'a Option<Expr>,
 ) -> Option<IllTyped<'a>>
-    ensures { IfSome result (IsBroken (program_of ast.now) (returns_of returns) (locals_of known.now)
+    ensures decides { is_some result
+        ≡ not (rule.may_return (returns_of returns) (names_of known.now)
+        (option_map expr_of value.now)) }
+    ensures holds { IfSome result
+        (IsBroken (program_of ast.now) (returns_of returns) (locals_of known.now)
         (model.Return (option_map expr_of value.now))) }
 {
     match (returns, value) {

@@ -165,7 +165,7 @@ fn of_parts(alloc: Global, out: &mut String, ast: &Ast, line: u32) -> Result<(),
     match passed_by_parts(alloc, ast, line)? {
         Some(reason) => write!(out, "{reason}\n")?,
         None => {
-            let reason = passed_by_code(ast);
+            let reason = passed_by_code(alloc, ast)?;
             write!(out, "{reason}\n")?;
         }
     }

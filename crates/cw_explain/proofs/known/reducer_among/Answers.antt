@@ -1,4 +1,4 @@
-use Rattle.std.proofs.Common.{rules, arith, get_or, ◌≡◌, ◌<◌, bytes_eq, true, length, sym, ◌∙◌, ap}
+use Rattle.std.proofs.Common.{arith, get_or, ◌≡◌, bytes_eq, true, sym, ◌∙◌, ap}
 use Rattle.std.proofs.lemmas.Grind.{common_steps}
 use Rattle.cw_explain.proofs.Walking.{named}
 use Rattle.cw_explain.proofs.known.reducer_among.Goals as goal

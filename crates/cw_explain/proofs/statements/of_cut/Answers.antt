@@ -5,16 +5,16 @@ use Rattle.cw_explain.specs.Reasons.{Taken}
 use Rattle.cw_explain.proofs.Misuse.{not_new_at}
 use Rattle.cw_explain.proofs.statements.of_cut.Goals as goal
 
-pub returns-in-Some-of_declared : goal.returns-in-Some-of_declared
-returns-in-Some-of_declared c =
+pub returns-in-Some-of_declared-clause-holds : goal.returns-in-Some-of_declared-clause-holds
+returns-in-Some-of_declared-clause-holds c =
     let x = c.args.cut.now.left in
     let y = c.args.cut.now.right in
     Taken (not_new_at (program_of c.args.ast.now) (locals_of c.args.known.now) x [] (y ∷ []) (x ∷ y ∷ []) c.in-Some-of_declared.reason
-    refl c.in-Some-of_declared.ensures)
+    refl c.in-Some-of_declared.ensures.holds)
 
-pub returns : goal.returns
-returns c =
+pub returns-clause-holds : goal.returns-clause-holds
+returns-clause-holds c =
     let x = c.args.cut.now.left in
     let y = c.args.cut.now.right in
     Taken (not_new_at (program_of c.args.ast.now) (locals_of c.args.known.now) y (x ∷ []) [] (x ∷ y ∷ []) c.in_ok-reason.reason
-    refl c.in_ok-reason.ensures)
+    refl c.in_ok-reason.ensures.holds)

@@ -5,7 +5,7 @@ use Rattle.cw_explain.specs.Reasons.{Taken}
 use Rattle.cw_explain.proofs.Misuse.{not_new_at}
 use Rattle.cw_explain.proofs.statements.of_declare.Goals as goal
 
-pub returns : goal.returns
-returns c =
+pub returns-clause-holds : goal.returns-clause-holds
+returns-clause-holds c =
     let x = c.args.x.now in
-    Taken (not_new_at (program_of c.args.ast.now) (locals_of c.args.known.now) x [] [] (x ∷ []) c.in_ok-reason.reason refl c.in_ok-reason.ensures)
+    Taken (not_new_at (program_of c.args.ast.now) (locals_of c.args.known.now) x [] [] (x ∷ []) c.in_ok-reason.reason refl c.in_ok-reason.ensures.holds)

@@ -1,0 +1,14 @@
+use Rattle.std.proofs.Common.{subst, true}
+use Rattle.cw_model.specs.Syntax.{Name}
+use Rattle.cw_tree.specs.SyntaxView.{program_of}
+use Rattle.cw_explain.specs.Names.{locals_of}
+use Rattle.cw_explain.specs.Reasons.{IsMisuse}
+use Rattle.cw_explain.proofs.Misuse.{in_arrays}
+use Rattle.cw_explain.proofs.statements.of_arrays.Goals as goal
+
+pub returns-in-Some-clause-holds : goal.returns-in-Some-clause-holds
+returns-in-Some-clause-holds c =
+    let program = program_of c.args.ast.now in
+    let locals = locals_of c.args.known.now in
+    in_arrays program locals c.args.names.now c.loop-a.a-index c.a-item.result c.in-Some.reason c.loop-a-test.true
+    (subst (λ (x : Name). IsMisuse program locals (x, true) c.in-Some.reason) c.a-item.is c.in-Some.ensures.holds)

@@ -1,0 +1,95 @@
+-- What it means that a reason of names and types is told of a line of a program.
+use Rattle.std.specs.Prelude.{◌≡◌, ◌≢◌, ℕ, true, false, List, [], ◌++◌, Some, Contains}
+use Rattle.std.specs.List.{slice_get}
+use Rattle.cw_model.specs.Answers.{main_name}
+use Rattle.cw_model.specs.Names.{is_among, same_name}
+use Rattle.cw_model.specs.Syntax.{Name, Block, End, Then, Param, Function, Program}
+use Rattle.cw_model.specs.Typing.{block_returns, surely_returns}
+use Rattle.cw_explain.specs.Names.{function_names, functions_named, param_names, reducers_named}
+use Rattle.cw_explain.specs.Reasons.{IsBroken, IsNotNewIn}
+use Rattle.cw_explain.specs.Standing.{Standing, standing_of}
+use Rattle.cw_explain.specs.declared.typing.IllTyped.{IllTyped}
+use Rattle.cw_explain.specs.declared.typing.IllTyped.TheVariants as reason
+
+-- both stand in the list, at different places
+pub record AreBothIn {X : Type 0} (xs : List X) (x y : X) : Type 0 where
+  pub place : ℕ
+  pub other : ℕ
+  pub apart : place ≢ other
+  pub one : slice_get xs place ≡ Some x
+  pub more : slice_get xs other ≡ Some y
+
+-- no function is called main
+abbrev pub IsNoMain : Program → IllTyped → Type 0
+IsNoMain program reason.NoMain = is_among main_name (function_names program.functions) ≡ false
+IsNoMain program _ = ⊥
+
+-- of these names one is there in the line and in another line, or twice in it
+abbrev pub IsRepeatedIn : List (Name × ℕ) → (line : ℕ) → IllTyped → Type 0
+IsRepeatedIn names line (reason.Repeated word other) = AreBothIn names (word.text.now, other) (word.text.now, line)
+IsRepeatedIn names line _ = ⊥
+
+-- a function or a reducer of the line has the name of another one
+abbrev pub IsRepeated : Program → (line : ℕ) → IllTyped → Type 0
+IsRepeated program = IsRepeatedIn (functions_named program.functions ++ reducers_named program.reducers)
+
+-- two parameters have one name
+abbrev pub IsTwice : List Param → IllTyped → Type 0
+IsTwice params (reason.ParameterTwice word) = AreBothIn (param_names params) word.text.now word.text.now
+IsTwice params _ = ⊥
+
+-- two parameters have one name, or one has that of a function or a reducer
+pub data IsWrongParams (program : Program) (params : List Param) (r : IllTyped) : Type 0 where
+  AreAlike : IsTwice params r → IsWrongParams program params r
+  IsGlobal : IsNotNewIn program [] (param_names params) r → IsWrongParams program params r
+
+-- the function is main, and gives nothing or takes an array
+abbrev pub IsWrongMain : Function → IllTyped → Type 0
+IsWrongMain f reason.MainGivesNothing = (same_name f.name main_name ≡ true) × (f.gives_int ≡ false)
+IsWrongMain f (reason.MainTakesArray word) =
+    (same_name f.name main_name ≡ true) × Contains f.params (record { name = word.text.now; is_array = true })
+IsWrongMain f _ = ⊥
+
+-- the function gives an integer, and does not surely return
+abbrev pub MayEnd : Function → IllTyped → Type 0
+MayEnd f (reason.MayNotReturn word) = (word.text.now ≡ f.name) × (f.gives_int ≡ true) × (block_returns f.body ≡ false)
+MayEnd f _ = ⊥
+
+-- the head of a function breaks a rule
+pub data IsWrongFunction (program : Program) (f : Function) (r : IllTyped) : Type 0 where
+  OfParams : IsWrongParams program f.params r → IsWrongFunction program f r
+  OfReturns : MayEnd f r → IsWrongFunction program f r
+  OfMain : IsWrongMain f r → IsWrongFunction program f r
+
+-- the first statement of the block is of this line
+abbrev pub BeginsAt : ℕ → Block → Type 0
+BeginsAt line End = ⊥
+BeginsAt line (Then first s b) = first ≡ line
+
+-- something follows a statement that surely returns, from this line on
+abbrev pub IsNeverReached : Standing → IllTyped → Type 0
+IsNeverReached s (reason.NeverReached line) = (surely_returns s.stmt ≡ true) × BeginsAt line s.behind
+IsNeverReached s _ = ⊥
+
+-- a statement breaks a rule where it stands, or what follows it is never reached
+pub data IsWrongAt (program : Program) (s : Standing) (r : IllTyped) : Type 0 where
+  Breaks : IsBroken program s.returns s.locals s.stmt r → IsWrongAt program s r
+  Ends : IsNeverReached s r → IsWrongAt program s r
+
+-- one of these statements, of the line, does
+pub record IsToldAmong (program : Program) (line : ℕ) (statements : List Standing) (r : IllTyped) : Type 0 where
+  pub statement : Standing
+  pub there : Contains statements statement
+  pub at_line : statement.line ≡ line
+  pub wrong : IsWrongAt program statement r
+
+-- the head of a function or a statement of it, of the line, breaks a rule
+pub data IsToldOf (program : Program) (line : ℕ) (f : Function) (r : IllTyped) : Type 0 where
+  OfHead : f.line ≡ line → IsWrongFunction program f r → IsToldOf program line f r
+  OfStatement : IsToldAmong program line (standing_of f) r → IsToldOf program line f r
+
+-- the line breaks a rule of names and types for this reason
+pub data IsTold (program : Program) (line : ℕ) (r : IllTyped) : Type 0 where
+  OfProgram : line ≡ 1 → IsNoMain program r → IsTold program line r
+  OfNames : IsRepeated program line r → IsTold program line r
+  OfFunction : (f : Function) → Contains program.functions f → IsToldOf program line f r → IsTold program line r
