@@ -1,0 +1,118 @@
+//! What a strand makes of its job.
+
+ghost use Rattle.std.specs.Prelude.{◌≡◌, [], length};
+ghost use Rattle.cw_machine.specs.declared.run.Stop.TheVariants as stop;
+ghost use Rattle.cw_machine.specs.JobRuns as runs;
+ghost use Rattle.cw_jobs.specs.Means.{IsMeaningOf};
+ghost use Rattle.cw_strand.specs.Holds.{its_job, outs, HasStopped, IsRunning};
+ghost use Rattle.cw_strand.specs.Moves.{HasCome, IsShown};
+
+use crate::lending::empty_rest;
+use crate::strand::{Mode, Strand};
+use cw_code::laws::runs_stay_in_their_functions;
+use cw_jobs::call::Rest;
+use cw_jobs::effect::{Effect, Shown};
+use cw_machine::laws::machines_that_stop_remain;
+use cw_machine::machine::Machine;
+use cw_machine::run::Run;
+use cw_meter::Meter;
+use cw_metered::laws::calls_keep_what_meters_tell;
+use cw_slices::Slice;
+use cw_strands::laws::{calls_on_a_strand_keep_its_job, rests_stay_in_their_functions};
+use std::mem;
+
+// What a run has shown and counted in so many instructions.
+fn shown(run: &mut Run, cost: u64) -> Shown
+    ensures { IsShown run.old cost result }
+{
+    let alloc = *run.machine.lines.allocator();
+    Shown {
+        lines: mem::replace(&mut run.machine.lines, Vec::new(alloc)),
+        sums: mem::replace(&mut run.machine.sums, Vec::new(alloc)),
+        meter: mem::replace(&mut run.meter, Meter::apart(alloc, 0, 0)),
+        cost,
+    }
+}
+
+// The slices that a machine was given, of one that stopped.
+fn given_up(machine: &mut Machine, rest: &mut Rest) -> Vec<Slice>
+    requires { runs.MayGiveUp machine.old (length rest.old.slices.items) }
+    ensures { runs.GivesUp machine.old (length rest.old.slices.items) result.items }
+{
+    let alloc = *machine.lines.allocator();
+    machine.give_up(rest);
+    mem::replace(&mut rest.slices, Vec::new(alloc))
+}
+
+impl Strand {
+    // The effect of a strand that stopped and has nothing out.
+    pub(crate) fn stop_effect(&mut self) -> Effect
+        requires running { IsRunning self.old }
+        requires stopped { HasStopped self.old }
+        requires none { outs self.old ≡ [] }
+        ensures of { self.new.of ≡ self.old.of }
+        ensures means { IsMeaningOf (its_job self.old) result }
+    {
+        calls_on_a_strand_keep_its_job();
+        machines_that_stop_remain();
+        let alloc = *self.lent.allocator();
+        match self.mode {
+            Mode::Trapped(trap, line) => {
+                let lines = mem::replace(&mut self.run.machine.lines, Vec::new(alloc));
+                let back = given_up(&mut self.run.machine, &mut self.parts.rest);
+                Effect::Trapped {
+                    trap,
+                    line,
+                    lines,
+                    cost: self.count,
+                    back,
+                }
+            }
+            Mode::Over => Effect::OverLimit {
+                back: given_up(&mut self.run.machine, &mut self.parts.rest),
+            },
+            _ => Effect::Memory {
+                back: Vec::new(alloc),
+            },
+        }
+    }
+
+    // The effect of a strand whose call has ended, with this value if it gives one.
+    pub(crate) fn call_effect(&mut self, value: Option<i64>, end: u64) -> Effect
+        requires comes { HasCome self.old end (stop.Gave value) }
+        ensures of { self.new.of ≡ self.old.of }
+        ensures means { IsMeaningOf (its_job self.old) result }
+        ensures none { outs self.old ≡ [] }
+    {
+        calls_on_a_strand_keep_its_job();
+        Effect::Ended {
+            value,
+            shown: shown(&mut self.run, self.count),
+        }
+    }
+
+    // The effect of a strand that is at the join of its job.
+    pub(crate) fn join_effect(&mut self, end: u64) -> Effect
+        requires comes { HasCome self.old end stop.Joined }
+        ensures of { self.new.of ≡ self.old.of }
+        ensures means { IsMeaningOf (its_job self.old) result }
+        ensures none { outs self.old ≡ [] }
+    {
+        calls_on_a_strand_keep_its_job();
+        calls_keep_what_meters_tell();
+        rests_stay_in_their_functions();
+        runs_stay_in_their_functions();
+        let alloc = *self.lent.allocator();
+        let mut replaced = Vec::new(alloc);
+        match self.run.machine.finish(&mut self.parts.rest, &mut replaced) {
+            Ok(()) => Effect::Joined {
+                frame: mem::replace(&mut self.parts.rest, empty_rest(alloc)),
+                replaced,
+                shown: shown(&mut self.run, self.count),
+            },
+            Err(_) => Effect::Memory {
+                back: Vec::new(alloc),
+            },
+        }
+    }
+}

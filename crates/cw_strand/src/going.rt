@@ -1,0 +1,136 @@
+//! A strand goes on.
+
+ghost use Rattle.std.specs.Prelude.{◌≡◌, ◌-◌, ◌≤◌, [], IsSome};
+ghost use Rattle.cw_strand.specs.declared.strand.Mode.TheVariants as mode;
+ghost use Rattle.cw_strand.specs.Holds.{its_parts, outs, HasStopped, IsRunning};
+ghost use Rattle.cw_strand.specs.Moves.{EndsBy, HasCome, IsSame, IsStill, KeptBy};
+
+use crate::strand::{Mode, Step, Strand};
+use cw_jobs::effect::Effect;
+use cw_machine::laws::machines_that_stop_remain;
+use cw_machine::run::Stop;
+use cw_strands::laws::calls_on_a_strand_keep_its_job;
+
+impl Strand {
+    // As many instructions as its job may have in all.
+    fn end_of_job(&self) -> u64
+        requires { IsRunning self.now }
+        ensures end { result ≡ (its_parts self.now).limit - (its_parts self.now).before }
+        ensures above { self.now.count ≤ result }
+    {
+        self.parts.limit - self.parts.before
+    }
+
+    // The run goes on up to its next stop, within so many instructions in all.
+    pub(crate) fn run_on(&mut self, limit: u64) -> Stop
+        requires running { IsRunning self.old }
+        requires going { self.old.mode ≡ mode.Going }
+        requires above { self.old.count ≤ limit }
+        requires within { limit ≤ (its_parts self.old).limit - (its_parts self.old).before }
+        ensures same { IsSame self.old self.new }
+        ensures comes { HasCome self.new limit result }
+        ensures still { limit ≡ self.old.count → IsStill result }
+    {
+        calls_on_a_strand_keep_its_job();
+        let (stop, count) = self.run.go_on(&self.parts.code, self.count, limit, true);
+        self.count = count;
+        stop
+    }
+
+    // The strand has stopped for good: it ends where nothing is out.
+    pub(crate) fn rest(&mut self) -> Step
+        requires running { IsRunning self.old }
+        requires stopped { HasStopped self.old }
+        ensures of { self.new.of ≡ self.old.of }
+        ensures keeps { KeptBy result self.old self.new }
+    {
+        if self.lent.is_empty() {
+            return Step::Ended(self.stop_effect());
+        }
+        Step::AtSync
+    }
+
+    // What a strand that went on came to.
+    fn settle(&mut self, stop: Stop, end: u64) -> Step
+        requires comes { HasCome self.old end stop }
+        requires end { end ≡ (its_parts self.old).limit - (its_parts self.old).before }
+        ensures of { self.new.of ≡ self.old.of }
+        ensures keeps { KeptBy result self.old self.new }
+    {
+        calls_on_a_strand_keep_its_job();
+        machines_that_stop_remain();
+        match stop {
+            Stop::Spawned(spawn) => self.lend(spawn, end),
+            Stop::CameBack => {
+                self.mode = Mode::Waiting;
+                Step::AtSync
+            }
+            Stop::Joined => Step::Ended(self.join_effect(end)),
+            Stop::Gave(value) => Step::Ended(self.call_effect(value, end)),
+            Stop::Trapped(trap, line) => {
+                self.mode = Mode::Trapped(trap, line);
+                self.rest()
+            }
+            Stop::Over => {
+                self.mode = Mode::Over;
+                self.rest()
+            }
+            Stop::NoMemory => {
+                self.mode = Mode::Memory;
+                self.rest()
+            }
+        }
+    }
+
+    // The effect of a strand that goes on, where it is at the join of its job.
+    fn end_at_join(&mut self) -> Option<Effect>
+        requires running { IsRunning self.old }
+        requires going { self.old.mode ≡ mode.Going }
+        ensures of { self.new.of ≡ self.old.of }
+        ensures ends { EndsBy result self.old self.new }
+    {
+        let count = self.count;
+        let stop = self.run_on(count);
+        match stop {
+            Stop::Joined => Some(self.join_effect(count)),
+            Stop::Over => None,
+            _ => unreachable!(),
+        }
+    }
+
+    /// Goes on to its next event: a spawn, whose rest it hands out; `AtSync`, where the newest job out must come back
+    /// first; or its end, with an effect that means its job. Where memory was wanting, that is its effect.
+    pub fn go(&mut self) -> Step
+        requires { IsRunning self.old }
+        ensures of { self.new.of ≡ self.old.of }
+        ensures keeps { KeptBy result self.old self.new }
+    {
+        match self.mode {
+            Mode::Going => {
+                let end = self.end_of_job();
+                let stop = self.run_on(end);
+                self.settle(stop, end)
+            }
+            Mode::Waiting => Step::AtSync,
+            _ => self.rest(),
+        }
+    }
+
+    /// Ends the strand, without an instruction, where it has come to its end: where it has stopped, or is at the join of
+    /// its job, and nothing is out; its effect means its job. None where it is not at its end: then it goes on as before.
+    pub fn end(&mut self) -> Option<Effect>
+        requires { IsRunning self.old }
+        ensures of { self.new.of ≡ self.old.of }
+        ensures ends { EndsBy result self.old self.new }
+        ensures stopped { HasStopped self.old → outs self.old ≡ [] → IsSome result }
+    {
+        if !self.lent.is_empty() {
+            return None;
+        }
+        match self.mode {
+            Mode::Going => self.end_at_join(),
+            Mode::Waiting => None,
+            _ => Some(self.stop_effect()),
+        }
+    }
+}

@@ -1,0 +1,121 @@
+//! The rest of a block is handed out as a job.
+
+ghost use Rattle.std.specs.Prelude.{◌≡◌, ◌+◌, ◌≤◌, ◌<◌, ◌-◌, Some, slice_get, IfOk, OnOk, OnErr, MatchResult};
+ghost use Rattle.std.specs.Vec.{vec_len, vec_capacity};
+ghost use Rattle.cw_jobs.specs.Jobs.{code_of};
+ghost use Rattle.cw_machine.specs.declared.run.Stop.TheVariants as stop;
+ghost use Rattle.cw_machine.specs.Calls.{listed};
+ghost use Rattle.cw_strand.specs.Holds.{its_parts, its_code, AreSpare};
+ghost use Rattle.cw_strand.specs.Moves.{HasCome, KeptBy, HasCut, HasSpared, IsAddressed};
+
+use crate::strand::{Lent, Mode, Step, Strand};
+use cw_jobs::call::{Extent, Parts, Rest};
+use cw_jobs::job::Job;
+use cw_machine::laws::machines_that_stop_remain;
+use cw_machine::run::Spawn;
+use cw_strands::laws::calls_on_a_strand_keep_its_job;
+use cw_verify::verified::Verified;
+use std::alloc::{AllocError, Global};
+use std::snapshot::Snapshot;
+
+// A rest of nothing.
+pub(crate) fn empty_rest(alloc: Global) -> Rest {
+    Rest {
+        place: 0,
+        depth: 0,
+        cells: Vec::new(alloc),
+        slices: Vec::new(alloc),
+    }
+}
+
+// The array slots of a list of the code; where there is no list, there are none.
+fn slots_named(code: &Verified, k: u32) -> &[u32]
+    ensures { result.now ≡ listed code.now k }
+{
+    let at = k as usize;
+    if at < code.code.passed.len() {
+        code.code.passed[at].as_slice()
+    } else {
+        &[]
+    }
+}
+
+// The parts of a rest are told what a job of it must know, which is cut out of another job, at a site and after so many
+// instructions.
+fn address(parts: &mut Parts, of: &Parts, site: u32, count: u64)
+    requires { of.now.before + count ≤ of.now.limit }
+    ensures { IsAddressed parts.old of.now site count parts.new }
+{
+    parts.extent = Extent::ToJoin;
+    parts.site = site;
+    parts.burden = of.burden;
+    parts.limit = of.limit;
+    parts.before = of.before + count;
+}
+
+impl Strand {
+    // A box for a rest of the strand's code: one that is spare, or a new one.
+    fn shell(&mut self) -> Result<Box<Parts>, AllocError>
+        requires spares { AreSpare self.old }
+        requires code { code_of self.old.parts.value ≡ its_code self.old }
+        ensures stays { HasSpared self.old self.new }
+        ensures code { IfOk result (λ b. code_of b.value ≡ its_code self.old) }
+    {
+        if let Some(parts) = self.spares.pop() {
+            return Ok(parts);
+        }
+        let alloc = *self.lent.allocator();
+        let parts = Parts {
+            code: self.parts.code.clone()?,
+            extent: Extent::ToJoin,
+            rest: empty_rest(alloc),
+            site: 0,
+            burden: 0,
+            limit: 0,
+            before: 0,
+        };
+        let parts = Box::new(alloc, parts)?;
+        Ok(parts)
+    }
+
+    // The rest of the block that has just spawned a call, as a job's parts, with the cell of its call's first array slot.
+    fn cut_out(&mut self, spawn: &Spawn, end: u64) -> Result<(Box<Parts>, usize), AllocError>
+        requires comes { HasCome self.old end (stop.Spawned spawn.now) }
+        ensures cut { IfOk result (λ x. HasCut self.old self.new spawn.now x.0.value x.1) }
+        ensures kept { OnErr result (HasSpared self.old self.new) }
+        ensures room { OnOk result (vec_len self.new.lent < vec_capacity self.new.lent) }
+    {
+        calls_on_a_strand_keep_its_job();
+        let mut parts = self.shell()?;
+        self.lent.reserve(1)?;
+        let slots = slots_named(&self.parts.code, spawn.passed);
+        let first = self.run.machine.hand_out(slots, &mut parts.rest)?;
+        address(&mut parts, &self.parts, spawn.site, self.count);
+        Ok((parts, first))
+    }
+
+    // The rest of the block that has just spawned a call is handed out.
+    pub(crate) fn lend(&mut self, spawn: Spawn, end: u64) -> Step
+        requires comes { HasCome self.old end (stop.Spawned spawn) }
+        ensures of { self.new.of ≡ self.old.of }
+        ensures keeps { KeptBy result self.old self.new }
+    {
+        calls_on_a_strand_keep_its_job();
+        machines_that_stop_remain();
+        match self.cut_out(&spawn, end) {
+            Ok((parts, first)) => {
+                let job = Job { parts };
+                self.lent.push_reserved(Lent {
+                    job: Snapshot::of(&job),
+                    first,
+                    target: spawn.target,
+                });
+                Step::Spawned(job)
+            }
+            Err(_) => {
+                self.mode = Mode::Memory;
+                self.rest()
+            }
+        }
+    }
+}
