@@ -248,6 +248,8 @@ pub record LeavesOthers (m : Machine) (count a : ℕ) (m' : Machine) : Type 0 wh
   pub views : m'.views.items ≡ m.views.items
   pub place : m'.place ≡ m.place
   pub depth : m'.depth ≡ m.depth
+  pub lines : m'.lines.items ≡ m.lines.items
+  pub sums : m'.sums.items ≡ m.sums.items
 
 -- what comes of the array in a slot: the slot's own slice comes home, the array's numbers are in what comes back, and
 -- where it is as long as the slot's own slice it is in that

@@ -1,0 +1,193 @@
+-- How a strand in memory holds a strand of the definitions.
+use Rattle.std.specs.Prelude.{◌≡◌, ◌≢◌, ℕ, ◌+◌, ◌-◌, ◌≤◌, List, [], ◌∷◌, length, map, reverse, Some, slice_get}
+use Rattle.std.specs.Arc.{arc_value}
+use Rattle.cw_model.specs.declared.limits.TheConstants.{MOST_LIMIT, MOST_BURDEN}
+use Rattle.cw_code.specs.Code.{code_view}
+use Rattle.cw_code.specs.Run.{Around, State}
+use Rattle.cw_meter.specs.Origins.{Main, Rest}
+use Rattle.cw_strands.specs.Jobs as jobs
+use Rattle.cw_strands.specs.Jobs.{ToJoin}
+use Rattle.cw_strands.specs.Over.{beneath}
+use Rattle.cw_strands.specs.Strands as strands
+use Rattle.cw_strands.specs.Strands.{Going, Waits, Halted, rest_of}
+use Rattle.cw_strands.specs.Promises.{IsStrandOf}
+use Rattle.cw_metered.specs.Strands.{IsFrom, site_at}
+use Rattle.cw_verify.specs.declared.verified.Verified.{Verified}
+use Rattle.cw_jobs.specs.declared.call.Extent.{Extent}
+use Rattle.cw_jobs.specs.declared.call.Extent.TheVariants as extent
+use Rattle.cw_jobs.specs.declared.call.Parts.{Parts}
+use Rattle.cw_jobs.specs.declared.job.Job.{Job}
+use Rattle.cw_jobs.specs.Calls.{placed}
+use Rattle.cw_jobs.specs.Jobs.{extent_of, begins_at, origin_of, code_of, IsJob}
+use Rattle.cw_machine.specs.Arrays.{Out, IsFit, Ok}
+use Rattle.cw_machine.specs.Shows.{Remains}
+use Rattle.cw_machine.specs.Hands.{ComesRound}
+use Rattle.cw_machine.specs.Shows.{Comes}
+use Rattle.cw_machine.specs.Rests.{with_outs}
+use Rattle.cw_machine.specs.Unwinding.{LieBelow}
+use Rattle.cw_machine.specs.JobRuns.{ok_of, IsBase, IsEmptied}
+use Rattle.cw_machine.specs.Stretches.{StandsRound, Setting, ShowsRun}
+use Rattle.cw_strand.specs.declared.strand.Lent.{Lent}
+use Rattle.cw_strand.specs.declared.strand.Mode.{Mode}
+use Rattle.cw_strand.specs.declared.strand.Mode.TheVariants as mode
+use Rattle.cw_strand.specs.declared.strand.Strand.{Strand}
+use Rattle.cw_strand.specs.Levels.{Level, levels_of, IsBackAt, waiting_over}
+
+-- the job of a strand, and the jobs that it has out, the newest first
+abbrev pub its_job : Strand → Job
+its_job self = self.of.value
+
+abbrev pub outs : Strand → List Job
+outs self = map (λ l. l.job.value) (reverse self.lent.items)
+
+-- what the job of a strand is made of, and its code
+abbrev pub its_parts : Strand → Parts
+its_parts self = (its_job self).parts.value
+
+abbrev pub its_code : Strand → Verified
+its_code self = code_of (its_parts self)
+
+-- what a job that is out is made of
+abbrev pub lent_parts : Lent → Parts
+lent_parts h = h.job.value.parts.value
+
+-- a meter begins as a job says
+abbrev pub begins_as : (x : Extent) (site : ℕ) → IsFrom (begins_at x site) (extent_of x)
+begins_as extent.WholeCall site = tt
+begins_as extent.ToJoin site = tt
+
+-- what a job stands on as it is run: what stands round it, how many parameters of its call lie still; and at the join
+-- of
+-- a rest its arrays go back to where they lay
+pub record Ground (v : Verified) (is : IsFit v) (p : Parts) (j : jobs.Job) : Type 0 where
+  pub job : IsJob v is p j
+  pub light : p.burden ≤ MOST_BURDEN
+  pub base : State
+  pub round : StandsRound (extent_of p.extent) base
+  pub params : ℕ
+  pub joins : p.extent ≡ extent.ToJoin → (b : IsBase v is j p.rest base) × (params ≡ b.good.seat.func.array_params)
+
+-- the run of the job, as its machine and its meter know it
+abbrev pub setting_of : {v : Verified} {is : IsFit v} {p : Parts} {j : jobs.Job} → Ground v is p j → Setting
+setting_of {v} {is} {p} {j} g = record {
+  extent = extent_of p.extent;
+  base = g.base;
+  round = g.round;
+  from = origin_of p;
+  begins = begins_as p.extent p.site;
+  burden = p.burden;
+  light = g.light;
+  stops = true;
+}
+
+-- with these arrays out
+abbrev pub ok_with : {v : Verified} {is : IsFit v} {p : Parts} {j : jobs.Job} → Ground v is p j → List Out → Ok v
+ok_with {v} {is} {p} {j} g outs = with_outs (ok_of v is g.params p.rest.slices.items (length g.base.around)) outs
+
+-- a job that is out is the rest of the block that waits at a level, with what is out of the machine for it
+pub record IsLent (v : Verified) (is : IsFit v) (p : Parts) (base : State) (l : Level) (o : Out) (h : Lent) : Type 0
+  where
+    pub level : o.level ≡ length (beneath base l.around)
+    pub first : o.first ≡ h.first
+    pub slices : o.slices ≡ (lent_parts h).rest.slices.items
+    pub job : IsJob v is (lent_parts h) (rest_of l.waiting p.limit (lent_parts h).before)
+    pub code : code_of (lent_parts h) ≡ v
+    pub joins : (lent_parts h).extent ≡ extent.ToJoin
+    pub burden : (lent_parts h).burden ≡ p.burden
+    pub site : (lent_parts h).site ≡ site_at (origin_of p) l.around
+    pub target : h.target ≡ l.waiting.target
+    pub comes : Comes (lent_parts h).rest.cells.items 0 (length l.waiting.slots)
+        (waiting_over base l.waiting l.around).results
+        × ComesRound (lent_parts h).rest.cells.items 0 (length l.waiting.slots) (beneath base l.around)
+
+-- and so is each, the newest first; what is out of one lies above what is out of the older ones
+abbrev pub Lends : (v : Verified) → IsFit v → Parts → (base : State) → List Level → List Out → List Lent → Type 0
+Lends v is p base [] [] [] = Unit {0}
+Lends v is p base (l ∷ levels) (o ∷ outs) (h ∷ lent) =
+    IsLent v is p base l o h × LieBelow outs o.first × Lends v is p base levels outs lent
+Lends v is p base _ _ _ = ⊥
+
+-- the jobs of the definitions that are out
+abbrev pub rests_at : Parts → List Level → List Lent → List jobs.Job
+rests_at p (l ∷ levels) (h ∷ lent) = rest_of l.waiting p.limit (lent_parts h).before ∷ rests_at p levels lent
+rests_at p _ _ = []
+
+-- the run of a strand shows a state after so many instructions, with a job out at each of these levels
+pub record Runs (self : Strand) (is : IsFit (its_code self)) (j : jobs.Job) (g : Ground (its_code self) is (its_parts self) j)
+    (levels : List Level) (s : State) (count : ℕ) (jobs_out : List jobs.Job) : Type 0 where
+  pub counts : count ≡ self.count
+  pub outs : List Out
+  pub lends : Lends (its_code self) is (its_parts self) g.base levels outs (reverse self.lent.items)
+  pub are : jobs_out ≡ rests_at (its_parts self) levels (reverse self.lent.items)
+  pub shows : ShowsRun (its_code self) (ok_with g outs) (setting_of g) self.count self.run s
+
+-- a spawned call has returned, and its rest is the newest job out
+pub record Waited (self : Strand) (is : IsFit (its_code self)) (j : jobs.Job)
+    (g : Ground (its_code self) is (its_parts self) j) (s : State) (count : ℕ) (jobs_out : List jobs.Job) : Type 0 where
+  pub level : Level
+  pub back : IsBackAt level s
+  pub runs : Runs self is j g (level ∷ levels_of s.around) s count jobs_out
+
+-- of a strand that stopped the arrays are known, and where each is to come home
+pub record Stands (self : Strand) (is : IsFit (its_code self)) (j : jobs.Job)
+    (g : Ground (its_code self) is (its_parts self) j) : Type 0 where
+  pub levels : List Level
+  pub outs : List Out
+  pub lends : Lends (its_code self) is (its_parts self) g.base levels outs (reverse self.lent.items)
+  pub remains : Remains (its_code self) (ok_with g outs) self.run.machine
+
+abbrev pub HeldIn : (self : Strand) (is : IsFit (its_code self)) (j : jobs.Job)
+    → Ground (its_code self) is (its_parts self) j → Mode → strands.Strand → Type 0
+HeldIn self is j g mode.Going (Going s count jobs_out) = Runs self is j g (levels_of s.around) s count jobs_out
+HeldIn self is j g mode.Waiting (Waits s count jobs_out) = Waited self is j g s count jobs_out
+HeldIn self is j g (mode.Trapped c l) (Halted e jobs_out) =
+    (e ≡ jobs.TrapIn c l self.run.machine.lines.items self.count) × Stands self is j g
+HeldIn self is j g mode.Over (Halted e jobs_out) = (e ≡ jobs.OverLimit) × Stands self is j g
+HeldIn self is j g mode.Memory (Halted e jobs_out) = e ≡ jobs.Memory
+HeldIn self is j g _ _ = ⊥
+
+-- A STRAND HOLDS A STRAND OF THE DEFINITIONS, which is one of its job
+pub record Holds (self : Strand) (is : IsFit (its_code self)) (j : jobs.Job) : Type 0 where
+  pub ground : Ground (its_code self) is (its_parts self) j
+  pub strand : strands.Strand
+  pub is_of : IsStrandOf (code_view (its_code self).code) j strand
+  pub held : HeldIn self is j ground self.mode strand
+
+-- what a strand keeps of its job: all but the arrays
+pub record KeepsJob (self : Strand) : Type 0 where
+  pub code : code_of self.parts.value ≡ its_code self
+  pub extent : self.parts.value.extent ≡ (its_parts self).extent
+  pub site : self.parts.value.site ≡ (its_parts self).site
+  pub burden : self.parts.value.burden ≡ (its_parts self).burden
+  pub limit : self.parts.value.limit ≡ (its_parts self).limit
+  pub before : self.parts.value.before ≡ (its_parts self).before
+  pub rest : IsEmptied (its_parts self).rest self.parts.value.rest
+  -- its numbers are in their ranges, and it did not pass its limit
+  pub within : (its_parts self).before + self.count ≤ (its_parts self).limit
+  pub range : (its_parts self).limit ≤ MOST_LIMIT
+
+-- boxes that are used again have a share of the strand's code
+abbrev pub AreSpare : Strand → Type 0
+AreSpare self = (k : ℕ) (b : _) → slice_get self.spares.items k ≡ Some b → code_of b.value ≡ its_code self
+
+-- A STRAND OF ITS JOB, whichever of the definitions the job is
+pub record IsRunning (self : Strand) : Type 0 where
+  pub keeps : KeepsJob self
+  pub spares : AreSpare self
+  pub holds : (is : IsFit (its_code self)) (j : jobs.Job) → IsJob (its_code self) is (its_parts self) j
+      → ∥ Holds self is j ∥₁
+
+-- how it stands: it waits for the newest job out; it has stopped; or either
+abbrev pub IsWaiting : Strand → Type 0
+IsWaiting self = self.mode ≡ mode.Waiting
+
+abbrev pub stops : Mode → Bool
+stops mode.Going = false
+stops mode.Waiting = false
+stops _ = true
+
+abbrev pub HasStopped : Strand → Type 0
+HasStopped self = stops self.mode ≡ true
+
+abbrev pub IsAtSync : Strand → Type 0
+IsAtSync self = self.mode ≢ mode.Going

@@ -1,0 +1,81 @@
+-- What the calls on a strand keep.
+use Rattle.std.specs.Prelude.{◌≡◌, ◌≢◌, ℕ, ◌+◌, ◌-◌, ◌≤◌, Bool, true, List, [], ◌∷◌, length, reverse, Option, Some, None, Result as Checked, MatchResult, slice_get}
+use Rattle.cw_model.specs.declared.limits.TheConstants.{MOST_LIMIT}
+use Rattle.cw_code.specs.Code.{code_view}
+use Rattle.cw_code.specs.Run.{State}
+use Rattle.cw_meter.specs.declared.meter.Meter.{Meter}
+use Rattle.cw_strands.specs.Jobs as jobs
+use Rattle.cw_strands.specs.Over.{under}
+use Rattle.cw_strands.specs.Strands.{Going}
+use Rattle.cw_strands.specs.Promises.{IsStrandOf}
+use Rattle.cw_metered.specs.Strands.{StartsFrom}
+use Rattle.cw_verify.specs.declared.verified.Verified.{Verified}
+use Rattle.cw_jobs.specs.declared.call.Parts.{Parts}
+use Rattle.cw_jobs.specs.declared.effect.Effect.{Effect}
+use Rattle.cw_jobs.specs.declared.job.Job.{Job}
+use Rattle.cw_jobs.specs.Jobs.{code_of, origin_of, IsJob}
+use Rattle.cw_jobs.specs.Means.{IsMeaningOf}
+use Rattle.cw_machine.specs.declared.run.Run.{Run}
+use Rattle.cw_machine.specs.declared.run.Spawn.{Spawn}
+use Rattle.cw_machine.specs.declared.run.Stop.{Stop}
+use Rattle.cw_machine.specs.Arrays.{Out, IsFit}
+use Rattle.cw_machine.specs.JobRuns.{BeginsJob, IsEmptied}
+use Rattle.cw_machine.specs.Stretches.{ShowsRun, StopsAt}
+use Rattle.cw_strand.specs.declared.strand.Step.{Step}
+use Rattle.cw_strand.specs.declared.strand.Step.TheVariants as step
+use Rattle.cw_strand.specs.declared.strand.Strand.{Strand}
+use Rattle.cw_strand.specs.Levels.{levels_of}
+use Rattle.cw_strand.specs.Holds.{its_job, its_parts, its_code, outs, Ground, setting_of, ok_with, Lends, rests_at, KeepsJob, AreSpare, IsRunning, IsAtSync}
+
+-- a run begins a job, whose arrays moved into it
+pub record BeginsRun (p p' : Parts) (r : Run) : Type 0 where
+  pub meter : StartsFrom (origin_of p) p.burden r.meter
+  pub machine : BeginsJob (code_of p) p.rest r.machine
+  pub code : code_of p' ≡ code_of p
+  pub extent : p'.extent ≡ p.extent
+  pub site : p'.site ≡ p.site
+  pub burden : p'.burden ≡ p.burden
+  pub limit : p'.limit ≡ p.limit
+  pub before : p'.before ≡ p.before
+  pub rest : IsEmptied p.rest p'.rest
+
+-- a strand begins its job
+pub record Begins (job : Job) (self : Strand) : Type 0 where
+  pub of : its_job self ≡ job
+  pub outs : outs self ≡ []
+  pub running : IsRunning self
+
+-- WHAT AN EVENT OF A STRAND KEEPS: it handed a job out; or it waits for the newest one out; or it ended with nothing
+-- out, with an effect that means its job
+abbrev pub KeptBy : Step → (old new : Strand) → Type 0
+KeptBy (step.Spawned job) old new = IsRunning new × (outs new ≡ job ∷ outs old)
+KeptBy step.AtSync old new = IsRunning new × (outs new ≡ outs old) × (outs old ≢ []) × IsAtSync new
+KeptBy (step.Ended e) old new = IsMeaningOf (its_job old) e × (outs old ≡ [])
+
+-- the strand goes on from where its run came to a stop: from a state of the serial run, by the instruction there
+pub record CameTo (self : Strand) (limit : ℕ) (stop : Stop) (is : IsFit (its_code self)) (j : jobs.Job) : Type 0 where
+  pub ground : Ground (its_code self) is (its_parts self) j
+  pub state : State
+  pub later : ℕ
+  pub outs : List Out
+  pub lends : Lends (its_code self) is (its_parts self) ground.base (levels_of state.around) outs
+      (reverse self.lent.items)
+  pub is_of : IsStrandOf (code_view (its_code self).code) j
+      (Going state later (rests_at (its_parts self) (levels_of state.around) (reverse self.lent.items)))
+  pub at : StopsAt (its_code self) (ok_with ground outs) (setting_of ground) limit stop self.count self.run later state
+
+-- whichever of the definitions the job is
+pub record HasCome (self : Strand) (limit : ℕ) (stop : Stop) : Type 0 where
+  pub keeps : KeepsJob self
+  pub spares : AreSpare self
+  pub comes : (is : IsFit (its_code self)) (j : jobs.Job) → IsJob (its_code self) is (its_parts self) j
+      → ∥ CameTo self limit stop is j ∥₁
+
+-- the same job, and the same jobs out
+abbrev pub IsSame : (old new : Strand) → Type 0
+IsSame old new = (new.of ≡ old.of) × (new.lent ≡ old.lent)
+
+-- a strand that ends: with an effect that means its job
+abbrev pub EndsBy : Option Effect → (old new : Strand) → Type 0
+EndsBy None old new = IsRunning new × (outs new ≡ outs old)
+EndsBy (Some e) old new = IsMeaningOf (its_job old) e × (outs old ≡ [])

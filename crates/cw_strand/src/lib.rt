@@ -1,0 +1,11 @@
+//! Strands that run: what a worker runs a job with.
+#![tactic(auto)]
+
+mod ending;
+mod going;
+mod lending;
+mod starting;
+mod stopping;
+pub mod strand;
+mod taking;
+mod tests;

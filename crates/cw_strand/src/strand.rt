@@ -1,0 +1,68 @@
+//! A strand: a run of a job that hands the rests of its blocks out.
+//!
+//! A strand goes on up to its next event: a spawn, whose rest it hands out as a job; the return of a spawned call, at
+//! which it waits for that rest; or its end, with an effect that means its job. A rest that came back unrun costs
+//! nothing: the strand goes on with it itself.
+
+use cw_jobs::call::Parts;
+use cw_jobs::effect::Effect;
+use cw_jobs::job::Job;
+use cw_machine::run::Run;
+use cw_model::trap::Trap;
+use std::snapshot::Snapshot;
+
+/// How a strand stands.
+#[derive(Clone, Copy, Debug)]
+pub enum Mode {
+    /// It goes on from where its run stands.
+    Going,
+    /// A spawned call in it has returned: it waits for the newest job out.
+    Waiting,
+    /// It trapped, with the line.
+    Trapped(Trap, u32),
+    /// The next instruction would have passed the limit of the run.
+    Over,
+    /// Memory was wanting.
+    Memory,
+}
+
+/// A job that is out.
+#[derive(Drop)]
+pub struct Lent {
+    /// The job, in the proof alone.
+    pub(crate) job: Snapshot<Job>,
+    /// The cell of the first array slot of the call that it is a rest of.
+    pub(crate) first: usize,
+    /// The slot that takes the result of the call that was spawned, if one does.
+    pub(crate) target: Option<u32>,
+}
+
+/// What a strand came to.
+#[derive(Drop)]
+pub enum Step {
+    /// A call was spawned, and this job, the rest of the block that spawned it, is out.
+    Spawned(Job),
+    /// The newest job out must come back first: it is given, taken back or skipped.
+    AtSync,
+    /// The strand has ended, with the effect of its job.
+    Ended(Effect),
+}
+
+/// What runs a job.
+#[derive(Drop)]
+pub struct Strand {
+    /// Its job, in the proof alone.
+    pub(crate) of: Snapshot<Job>,
+    /// What is left of the job: all but its arrays, which are in the run.
+    pub(crate) parts: Box<Parts>,
+    /// The run.
+    pub(crate) run: Run,
+    /// The instructions that it did.
+    pub(crate) count: u64,
+    /// The jobs that are out, the newest last.
+    pub(crate) lent: Vec<Lent>,
+    /// Jobs that came back and are done with, whose boxes and vectors are used again.
+    pub(crate) spares: Vec<Box<Parts>>,
+    /// How it stands.
+    pub(crate) mode: Mode,
+}
