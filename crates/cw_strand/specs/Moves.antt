@@ -11,7 +11,9 @@ use Rattle.cw_strands.specs.Promises.{IsStrandOf}
 use Rattle.cw_metered.specs.Strands.{StartsFrom}
 use Rattle.cw_verify.specs.declared.verified.Verified.{Verified}
 use Rattle.cw_jobs.specs.declared.call.Parts.{Parts}
+use Rattle.cw_jobs.specs.declared.call.Extent.TheVariants as extent
 use Rattle.cw_jobs.specs.declared.effect.Effect.{Effect}
+use Rattle.cw_jobs.specs.declared.effect.Shown.{Shown}
 use Rattle.cw_jobs.specs.declared.job.Job.{Job}
 use Rattle.cw_jobs.specs.Jobs.{code_of, origin_of, IsJob}
 use Rattle.cw_jobs.specs.Means.{IsMeaningOf}
@@ -19,6 +21,9 @@ use Rattle.cw_machine.specs.declared.run.Run.{Run}
 use Rattle.cw_machine.specs.declared.run.Spawn.{Spawn}
 use Rattle.cw_machine.specs.declared.run.Stop.{Stop}
 use Rattle.cw_machine.specs.Arrays.{Out, IsFit}
+use Rattle.cw_machine.specs.Calls.{listed}
+use Rattle.cw_machine.specs.Shows.{StaysBut}
+use Rattle.cw_machine.specs.Hands.{HandsOut}
 use Rattle.cw_machine.specs.JobRuns.{BeginsJob, IsEmptied}
 use Rattle.cw_machine.specs.Stretches.{ShowsRun, StopsAt}
 use Rattle.cw_strand.specs.declared.strand.Step.{Step}
@@ -79,3 +84,39 @@ IsSame old new = (new.of ≡ old.of) × (new.lent ≡ old.lent)
 abbrev pub EndsBy : Option Effect → (old new : Strand) → Type 0
 EndsBy None old new = IsRunning new × (outs new ≡ outs old)
 EndsBy (Some e) old new = IsMeaningOf (its_job old) e × (outs old ≡ [])
+
+-- what a run has shown and counted
+pub record IsShown (r : Run) (cost : ℕ) (shown : Shown) : Type 0 where
+  pub lines : shown.lines ≡ r.machine.lines
+  pub sums : shown.sums ≡ r.machine.sums
+  pub meter : shown.meter ≡ r.meter
+  pub counted : shown.cost ≡ cost
+
+-- all but the spare boxes is as it was, and these are as they must be
+pub record HasSpared (old new : Strand) : Type 0 where
+  pub of : new.of ≡ old.of
+  pub parts : new.parts ≡ old.parts
+  pub run : new.run ≡ old.run
+  pub count : new.count ≡ old.count
+  pub lent : new.lent.items ≡ old.lent.items
+  pub mode : new.mode ≡ old.mode
+  pub spares : AreSpare new
+
+-- the rest of the block that has spawned a call was cut out of a strand as these parts of a job, and all else is as it
+-- was
+pub record HasCut (old new : Strand) (spawn : Spawn) (p : Parts) (first : ℕ) : Type 0 where
+  pub of : new.of ≡ old.of
+  pub parts : new.parts ≡ old.parts
+  pub meter : new.run.meter ≡ old.run.meter
+  pub count : new.count ≡ old.count
+  pub lent : new.lent.items ≡ old.lent.items
+  pub mode : new.mode ≡ old.mode
+  pub spares : AreSpare new
+  pub out : HandsOut old.run.machine (listed (its_code old) spawn.passed) first new.run.machine p.rest
+  pub stays : StaysBut old.run.machine new.run.machine
+  pub code : code_of p ≡ its_code old
+  pub joins : p.extent ≡ extent.ToJoin
+  pub site : p.site ≡ spawn.site
+  pub burden : p.burden ≡ (its_parts old).burden
+  pub limit : p.limit ≡ (its_parts old).limit
+  pub before : p.before ≡ (its_parts old).before + old.count

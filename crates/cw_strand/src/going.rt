@@ -1,24 +1,47 @@
 //! A strand goes on.
 
+ghost use Rattle.std.specs.Prelude.{◌≡◌, ◌-◌, ◌≤◌};
+ghost use Rattle.cw_strand.specs.declared.strand.Mode.TheVariants as mode;
+ghost use Rattle.cw_strand.specs.Holds.{its_parts, outs, HasStopped, IsRunning};
+ghost use Rattle.cw_strand.specs.Moves.{HasCome, IsSame, KeptBy};
+
 use crate::strand::{Mode, Step, Strand};
+use cw_machine::laws::machines_that_stop_remain;
 use cw_machine::run::Stop;
+use cw_strands::laws::calls_on_a_strand_keep_its_job;
 
 impl Strand {
+    // As many instructions as its job may have in all.
+    fn end_of_job(&self) -> u64
+        requires { IsRunning self.now }
+        ensures end { result ≡ (its_parts self.now).limit - (its_parts self.now).before }
+        ensures above { self.now.count ≤ result }
+    {
+        self.parts.limit - self.parts.before
+    }
+
     // The run goes on up to its next stop, within so many instructions in all.
-    fn run_on(&mut self, limit: u64) -> Stop {
+    pub(crate) fn run_on(&mut self, limit: u64) -> Stop
+        requires running { IsRunning self.old }
+        requires going { self.old.mode ≡ mode.Going }
+        requires above { self.old.count ≤ limit }
+        requires within { limit ≤ (its_parts self.old).limit - (its_parts self.old).before }
+        ensures same { IsSame self.old self.new }
+        ensures comes { HasCome self.new limit result }
+    {
+        calls_on_a_strand_keep_its_job();
         let (stop, count) = self.run.go_on(&self.parts.code, self.count, limit, true);
         self.count = count;
         stop
     }
 
-    // As many instructions as its job may have in all.
-    fn end_of_job(&self) -> u64 {
-        self.parts.limit - self.parts.before
-    }
-
     // The strand has stopped for good: it ends where nothing is out.
-    pub(crate) fn rest(&mut self, mode: Mode) -> Step {
-        self.mode = mode;
+    pub(crate) fn rest(&mut self) -> Step
+        requires running { IsRunning self.old }
+        requires stopped { HasStopped self.old }
+        ensures of { self.new.of ≡ self.old.of }
+        ensures keeps { KeptBy result self.old self.new }
+    {
         if self.lent.is_empty() {
             return Step::Ended(self.stop_effect());
         }
@@ -26,32 +49,52 @@ impl Strand {
     }
 
     // What a strand that went on came to.
-    fn settle(&mut self, stop: Stop) -> Step {
+    fn settle(&mut self, stop: Stop, end: u64) -> Step
+        requires comes { HasCome self.old end stop }
+        requires end { end ≡ (its_parts self.old).limit - (its_parts self.old).before }
+        ensures of { self.new.of ≡ self.old.of }
+        ensures keeps { KeptBy result self.old self.new }
+    {
+        calls_on_a_strand_keep_its_job();
+        machines_that_stop_remain();
         match stop {
-            Stop::Spawned(spawn) => self.lend(spawn),
+            Stop::Spawned(spawn) => self.lend(spawn, end),
             Stop::CameBack => {
                 self.mode = Mode::Waiting;
                 Step::AtSync
             }
-            Stop::Joined => Step::Ended(self.join_effect()),
-            Stop::Gave(value) => Step::Ended(self.call_effect(value)),
-            Stop::Trapped(trap, line) => self.rest(Mode::Trapped(trap, line)),
-            Stop::Over => self.rest(Mode::Over),
-            Stop::NoMemory => self.rest(Mode::Memory),
+            Stop::Joined => Step::Ended(self.join_effect(end)),
+            Stop::Gave(value) => Step::Ended(self.call_effect(value, end)),
+            Stop::Trapped(trap, line) => {
+                self.mode = Mode::Trapped(trap, line);
+                self.rest()
+            }
+            Stop::Over => {
+                self.mode = Mode::Over;
+                self.rest()
+            }
+            Stop::NoMemory => {
+                self.mode = Mode::Memory;
+                self.rest()
+            }
         }
     }
 
-    /// Goes on to its next event: a spawn, whose rest is handed out; `AtSync`, where the newest job out must come back
-    /// first; or its end.
-    pub fn go(&mut self) -> Step {
+    /// Goes on to its next event: a spawn, whose rest it hands out; `AtSync`, where the newest job out must come back
+    /// first; or its end, with an effect that means its job. Where memory was wanting, that is its effect.
+    pub fn go(&mut self) -> Step
+        requires { IsRunning self.old }
+        ensures of { self.new.of ≡ self.old.of }
+        ensures keeps { KeptBy result self.old self.new }
+    {
         match self.mode {
             Mode::Going => {
                 let end = self.end_of_job();
                 let stop = self.run_on(end);
-                self.settle(stop)
+                self.settle(stop, end)
             }
             Mode::Waiting => Step::AtSync,
-            mode => self.rest(mode),
+            _ => self.rest(),
         }
     }
 }

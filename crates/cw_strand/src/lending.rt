@@ -1,10 +1,21 @@
 //! The rest of a block is handed out as a job.
 
+ghost use Rattle.std.specs.Prelude.{◌≡◌, ◌+◌, ◌≤◌, ◌<◌, ◌-◌, Some, slice_get, IfOk, OnOk, OnErr, MatchResult};
+ghost use Rattle.std.specs.Vec.{vec_len, vec_capacity};
+ghost use Rattle.cw_jobs.specs.Jobs.{code_of};
+ghost use Rattle.cw_machine.specs.declared.run.Stop.TheVariants as stop;
+ghost use Rattle.cw_machine.specs.Calls.{listed};
+ghost use Rattle.cw_strand.specs.Holds.{its_parts, its_code, AreSpare};
+ghost use Rattle.cw_strand.specs.Moves.{HasCome, KeptBy, HasCut, HasSpared};
+
 use crate::strand::{Lent, Mode, Step, Strand};
-use cw_code::code::Code;
 use cw_jobs::call::{Extent, Parts, Rest};
 use cw_jobs::job::Job;
+use cw_machine::laws::machines_that_stop_remain;
 use cw_machine::run::Spawn;
+use cw_metered::laws::rests_keep_their_sites;
+use cw_strands::laws::calls_on_a_strand_keep_its_job;
+use cw_verify::verified::Verified;
 use std::alloc::{AllocError, Global};
 use std::snapshot::Snapshot;
 
@@ -18,14 +29,26 @@ pub(crate) fn empty_rest(alloc: Global) -> Rest {
     }
 }
 
-// The list of array slots that a call takes.
-fn passed(code: &Code, list: u32) -> &[u32] {
-    code.passed[list as usize].as_slice()
+// The array slots of a list of the code; where there is no list, there are none.
+fn slots_named(code: &Verified, k: u32) -> &[u32]
+    ensures { result.now ≡ listed code.now k }
+{
+    let at = k as usize;
+    if at < code.code.passed.len() {
+        code.code.passed[at].as_slice()
+    } else {
+        &[]
+    }
 }
 
 impl Strand {
     // A box for a rest of the strand's code: one that is spare, or a new one.
-    fn shell(&mut self) -> Result<Box<Parts>, AllocError> {
+    fn shell(&mut self) -> Result<Box<Parts>, AllocError>
+        requires spares { AreSpare self.old }
+        requires code { code_of self.old.parts.value ≡ its_code self.old }
+        ensures stays { HasSpared self.old self.new }
+        ensures code { IfOk result (λ b. code_of b.value ≡ its_code self.old) }
+    {
         if let Some(parts) = self.spares.pop() {
             return Ok(parts);
         }
@@ -44,10 +67,15 @@ impl Strand {
     }
 
     // The rest of the block that has just spawned a call, as a job's parts, with the cell of its call's first array slot.
-    fn cut_out(&mut self, spawn: &Spawn) -> Result<(Box<Parts>, usize), AllocError> {
+    fn cut_out(&mut self, spawn: &Spawn, end: u64) -> Result<(Box<Parts>, usize), AllocError>
+        requires comes { HasCome self.old end (stop.Spawned spawn.now) }
+        ensures cut { IfOk result (λ x. HasCut self.old self.new spawn.now x.0.value x.1) }
+        ensures kept { OnErr result (HasSpared self.old self.new) }
+        ensures room { OnOk result (vec_len self.new.lent < vec_capacity self.new.lent) }
+    {
         let mut parts = self.shell()?;
         self.lent.reserve(1)?;
-        let slots = passed(&self.parts.code.code, spawn.passed);
+        let slots = slots_named(&self.parts.code, spawn.passed);
         let first = self.run.machine.hand_out(slots, &mut parts.rest)?;
         parts.extent = Extent::ToJoin;
         parts.site = spawn.site;
@@ -58,8 +86,15 @@ impl Strand {
     }
 
     // The rest of the block that has just spawned a call is handed out.
-    pub(crate) fn lend(&mut self, spawn: Spawn) -> Step {
-        match self.cut_out(&spawn) {
+    pub(crate) fn lend(&mut self, spawn: Spawn, end: u64) -> Step
+        requires comes { HasCome self.old end (stop.Spawned spawn) }
+        ensures of { self.new.of ≡ self.old.of }
+        ensures keeps { KeptBy result self.old self.new }
+    {
+        calls_on_a_strand_keep_its_job();
+        rests_keep_their_sites();
+        machines_that_stop_remain();
+        match self.cut_out(&spawn, end) {
             Ok((parts, first)) => {
                 let job = Job { parts };
                 self.lent.push_reserved(Lent {
@@ -69,7 +104,10 @@ impl Strand {
                 });
                 Step::Spawned(job)
             }
-            Err(_) => self.rest(Mode::Memory),
+            Err(_) => {
+                self.mode = Mode::Memory;
+                self.rest()
+            }
         }
     }
 }

@@ -1,11 +1,18 @@
 //! A strand begins its job.
 
+ghost use Rattle.std.specs.Prelude.{◌≡◌, IfOk, IfErr, MatchResult};
+ghost use Rattle.cw_jobs.specs.Jobs.{begins_at, IsSound};
+ghost use Rattle.cw_metered.specs.Strands.{StartsFrom};
+ghost use Rattle.cw_strand.specs.Moves.{Begins, BeginsRun};
+
 use crate::strand::{Mode, Strand};
 use cw_jobs::call::{Extent, Parts};
 use cw_jobs::job::Job;
 use cw_machine::machine::Machine;
 use cw_machine::run::Run;
 use cw_meter::Meter;
+use cw_metered::laws::calls_keep_what_meters_tell;
+use cw_strands::laws::calls_on_a_strand_keep_its_job;
 use std::alloc::{AllocError, Global};
 use std::snapshot::Snapshot;
 
@@ -16,15 +23,23 @@ fn begin_meter(
     site: u32,
     burden: u64,
 ) -> Result<Meter, AllocError>
+    ensures { IfOk result (λ m. StartsFrom (begins_at extent site) burden m) }
 {
     match extent {
-        Extent::WholeCall => Meter::new(alloc, burden),
+        Extent::WholeCall => {
+            let meter = Meter::new(alloc, burden)?;
+            Ok(meter)
+        }
         Extent::ToJoin => Ok(Meter::apart(alloc, site, burden)),
     }
 }
 
 // The run of a job begins, with the job's arrays.
-fn begin_run(alloc: Global, parts: &mut Parts) -> Result<Run, AllocError> {
+fn begin_run(alloc: Global, parts: &mut Parts) -> Result<Run, AllocError>
+    requires sound { ∥ IsSound parts.old ∥₁ }
+    ensures begins { IfOk result (λ r. BeginsRun parts.old parts.new r) }
+    ensures same { IfErr result (λ _. parts.new ≡ parts.old) }
+{
     let meter = begin_meter(alloc, parts.extent, parts.site, parts.burden)?;
     let machine = Machine::begin_job(alloc, &parts.code, &mut parts.rest)?;
     Ok(Run { machine, meter })
@@ -32,7 +47,11 @@ fn begin_run(alloc: Global, parts: &mut Parts) -> Result<Run, AllocError> {
 
 impl Strand {
     /// Begins a job. The error is want of memory, and gives the job back as it was.
-    pub fn start(alloc: Global, job: Job) -> Result<Strand, Job> {
+    pub fn start(alloc: Global, job: Job) -> Result<Strand, Job>
+        ensures { MatchResult result (λ s. Begins job s) (λ back. back ≡ job) }
+    {
+        calls_keep_what_meters_tell();
+        calls_on_a_strand_keep_its_job();
         let of = Snapshot::of(&job);
         let Job { parts } = job;
         let mut parts = parts;

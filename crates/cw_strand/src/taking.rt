@@ -1,12 +1,23 @@
 //! A job that was out comes back unrun.
 
+ghost use Rattle.std.specs.Prelude.{◌≡◌, ◌∷◌, List};
+ghost use Rattle.cw_jobs.specs.declared.job.Job as jobs;
+ghost use Rattle.cw_jobs.specs.Jobs.{code_of};
+ghost use Rattle.cw_strand.specs.Holds.{its_code, outs, AreSpare, IsRunning, IsWaiting};
+ghost use Rattle.cw_strand.specs.Moves.{HasSpared};
+
 use crate::strand::{Mode, Strand};
 use cw_jobs::call::Parts;
 use cw_jobs::job::Job;
+use cw_strands::laws::calls_on_a_strand_keep_its_job;
 
 impl Strand {
     // A box that is done with is kept, where there is room for it.
-    pub(crate) fn spare(&mut self, parts: Box<Parts>) {
+    pub(crate) fn spare(&mut self, parts: Box<Parts>)
+        requires spares { AreSpare self.old }
+        requires code { code_of parts.value ≡ its_code self.old }
+        ensures kept { HasSpared self.old self.new }
+    {
         match self.spares.push(parts) {
             Ok(()) => {}
             Err(refused) => drop(refused),
@@ -15,7 +26,15 @@ impl Strand {
 
     /// Takes back the newest job out, which nobody ran, where the call beside it has returned: the strand goes on itself
     /// with the rest that it was. Takes no memory but for what keeps the job's box for another, which may be refused.
-    pub fn take_back(&mut self, job: Job) {
+    pub fn take_back(&mut self, job: Job)
+        requires running { IsRunning self.old }
+        requires waiting { IsWaiting self.old }
+        requires out { (others : List jobs.Job) × (outs self.old ≡ job ∷ others) }
+        ensures of { self.new.of ≡ self.old.of }
+        ensures running { IsRunning self.new }
+        ensures outs { job ∷ outs self.new ≡ outs self.old }
+    {
+        calls_on_a_strand_keep_its_job();
         let Job { parts } = job;
         let mut parts = parts;
         self.run.machine.take_back(&mut parts.rest);

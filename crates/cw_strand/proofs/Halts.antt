@@ -1,0 +1,170 @@
+-- A strand whose run came to a stop that hands nothing out: it waits, or it has stopped.
+use Rattle.std.proofs.Common.{◌≡◌, ℕ, ◌+◌, ◌-◌, ◌<◌, ◌≤◌, ℤ, Bool, false, List, [], ◌∷◌, length, refl, sym, ap, ◌∙◌, subst, arith}
+use Rattle.std.specs.Prelude.{reverse}
+use Rattle.std.proofs.Math.Logic.{∥∥₁_map}
+use Rattle.cw_model.specs.declared.trap.Trap.{Trap}
+use Rattle.cw_code.specs.Code.{Code, code_view}
+use Rattle.cw_code.specs.Run.{State}
+use Rattle.cw_strands.specs.Jobs as jobs
+use Rattle.cw_strands.specs.Jobs.{has_come}
+use Rattle.cw_strands.specs.Over.{under}
+use Rattle.cw_strands.specs.Strands as strands
+use Rattle.cw_strands.specs.Strands.{Going, Waits, Halted, ComesBack, outs_of, turn}
+use Rattle.cw_strands.specs.Promises.{IsStrandOf}
+use Rattle.cw_strands.specs.Steps.{CallsKeep}
+use Rattle.cw_verify.specs.declared.verified.Verified.{Verified}
+use Rattle.cw_jobs.specs.declared.call.Parts.{Parts}
+use Rattle.cw_jobs.specs.Jobs.{extent_of, IsJob}
+use Rattle.cw_machine.specs.declared.run.Stop.{Stop}
+use Rattle.cw_machine.specs.declared.run.Stop.TheVariants as stop
+use Rattle.cw_machine.specs.Arrays.{IsFit}
+use Rattle.cw_machine.specs.Unwinding.{ShownRemain}
+use Rattle.cw_strand.specs.declared.strand.Lent.{Lent}
+use Rattle.cw_strand.specs.declared.strand.Mode.{Mode}
+use Rattle.cw_strand.specs.declared.strand.Mode.TheVariants as mode
+use Rattle.cw_strand.specs.declared.strand.Strand.{Strand}
+use Rattle.cw_strand.specs.Levels.{levels_of}
+use Rattle.cw_strand.specs.Holds.{its_parts, its_code, Ground, setting_of, ok_with, Lends, rests_at, Runs, HeldIn, Holds, KeepsJob, IsRunning}
+use Rattle.cw_strand.specs.Moves.{CameTo, HasCome}
+use Rattle.cw_strand.proofs.Levels.{HasReturned, LevelsAfter, levels_move}
+use Rattle.cw_strand.proofs.Course.{ran, fell, passed, wants}
+
+pub keeps_as : (self : Strand) (m : Mode) → KeepsJob self → KeepsJob (record self { mode = m })
+keeps_as self m h = record {
+  code = h.code;
+  extent = h.extent;
+  site = h.site;
+  burden = h.burden;
+  limit = h.limit;
+  before = h.before;
+  rest = h.rest;
+  within = h.within;
+  range = h.range;
+}
+
+module _ (keep : (code : Code) → CallsKeep code) (self : Strand) (limit : ℕ) where
+  abbrev v : Verified
+  v = its_code self
+
+  abbrev code : Code
+  code = code_view v.code
+
+  abbrev p : Parts
+  p = its_parts self
+
+  abbrev lent : List Lent
+  lent = reverse self.lent.items
+
+  module _ (is : IsFit (its_code self)) (j : jobs.Job) (job : KeepsJob self) where
+    -- the run is not at the join of the job
+    not_come : (to : Stop) (c : CameTo self limit to is j) → has_come (extent_of p.extent) code c.state ≡ false → has_come j.extent code c.state ≡ false
+    not_come to c h = subst (λ x. has_come x code c.state ≡ false) (sym c.ground.job.extent) h
+
+    -- one instruction more is within the limit
+    one_more : (to : Stop) (c : CameTo self limit to is j) → self.count ≡ c.later + 1 → j.before + (c.later + 1) ≤ j.limit
+    one_more to c e = let w = job.within in let l = c.ground.job.limit in let b = c.ground.job.before in omega (arith, e, w, l, b)
+
+    trapped : (trap : Trap) (line : ℕ) → CameTo self limit (stop.Trapped trap line) is j → Holds (record self { mode = mode.Trapped trap line }) is j
+    trapped trap line c =
+        let at = c.at.1 in
+        let out = rests_at p (levels_of c.state.around) lent in
+        record {
+          ground = c.ground;
+          strand = Halted (jobs.TrapIn trap line at.lines (c.later + 1)) out;
+          is_of = fell code (keep code) j c.state c.later out trap line at.lines (not_come (stop.Trapped trap line) c at.before) at.steps (one_more (stop.Trapped trap line) c c.at.0) c.is_of;
+          held = (
+            ap (λ l. jobs.TrapIn trap line l (c.later + 1)) (sym at.shown) ∙ ap (jobs.TrapIn trap line self.run.machine.lines.items) (sym c.at.0),
+            record { levels = levels_of c.state.around; outs = c.outs; lends = c.lends; remains = at.remains },
+          );
+        }
+
+    over : ShownRemain → limit ≡ p.limit - p.before → CameTo self limit stop.Over is j → Holds (record self { mode = mode.Over }) is j
+    over remain end c =
+        let at = c.at.2 in
+        let e = c.at.0 in
+        let full = c.at.1 in
+        let l = c.ground.job.limit in
+        let b = c.ground.job.before in
+        let out = rests_at p (levels_of c.state.around) lent in
+        record {
+          ground = c.ground;
+          strand = Halted jobs.OverLimit out;
+          is_of = passed code (keep code) j c.state c.later out (not_come stop.Over c at.before) (omega (arith, e, full, end, l, b)) c.is_of;
+          held = (
+            refl,
+            record { levels = levels_of c.state.around; outs = c.outs; lends = c.lends; remains = remain v (ok_with c.ground c.outs) self.run.machine (under c.ground.base c.state) at.shows.shows },
+          );
+        }
+
+    lost : (to : Stop) → CameTo self limit to is j → Holds (record self { mode = mode.Memory }) is j
+    lost to c =
+        let out = rests_at p (levels_of c.state.around) lent in
+        record {
+          ground = c.ground;
+          strand = Halted jobs.Memory out;
+          is_of = wants code (keep code) j (Going c.state c.later out) c.is_of;
+          held = refl;
+        }
+
+    came_back : CameTo self limit stop.CameBack is j → Holds (record self { mode = mode.Waiting }) is j
+    came_back c =
+        let at = c.at.1 in
+        let out = rests_at p (levels_of c.state.around) lent in
+        let r : HasReturned c.state at.next = subst (λ t. LevelsAfter t c.state at.next) at.turns (levels_move code c.state at.next at.steps) in
+        record {
+          ground = c.ground;
+          strand = Waits at.next (c.later + 1) out;
+          is_of = ran code (keep code) j c.state at.next c.later out ComesBack at.turns (not_come stop.CameBack c at.before) at.steps (one_more stop.CameBack c c.at.0) c.is_of;
+          held = record {
+            level = r.level;
+            back = r.back;
+            runs = record {
+              counts = sym c.at.0;
+              outs = c.outs;
+              lends = subst (λ l. Lends v is p c.ground.base l c.outs lent) r.levels c.lends;
+              are = ap (λ l. rests_at p l lent) r.levels;
+              shows = at.shows;
+            };
+          };
+        }
+
+  pub trapped_runs : (trap : Trap) (line : ℕ) → HasCome self limit (stop.Trapped trap line) → IsRunning (record self { mode = mode.Trapped trap line })
+  trapped_runs trap line h = record {
+    keeps = keeps_as self (mode.Trapped trap line) h.keeps;
+    spares = h.spares;
+    holds = λ is j job. ∥∥₁_map (h.comes is j job) (λ c. trapped is j h.keeps trap line c);
+  }
+
+  pub over_runs : ShownRemain → limit ≡ p.limit - p.before → HasCome self limit stop.Over → IsRunning (record self { mode = mode.Over })
+  over_runs remain end h = record {
+    keeps = keeps_as self mode.Over h.keeps;
+    spares = h.spares;
+    holds = λ is j job. ∥∥₁_map (h.comes is j job) (λ c. over is j h.keeps remain end c);
+  }
+
+  pub lost_runs : (to : Stop) → HasCome self limit to → IsRunning (record self { mode = mode.Memory })
+  lost_runs to h = record {
+    keeps = keeps_as self mode.Memory h.keeps;
+    spares = h.spares;
+    holds = λ is j job. ∥∥₁_map (h.comes is j job) (λ c. lost is j h.keeps to c);
+  }
+
+  pub back_runs : HasCome self limit stop.CameBack → IsRunning (record self { mode = mode.Waiting })
+  back_runs h = record {
+    keeps = keeps_as self mode.Waiting h.keeps;
+    spares = h.spares;
+    holds = λ is j job. ∥∥₁_map (h.comes is j job) (λ c. came_back is j h.keeps c);
+  }
+
+-- memory is wanting, whatever a strand was at
+pub fails : ((code : Code) → CallsKeep code) → (self : Strand) → IsRunning self → IsRunning (record self { mode = mode.Memory })
+fails keep self h = record {
+  keeps = keeps_as self mode.Memory h.keeps;
+  spares = h.spares;
+  holds = λ is j job. ∥∥₁_map (h.holds is j job) (λ d. record {
+    ground = d.ground;
+    strand = Halted jobs.Memory (outs_of d.strand);
+    is_of = wants (code_view (its_code self).code) (keep (code_view (its_code self).code)) j d.strand d.is_of;
+    held = refl;
+  });
+}

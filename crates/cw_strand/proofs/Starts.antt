@@ -1,0 +1,136 @@
+-- A strand begins its job.
+use Rattle.std.proofs.Common.{◌≡◌, ℕ, ◌+◌, ◌≤◌, List, [], ◌∷◌, length, refl, sym, ap, ◌∙◌, subst, arith}
+use Rattle.std.specs.Prelude.{map, reverse, Some, slice_get}
+use Rattle.std.specs.Coded.{le_prop}
+use Rattle.std.proofs.Math.Logic.{∥∥₁_elim}
+use Rattle.cw_model.specs.declared.limits.TheConstants.{MOST_BURDEN}
+use Rattle.cw_model.specs.Outcome.{quiet}
+use Rattle.cw_code.specs.Code.{Code, code_view}
+use Rattle.cw_code.specs.Run.{State}
+use Rattle.cw_strands.specs.Jobs as jobs
+use Rattle.cw_strands.specs.Jobs.{WholeCall, ToJoin, job_start}
+use Rattle.cw_strands.specs.Over.{under}
+use Rattle.cw_strands.specs.Strands.{Going}
+use Rattle.cw_strands.specs.Steps.{CallsKeep}
+use Rattle.cw_metered.specs.Strands.{CallsKeepMeters, StartsFrom, TellsAll}
+use Rattle.cw_verify.specs.declared.verified.Verified.{Verified}
+use Rattle.cw_jobs.specs.declared.call.Extent.{Extent}
+use Rattle.cw_jobs.specs.declared.call.Extent.TheVariants as extent
+use Rattle.cw_jobs.specs.declared.call.Parts.{Parts}
+use Rattle.cw_jobs.specs.declared.job.Job.{Job}
+use Rattle.cw_jobs.specs.Jobs.{extent_of, origin_of, code_of, IsOutermost, IsJob, IsSound}
+use Rattle.cw_machine.specs.declared.machine.Machine.{Machine}
+use Rattle.cw_machine.specs.Arrays.{IsFit, Ok}
+use Rattle.cw_machine.specs.Shows.{Shows}
+use Rattle.cw_machine.specs.JobRuns.{ok_of, IsBase, HoldsOf, IsEmptied}
+use Rattle.cw_machine.specs.Stretches.{nothing, StandsRound}
+use Rattle.cw_strand.specs.declared.strand.Mode.TheVariants as mode
+use Rattle.cw_strand.specs.declared.strand.Strand.{Strand}
+use Rattle.cw_strand.specs.Holds.{its_job, its_parts, its_code, Ground, setting_of, ok_with, Lends, rests_at, Runs, HeldIn, Holds}
+use Rattle.cw_strand.specs.Moves.{Begins, BeginsRun}
+use Rattle.cw_strand.proofs.Flat.{under_flat}
+
+nothing_flat : IsOutermost nothing
+nothing_flat = record { around = refl; results = refl; arrived = refl }
+
+-- what a job stands on, and that its machine shows its first state there
+pub record Grounded (v : Verified) (is : IsFit v) (p : Parts) (j : jobs.Job) (m : Machine) : Type 0 where
+  pub ground : Ground v is p j
+  pub shows : Shows v (ok_with ground []) m (under ground.base (job_start j))
+
+pub grounded : (v : Verified) (is : IsFit v) (p : Parts) (j : jobs.Job) (m : Machine) → IsJob v is p j → p.burden ≤ MOST_BURDEN → HoldsOf v is j p.rest m (job_start j) → Grounded v is p j m
+grounded v is p j m job light h = at p.extent refl
+  where
+    at : (x : Extent) → p.extent ≡ x → Grounded v is p j m
+    at extent.ToJoin e = record {
+      ground = record {
+        job = job;
+        light = light;
+        base = h.base;
+        round = subst (λ y. StandsRound (extent_of y) h.base) (sym e) h.is_base.begins;
+        params = h.is_base.good.seat.func.array_params;
+        joins = λ e'. (h.is_base, refl);
+      };
+      shows = h.shows;
+    }
+    at extent.WholeCall e =
+        let out : IsOutermost h.base = h.is_base.outermost (job.extent ∙ ap extent_of e) in
+        record {
+          ground = record {
+            job = job;
+            light = light;
+            base = nothing;
+            round = (let P : Extent → Type 0 = λ y. StandsRound (extent_of y) nothing in subst P (sym e) refl);
+            params = h.is_base.good.seat.func.array_params;
+            joins = λ e'. absurd (differ (sym e ∙ e'));
+          };
+          shows =
+              subst (λ s. Shows v (ok_of v is h.is_base.good.seat.func.array_params p.rest.slices.items 0) m s)
+              (under_flat h.base out h.is_base.begins (job_start j) ∙ sym (under_flat nothing nothing_flat refl (job_start j)))
+              (subst (λ l. Shows v (ok_of v is h.is_base.good.seat.func.array_params p.rest.slices.items (length l)) m (under h.base (job_start j))) out.around h.shows);
+        }
+      where
+        differ : extent.WholeCall ≡ extent.ToJoin → ⊥
+        differ k = cc
+
+module _ (self : Strand) (keep : (code : Code) → CallsKeep code) (meters : CallsKeepMeters) (is : IsFit (its_code self)) (j : jobs.Job) (job : IsJob (its_code self) is (its_parts self) j) where
+  abbrev v : Verified
+  v = its_code self
+
+  abbrev p : Parts
+  p = its_parts self
+
+  pub starts : p.burden ≤ MOST_BURDEN → p.before ≤ p.limit → HoldsOf v is j p.rest self.run.machine (job_start j) → StartsFrom (origin_of p) p.burden self.run.meter
+      → self.lent.items ≡ [] → self.count ≡ 0 → self.mode ≡ mode.Going → Holds self is j
+  starts light low h meter none zero going =
+      let g = grounded v is p j self.run.machine job light h in
+      record {
+        ground = g.ground;
+        strand = Going (job_start j) 0 [];
+        is_of = (keep (code_view v.code)).starting j (let l = job.limit in let b = job.before in omega (arith, low, l, b));
+        held = subst (λ m. HeldIn self is j g.ground m (Going (job_start j) 0 [])) (sym going) (record {
+          counts = sym zero;
+          outs = [];
+          lends = subst (λ l. Lends v is p g.ground.base [] [] l) (sym (ap reverse none)) tt;
+          are = subst (λ l. [] ≡ rests_at p [] l) (sym (ap reverse none)) refl;
+          shows = record {
+            shows = g.shows;
+            tells = subst (λ n. TellsAll (code_view v.code) p.burden (origin_of p) (Going (job_start j) n []) self.run.meter) (sym zero) ((meters (code_view v.code) p.burden).starting (origin_of p) j self.run.meter meter);
+          };
+        });
+      }
+
+-- a strand that holds nothing else
+pub begins : ((code : Code) → CallsKeep code) → CallsKeepMeters → (job : Job) (p' : Parts) (self : Strand) → self.of.value ≡ job → self.parts.value ≡ p' → self.lent.items ≡ [] → self.spares.items ≡ [] → self.count ≡ 0 → self.mode ≡ mode.Going
+    → BeginsRun job.parts.value p' self.run → Begins job self
+begins keep meters job p' self of parts none bare zero going b = record {
+  of = of;
+  outs = ap (λ l. map (λ h. h.job.value) (reverse l)) none;
+  running = record {
+    keeps = record {
+      code = ap (λ q. code_of q) parts ∙ begun.code;
+      extent = ap (λ (q : Parts). q.extent) parts ∙ begun.extent;
+      site = ap (λ (q : Parts). q.site) parts ∙ begun.site;
+      burden = ap (λ (q : Parts). q.burden) parts ∙ begun.burden;
+      limit = ap (λ (q : Parts). q.limit) parts ∙ begun.limit;
+      before = ap (λ (q : Parts). q.before) parts ∙ begun.before;
+      rest = subst (λ (q : Parts). IsEmptied (its_parts self).rest q.rest) (sym parts) begun.rest;
+      within = (let low = ∥∥₁_elim sound le_prop (λ s. s.within) in omega (arith, low, zero));
+      range = ∥∥₁_elim sound le_prop (λ s. s.range);
+    };
+    spares = λ k q e. absurd (none_there k q (subst (λ l. slice_get l k ≡ Some q) bare e));
+    holds = λ is j isj.
+        let light : (its_parts self).burden ≤ MOST_BURDEN = ∥∥₁_elim sound le_prop (λ s. s.light) in
+        let low : (its_parts self).before ≤ (its_parts self).limit = ∥∥₁_elim sound le_prop (λ s. s.within) in
+        ∣ starts self keep meters is j isj light low (begun.machine is (its_parts self) j refl isj) begun.meter none zero going ∣₁;
+  };
+}
+  where
+    sound : ∥ IsSound (its_parts self) ∥₁
+    sound = (its_job self).sound
+
+    begun : BeginsRun (its_parts self) p' self.run
+    begun = subst (λ (x : Job). BeginsRun x.parts.value p' self.run) (sym of) b
+
+    none_there : {A : Type 0} (k : ℕ) (q : A) → slice_get {X = A} [] k ≡ Some q → ⊥
+    none_there k q e = cc
