@@ -106,7 +106,7 @@ module _ (keep : (code : Code) → CallsKeep code) (self : Strand) (limit : ℕ)
           held = refl;
         }
 
-    came_back : CameTo self limit stop.CameBack is j → Holds (record self { mode = mode.Waiting }) is j
+    pub came_back : CameTo self limit stop.CameBack is j → Holds (record self { mode = mode.Waiting }) is j
     came_back c =
         let at = c.at.1 in
         let out = rests_at p (levels_of c.state.around) lent in

@@ -4,3 +4,6 @@ pub mod Flat
 pub mod Starts
 pub mod Onward
 pub mod Halts
+pub mod RunsOn
+pub mod Ends
+pub mod Joins

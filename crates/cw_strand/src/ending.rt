@@ -9,12 +9,16 @@ ghost use Rattle.cw_strand.specs.Moves.{HasCome, IsShown};
 
 use crate::lending::empty_rest;
 use crate::strand::{Mode, Strand};
+use cw_code::laws::runs_stay_in_their_functions;
+use cw_jobs::call::Rest;
 use cw_jobs::effect::{Effect, Shown};
 use cw_machine::laws::machines_that_stop_remain;
+use cw_machine::machine::Machine;
 use cw_machine::run::Run;
 use cw_meter::Meter;
 use cw_slices::Slice;
-use cw_strands::laws::calls_on_a_strand_keep_its_job;
+use cw_metered::laws::calls_keep_what_meters_tell;
+use cw_strands::laws::{calls_on_a_strand_keep_its_job, rests_stay_in_their_functions};
 use std::mem;
 
 // What a run has shown and counted in so many instructions.
@@ -30,17 +34,17 @@ fn shown(run: &mut Run, cost: u64) -> Shown
     }
 }
 
-impl Strand {
-    // The arrays of the job, of a strand that stopped.
-    fn give_up(&mut self) -> Vec<Slice>
-        requires { runs.MayGiveUp self.old.run.machine (length self.old.parts.value.rest.slices.items) }
-        ensures { runs.GivesUp self.old.run.machine (length self.old.parts.value.rest.slices.items) result.items }
-    {
-        let alloc = *self.lent.allocator();
-        self.run.machine.give_up(&mut self.parts.rest);
-        mem::replace(&mut self.parts.rest.slices, Vec::new(alloc))
-    }
+// The slices that a machine was given, of one that stopped.
+fn given_up(machine: &mut Machine, rest: &mut Rest) -> Vec<Slice>
+    requires { runs.MayGiveUp machine.old (length rest.old.slices.items) }
+    ensures { runs.GivesUp machine.old (length rest.old.slices.items) result.items }
+{
+    let alloc = *machine.lines.allocator();
+    machine.give_up(rest);
+    mem::replace(&mut rest.slices, Vec::new(alloc))
+}
 
+impl Strand {
     // The effect of a strand that stopped and has nothing out.
     pub(crate) fn stop_effect(&mut self) -> Effect
         requires running { IsRunning self.old }
@@ -54,17 +58,18 @@ impl Strand {
         let alloc = *self.lent.allocator();
         match self.mode {
             Mode::Trapped(trap, line) => {
-                let back = self.give_up();
+                let lines = mem::replace(&mut self.run.machine.lines, Vec::new(alloc));
+                let back = given_up(&mut self.run.machine, &mut self.parts.rest);
                 Effect::Trapped {
                     trap,
                     line,
-                    lines: mem::replace(&mut self.run.machine.lines, Vec::new(alloc)),
+                    lines,
                     cost: self.count,
                     back,
                 }
             }
             Mode::Over => Effect::OverLimit {
-                back: self.give_up(),
+                back: given_up(&mut self.run.machine, &mut self.parts.rest),
             },
             _ => Effect::Memory {
                 back: Vec::new(alloc),
@@ -94,6 +99,9 @@ impl Strand {
         ensures none { outs self.old ≡ [] }
     {
         calls_on_a_strand_keep_its_job();
+        calls_keep_what_meters_tell();
+        rests_stay_in_their_functions();
+        runs_stay_in_their_functions();
         let alloc = *self.lent.allocator();
         let mut replaced = Vec::new(alloc);
         match self

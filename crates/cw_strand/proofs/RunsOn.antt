@@ -1,0 +1,120 @@
+-- A strand that runs goes on to a stop.
+use Rattle.std.proofs.Common.{◌≡◌, ◌≢◌, ℕ, ◌+◌, ◌-◌, ◌≤◌, true, List, [], ◌∷◌, refl, sym, ap, ◌∙◌, subst, arith}
+use Rattle.std.specs.Prelude.{map, reverse}
+use Rattle.std.specs.Coded.{le_prop}
+use Rattle.std.proofs.Math.Logic.{∥∥₁_elim, ∥∥₁_map}
+use mathlib.Core.HLevel.{⊥_prop}
+use Rattle.cw_code.specs.Code.{Code, code_view}
+use Rattle.cw_code.specs.Run.{State}
+use Rattle.cw_strands.specs.Jobs as jobs
+use Rattle.cw_strands.specs.Strands as strands
+use Rattle.cw_strands.specs.Strands.{Going, Waits, Halted}
+use Rattle.cw_strands.specs.Promises.{IsStrandOf}
+use Rattle.cw_strands.specs.Steps.{CallsKeep}
+use Rattle.cw_jobs.specs.Jobs.{IsSound, IsJob}
+use Rattle.cw_machine.specs.declared.run.Run.{Run}
+use Rattle.cw_machine.specs.declared.run.Stop.{Stop}
+use Rattle.cw_machine.specs.declared.run.Stop.TheVariants as stop
+use Rattle.cw_machine.specs.Arrays.{Out, IsFit}
+use Rattle.cw_machine.specs.Stretches.{IsUnderWay, GoesOn}
+use Rattle.cw_strand.specs.declared.strand.Lent.{Lent}
+use Rattle.cw_strand.specs.declared.strand.Mode.TheVariants as mode
+use Rattle.cw_strand.specs.declared.strand.Strand.{Strand}
+use Rattle.cw_strand.specs.Levels.{Level, levels_of}
+use Rattle.cw_strand.specs.Holds.{its_job, its_parts, its_code, outs, Ground, Lends, Runs, Waited, HeldIn, Holds, IsRunning, IsWaiting, IsAtSync}
+use Rattle.cw_strand.specs.Moves.{CameTo, HasCome}
+use Rattle.cw_strand.proofs.Onward.{under_way, came_to}
+use Rattle.cw_strand.proofs.Halts.{came_back}
+
+-- the job of a strand is one of the definitions, by code that fits
+pub sound_of : (self : Strand) → ∥ IsSound (its_parts self) ∥₁
+sound_of self = (its_job self).sound
+
+module _ (self : Strand) (is : IsFit (its_code self)) (j : jobs.Job) where
+  -- a strand that goes on
+  pub record IsGoing (g : Ground (its_code self) is (its_parts self) j) : Type 0 where
+    pub state : State
+    pub count : ℕ
+    pub out : List jobs.Job
+    pub is_of : IsStrandOf (code_view (its_code self).code) j (Going state count out)
+    pub runs : Runs self is j g (levels_of state.around) state count out
+
+  going_held : (g : Ground (its_code self) is (its_parts self) j) (d : strands.Strand) → IsStrandOf (code_view (its_code self).code) j d → HeldIn self is j g mode.Going d → IsGoing g
+  going_held g (Going s count out) is_of h = record { state = s; count = count; out = out; is_of = is_of; runs = h }
+  going_held g (Waits s count out) is_of h = absurd h
+  going_held g (Halted e out) is_of h = absurd h
+
+  pub going_of : self.mode ≡ mode.Going → (d : Holds self is j) → IsGoing d.ground
+  going_of e d = going_held d.ground d.strand d.is_of (subst (λ m. HeldIn self is j d.ground m d.strand) e d.held)
+
+  -- and one that waits
+  pub record IsHeldBack (g : Ground (its_code self) is (its_parts self) j) : Type 0 where
+    pub state : State
+    pub count : ℕ
+    pub out : List jobs.Job
+    pub is_of : IsStrandOf (code_view (its_code self).code) j (Waits state count out)
+    pub waited : Waited self is j g state count out
+
+  waiting_held : (g : Ground (its_code self) is (its_parts self) j) (d : strands.Strand) → IsStrandOf (code_view (its_code self).code) j d → HeldIn self is j g mode.Waiting d → IsHeldBack g
+  waiting_held g (Going s count out) is_of h = absurd h
+  waiting_held g (Waits s count out) is_of h = record { state = s; count = count; out = out; is_of = is_of; waited = h }
+  waiting_held g (Halted e out) is_of h = absurd h
+
+  pub waiting_of : self.mode ≡ mode.Waiting → (d : Holds self is j) → IsHeldBack d.ground
+  waiting_of e d = waiting_held d.ground d.strand d.is_of (subst (λ m. HeldIn self is j d.ground m d.strand) e d.held)
+
+-- its run is under way
+pub run_way : (self : Strand) → IsRunning self → self.mode ≡ mode.Going → ∥ IsUnderWay (its_code self) true self.count self.run ∥₁
+run_way self h e = ∥∥₁_elim (sound_of self) (hlevel) (λ s. ∥∥₁_map (h.holds s.ok s.job s.is) (λ d.
+    let at = going_of self s.ok s.job e d in
+    under_way self s.ok s.job d.ground at.state at.count at.out at.runs))
+
+-- and comes to a stop
+pub run_came : ((code : Code) → CallsKeep code) → (self : Strand) (r : Run) (done limit : ℕ) (to : Stop) → IsRunning self → self.mode ≡ mode.Going → GoesOn (its_code self) self.run self.count limit true to done r → done ≤ limit → limit ≤ (its_parts self).limit - (its_parts self).before
+    → HasCome (record self { run = r; count = done }) limit to
+run_came keep self r done limit to h e goes le within = record {
+  keeps = record {
+    code = h.keeps.code;
+    extent = h.keeps.extent;
+    site = h.keeps.site;
+    burden = h.keeps.burden;
+    limit = h.keeps.limit;
+    before = h.keeps.before;
+    rest = h.keeps.rest;
+    within = (let w = h.keeps.within in omega (arith, w, le, within));
+    range = h.keeps.range;
+  };
+  spares = h.spares;
+  comes = λ is j job. ∥∥₁_map (h.holds is j job) (λ d.
+      let at = going_of self is j e d in
+      came_to keep self is j d.ground r done limit to at.state at.count at.out at.is_of at.runs goes le within (let w = h.keeps.within in omega (arith, w)));
+}
+
+-- something is out where a level is
+lends_some : (self : Strand) (v : _) (is : IsFit v) (p : _) (base : State) (l : Level) (levels : List Level) (out : List Out) → Lends v is p base (l ∷ levels) out (reverse self.lent.items) → outs self ≢ []
+lends_some self v is p base l levels out h e = at out (reverse self.lent.items) h e
+  where
+    at : (out : List Out) (lent : List Lent) → Lends v is p base (l ∷ levels) out lent → map (λ x. x.job.value) lent ≢ []
+    at [] lent k q = absurd k
+    at (o ∷ out) [] k q = absurd k
+    at (o ∷ out) (x ∷ lent) k q = cc
+
+waits_some : (self : Strand) (is : IsFit (its_code self)) (j : jobs.Job) (g : Ground (its_code self) is (its_parts self) j) (s : State) (count : ℕ) (out : List jobs.Job) → Waited self is j g s count out → outs self ≢ []
+waits_some self is j g s count out w = lends_some self (its_code self) is (its_parts self) g.base w.level (levels_of s.around) w.runs.outs w.runs.lends
+
+pub waiting_some : (self : Strand) → IsRunning self → IsWaiting self → outs self ≢ []
+waiting_some self h e none = ∥∥₁_elim (sound_of self) ⊥_prop (λ s. ∥∥₁_elim (h.holds s.ok s.job s.is) ⊥_prop (λ d.
+    let at = waiting_of self s.ok s.job e d in
+    waits_some self s.ok s.job d.ground at.state at.count at.out at.waited none))
+
+pub back_some : ((code : Code) → CallsKeep code) → (self : Strand) (limit : ℕ) → HasCome self limit stop.CameBack → outs self ≢ []
+back_some keep self limit h none = ∥∥₁_elim (sound_of self) ⊥_prop (λ s. ∥∥₁_elim (h.comes s.ok s.job s.is) ⊥_prop (λ c.
+    let d : Holds (record self { mode = mode.Waiting }) s.ok s.job = came_back keep self limit s.ok s.job h.keeps c in
+    let at = waiting_of (record self { mode = mode.Waiting }) s.ok s.job refl d in
+    waits_some (record self { mode = mode.Waiting }) s.ok s.job d.ground at.state at.count at.out at.waited none))
+
+pub waits_at : (self : Strand) → self.mode ≡ mode.Waiting → IsAtSync self
+waits_at self e going = differ (sym e ∙ going)
+  where
+    differ : mode.Waiting ≡ mode.Going → ⊥
+    differ k = cc

@@ -1,0 +1,44 @@
+use Rattle.std.proofs.Common.{◌≡◌, length, refl, sym, ap, subst}
+use Rattle.cw_jobs.specs.declared.call.Parts.{Parts}
+use Rattle.cw_jobs.specs.declared.effect.Effect.TheVariants as effect
+use Rattle.cw_machine.specs.JobRuns as runs
+use Rattle.cw_strand.specs.Holds.{its_job}
+use Rattle.cw_strand.proofs.Ends.{may_with, gives_with, may_trapped, may_over, trap_means, over_means, memory_means}
+use Rattle.cw_strand.proofs.strand.Strand.stop_effect.Goals as goal
+
+pub given_up-back-requires : goal.given_up-back-requires
+given_up-back-requires c =
+    let self = c.args.self.now in
+    subst (λ (q : Parts). runs.MayGiveUp _ (length q.rest.slices.items)) (sym c.deref_mut.ensures.value)
+    (may_with self.run.machine _ refl (length self.parts.value.rest.slices.items)
+    (may_trapped c.calls_on_a_strand_keep_its_job.ensures c.machines_that_stop_remain.ensures.kept self c.requires.running c.requires.none c.in-Trapped.trap c.in-Trapped.line c.in-Trapped.is))
+
+pub given_up-requires : goal.given_up-requires
+given_up-requires c =
+    let self = c.args.self.now in
+    subst (λ (q : Parts). runs.MayGiveUp self.run.machine (length q.rest.slices.items)) (sym c.deref_mut-in-Over.ensures.value)
+    (may_over c.calls_on_a_strand_keep_its_job.ensures c.machines_that_stop_remain.ensures.kept self c.requires.running c.requires.none c.in-Over.is)
+
+pub returns-in-Trapped-clause-means : goal.returns-in-Trapped-clause-means
+returns-in-Trapped-clause-means c =
+    let self = c.args.self.now in
+    let n = length self.parts.value.rest.slices.items in
+    trap_means c.calls_on_a_strand_keep_its_job.ensures c.machines_that_stop_remain.ensures.kept self c.requires.running c.requires.none c.in-Trapped.trap c.in-Trapped.line
+    (effect.Trapped c.in-Trapped.trap c.in-Trapped.line c.replace-lines.result self.count c.given_up-back.result) c.in-Trapped.is (
+      refl,
+      refl,
+      ap (λ l. l.items) c.replace-lines.ensures.value,
+      refl,
+      gives_with self.run.machine _ refl n c.given_up-back.result.items
+          (subst (λ (q : Parts). runs.GivesUp _ (length q.rest.slices.items) c.given_up-back.result.items) c.deref_mut.ensures.value c.given_up-back.ensures),
+    )
+
+pub returns-in-Over-clause-means : goal.returns-in-Over-clause-means
+returns-in-Over-clause-means c =
+    let self = c.args.self.now in
+    over_means c.calls_on_a_strand_keep_its_job.ensures c.machines_that_stop_remain.ensures.kept self c.requires.running c.requires.none
+    (effect.OverLimit c.given_up.result) c.in-Over.is
+    (subst (λ (q : Parts). runs.GivesUp self.run.machine (length q.rest.slices.items) c.given_up.result.items) c.deref_mut-in-Over.ensures.value c.given_up.ensures)
+
+pub returns-in_default : goal.returns-in_default
+returns-in_default c = record { of = refl; means = memory_means (its_job c.args.self.now) (effect.Memory c.new-in_default.result) tt }
