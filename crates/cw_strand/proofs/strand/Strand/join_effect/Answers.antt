@@ -22,7 +22,7 @@ returns-in-Ok-clause-means c =
     (record { machine = c.finish.new.self; meter = self.run.meter }) refl c.finish.ensures.lines c.finish.ensures.sums
     (effect.Joined c.replace.result c.finish.new.replaced c.shown.result) (
       subst (λ n. runs.EndsJob self.run.machine n c.replace.result c.finish.new.replaced.items) many
-          (subst (λ f. runs.EndsJob self.run.machine (length c.deref_mut.result.now.rest.slices.items) f c.finish.new.replaced.items) (sym c.replace.ensures.value) c.in-Ok.ensures.ends),
+          (subst (λ f. runs.EndsJob self.run.machine (length c.deref_mut.result.now.rest.slices.items) f c.finish.new.replaced.items) (sym (c.replace.ensures.value ∙ ap (λ (q : Parts). q.rest) c.deref_mut-in-Ok.ensures.value)) c.in-Ok.ensures.ends),
       c.shown.ensures,
     )
 

@@ -9,8 +9,8 @@ use Rattle.cw_strand.proofs.strand.Strand.stop_effect.Goals as goal
 pub given_up-back-requires : goal.given_up-back-requires
 given_up-back-requires c =
     let self = c.args.self.now in
-    subst (λ (q : Parts). runs.MayGiveUp _ (length q.rest.slices.items)) (sym c.deref_mut.ensures.value)
-    (may_with self.run.machine _ refl (length self.parts.value.rest.slices.items)
+    subst (λ (q : Parts). runs.MayGiveUp (record self.run.machine { lines = c.replace-lines.new.dest }) (length q.rest.slices.items)) (sym c.deref_mut.ensures.value)
+    (may_with self.run.machine (record self.run.machine { lines = c.replace-lines.new.dest }) refl (length self.parts.value.rest.slices.items)
     (may_trapped c.calls_on_a_strand_keep_its_job.ensures c.machines_that_stop_remain.ensures.kept self c.requires.running c.requires.none c.in-Trapped.trap c.in-Trapped.line c.in-Trapped.is))
 
 pub given_up-requires : goal.given_up-requires
@@ -29,8 +29,8 @@ returns-in-Trapped-clause-means c =
       refl,
       ap (λ l. l.items) c.replace-lines.ensures.value,
       refl,
-      gives_with self.run.machine _ refl n c.given_up-back.result.items
-          (subst (λ (q : Parts). runs.GivesUp _ (length q.rest.slices.items) c.given_up-back.result.items) c.deref_mut.ensures.value c.given_up-back.ensures),
+      gives_with self.run.machine (record self.run.machine { lines = c.replace-lines.new.dest }) refl n c.given_up-back.result.items
+          (subst (λ (q : Parts). runs.GivesUp (record self.run.machine { lines = c.replace-lines.new.dest }) (length q.rest.slices.items) c.given_up-back.result.items) c.deref_mut.ensures.value c.given_up-back.ensures),
     )
 
 pub returns-in-Over-clause-means : goal.returns-in-Over-clause-means
