@@ -1,6 +1,6 @@
 -- A strand whose run came to a stop that hands nothing out: it waits, or it has stopped.
 use Rattle.std.proofs.Common.{◌≡◌, ℕ, ◌+◌, ◌-◌, ◌<◌, ◌≤◌, ℤ, Bool, false, List, [], ◌∷◌, length, refl, sym, ap, ◌∙◌, subst, arith}
-use Rattle.std.specs.Prelude.{reverse}
+use Rattle.std.specs.Prelude.{reverse, Some, slice_get}
 use Rattle.std.proofs.Math.Logic.{∥∥₁_map}
 use Rattle.cw_model.specs.declared.trap.Trap.{Trap}
 use Rattle.cw_code.specs.Code.{Code, code_view}
@@ -14,7 +14,7 @@ use Rattle.cw_strands.specs.Promises.{IsStrandOf}
 use Rattle.cw_strands.specs.Steps.{CallsKeep}
 use Rattle.cw_verify.specs.declared.verified.Verified.{Verified}
 use Rattle.cw_jobs.specs.declared.call.Parts.{Parts}
-use Rattle.cw_jobs.specs.Jobs.{extent_of, IsJob}
+use Rattle.cw_jobs.specs.Jobs.{extent_of, code_of, IsJob}
 use Rattle.cw_machine.specs.declared.run.Stop.{Stop}
 use Rattle.cw_machine.specs.declared.run.Stop.TheVariants as stop
 use Rattle.cw_machine.specs.Arrays.{IsFit}
@@ -24,9 +24,10 @@ use Rattle.cw_strand.specs.declared.strand.Mode.{Mode}
 use Rattle.cw_strand.specs.declared.strand.Mode.TheVariants as mode
 use Rattle.cw_strand.specs.declared.strand.Strand.{Strand}
 use Rattle.cw_strand.specs.Levels.{levels_of}
-use Rattle.cw_strand.specs.Holds.{its_parts, its_code, Ground, setting_of, ok_with, Lends, rests_at, Runs, HeldIn, Holds, KeepsJob, IsRunning}
-use Rattle.cw_strand.specs.Moves.{CameTo, HasCome}
+use Rattle.cw_strand.specs.Holds.{its_parts, its_code, lent_parts, Ground, setting_of, ok_with, Lends, rests_at, Runs, HeldIn, Holds, KeepsJob, IsRunning}
+use Rattle.cw_strand.specs.Moves.{CameTo, HasCome, HasSpared}
 use Rattle.cw_strand.proofs.Levels.{HasReturned, LevelsAfter, levels_move}
+use Rattle.cw_strand.proofs.Same.{same_strand}
 use Rattle.cw_strand.proofs.Course.{ran, fell, passed, wants}
 
 pub keeps_as : (self : Strand) (m : Mode) → KeepsJob self → KeepsJob (record self { mode = m })
@@ -132,6 +133,7 @@ module _ (keep : (code : Code) → CallsKeep code) (self : Strand) (limit : ℕ)
   trapped_runs trap line h = record {
     keeps = keeps_as self (mode.Trapped trap line) h.keeps;
     spares = h.spares;
+    shares = h.shares;
     holds = λ is j job. ∥∥₁_map (h.comes is j job) (λ c. trapped is j h.keeps trap line c);
   }
 
@@ -139,6 +141,7 @@ module _ (keep : (code : Code) → CallsKeep code) (self : Strand) (limit : ℕ)
   over_runs remain end h = record {
     keeps = keeps_as self mode.Over h.keeps;
     spares = h.spares;
+    shares = h.shares;
     holds = λ is j job. ∥∥₁_map (h.comes is j job) (λ c. over is j h.keeps remain end c);
   }
 
@@ -146,6 +149,7 @@ module _ (keep : (code : Code) → CallsKeep code) (self : Strand) (limit : ℕ)
   lost_runs to h = record {
     keeps = keeps_as self mode.Memory h.keeps;
     spares = h.spares;
+    shares = h.shares;
     holds = λ is j job. ∥∥₁_map (h.comes is j job) (λ c. lost is j h.keeps to c);
   }
 
@@ -153,6 +157,7 @@ module _ (keep : (code : Code) → CallsKeep code) (self : Strand) (limit : ℕ)
   back_runs h = record {
     keeps = keeps_as self mode.Waiting h.keeps;
     spares = h.spares;
+    shares = h.shares;
     holds = λ is j job. ∥∥₁_map (h.comes is j job) (λ c. came_back is j h.keeps c);
   }
 
@@ -161,6 +166,7 @@ pub fails : ((code : Code) → CallsKeep code) → (self : Strand) → IsRunning
 fails keep self h = record {
   keeps = keeps_as self mode.Memory h.keeps;
   spares = h.spares;
+  shares = h.shares;
   holds = λ is j job. ∥∥₁_map (h.holds is j job) (λ d. record {
     ground = d.ground;
     strand = Halted jobs.Memory (outs_of d.strand);
@@ -168,3 +174,29 @@ fails keep self h = record {
     held = refl;
   });
 }
+
+-- where memory was wanting the rest is as it was
+pub spared_runs : ((code : Code) → CallsKeep code) → (old new : Strand) (limit : ℕ) (to : Stop) → HasCome old limit to → HasSpared old new → IsRunning (record new { mode = mode.Memory })
+spared_runs keep old new limit to h same = subst IsRunning
+    (same_strand (record old { lent = new.lent; spares = new.spares; mode = mode.Memory }) (record new { mode = mode.Memory }) same.of same.parts same.run same.count refl refl refl)
+    (record {
+      keeps = record {
+        code = h.keeps.code;
+        extent = h.keeps.extent;
+        site = h.keeps.site;
+        burden = h.keeps.burden;
+        limit = h.keeps.limit;
+        before = h.keeps.before;
+        rest = h.keeps.rest;
+        within = h.keeps.within;
+        range = h.keeps.range;
+      };
+      spares = subst (λ o. (k : ℕ) (b : _) → slice_get new.spares.items k ≡ Some b → code_of b.value ≡ code_of o.value.parts.value) same.of same.spares;
+      shares = subst (λ l. (k : ℕ) (x : Lent) → slice_get (reverse l) k ≡ Some x → code_of (lent_parts x) ≡ its_code old) (sym same.lent) h.shares;
+      holds = λ is j job. ∥∥₁_map (h.comes is j job) (λ c. record {
+        ground = c.ground;
+        strand = Halted jobs.Memory (rests_at (its_parts old) (levels_of c.state.around) (reverse old.lent.items));
+        is_of = wants (code_view (its_code old).code) (keep (code_view (its_code old).code)) j (Going c.state c.later (rests_at (its_parts old) (levels_of c.state.around) (reverse old.lent.items))) c.is_of;
+        held = refl;
+      });
+    })

@@ -7,7 +7,7 @@ use Rattle.cw_model.specs.Outcome.{Trace}
 use Rattle.cw_code.specs.declared.code.Instr.{Instr}
 use Rattle.cw_code.specs.Code.{Code}
 use Rattle.cw_code.specs.Run.{Slots, Results, Taken, Waiting, Around, Caller, Block, State, Transition, On, Ends, Stops, Stuck, is_full, settled, synced, Entering, waiting_at, begun, given_back, going_on, result_of, returns_to, back, act, step}
-use Rattle.cw_strands.specs.Strands.{Turn, Goes, HandsOut, ComesBack, turn, turn_back, turn_in, turn_call, turn_of}
+use Rattle.cw_strands.specs.Strands.{rest_of, spawn_job, Turn, Goes, HandsOut, ComesBack, turn, turn_back, turn_in, turn_call, turn_of}
 use Rattle.cw_strands.specs.Over.{beneath}
 use Rattle.cw_strands.specs.lemmas.Acts.{acts_by}
 use Rattle.cw_strand.specs.Levels.{Level, level_if, levels_of, ResultWaits, IsBackAt}
@@ -21,6 +21,7 @@ pub record HasSpawned (s s' : State) (target : Option ℕ) (taken : List Taken) 
   pub target_is : waiting.target ≡ target
   pub taken_is : waiting.taken ≡ taken
   pub levels : levels_of s'.around ≡ record { waiting = waiting; around = s.around } ∷ levels_of s.around
+  pub rest : (limit before : ℕ) → spawn_job s target taken limit before ≡ rest_of waiting limit before
 
 -- one has come back
 pub record HasReturned (s s' : State) : Type 0 where
@@ -57,6 +58,7 @@ module _ (s : State) where
         target_is = refl;
         taken_is = refl;
         levels = refl;
+        rest = λ limit before. refl;
       }
 
   module _ (w : Waiting) (around : List Around) (is : s.around ≡ Caller w ∷ around) where

@@ -3,7 +3,12 @@ pub mod Course
 pub mod Flat
 pub mod Starts
 pub mod Onward
+pub mod Same
 pub mod Halts
 pub mod RunsOn
 pub mod Ends
 pub mod Joins
+pub mod Cutting
+pub mod HandedOn
+pub mod TakenBack
+pub mod Homes

@@ -38,7 +38,7 @@ up_to_round : (kind : CallKind) (round below : ℕ) → below ≤ round → up_t
 up_to_round Plain round below le = omega (arith, le)
 up_to_round Spawned round below le = omega arith
 
-newest_round : (around : List Around) → newest_spawn around ≤ length around
+pub newest_round : (around : List Around) → newest_spawn around ≤ length around
 newest_round [] = omega arith
 newest_round (Block o ∷ around) = let le = newest_round around in omega (arith, le)
 newest_round (Caller w ∷ around) = up_to_round w.kind (length around) (newest_spawn around) (newest_round around)

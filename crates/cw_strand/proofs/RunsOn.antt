@@ -73,6 +73,7 @@ run_way self h e = ∥∥₁_elim (sound_of self) (hlevel) (λ s. ∥∥₁_map 
 pub run_came : ((code : Code) → CallsKeep code) → (self : Strand) (r : Run) (done limit : ℕ) (to : Stop) → IsRunning self → self.mode ≡ mode.Going → GoesOn (its_code self) self.run self.count limit true to done r → done ≤ limit → limit ≤ (its_parts self).limit - (its_parts self).before
     → HasCome (record self { run = r; count = done }) limit to
 run_came keep self r done limit to h e goes le within = record {
+  going = e;
   keeps = record {
     code = h.keeps.code;
     extent = h.keeps.extent;
@@ -85,6 +86,7 @@ run_came keep self r done limit to h e goes le within = record {
     range = h.keeps.range;
   };
   spares = h.spares;
+  shares = h.shares;
   comes = λ is j job. ∥∥₁_map (h.holds is j job) (λ d.
       let at = going_of self is j e d in
       came_to keep self is j d.ground r done limit to at.state at.count at.out at.is_of at.runs goes le within (let w = h.keeps.within in omega (arith, w)));

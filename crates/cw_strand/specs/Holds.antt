@@ -170,10 +170,15 @@ pub record KeepsJob (self : Strand) : Type 0 where
 abbrev pub AreSpare : Strand → Type 0
 AreSpare self = (k : ℕ) (b : _) → slice_get self.spares.items k ≡ Some b → code_of b.value ≡ its_code self
 
+-- and so have the jobs that are out
+abbrev pub ShareCode : Strand → Type 0
+ShareCode self = (k : ℕ) (h : Lent) → slice_get (reverse self.lent.items) k ≡ Some h → code_of (lent_parts h) ≡ its_code self
+
 -- A STRAND OF ITS JOB, whichever of the definitions the job is
 pub record IsRunning (self : Strand) : Type 0 where
   pub keeps : KeepsJob self
   pub spares : AreSpare self
+  pub shares : ShareCode self
   pub holds : (is : IsFit (its_code self)) (j : jobs.Job) → IsJob (its_code self) is (its_parts self) j
       → ∥ Holds self is j ∥₁
 
@@ -185,6 +190,11 @@ abbrev pub stops : Mode → Bool
 stops mode.Going = false
 stops mode.Waiting = false
 stops _ = true
+
+-- nothing is known of the run any more
+abbrev pub is_lost : Mode → Bool
+is_lost mode.Memory = true
+is_lost _ = false
 
 abbrev pub HasStopped : Strand → Type 0
 HasStopped self = stops self.mode ≡ true

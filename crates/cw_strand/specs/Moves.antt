@@ -26,11 +26,13 @@ use Rattle.cw_machine.specs.Shows.{StaysBut}
 use Rattle.cw_machine.specs.Hands.{HandsOut}
 use Rattle.cw_machine.specs.JobRuns.{BeginsJob, IsEmptied}
 use Rattle.cw_machine.specs.Stretches.{ShowsRun, StopsAt}
+use Rattle.cw_strand.specs.declared.strand.Lent.{Lent}
+use Rattle.cw_strand.specs.declared.strand.Mode.TheVariants as mode
 use Rattle.cw_strand.specs.declared.strand.Step.{Step}
 use Rattle.cw_strand.specs.declared.strand.Step.TheVariants as step
 use Rattle.cw_strand.specs.declared.strand.Strand.{Strand}
 use Rattle.cw_strand.specs.Levels.{levels_of}
-use Rattle.cw_strand.specs.Holds.{its_job, its_parts, its_code, outs, Ground, setting_of, ok_with, Lends, rests_at, KeepsJob, AreSpare, IsRunning, IsAtSync}
+use Rattle.cw_strand.specs.Holds.{its_job, its_parts, its_code, outs, Ground, setting_of, ok_with, Lends, rests_at, KeepsJob, AreSpare, ShareCode, IsRunning, IsAtSync}
 
 -- a run begins a job, whose arrays moved into it
 pub record BeginsRun (p p' : Parts) (r : Run) : Type 0 where
@@ -71,8 +73,10 @@ pub record CameTo (self : Strand) (limit : ℕ) (stop : Stop) (is : IsFit (its_c
 
 -- whichever of the definitions the job is
 pub record HasCome (self : Strand) (limit : ℕ) (stop : Stop) : Type 0 where
+  pub going : self.mode ≡ mode.Going
   pub keeps : KeepsJob self
   pub spares : AreSpare self
+  pub shares : ShareCode self
   pub comes : (is : IsFit (its_code self)) (j : jobs.Job) → IsJob (its_code self) is (its_parts self) j
       → ∥ CameTo self limit stop is j ∥₁
 
@@ -102,6 +106,18 @@ pub record HasSpared (old new : Strand) : Type 0 where
   pub mode : new.mode ≡ old.mode
   pub spares : AreSpare new
 
+-- the parts of a rest know where they were cut out
+abbrev pub IsAddressed : Parts → (of : Parts) → (site count : ℕ) → Parts → Type 0
+IsAddressed p of site count p' = p' ≡ record {
+  code = p.code;
+  extent = extent.ToJoin;
+  rest = p.rest;
+  site = site;
+  burden = of.burden;
+  limit = of.limit;
+  before = of.before + count;
+}
+
 -- the rest of the block that has spawned a call was cut out of a strand as these parts of a job, and all else is as it
 -- was
 pub record HasCut (old new : Strand) (spawn : Spawn) (p : Parts) (first : ℕ) : Type 0 where
@@ -120,3 +136,8 @@ pub record HasCut (old new : Strand) (spawn : Spawn) (p : Parts) (first : ℕ) :
   pub burden : p.burden ≡ (its_parts old).burden
   pub limit : p.limit ≡ (its_parts old).limit
   pub before : p.before ≡ (its_parts old).before + old.count
+
+-- the cell of the first array slot of a job that was out
+abbrev pub first_of : Option Lent → ℕ
+first_of (Some h) = h.first
+first_of None = 0

@@ -1,11 +1,12 @@
 //! A strand goes on.
 
-ghost use Rattle.std.specs.Prelude.{◌≡◌, ◌-◌, ◌≤◌};
+ghost use Rattle.std.specs.Prelude.{◌≡◌, ◌-◌, ◌≤◌, [], IsSome};
 ghost use Rattle.cw_strand.specs.declared.strand.Mode.TheVariants as mode;
 ghost use Rattle.cw_strand.specs.Holds.{its_parts, outs, HasStopped, IsRunning};
-ghost use Rattle.cw_strand.specs.Moves.{HasCome, IsSame, KeptBy};
+ghost use Rattle.cw_strand.specs.Moves.{EndsBy, HasCome, IsSame, KeptBy};
 
 use crate::strand::{Mode, Step, Strand};
+use cw_jobs::effect::Effect;
 use cw_machine::laws::machines_that_stop_remain;
 use cw_machine::run::Stop;
 use cw_strands::laws::calls_on_a_strand_keep_its_job;
@@ -80,6 +81,22 @@ impl Strand {
         }
     }
 
+    // The effect of a strand that goes on, where it is at the join of its job.
+    fn end_at_join(&mut self) -> Option<Effect>
+        requires running { IsRunning self.old }
+        requires going { self.old.mode ≡ mode.Going }
+        ensures of { self.new.of ≡ self.old.of }
+        ensures ends { EndsBy result self.old self.new }
+    {
+        let count = self.count;
+        let stop = self.run_on(count);
+        match stop {
+            Stop::Joined => Some(self.join_effect(count)),
+            Stop::Over => None,
+            _ => unreachable!(),
+        }
+    }
+
     /// Goes on to its next event: a spawn, whose rest it hands out; `AtSync`, where the newest job out must come back
     /// first; or its end, with an effect that means its job. Where memory was wanting, that is its effect.
     pub fn go(&mut self) -> Step
@@ -95,6 +112,24 @@ impl Strand {
             }
             Mode::Waiting => Step::AtSync,
             _ => self.rest(),
+        }
+    }
+
+    /// Ends the strand, without an instruction, where it has come to its end: where it has stopped, or is at the join of
+    /// its job, and nothing is out; its effect means its job. None where it is not at its end: then it goes on as before.
+    pub fn end(&mut self) -> Option<Effect>
+        requires { IsRunning self.old }
+        ensures of { self.new.of ≡ self.old.of }
+        ensures ends { EndsBy result self.old self.new }
+        ensures stopped { HasStopped self.old → outs self.old ≡ [] → IsSome result }
+    {
+        if !self.lent.is_empty() {
+            return None;
+        }
+        match self.mode {
+            Mode::Going => self.end_at_join(),
+            Mode::Waiting => None,
+            _ => Some(self.stop_effect()),
         }
     }
 }

@@ -6,14 +6,13 @@ ghost use Rattle.cw_jobs.specs.Jobs.{code_of};
 ghost use Rattle.cw_machine.specs.declared.run.Stop.TheVariants as stop;
 ghost use Rattle.cw_machine.specs.Calls.{listed};
 ghost use Rattle.cw_strand.specs.Holds.{its_parts, its_code, AreSpare};
-ghost use Rattle.cw_strand.specs.Moves.{HasCome, KeptBy, HasCut, HasSpared};
+ghost use Rattle.cw_strand.specs.Moves.{HasCome, KeptBy, HasCut, HasSpared, IsAddressed};
 
 use crate::strand::{Lent, Mode, Step, Strand};
 use cw_jobs::call::{Extent, Parts, Rest};
 use cw_jobs::job::Job;
 use cw_machine::laws::machines_that_stop_remain;
 use cw_machine::run::Spawn;
-use cw_metered::laws::rests_keep_their_sites;
 use cw_strands::laws::calls_on_a_strand_keep_its_job;
 use cw_verify::verified::Verified;
 use std::alloc::{AllocError, Global};
@@ -39,6 +38,19 @@ fn slots_named(code: &Verified, k: u32) -> &[u32]
     } else {
         &[]
     }
+}
+
+// The parts of a rest are told what a job of it must know, which is cut out of another job, at a site and after so many
+// instructions.
+fn address(parts: &mut Parts, of: &Parts, site: u32, count: u64)
+    requires { of.now.before + count ≤ of.now.limit }
+    ensures { IsAddressed parts.old of.now site count parts.new }
+{
+    parts.extent = Extent::ToJoin;
+    parts.site = site;
+    parts.burden = of.burden;
+    parts.limit = of.limit;
+    parts.before = of.before + count;
 }
 
 impl Strand {
@@ -73,15 +85,12 @@ impl Strand {
         ensures kept { OnErr result (HasSpared self.old self.new) }
         ensures room { OnOk result (vec_len self.new.lent < vec_capacity self.new.lent) }
     {
+        calls_on_a_strand_keep_its_job();
         let mut parts = self.shell()?;
         self.lent.reserve(1)?;
         let slots = slots_named(&self.parts.code, spawn.passed);
         let first = self.run.machine.hand_out(slots, &mut parts.rest)?;
-        parts.extent = Extent::ToJoin;
-        parts.site = spawn.site;
-        parts.burden = self.parts.burden;
-        parts.limit = self.parts.limit;
-        parts.before = self.parts.before + self.count;
+        address(&mut parts, &self.parts, spawn.site, self.count);
         Ok((parts, first))
     }
 
@@ -92,7 +101,6 @@ impl Strand {
         ensures keeps { KeptBy result self.old self.new }
     {
         calls_on_a_strand_keep_its_job();
-        rests_keep_their_sites();
         machines_that_stop_remain();
         match self.cut_out(&spawn, end) {
             Ok((parts, first)) => {

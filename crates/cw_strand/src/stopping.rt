@@ -1,13 +1,40 @@
 //! A strand that stopped.
 
-ghost use Rattle.std.specs.Prelude.{◌≡◌, ◌∷◌, true, false, List};
+ghost use Rattle.std.specs.Prelude.{◌≡◌, ◌∷◌, [], true, false, List};
 ghost use Rattle.cw_jobs.specs.declared.job.Job as jobs;
+ghost use Rattle.cw_machine.specs.Unwinding.{ComesHome, MayComeHome};
+ghost use Rattle.cw_strand.specs.Holds as holds;
 ghost use Rattle.cw_strand.specs.Holds.{outs, HasStopped, IsAtSync, IsRunning, IsWaiting};
+ghost use Rattle.cw_strand.specs.Moves as moves;
 
-use crate::strand::{Mode, Strand};
-use cw_jobs::call::Parts;
+use crate::strand::{Lent, Mode, Strand};
+use cw_jobs::call::Rest;
 use cw_jobs::job::Job;
+use cw_machine::machine::Machine;
 use cw_strands::laws::calls_on_a_strand_keep_its_job;
+
+// The cell of the first array slot of a job that was out.
+fn first_of(lent: Option<Lent>) -> usize
+    ensures { result ≡ moves.first_of lent }
+{
+    match lent {
+        Some(lent) => lent.first,
+        None => 0,
+    }
+}
+
+// The arrays of a rest that nobody ran come home into a machine, unless nothing is known of it any more.
+fn bring_home(machine: &mut Machine, first: usize, rest: &mut Rest, is_lost: bool)
+    requires { is_lost ≡ false → ∥ MayComeHome machine.old first rest.old.slices.items [] ∥₁ }
+    ensures home { is_lost ≡ false → ComesHome machine.old first rest.old.slices.items [] machine.new }
+    ensures lines { machine.new.lines.items ≡ machine.old.lines.items }
+{
+    if is_lost {
+        return;
+    }
+    let mut none = Vec::new(*machine.lines.allocator());
+    machine.come_home(first, &mut rest.slices, &mut none);
+}
 
 impl Strand {
     /// Whether it has stopped, by a trap, its limit or want of memory: it goes on no more, and ends once nothing is out.
@@ -23,20 +50,13 @@ impl Strand {
     }
 
     // Whether memory was wanting, so that nothing is known of the run any more.
-    fn is_lost(&self) -> bool {
+    fn is_lost(&self) -> bool
+        ensures { result ≡ holds.is_lost self.now.mode }
+    {
         match self.mode {
             Mode::Memory => true,
             _ => false,
         }
-    }
-
-    // The arrays of a job that nobody ran come home into a strand that stopped.
-    fn bring_home(&mut self, first: usize, parts: &mut Parts) {
-        let alloc = *self.lent.allocator();
-        let mut none = Vec::new(alloc);
-        self.run
-            .machine
-            .come_home(first, &mut parts.rest.slices, &mut none);
     }
 
     /// Skips the newest job out, which nobody ran, where the strand has stopped. Takes no memory but for what keeps the
@@ -52,11 +72,9 @@ impl Strand {
     {
         let Job { parts } = job;
         let mut parts = parts;
-        if let Some(lent) = self.lent.pop() {
-            if !self.is_lost() {
-                self.bring_home(lent.first, &mut parts);
-            }
-        }
+        let is_lost = self.is_lost();
+        let first = first_of(self.lent.pop());
+        bring_home(&mut self.run.machine, first, &mut parts.rest, is_lost);
         self.spare(parts);
     }
 

@@ -1,0 +1,183 @@
+-- The rest of the block that has spawned a call is handed out.
+use Rattle.std.proofs.Common.{◌≡◌, ◌⊎◌, ℕ, zero, suc, ◌+◌, ◌-◌, ◌<◌, ◌≤◌, ℤ, true, false, Option, Some, None, List, [], ◌∷◌, ◌++◌, length, refl, sym, ap, ◌∙◌, subst, inl, inr, arith}
+use Rattle.std.specs.Prelude.{map, reverse, slice_get}
+use Rattle.std.specs.Coded.{le_prop}
+use Rattle.std.proofs.Math.Logic.{∥∥₁_elim, ∥∥₁_map}
+use Rattle.cw_model.specs.declared.limits.TheConstants.{MOST_BURDEN}
+use Rattle.cw_model.specs.declared.syntax.CallKind.TheVariants.{Spawned}
+use Rattle.cw_code.specs.Code.{Code, code_view}
+use Rattle.cw_code.specs.Run.{Taken, Whole, slot_taken, Waiting, Around, Caller, Block, State, passed_by}
+use Rattle.cw_meter.specs.Origins.{Origin}
+use Rattle.cw_metered.specs.Strands.{site_at}
+use Rattle.cw_strands.specs.Jobs as jobs
+use Rattle.cw_strands.specs.Jobs.{has_come}
+use Rattle.cw_strands.specs.Over.{grown, lowered, beneath, under}
+use Rattle.cw_strands.specs.Strands.{Going, HandsOut, rest_of, spawn_job, turn}
+use Rattle.cw_strands.specs.Promises.{IsStrandOf}
+use Rattle.cw_strands.specs.Steps.{CallsKeep}
+use Rattle.cw_verify.specs.declared.verified.Verified.{Verified}
+use Rattle.cw_jobs.specs.declared.call.Extent.TheVariants as extent
+use Rattle.cw_jobs.specs.declared.call.Parts.{Parts}
+use Rattle.cw_jobs.specs.Jobs.{extent_of, origin_of, code_of, IsJob, IsSound}
+use Rattle.cw_machine.specs.declared.machine.Machine.{Machine}
+use Rattle.cw_machine.specs.declared.run.Spawn.{Spawn}
+use Rattle.cw_machine.specs.declared.run.Stop.TheVariants as stop
+use Rattle.cw_machine.specs.Arrays.{Out, IsFit, Ok, AllAbove}
+use Rattle.cw_machine.specs.Shows.{Comes, Shows}
+use Rattle.cw_machine.specs.Rests.{lending}
+use Rattle.cw_machine.specs.Unwinding.{LieBelow, IsLevel, OutsLieApart}
+use Rattle.cw_machine.specs.Calls.{listed}
+use Rattle.cw_machine.specs.Hands as hands
+use Rattle.cw_machine.specs.Hands.{ComesRound, out_of, Hands, MayHand, HandedOut}
+use Rattle.cw_machine.specs.Stretches.{newest_spawn, ShowsRun}
+use Rattle.cw_strand.specs.declared.strand.Lent.{Lent}
+use Rattle.cw_strand.specs.declared.strand.Mode.TheVariants as mode
+use Rattle.cw_strand.specs.declared.strand.Strand.{Strand}
+use Rattle.cw_strand.specs.Levels.{Level, levels_of, waiting_over}
+use Rattle.cw_strand.specs.Holds.{its_job, its_parts, its_code, outs, lent_parts, Ground, setting_of, ok_with, IsLent, Lends, rests_at, Runs, Holds, KeepsJob, AreSpare, IsRunning}
+use Rattle.cw_strand.specs.Moves.{CameTo, HasCome, HasCut}
+use Rattle.cw_strand.proofs.Levels.{HasSpawned, LevelsAfter, levels_move, round_many}
+use Rattle.cw_strand.proofs.Course.{ran}
+use Rattle.cw_strand.proofs.Onward.{lends_above, levels_under, newest_round}
+use Rattle.cw_strand.proofs.RunsOn.{sound_of}
+
+-- what waits over what stands round a run is the same call
+over_is : (b : State) (w : Waiting) (around : List Around) → beneath b (Caller w ∷ around) ≡ Caller (waiting_over b w around) ∷ beneath b around
+over_is b w [] = refl
+over_is b w (a ∷ around) = refl
+
+over_kind : (b : State) (w : Waiting) (around : List Around) → (waiting_over b w around).kind ≡ w.kind
+over_kind b w [] = refl
+over_kind b w (a ∷ around) = refl
+
+over_operands : (b : State) (w : Waiting) (around : List Around) → (waiting_over b w around).operands ≡ w.operands
+over_operands b w [] = refl
+over_operands b w (a ∷ around) = refl
+
+over_taken : (b : State) (w : Waiting) (around : List Around) → (waiting_over b w around).taken ≡ w.taken
+over_taken b w [] = refl
+over_taken b w (a ∷ around) = refl
+
+pub over_slots : (b : State) (w : Waiting) (around : List Around) → (waiting_over b w around).slots ≡ w.slots
+over_slots b w [] = refl
+over_slots b w (a ∷ around) = refl
+
+over_rest : (b : State) (w : Waiting) (around : List Around) (limit before : ℕ) → rest_of (waiting_over b w around) limit before ≡ rest_of w limit before
+over_rest b w [] limit before = refl
+over_rest b w (a ∷ around) limit before = refl
+
+taken_all : (slots : List ℕ) → map slot_taken (map (λ a. Whole a) slots) ≡ slots
+taken_all [] = refl
+taken_all (a ∷ slots) = ap (λ l. a ∷ l) (taken_all slots)
+
+is_level : (around : List Around) (w : Waiting) (s : List Around) → around ≡ Caller w ∷ s → IsLevel (length s) around
+is_level around w s e = subst (IsLevel (length s)) (sym e) (inl refl)
+
+module _ (keep : (code : Code) → CallsKeep code) (self : Strand) (limit : ℕ) (spawn : Spawn) (is : IsFit (its_code self)) (j : jobs.Job) (c : CameTo self limit (stop.Spawned spawn) is j) where
+  abbrev v : Verified
+  v = its_code self
+
+  abbrev code : Code
+  code = code_view v.code
+
+  abbrev p : Parts
+  p = its_parts self
+
+  abbrev lent : List Lent
+  lent = reverse self.lent.items
+
+  abbrev base : State
+  base = c.ground.base
+
+  abbrev taken : List Taken
+  taken = map (λ a. Whole a) (passed_by code spawn.passed)
+
+  abbrev next : State
+  next = c.at.1.next
+
+  pub spawned : HasSpawned c.state next spawn.target taken
+  spawned = subst (λ t. LevelsAfter t c.state next) c.at.1.turns (levels_move code c.state next c.at.1.steps)
+
+  abbrev w : Waiting
+  w = spawned.waiting
+
+  abbrev level : Level
+  level = record { waiting = w; around = c.state.around }
+
+  abbrev above_it : List Around
+  above_it = beneath base c.state.around
+
+  round_is : (under base next).around ≡ Caller (waiting_over base w c.state.around) ∷ above_it
+  round_is = ap (beneath base) spawned.around ∙ over_is base w c.state.around
+
+  above : AllAbove c.outs (length above_it)
+  above k o e =
+      let lt = lends_above v is p base (levels_of c.state.around) c.outs lent (newest_spawn c.state.around) (levels_under c.state.around) c.lends k o e in
+      let many = round_many base c.state.around in
+      let low = newest_round c.state.around in
+      omega (arith, lt, many, low)
+
+  -- the machine may hand it out
+  pub hands_it : Hands v (ok_with c.ground c.outs) self.run.machine (under base next) (waiting_over base w c.state.around) above_it (listed v spawn.passed)
+  hands_it = record {
+    shows = c.at.1.shows.shows;
+    is = round_is;
+    spawned = over_kind base w c.state.around ∙ spawned.spawned;
+    none = over_operands base w c.state.around ∙ spawned.none;
+    taken = ap (map slot_taken) (over_taken base w c.state.around ∙ spawned.taken_is) ∙ taken_all (passed_by code spawn.passed);
+    above = above;
+  }
+
+  pub may_hand : MayHand self.run.machine (listed v spawn.passed)
+  may_hand = record {
+    code = v;
+    ok = ok_with c.ground c.outs;
+    state = under base next;
+    waiting = waiting_over base w c.state.around;
+    around = above_it;
+    hands = hands_it;
+  }
+
+  module _ (apart : OutsLieApart) (new : Strand) (q : Parts) (first : ℕ) (cut : HasCut self new spawn q first) where
+    pub handed : HandedOut v (ok_with c.ground c.outs) self.run.machine (under base next) (waiting_over base w c.state.around) above_it (listed v spawn.passed) first new.run.machine q.rest
+    handed = cut.out v (ok_with c.ground c.outs) (under base next) (waiting_over base w c.state.around) above_it hands_it
+
+    abbrev out : Out
+    out = out_of (length above_it) first self.run.machine.first_array q.rest.slices.items
+
+    -- what was handed out is the job of the rest
+    pub rest_job : IsJob v is q (rest_of w p.limit q.before)
+    rest_job = subst (λ l. IsJob v is q (rest_of w l q.before)) cut.limit
+        (subst (λ x. IsJob v is q x) (over_rest base w c.state.around q.limit q.before) (handed.job q refl cut.joins))
+
+    -- what is out of the older calls lies below it
+    pub below : LieBelow c.outs first
+    below k o e =
+        apart v (lending (ok_with c.ground c.outs) out) new.run.machine (under base next) 0 (suc k) out o handed.shows refl e (above k o e)
+        (inr (is_level (under base next).around (waiting_over base w c.state.around) above_it round_is))
+
+    module _ (job : KeepsJob self) where
+      -- it can be run
+      pub sound : IsSound q
+      sound =
+          let P : Verified → Type 0 = λ u. (ok : IsFit u) × IsJob u ok q (rest_of w p.limit q.before) in
+          let at = subst P (sym cut.code) (is, rest_job) in
+          let before = cut.before in
+          let top = cut.limit in
+          let within = job.within in
+          let range = job.range in
+          record {
+            ok = at.0;
+            job = rest_of w p.limit q.before;
+            is = at.1;
+            within = omega (arith, before, top, within);
+            range = omega (arith, top, range);
+            light = subst (λ b. b ≤ MOST_BURDEN) (sym cut.burden) c.ground.light;
+          }
+
+-- for whichever of the definitions its job is
+pub may_hand_out : ((code : Code) → CallsKeep code) → (self : Strand) (limit : ℕ) (spawn : Spawn) → HasCome self limit (stop.Spawned spawn) → ∥ MayHand self.run.machine (listed (its_code self) spawn.passed) ∥₁
+may_hand_out keep self limit spawn h = ∥∥₁_elim (sound_of self) (hlevel) (λ s. ∥∥₁_map (h.comes s.ok s.job s.is) (λ c. may_hand keep self limit spawn s.ok s.job c))
+
+pub cut_sound : ((code : Code) → CallsKeep code) → OutsLieApart → (self new : Strand) (limit : ℕ) (spawn : Spawn) (q : Parts) (first : ℕ) → HasCome self limit (stop.Spawned spawn) → HasCut self new spawn q first → ∥ IsSound q ∥₁
+cut_sound keep apart self new limit spawn q first h cut = ∥∥₁_elim (sound_of self) (hlevel) (λ s. ∥∥₁_map (h.comes s.ok s.job s.is) (λ c. sound keep self limit spawn s.ok s.job c apart new q first cut h.keeps))

@@ -1,0 +1,186 @@
+-- A strand whose rest was handed out goes on.
+use Rattle.std.proofs.Common.{◌≡◌, ◌⊎◌, ℕ, zero, suc, ◌+◌, ◌-◌, ◌<◌, ◌≤◌, ℤ, true, false, Option, Some, None, List, [], ◌∷◌, ◌++◌, length, refl, sym, ap, ◌∙◌, subst, inl, inr, arith}
+use Rattle.std.specs.Prelude.{map, reverse, slice_get}
+use Rattle.std.specs.Coded.{le_prop}
+use Rattle.std.proofs.Math.Logic.{∥∥₁_elim, ∥∥₁_map}
+use Rattle.cw_model.specs.declared.limits.TheConstants.{MOST_BURDEN}
+use Rattle.cw_model.specs.declared.syntax.CallKind.TheVariants.{Spawned}
+use Rattle.cw_code.specs.Code.{Code, code_view}
+use Rattle.cw_code.specs.Run.{Taken, Whole, slot_taken, Waiting, Around, Caller, Block, State, passed_by}
+use Rattle.cw_meter.specs.Origins.{Origin}
+use Rattle.cw_metered.specs.Strands.{site_at, TellsAll}
+use Rattle.cw_strands.specs.Jobs as jobs
+use Rattle.cw_strands.specs.Jobs.{has_come}
+use Rattle.cw_strands.specs.Over.{grown, lowered, beneath, under}
+use Rattle.cw_strands.specs.Strands.{Going, HandsOut, rest_of, spawn_job, turn}
+use Rattle.cw_strands.specs.Promises.{IsStrandOf}
+use Rattle.cw_strands.specs.Steps.{CallsKeep}
+use Rattle.cw_verify.specs.declared.verified.Verified.{Verified}
+use Rattle.cw_jobs.specs.declared.call.Extent.TheVariants as extent
+use Rattle.cw_jobs.specs.declared.call.Parts.{Parts}
+use Rattle.cw_jobs.specs.Jobs.{extent_of, origin_of, code_of, IsJob, IsSound}
+use Rattle.cw_machine.specs.declared.machine.Machine.{Machine}
+use Rattle.cw_machine.specs.declared.run.Spawn.{Spawn}
+use Rattle.cw_machine.specs.declared.run.Stop.TheVariants as stop
+use Rattle.cw_machine.specs.Arrays.{Out, IsFit, Ok, AllAbove}
+use Rattle.cw_machine.specs.Shows.{Comes, Shows}
+use Rattle.cw_machine.specs.Rests.{lending}
+use Rattle.cw_machine.specs.Unwinding.{LieBelow, IsLevel, OutsLieApart}
+use Rattle.cw_machine.specs.Calls.{listed}
+use Rattle.cw_machine.specs.Hands as hands
+use Rattle.cw_machine.specs.Hands.{ComesRound, out_of, Hands, MayHand, HandedOut}
+use Rattle.cw_machine.specs.Stretches.{newest_spawn, ShowsRun}
+use Rattle.cw_strand.specs.declared.strand.Lent.{Lent}
+use Rattle.cw_strand.specs.declared.strand.Mode.TheVariants as mode
+use Rattle.cw_strand.specs.declared.strand.Strand.{Strand}
+use Rattle.cw_strand.specs.Levels.{Level, levels_of, waiting_over}
+use Rattle.cw_strand.specs.Holds.{its_job, its_parts, its_code, outs, lent_parts, Ground, setting_of, ok_with, IsLent, Lends, rests_at, Runs, HeldIn, Holds, KeepsJob, AreSpare, IsRunning}
+use Rattle.cw_strand.specs.Moves.{CameTo, HasCome, HasCut}
+use Rattle.cw_strand.proofs.Levels.{HasSpawned, LevelsAfter, levels_move, round_many}
+use Rattle.cw_strand.proofs.Course.{ran}
+use Rattle.cw_strand.proofs.Onward.{lends_above, levels_under, newest_round}
+use Rattle.cw_jobs.specs.declared.job.Job.{Job}
+use Rattle.cw_strand.proofs.Same.{last_first}
+use Rattle.cw_strand.proofs.Cutting.{over_slots, spawned, handed, rest_job, below}
+
+some_same : {A : Type 0} (x y : A) → Some x ≡ Some y → x ≡ y
+some_same x y e = cc
+
+-- the strand once its job is among those that are out
+module _ (keep : (code : Code) → CallsKeep code) (apart : OutsLieApart) (old mid : Strand) (limit : ℕ) (spawn : Spawn) (x : Lent) (cut : HasCut old mid spawn (lent_parts x) x.first) (target : x.target ≡ spawn.target) (after : List Lent) (are : after ≡ x ∷ reverse old.lent.items) where
+  module _ (is : IsFit (its_code old)) (j : jobs.Job) (job : KeepsJob old) (c : CameTo old limit (stop.Spawned spawn) is j) where
+    abbrev v : Verified
+    v = its_code old
+
+    abbrev p : Parts
+    p = its_parts old
+
+    abbrev s : HasSpawned c.state c.at.1.next spawn.target (map (λ a. Whole a) (passed_by (code_view v.code) spawn.passed))
+    s = spawned keep old limit spawn is j c
+
+    abbrev o : Out
+    o = out_of (length (beneath c.ground.base c.state.around)) x.first old.run.machine.first_array (lent_parts x).rest.slices.items
+
+    out_is : IsLent v is p c.ground.base (record { waiting = s.waiting; around = c.state.around }) o x
+    out_is =
+        let h = handed keep old limit spawn is j c apart mid (lent_parts x) x.first cut in
+        let wide = over_slots c.ground.base s.waiting c.state.around in
+        record {
+          level = refl;
+          first = refl;
+          slices = refl;
+          job = rest_job keep old limit spawn is j c apart mid (lent_parts x) x.first cut;
+          code = cut.code;
+          joins = cut.joins;
+          burden = cut.burden;
+          site = cut.site ∙ c.at.1.site;
+          target = target ∙ sym s.target_is;
+          comes = (
+            subst (λ l. Comes (lent_parts x).rest.cells.items 0 (length l) (waiting_over c.ground.base s.waiting c.state.around).results) wide h.comes.0,
+            subst (λ l. ComesRound (lent_parts x).rest.cells.items 0 (length l) (beneath c.ground.base c.state.around)) wide h.comes.1,
+          );
+        }
+
+    lent_lends : Lends v is p c.ground.base (levels_of c.at.1.next.around) (o ∷ c.outs) after
+    lent_lends =
+        subst (λ l. Lends v is p c.ground.base l (o ∷ c.outs) after) (sym s.levels)
+        (subst (λ l. Lends v is p c.ground.base (record { waiting = s.waiting; around = c.state.around } ∷ levels_of c.state.around) (o ∷ c.outs) l) (sym are)
+        (out_is, below keep old limit spawn is j c apart mid (lent_parts x) x.first cut, c.lends))
+
+    abbrev rests : List jobs.Job
+    rests = rests_at p (levels_of c.state.around) (reverse old.lent.items)
+
+    rests_are : spawn_job c.state spawn.target (map (λ a. Whole a) (passed_by (code_view v.code) spawn.passed)) j.limit (j.before + (c.later + 1)) ∷ rests ≡ rests_at p (levels_of c.at.1.next.around) after
+    rests_are =
+        let b = c.ground.job.before in
+        let e = c.at.0 in
+        let q = cut.before in
+        let n : j.before + (c.later + 1) ≡ (lent_parts x).before = omega (arith, b, e, q) in
+        ap (λ z. z ∷ rests) (s.rest j.limit (j.before + (c.later + 1)) ∙ ap (λ l. rest_of s.waiting l (j.before + (c.later + 1))) c.ground.job.limit ∙ ap (λ k. rest_of s.waiting p.limit k) n)
+        ∙ sym (ap (λ l. rests_at p l after) s.levels ∙ ap (rests_at p (record { waiting = s.waiting; around = c.state.around } ∷ levels_of c.state.around)) are)
+
+    -- the strand as it goes on, over the one that it was
+    abbrev pub on_with : (lent : Strand) → Strand
+    on_with lent = record old { run = mid.run; lent = lent.lent; spares = lent.spares }
+
+    pub lent_holds : (lent : Strand) → reverse lent.lent.items ≡ after → old.mode ≡ mode.Going → Holds (on_with lent) is j
+    lent_holds lent same going =
+        let h = handed keep old limit spawn is j c apart mid (lent_parts x) x.first cut in
+        let w = job.within in
+        let jl = c.ground.job.limit in
+        let jb = c.ground.job.before in
+        let e0 = c.at.0 in
+        let next = c.at.1.next in
+        let out = rests_at p (levels_of next.around) after in
+        let is_of = ran (code_view v.code) (keep (code_view v.code)) j c.state next c.later rests (HandsOut spawn.target (map (λ a. Whole a) (passed_by (code_view v.code) spawn.passed))) c.at.1.turns
+        (subst (λ y. has_come y (code_view v.code) c.state ≡ false) (sym c.ground.job.extent) c.at.1.before) c.at.1.steps (omega (arith, e0, w, jl, jb)) c.is_of in
+        record {
+          ground = c.ground;
+          strand = Going next (c.later + 1) out;
+          is_of = subst (λ l. IsStrandOf (code_view v.code) j (Going next (c.later + 1) l)) rests_are is_of;
+          held = subst (λ m. HeldIn (on_with lent) is j c.ground m (Going next (c.later + 1) out)) (sym going) (record {
+            counts = sym e0;
+            outs = o ∷ c.outs;
+            lends = subst (Lends v is p c.ground.base (levels_of next.around) (o ∷ c.outs)) (sym same) lent_lends;
+            are = ap (rests_at p (levels_of next.around)) (sym same);
+            shows = record {
+              shows = h.shows;
+              tells = subst (TellsAll (code_view v.code) p.burden (origin_of p) (Going next old.count [])) (sym cut.meter) c.at.1.shows.tells;
+            };
+          });
+        }
+
+  shared : (HasCome old limit (stop.Spawned spawn)) → (l : List Lent) → l ≡ after → (k : ℕ) (y : Lent) → slice_get l k ≡ Some y → code_of (lent_parts y) ≡ its_code old
+  shared h l same k y e = at k (subst (λ z. slice_get z k ≡ Some y) (same ∙ are) e)
+    where
+      at : (k : ℕ) → slice_get (x ∷ reverse old.lent.items) k ≡ Some y → code_of (lent_parts y) ≡ its_code old
+      at zero q = subst (λ z. code_of (lent_parts z) ≡ its_code old) (some_same x y q) cut.code
+      at (suc k) q = h.shares k y q
+
+  -- it is a strand of its job
+  module _ (lent : Strand) (same : reverse lent.lent.items ≡ after) (bare : AreSpare (record old { run = mid.run; lent = lent.lent; spares = lent.spares })) (h : HasCome old limit (stop.Spawned spawn)) where
+    pub goes_on : IsRunning (record old { run = mid.run; lent = lent.lent; spares = lent.spares })
+    goes_on = record {
+      keeps = record {
+        code = h.keeps.code;
+        extent = h.keeps.extent;
+        site = h.keeps.site;
+        burden = h.keeps.burden;
+        limit = h.keeps.limit;
+        before = h.keeps.before;
+        rest = h.keeps.rest;
+        within = h.keeps.within;
+        range = h.keeps.range;
+      };
+      spares = bare;
+      shares = shared h (reverse lent.lent.items) same;
+      holds = λ is j job. ∥∥₁_map (h.comes is j job) (λ c. lent_holds is j h.keeps c lent same h.going);
+    }
+
+    -- and so is the same with its parts told otherwise
+    pub goes_as : (new : Strand) → new.of ≡ old.of → new.parts ≡ old.parts → new.run ≡ mid.run → new.count ≡ old.count → new.lent ≡ lent.lent → new.spares ≡ lent.spares → new.mode ≡ old.mode → IsRunning new
+    goes_as new a b r n l p m = subst IsRunning (
+        ap (λ z. record old { of = z; run = mid.run; lent = lent.lent; spares = lent.spares }) (sym a)
+        ∙ ap (λ z. record old { of = new.of; parts = z; run = mid.run; lent = lent.lent; spares = lent.spares }) (sym b)
+        ∙ ap (λ z. record old { of = new.of; parts = new.parts; run = z; lent = lent.lent; spares = lent.spares }) (sym r)
+        ∙ ap (λ z. record old { of = new.of; parts = new.parts; run = new.run; count = z; lent = lent.lent; spares = lent.spares }) (sym n)
+        ∙ ap (λ z. record old { of = new.of; parts = new.parts; run = new.run; count = new.count; lent = z; spares = lent.spares }) (sym l)
+        ∙ ap (λ z. record old { of = new.of; parts = new.parts; run = new.run; count = new.count; lent = new.lent; spares = z }) (sym p)
+        ∙ ap (λ z. record old { of = new.of; parts = new.parts; run = new.run; count = new.count; lent = new.lent; spares = new.spares; mode = z }) (sym m)) goes_on
+
+-- a strand with the same spares and the same job
+spare_as : (a b : Strand) → b.spares ≡ a.spares → b.of ≡ a.of → AreSpare a → AreSpare b
+spare_as a b spares of h k x e = h k x (subst (λ s. slice_get s.items k ≡ Some x) spares e) ∙ ap (λ o. code_of o.value.parts.value) (sym of)
+
+-- the strand that the job was handed out of
+pub lent_step : ((code : Code) → CallsKeep code) → OutsLieApart → (old mid new : Strand) (limit : ℕ) (spawn : Spawn) (job : Job) (first : ℕ) (x : Lent) → HasCome old limit (stop.Spawned spawn) → HasCut old mid spawn job.parts.value first
+    → x.job.value ≡ job → x.first ≡ first → x.target ≡ spawn.target → new.of ≡ mid.of → new.parts ≡ mid.parts → new.run ≡ mid.run → new.count ≡ mid.count → new.spares ≡ mid.spares → new.mode ≡ mid.mode → new.lent.items ≡ mid.lent.items ++ x ∷ []
+    → IsRunning new × (outs new ≡ job ∷ outs old)
+lent_step keep apart old mid new limit spawn job first x h cut same at target of parts run count spares mode lent =
+    let cut' : HasCut old mid spawn (lent_parts x) x.first = subst (λ (b : Job). HasCut old mid spawn b.parts.value x.first) (sym same) (subst (λ k. HasCut old mid spawn job.parts.value k) (sym at) cut) in
+    let are : reverse new.lent.items ≡ x ∷ reverse old.lent.items = ap reverse lent ∙ last_first mid.lent.items x ∙ ap (λ l. x ∷ reverse l) cut.lent in
+    let bare : AreSpare (record old { run = mid.run; lent = new.lent; spares = new.spares }) =
+    spare_as mid (record old { run = mid.run; lent = new.lent; spares = new.spares }) spares (sym cut.of) cut.spares in (
+      goes_as keep apart old mid limit spawn x cut' target (x ∷ reverse old.lent.items) refl new are bare h new (of ∙ cut.of) (parts ∙ cut.parts) run (count ∙ cut.count) refl refl (mode ∙ cut.mode),
+      ap (map (λ l. l.job.value)) are ∙ ap (λ z. z ∷ outs old) same,
+    )

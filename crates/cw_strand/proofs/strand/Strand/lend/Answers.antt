@@ -1,0 +1,19 @@
+use Rattle.std.proofs.Common.{refl}
+use Rattle.cw_machine.specs.declared.run.Stop.TheVariants as stop
+use Rattle.cw_strand.proofs.Cutting.{cut_sound}
+use Rattle.cw_strand.proofs.Halts.{spared_runs}
+use Rattle.cw_strand.proofs.HandedOn.{lent_step}
+use Rattle.cw_strand.proofs.strand.Strand.lend.Goals as goal
+
+pub invariant_of-job : goal.invariant_of-job
+invariant_of-job c = record {
+  sound = cut_sound c.calls_on_a_strand_keep_its_job.ensures c.machines_that_stop_remain.ensures.apart c.args.self.now c.cut_out.new.self c.args.end c.args.spawn c.in-Ok.parts.value c.in-Ok.first c.requires.comes c.in-Ok.ensures.cut;
+}
+
+pub rest-requires-clause-running : goal.rest-requires-clause-running
+rest-requires-clause-running c = spared_runs c.calls_on_a_strand_keep_its_job.ensures c.args.self.now c.cut_out.new.self c.args.end (stop.Spawned c.args.spawn) c.requires.comes c.in-Err.ensures.kept
+
+pub returns-in-Ok-clause-keeps : goal.returns-in-Ok-clause-keeps
+returns-in-Ok-clause-keeps c =
+    lent_step c.calls_on_a_strand_keep_its_job.ensures c.machines_that_stop_remain.ensures.apart c.args.self.now c.cut_out.new.self _ c.args.end c.args.spawn _ c.in-Ok.first
+    (record { job = c.of.result; first = c.in-Ok.first; target = c.args.spawn.target }) c.requires.comes c.in-Ok.ensures.cut c.of.ensures refl refl refl refl refl refl refl refl c.push_reserved.ensures.items
