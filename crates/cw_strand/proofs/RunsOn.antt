@@ -7,6 +7,7 @@ use mathlib.Core.HLevel.{⊥_prop}
 use Rattle.cw_code.specs.Code.{Code, code_view}
 use Rattle.cw_code.specs.Run.{State}
 use Rattle.cw_strands.specs.Jobs as jobs
+use Rattle.cw_strands.specs.Jobs.{Extent}
 use Rattle.cw_strands.specs.Strands as strands
 use Rattle.cw_strands.specs.Strands.{Going, Waits, Halted}
 use Rattle.cw_strands.specs.Promises.{IsStrandOf}
@@ -16,14 +17,14 @@ use Rattle.cw_machine.specs.declared.run.Run.{Run}
 use Rattle.cw_machine.specs.declared.run.Stop.{Stop}
 use Rattle.cw_machine.specs.declared.run.Stop.TheVariants as stop
 use Rattle.cw_machine.specs.Arrays.{Out, IsFit}
-use Rattle.cw_machine.specs.Stretches.{IsUnderWay, GoesOn}
+use Rattle.cw_machine.specs.Stretches.{Stretch, Here, Further, StopsAt, IsUnderWay, GoesOn}
 use Rattle.cw_strand.specs.declared.strand.Lent.{Lent}
 use Rattle.cw_strand.specs.declared.strand.Mode.TheVariants as mode
 use Rattle.cw_strand.specs.declared.strand.Strand.{Strand}
 use Rattle.cw_strand.specs.Levels.{Level, levels_of}
-use Rattle.cw_strand.specs.Holds.{its_job, its_parts, its_code, outs, Ground, Lends, Runs, Waited, HeldIn, Holds, IsRunning, IsWaiting, IsAtSync}
-use Rattle.cw_strand.specs.Moves.{CameTo, HasCome}
-use Rattle.cw_strand.proofs.Onward.{under_way, came_to}
+use Rattle.cw_strand.specs.Holds.{its_job, its_parts, its_code, outs, Ground, setting_of, ok_with, Lends, rests_at, Runs, Waited, HeldIn, Holds, IsRunning, IsWaiting, IsAtSync}
+use Rattle.cw_strand.specs.Moves.{CameTo, HasCome, IsStill}
+use Rattle.cw_strand.proofs.Onward.{may_run, under_way, came_to}
 use Rattle.cw_strand.proofs.Halts.{came_back}
 
 -- the job of a strand is one of the definitions, by code that fits
@@ -120,3 +121,54 @@ waits_at self e going = differ (sym e ∙ going)
   where
     differ : mode.Waiting ≡ mode.Going → ⊥
     differ k = cc
+
+-- instructions only add
+stretch_low : (x : Extent) (code : Code) (count later : ℕ) (s s1 : State) → Stretch x code true count s later s1 → count ≤ later
+stretch_low x code count _ s _ (Here _ _) = omega arith
+stretch_low x code count _ s _ (Further _ later _ s1 s2 before p) = let le = stretch_low x code count later s s1 before in omega (arith, le)
+
+-- a run that may do nothing does nothing
+still_at : (v : _) (ok : _) (k : _) (limit : ℕ) (to : Stop) (done : ℕ) (r : Run) (later : ℕ) (s : State) → StopsAt v ok k limit to done r later s → done ≤ later → IsStill to
+still_at v ok k limit (stop.Spawned spawn) done r later s h le = let e = h.0 in omega (arith, e, le)
+still_at v ok k limit stop.CameBack done r later s h le = let e = h.0 in omega (arith, e, le)
+still_at v ok k limit stop.Joined done r later s h le = tt
+still_at v ok k limit (stop.Gave x) done r later s h le = let e = h.0 in omega (arith, e, le)
+still_at v ok k limit (stop.Trapped c l) done r later s h le = let e = h.0 in omega (arith, e, le)
+still_at v ok k limit stop.Over done r later s h le = tt
+still_at v ok k limit stop.NoMemory done r later s h le = omega (arith, h, le)
+
+decided : (to : Stop) → ∥ IsStill to ∥₁ → IsStill to
+decided (stop.Spawned spawn) h = ∥∥₁_elim h ⊥_prop (λ x. x)
+decided stop.CameBack h = ∥∥₁_elim h ⊥_prop (λ x. x)
+decided stop.Joined h = tt
+decided (stop.Gave x) h = ∥∥₁_elim h ⊥_prop (λ x. x)
+decided (stop.Trapped c l) h = ∥∥₁_elim h ⊥_prop (λ x. x)
+decided stop.Over h = tt
+decided stop.NoMemory h = ∥∥₁_elim h ⊥_prop (λ x. x)
+
+pub run_still : (self : Strand) (r : Run) (done limit : ℕ) (to : Stop) → IsRunning self → self.mode ≡ mode.Going → GoesOn (its_code self) self.run self.count limit true to done r → done ≤ limit → limit ≡ self.count → IsStill to
+run_still self r done limit to h e goes le same = decided to (∥∥₁_elim (sound_of self) (hlevel) (λ s. ∥∥₁_map (h.holds s.ok s.job s.is) (λ d.
+    let at = going_of self s.ok s.job e d in
+    let came = goes (ok_with d.ground at.runs.outs) (setting_of d.ground) at.state refl at.runs.shows (may_run self s.ok s.job d.ground at.state at.runs.outs at.runs.lends) in
+    let low = stretch_low (setting_of d.ground).extent (code_view (its_code self).code) self.count came.0 at.state came.1 came.2 in
+    still_at (its_code self) (ok_with d.ground at.runs.outs) (setting_of d.ground) limit to done r came.0 came.1 came.3 (omega (arith, low, le, same)))))
+
+-- where it may do no more it goes on from there
+pub over_goes : (self : Strand) (limit : ℕ) → HasCome self limit stop.Over → IsRunning self
+over_goes self limit h = record {
+  keeps = h.keeps;
+  spares = h.spares;
+  shares = h.shares;
+  holds = λ is j job. ∥∥₁_map (h.comes is j job) (λ c. record {
+    ground = c.ground;
+    strand = Going c.state c.later (rests_at (its_parts self) (levels_of c.state.around) (reverse self.lent.items));
+    is_of = c.is_of;
+    held = subst (λ m. HeldIn self is j c.ground m (Going c.state c.later (rests_at (its_parts self) (levels_of c.state.around) (reverse self.lent.items)))) (sym h.going) (record {
+      counts = sym c.at.0;
+      outs = c.outs;
+      lends = c.lends;
+      are = refl;
+      shows = c.at.2.shows;
+    });
+  });
+}

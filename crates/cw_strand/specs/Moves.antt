@@ -20,6 +20,7 @@ use Rattle.cw_jobs.specs.Means.{IsMeaningOf}
 use Rattle.cw_machine.specs.declared.run.Run.{Run}
 use Rattle.cw_machine.specs.declared.run.Spawn.{Spawn}
 use Rattle.cw_machine.specs.declared.run.Stop.{Stop}
+use Rattle.cw_machine.specs.declared.run.Stop.TheVariants as stop
 use Rattle.cw_machine.specs.Arrays.{Out, IsFit}
 use Rattle.cw_machine.specs.Calls.{listed}
 use Rattle.cw_machine.specs.Shows.{StaysBut}
@@ -141,3 +142,9 @@ pub record HasCut (old new : Strand) (spawn : Spawn) (p : Parts) (first : ℕ) :
 abbrev pub first_of : Option Lent → ℕ
 first_of (Some h) = h.first
 first_of None = 0
+
+-- a run that did nothing: it is at the join, or at its limit
+abbrev pub IsStill : Stop → Type 0
+IsStill stop.Joined = Unit {0}
+IsStill stop.Over = Unit {0}
+IsStill _ = ⊥

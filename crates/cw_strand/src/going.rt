@@ -3,7 +3,7 @@
 ghost use Rattle.std.specs.Prelude.{◌≡◌, ◌-◌, ◌≤◌, [], IsSome};
 ghost use Rattle.cw_strand.specs.declared.strand.Mode.TheVariants as mode;
 ghost use Rattle.cw_strand.specs.Holds.{its_parts, outs, HasStopped, IsRunning};
-ghost use Rattle.cw_strand.specs.Moves.{EndsBy, HasCome, IsSame, KeptBy};
+ghost use Rattle.cw_strand.specs.Moves.{EndsBy, HasCome, IsSame, IsStill, KeptBy};
 
 use crate::strand::{Mode, Step, Strand};
 use cw_jobs::effect::Effect;
@@ -29,6 +29,7 @@ impl Strand {
         requires within { limit ≤ (its_parts self.old).limit - (its_parts self.old).before }
         ensures same { IsSame self.old self.new }
         ensures comes { HasCome self.new limit result }
+        ensures still { limit ≡ self.old.count → IsStill result }
     {
         calls_on_a_strand_keep_its_job();
         let (stop, count) = self.run.go_on(&self.parts.code, self.count, limit, true);

@@ -8,4 +8,3 @@ mod starting;
 mod stopping;
 pub mod strand;
 mod taking;
-mod tests;

@@ -1,5 +1,6 @@
 use Rattle.std.proofs.Common.{refl, subst}
 use Rattle.cw_machine.specs.declared.run.Stop.TheVariants as stop
+use Rattle.cw_strand.specs.declared.strand.Mode.TheVariants as mode
 use Rattle.cw_strand.specs.Moves.{HasCome}
 use Rattle.cw_strand.proofs.Halts.{trapped_runs, over_runs, lost_runs, back_runs}
 use Rattle.cw_strand.proofs.RunsOn.{back_some, waits_at}
@@ -27,5 +28,5 @@ returns-in-CameBack-clause-keeps c =
       back_runs keep self c.args.end comes,
       refl,
       back_some keep self c.args.end comes,
-      waits_at _ refl,
+      waits_at (record self { mode = mode.Waiting }) refl,
     )
