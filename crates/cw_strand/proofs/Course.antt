@@ -1,20 +1,18 @@
 -- The steps of a strand of the definitions, one by one and by stretches.
-use Rattle.std.proofs.Common.{◌≡◌, ℕ, ◌+◌, ◌-◌, ◌≤◌, ◌<◌, ℤ, Bool, true, false, nat_lt, if◌then◌else◌, Option, Some, List, [], ◌∷◌, refl, sym, ap, ◌∙◌, subst, arith}
+use Rattle.std.proofs.Common.{◌≡◌, ℕ, ◌+◌, ◌≤◌, ◌<◌, ℤ, Bool, true, false, nat_lt, if◌then◌else◌, Option, List, [], ◌∷◌, refl, ap, ◌∙◌, subst, arith}
 use Rattle.std.proofs.lemmas.Bool.Decides.{nat_tests}
 use Rattle.cw_model.specs.declared.trap.Trap.{Trap}
 use Rattle.cw_model.specs.Outcome.{Trace}
 use Rattle.cw_code.specs.Code.{Code}
-use Rattle.cw_code.specs.Run.{Slots, Taken, Around, State, Transition, On, Ends, Stops, step}
+use Rattle.cw_code.specs.Run.{Slots, Around, State, Transition, On, Ends, Stops, step}
 use Rattle.cw_strands.specs.Jobs.{Extent, ToJoin, WholeCall, joins, is_first, has_come, standing, Job, Effect, Ended, Joined, TrapIn, OverLimit, Memory, JobMeaning}
 use Rattle.std.specs.Prelude.{◌&&◌, slice_get}
-use Rattle.cw_strands.specs.Strands.{Strand, Going, Waits, Halted, outs_of, Turn, Goes, HandsOut, ComesBack, turn, spawn_job, goes_on}
+use Rattle.cw_strands.specs.Strands.{Strand, Going, Halted, outs_of, Turn, Goes, HandsOut, ComesBack, turn, goes_on}
 use Rattle.cw_strands.specs.Promises.{IsStrandOf}
 use Rattle.cw_strands.specs.Steps.{CallsKeep, AdvanceKeeps, advance, finished, turned, went_on, out_of_memory}
 use Rattle.cw_strands.specs.Steps as steps
-use Rattle.cw_metered.specs.Strands.{sites_at, SitesAfter, RestsAreOut, site_at}
-use Rattle.cw_meter.specs.Origins.{Origin}
-use Rattle.cw_machine.specs.Stretches.{goes_by, Passes, Stretch, Here, Further}
-use Rattle.cw_strand.specs.Levels.{Level, levels_of}
+use Rattle.cw_machine.specs.Stretches.{goes_by, Stretch, Here, Further}
+use Rattle.cw_strand.specs.Levels.{levels_of}
 use Rattle.cw_strand.proofs.Levels.{LevelsAfter, levels_move}
 
 not_over : (limit n : ℕ) → n ≤ limit → nat_lt limit n ≡ false

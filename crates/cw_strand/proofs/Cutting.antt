@@ -1,43 +1,32 @@
 -- The rest of the block that has spawned a call is handed out.
-use Rattle.std.proofs.Common.{◌≡◌, ◌⊎◌, ℕ, zero, suc, ◌+◌, ◌-◌, ◌<◌, ◌≤◌, ℤ, true, false, Option, Some, None, List, [], ◌∷◌, ◌++◌, length, refl, sym, ap, ◌∙◌, subst, inl, inr, arith}
-use Rattle.std.specs.Prelude.{map, reverse, slice_get}
-use Rattle.std.specs.Coded.{le_prop}
+use Rattle.std.proofs.Common.{◌≡◌, ℕ, suc, ◌≤◌, List, [], ◌∷◌, length, refl, sym, ap, ◌∙◌, subst, inl, inr, arith}
+use Rattle.std.specs.Prelude.{map, reverse}
 use Rattle.std.proofs.Math.Logic.{∥∥₁_elim, ∥∥₁_map}
 use Rattle.cw_model.specs.declared.limits.TheConstants.{MOST_BURDEN}
-use Rattle.cw_model.specs.declared.syntax.CallKind.TheVariants.{Spawned}
 use Rattle.cw_code.specs.Code.{Code, code_view}
-use Rattle.cw_code.specs.Run.{Taken, Whole, slot_taken, Waiting, Around, Caller, Block, State, passed_by}
-use Rattle.cw_meter.specs.Origins.{Origin}
-use Rattle.cw_metered.specs.Strands.{site_at}
+use Rattle.cw_code.specs.Run.{Taken, Whole, slot_taken, Waiting, Around, Caller, State, passed_by}
 use Rattle.cw_strands.specs.Jobs as jobs
 use Rattle.cw_strands.specs.Jobs.{has_come}
-use Rattle.cw_strands.specs.Over.{grown, lowered, beneath, under}
-use Rattle.cw_strands.specs.Strands.{Going, HandsOut, rest_of, spawn_job, turn}
-use Rattle.cw_strands.specs.Promises.{IsStrandOf}
+use Rattle.cw_strands.specs.Over.{beneath, under}
+use Rattle.cw_strands.specs.Strands.{rest_of}
 use Rattle.cw_strands.specs.Steps.{CallsKeep}
 use Rattle.cw_verify.specs.declared.verified.Verified.{Verified}
-use Rattle.cw_jobs.specs.declared.call.Extent.TheVariants as extent
 use Rattle.cw_jobs.specs.declared.call.Parts.{Parts}
-use Rattle.cw_jobs.specs.Jobs.{extent_of, origin_of, code_of, IsJob, IsSound}
-use Rattle.cw_machine.specs.declared.machine.Machine.{Machine}
+use Rattle.cw_jobs.specs.Jobs.{IsJob, IsSound}
 use Rattle.cw_machine.specs.declared.run.Spawn.{Spawn}
 use Rattle.cw_machine.specs.declared.run.Stop.TheVariants as stop
-use Rattle.cw_machine.specs.Arrays.{Out, IsFit, Ok, AllAbove}
-use Rattle.cw_machine.specs.Shows.{Comes, Shows}
+use Rattle.cw_machine.specs.Arrays.{Out, IsFit, AllAbove}
 use Rattle.cw_machine.specs.Rests.{lending}
 use Rattle.cw_machine.specs.Unwinding.{LieBelow, IsLevel, OutsLieApart}
 use Rattle.cw_machine.specs.Calls.{listed}
-use Rattle.cw_machine.specs.Hands as hands
-use Rattle.cw_machine.specs.Hands.{ComesRound, out_of, Hands, MayHand, HandedOut}
-use Rattle.cw_machine.specs.Stretches.{newest_spawn, ShowsRun}
+use Rattle.cw_machine.specs.Hands.{out_of, Hands, MayHand, HandedOut}
+use Rattle.cw_machine.specs.Stretches.{newest_spawn}
 use Rattle.cw_strand.specs.declared.strand.Lent.{Lent}
-use Rattle.cw_strand.specs.declared.strand.Mode.TheVariants as mode
 use Rattle.cw_strand.specs.declared.strand.Strand.{Strand}
 use Rattle.cw_strand.specs.Levels.{Level, levels_of, waiting_over}
-use Rattle.cw_strand.specs.Holds.{its_job, its_parts, its_code, outs, lent_parts, Ground, setting_of, ok_with, IsLent, Lends, rests_at, Runs, Holds, KeepsJob, AreSpare, IsRunning}
+use Rattle.cw_strand.specs.Holds.{its_parts, its_code, ok_with, KeepsJob}
 use Rattle.cw_strand.specs.Moves.{CameTo, HasCome, HasCut}
 use Rattle.cw_strand.proofs.Levels.{HasSpawned, LevelsAfter, levels_move, round_many}
-use Rattle.cw_strand.proofs.Course.{ran}
 use Rattle.cw_strand.proofs.Onward.{lends_above, levels_under, newest_round}
 use Rattle.cw_strand.proofs.RunsOn.{sound_of}
 

@@ -1,59 +1,37 @@
 -- What a strand makes of its job means it.
-use Rattle.std.proofs.Common.{◌≡◌, ◌≢◌, ℕ, ◌+◌, ◌-◌, ◌≤◌, ◌<◌, ℤ, true, false, Option, Some, None, List, [], ◌∷◌, ◌++◌, length, refl, sym, ap, ◌∙◌, subst, arith}
-use Rattle.std.specs.Prelude.{map, reverse, slice_get}
+use Rattle.std.proofs.Common.{◌≡◌, ℕ, ◌≤◌, List, [], ◌∷◌, length, refl, sym, ap, ◌∙◌, subst}
+use Rattle.std.specs.Prelude.{map, reverse}
 use Rattle.std.specs.Coded.{le_prop}
 use Rattle.std.proofs.Math.Logic.{∥∥₁_elim, ∥∥₁_map}
 use mathlib.Core.HLevel.{⊥_prop}
 use Rattle.cw_model.specs.declared.trap.Trap.{Trap}
-use Rattle.cw_model.specs.Syntax.{Name}
-use Rattle.cw_code.specs.declared.code.Func.{Func}
 use Rattle.cw_code.specs.Code.{Code, code_view}
-use Rattle.cw_code.specs.Run.{Around, Caller, Block, State}
-use Rattle.cw_code.specs.Fits.{Fits}
-use Rattle.cw_code.specs.Good.{Seat, GoodState}
-use Rattle.cw_code.specs.Staying.{SeatsLie, IsInside, outermost}
-use Rattle.cw_meter.specs.Meters.{Meters}
-use Rattle.cw_meter.specs.Origins.{Main, Rest}
-use Rattle.cw_metered.specs.Opens.{Gauge, whole}
-use Rattle.cw_metered.specs.Strands.{CallsKeepMeters, TellsAll, MeansMeasured}
+use Rattle.cw_code.specs.Run.{State}
 use Rattle.cw_strands.specs.Jobs as jobs
 use Rattle.cw_strands.specs.Jobs.{ToJoin, has_come, standing, job_start, Memory, Short, JobMeaning}
-use Rattle.cw_strands.specs.Over.{under}
 use Rattle.cw_strands.specs.Strands as strands
 use Rattle.cw_strands.specs.Strands.{Going, Waits, Halted}
 use Rattle.cw_strands.specs.Promises.{IsStrandOf}
-use Rattle.cw_strands.specs.Staying.{RestsStayInside}
 use Rattle.cw_strands.specs.Steps.{CallsKeep}
 use Rattle.cw_slices.specs.Placed.{Placed}
 use Rattle.cw_verify.specs.declared.verified.Verified.{Verified}
-use Rattle.cw_jobs.specs.declared.call.Extent.{Extent}
-use Rattle.cw_jobs.specs.declared.call.Extent.TheVariants as extent
 use Rattle.cw_jobs.specs.declared.call.Parts.{Parts}
-use Rattle.cw_jobs.specs.declared.call.Rest as frames
 use Rattle.cw_jobs.specs.declared.job.Job.{Job}
 use Rattle.cw_jobs.specs.declared.effect.Effect.{Effect}
 use Rattle.cw_jobs.specs.declared.effect.Effect.TheVariants as effect
-use Rattle.cw_jobs.specs.declared.effect.Shown.{Shown}
-use Rattle.cw_jobs.specs.Calls as calls
-use Rattle.cw_jobs.specs.Jobs.{extent_of, origin_of, code_of, AreBlocks, IsJob, IsSound}
+use Rattle.cw_jobs.specs.Jobs.{code_of}
 use Rattle.cw_jobs.specs.Means.{MeansIt, IsMeaningOf}
 use Rattle.cw_machine.specs.declared.machine.Machine.{Machine}
-use Rattle.cw_machine.specs.declared.run.Stop.{Stop}
-use Rattle.cw_machine.specs.declared.run.Stop.TheVariants as stop
-use Rattle.cw_machine.specs.Arrays.{Out, IsFit, Ok, block}
-use Rattle.cw_machine.specs.Shows as shows
-use Rattle.cw_machine.specs.Shows.{Shows, Remains}
+use Rattle.cw_machine.specs.Arrays.{Out, IsFit, block}
+use Rattle.cw_machine.specs.Shows.{Remains}
 use Rattle.cw_machine.specs.Unwinding.{RestsAreKept}
-use Rattle.cw_machine.specs.JobRuns.{ok_of, job_ok, IsBase, AllIn, KeepsGiven, MayGiveUp, GivesUp, HoldsOf, HasCome as HasComeTo, CanEnd, Ends, EndsJob}
+use Rattle.cw_machine.specs.JobRuns.{AllIn, KeepsGiven, MayGiveUp, GivesUp}
 use Rattle.cw_strand.specs.declared.strand.Lent.{Lent}
-use Rattle.cw_strand.specs.declared.strand.Mode.{Mode}
 use Rattle.cw_strand.specs.declared.strand.Mode.TheVariants as mode
 use Rattle.cw_strand.specs.declared.strand.Strand.{Strand}
-use Rattle.cw_strand.specs.Levels.{Level, levels_of}
-use Rattle.cw_strand.specs.Holds.{its_job, its_parts, its_code, outs, Ground, setting_of, ok_with, Lends, rests_at, Stands, HeldIn, Holds, IsRunning}
-use Rattle.cw_strand.specs.Moves.{CameTo, HasCome, IsShown}
-use Rattle.cw_strand.proofs.Levels.{ends_alone}
-use Rattle.cw_strand.proofs.Course.{halted, ended, arrived, come_alone, come_joins}
+use Rattle.cw_strand.specs.Levels.{Level}
+use Rattle.cw_strand.specs.Holds.{its_job, its_parts, its_code, outs, Ground, ok_with, Lends, Stands, HeldIn, Holds, IsRunning}
+use Rattle.cw_strand.proofs.Course.{halted}
 use Rattle.cw_strand.proofs.RunsOn.{sound_of}
 
 -- nothing is out

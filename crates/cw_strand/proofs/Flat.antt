@@ -1,9 +1,9 @@
 -- A run over a block in which nothing waits, with nothing round it, is as it is.
-use Rattle.std.proofs.Common.{◌≡◌, ℤ, List, [], ◌∷◌, ◌++◌, refl, sym, ap, ◌∙◌}
+use Rattle.std.proofs.Common.{◌≡◌, ℤ, List, [], ◌∷◌, ◌++◌, refl, ap, ◌∙◌}
 use Rattle.std.proofs.lemmas.List.{append-nil}
 use Rattle.cw_model.specs.Outcome.{Trace, quiet, joined}
 use Rattle.cw_code.specs.Run.{Results, Around, Caller, Block, State}
-use Rattle.cw_strands.specs.Over.{grown, lowered, beneath, results_under, arrived_under, trace_under, under}
+use Rattle.cw_strands.specs.Over.{grown, beneath, results_under, arrived_under, trace_under, under}
 use Rattle.cw_strands.specs.lemmas.Under.{same_trace}
 use Rattle.cw_jobs.specs.Jobs.{IsOutermost}
 

@@ -1,20 +1,17 @@
 -- A strand whose run came to a stop that hands nothing out: it waits, or it has stopped.
-use Rattle.std.proofs.Common.{◌≡◌, ℕ, ◌+◌, ◌-◌, ◌<◌, ◌≤◌, ℤ, Bool, false, List, [], ◌∷◌, length, refl, sym, ap, ◌∙◌, subst, arith}
+use Rattle.std.proofs.Common.{◌≡◌, ℕ, ◌+◌, ◌-◌, ◌≤◌, false, List, refl, sym, ap, ◌∙◌, subst, arith}
 use Rattle.std.specs.Prelude.{reverse, Some, slice_get}
 use Rattle.std.proofs.Math.Logic.{∥∥₁_map}
 use Rattle.cw_model.specs.declared.trap.Trap.{Trap}
 use Rattle.cw_code.specs.Code.{Code, code_view}
-use Rattle.cw_code.specs.Run.{State}
 use Rattle.cw_strands.specs.Jobs as jobs
 use Rattle.cw_strands.specs.Jobs.{has_come}
 use Rattle.cw_strands.specs.Over.{under}
-use Rattle.cw_strands.specs.Strands as strands
-use Rattle.cw_strands.specs.Strands.{Going, Waits, Halted, ComesBack, outs_of, turn}
-use Rattle.cw_strands.specs.Promises.{IsStrandOf}
+use Rattle.cw_strands.specs.Strands.{Going, Waits, Halted, ComesBack, outs_of}
 use Rattle.cw_strands.specs.Steps.{CallsKeep}
 use Rattle.cw_verify.specs.declared.verified.Verified.{Verified}
 use Rattle.cw_jobs.specs.declared.call.Parts.{Parts}
-use Rattle.cw_jobs.specs.Jobs.{extent_of, code_of, IsJob}
+use Rattle.cw_jobs.specs.Jobs.{extent_of, code_of}
 use Rattle.cw_machine.specs.declared.run.Stop.{Stop}
 use Rattle.cw_machine.specs.declared.run.Stop.TheVariants as stop
 use Rattle.cw_machine.specs.Arrays.{IsFit}
@@ -24,7 +21,7 @@ use Rattle.cw_strand.specs.declared.strand.Mode.{Mode}
 use Rattle.cw_strand.specs.declared.strand.Mode.TheVariants as mode
 use Rattle.cw_strand.specs.declared.strand.Strand.{Strand}
 use Rattle.cw_strand.specs.Levels.{levels_of}
-use Rattle.cw_strand.specs.Holds.{its_parts, its_code, lent_parts, Ground, setting_of, ok_with, Lends, rests_at, Runs, HeldIn, Holds, KeepsJob, IsRunning}
+use Rattle.cw_strand.specs.Holds.{its_parts, its_code, lent_parts, ok_with, Lends, rests_at, Holds, KeepsJob, IsRunning}
 use Rattle.cw_strand.specs.Moves.{CameTo, HasCome, HasSpared}
 use Rattle.cw_strand.proofs.Levels.{HasReturned, LevelsAfter, levels_move}
 use Rattle.cw_strand.proofs.Same.{same_strand}

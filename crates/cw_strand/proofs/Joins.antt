@@ -1,5 +1,5 @@
 -- A strand that came to the end of its job: its call has ended, or it is at the join.
-use Rattle.std.proofs.Common.{◌≡◌, ℕ, ◌+◌, ◌-◌, ◌≤◌, ℤ, true, false, Option, Some, None, List, [], ◌∷◌, ◌++◌, length, refl, sym, ap, ◌∙◌, subst, arith}
+use Rattle.std.proofs.Common.{◌≡◌, ℕ, ◌+◌, ℤ, true, false, Option, Some, List, [], ◌∷◌, length, refl, sym, ap, ◌∙◌, subst, arith}
 use Rattle.std.specs.Prelude.{map, reverse, slice_get}
 use Rattle.std.proofs.Math.Logic.{∥∥₁_elim, ∥∥₁_map}
 use mathlib.Core.HLevel.{⊥_prop}
@@ -9,13 +9,11 @@ use Rattle.cw_code.specs.declared.code.Func.{Func}
 use Rattle.cw_code.specs.Code.{Code, code_view}
 use Rattle.cw_code.specs.Run.{Around, Caller, Block, State}
 use Rattle.cw_code.specs.Fits.{Fits}
-use Rattle.cw_code.specs.Good.{Seat, GoodState}
 use Rattle.cw_code.specs.Staying.{SeatsLie, IsInside, outermost}
-use Rattle.cw_meter.specs.declared.meter.Meter.{Meter}
 use Rattle.cw_meter.specs.Meters.{Meters}
-use Rattle.cw_meter.specs.Origins.{Origin, Main, Rest}
-use Rattle.cw_metered.specs.Opens.{Gauge, whole}
-use Rattle.cw_metered.specs.Strands.{CallsKeepMeters, TellsAll, MeansMeasured}
+use Rattle.cw_meter.specs.Origins.{Main, Rest}
+use Rattle.cw_metered.specs.Opens.{whole}
+use Rattle.cw_metered.specs.Strands.{CallsKeepMeters, TellsAll}
 use Rattle.cw_strands.specs.Jobs as jobs
 use Rattle.cw_strands.specs.Jobs.{WholeCall, ToJoin, has_come, standing, job_start, JobMeaning}
 use Rattle.cw_strands.specs.Over.{under}
@@ -23,29 +21,26 @@ use Rattle.cw_strands.specs.Strands.{Going}
 use Rattle.cw_strands.specs.Promises.{IsStrandOf}
 use Rattle.cw_strands.specs.Staying.{RestsStayInside}
 use Rattle.cw_strands.specs.Steps.{CallsKeep}
-use Rattle.cw_slices.specs.Placed.{Placed}
 use Rattle.cw_verify.specs.declared.verified.Verified.{Verified}
 use Rattle.cw_jobs.specs.declared.call.Extent.{Extent}
 use Rattle.cw_jobs.specs.declared.call.Extent.TheVariants as extent
 use Rattle.cw_jobs.specs.declared.call.Parts.{Parts}
-use Rattle.cw_jobs.specs.declared.call.Rest as frames
 use Rattle.cw_jobs.specs.declared.effect.Effect.{Effect}
 use Rattle.cw_jobs.specs.declared.effect.Effect.TheVariants as effect
 use Rattle.cw_jobs.specs.declared.effect.Shown.{Shown}
 use Rattle.cw_jobs.specs.Calls as calls
-use Rattle.cw_jobs.specs.Jobs.{extent_of, begins_at, origin_of, AreBlocks}
+use Rattle.cw_jobs.specs.Jobs.{extent_of, begins_at, AreBlocks}
 use Rattle.cw_jobs.specs.Means.{HasShown, MeansIt, IsMeaningOf}
-use Rattle.cw_machine.specs.declared.machine.Machine.{Machine}
 use Rattle.cw_machine.specs.declared.run.Run.{Run}
 use Rattle.cw_machine.specs.declared.run.Stop.TheVariants as stop
-use Rattle.cw_machine.specs.Arrays.{Out, IsFit, Ok}
+use Rattle.cw_machine.specs.Arrays.{Out, IsFit}
 use Rattle.cw_machine.specs.Shows as shows
 use Rattle.cw_machine.specs.Shows.{Shows}
-use Rattle.cw_machine.specs.JobRuns.{ok_of, job_ok, IsBase, HoldsOf, HasCome as HasComeTo, CanEnd, Ends, EndsJob}
+use Rattle.cw_machine.specs.JobRuns.{ok_of, job_ok, IsBase, HasCome as HasComeTo, CanEnd, EndsJob}
 use Rattle.cw_strand.specs.declared.strand.Lent.{Lent}
 use Rattle.cw_strand.specs.declared.strand.Strand.{Strand}
 use Rattle.cw_strand.specs.Levels.{levels_of}
-use Rattle.cw_strand.specs.Holds.{its_job, its_parts, its_code, outs, Ground, setting_of, ok_with, Lends, rests_at}
+use Rattle.cw_strand.specs.Holds.{its_job, its_parts, its_code, outs, ok_with, Lends, rests_at}
 use Rattle.cw_strand.specs.Moves.{CameTo, HasCome, IsShown}
 use Rattle.cw_strand.proofs.Levels.{ends_alone}
 use Rattle.cw_strand.proofs.Course.{ended, arrived, come_alone, come_joins}
@@ -186,7 +181,7 @@ module _ (keep : (code : Code) → CallsKeep code) (self : Strand) (limit : ℕ)
         let lies = seats code is.fits in
         let start = subst (IsInside g0.seat.func) (sym (outermost_is j.place c.ground.base.around base.blocks)) (lies.inside j.place g0.seat) in
         let at = subst (IsInside g0.seat.func) (outermost_is s.place c.ground.base.around base.blocks)
-            (stay code is.fits j c.ground.base g0.seat.index g0.seat.func (standing s) s.trace c.later j_joins g0 g0.seat.is_func start meaning) in
+        (stay code is.fits j c.ground.base g0.seat.index g0.seat.func (standing s) s.trace c.later j_joins g0 g0.seat.is_func start meaning) in
         let same = lies.one s.place g0.seat.index g0.seat.func g1.seat g0.seat.is_func at in
         let f = same_func g1.seat.index g0.seat.index g1.seat.func g0.seat.func g1.seat.is_func g0.seat.is_func same in
         sym g1.call.arrays.as_wide ∙ ap (λ (x : Func). x.arrays) f ∙ g0.call.arrays.as_wide

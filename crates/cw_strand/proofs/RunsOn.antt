@@ -1,7 +1,6 @@
 -- A strand that runs goes on to a stop.
-use Rattle.std.proofs.Common.{◌≡◌, ◌≢◌, ℕ, ◌+◌, ◌-◌, ◌≤◌, true, List, [], ◌∷◌, refl, sym, ap, ◌∙◌, subst, arith}
+use Rattle.std.proofs.Common.{◌≡◌, ◌≢◌, ℕ, ◌-◌, ◌≤◌, true, List, [], ◌∷◌, refl, sym, ◌∙◌, subst, arith}
 use Rattle.std.specs.Prelude.{map, reverse}
-use Rattle.std.specs.Coded.{le_prop}
 use Rattle.std.proofs.Math.Logic.{∥∥₁_elim, ∥∥₁_map}
 use mathlib.Core.HLevel.{⊥_prop}
 use Rattle.cw_code.specs.Code.{Code, code_view}
@@ -12,7 +11,7 @@ use Rattle.cw_strands.specs.Strands as strands
 use Rattle.cw_strands.specs.Strands.{Going, Waits, Halted}
 use Rattle.cw_strands.specs.Promises.{IsStrandOf}
 use Rattle.cw_strands.specs.Steps.{CallsKeep}
-use Rattle.cw_jobs.specs.Jobs.{IsSound, IsJob}
+use Rattle.cw_jobs.specs.Jobs.{IsSound}
 use Rattle.cw_machine.specs.declared.run.Run.{Run}
 use Rattle.cw_machine.specs.declared.run.Stop.{Stop}
 use Rattle.cw_machine.specs.declared.run.Stop.TheVariants as stop
@@ -23,7 +22,7 @@ use Rattle.cw_strand.specs.declared.strand.Mode.TheVariants as mode
 use Rattle.cw_strand.specs.declared.strand.Strand.{Strand}
 use Rattle.cw_strand.specs.Levels.{Level, levels_of}
 use Rattle.cw_strand.specs.Holds.{its_job, its_parts, its_code, outs, Ground, setting_of, ok_with, Lends, rests_at, Runs, Waited, HeldIn, Holds, IsRunning, IsWaiting, IsAtSync}
-use Rattle.cw_strand.specs.Moves.{CameTo, HasCome, IsStill}
+use Rattle.cw_strand.specs.Moves.{HasCome, IsStill}
 use Rattle.cw_strand.proofs.Onward.{may_run, under_way, came_to}
 use Rattle.cw_strand.proofs.Halts.{came_back}
 

@@ -1,12 +1,10 @@
 -- A strand begins its job.
-use Rattle.std.proofs.Common.{◌≡◌, ℕ, ◌+◌, ◌≤◌, List, [], ◌∷◌, length, refl, sym, ap, ◌∙◌, subst, arith}
+use Rattle.std.proofs.Common.{◌≡◌, ℕ, ◌≤◌, [], length, refl, sym, ap, ◌∙◌, subst, arith}
 use Rattle.std.specs.Prelude.{map, reverse, Some, slice_get}
 use Rattle.std.specs.Coded.{le_prop}
 use Rattle.std.proofs.Math.Logic.{∥∥₁_elim}
 use Rattle.cw_model.specs.declared.limits.TheConstants.{MOST_BURDEN}
-use Rattle.cw_model.specs.Outcome.{quiet}
 use Rattle.cw_code.specs.Code.{Code, code_view}
-use Rattle.cw_code.specs.Run.{State}
 use Rattle.cw_strands.specs.Jobs as jobs
 use Rattle.cw_strands.specs.Jobs.{WholeCall, ToJoin, job_start}
 use Rattle.cw_strands.specs.Over.{under}
@@ -20,13 +18,13 @@ use Rattle.cw_jobs.specs.declared.call.Parts.{Parts}
 use Rattle.cw_jobs.specs.declared.job.Job.{Job}
 use Rattle.cw_jobs.specs.Jobs.{extent_of, origin_of, code_of, IsOutermost, IsJob, IsSound}
 use Rattle.cw_machine.specs.declared.machine.Machine.{Machine}
-use Rattle.cw_machine.specs.Arrays.{IsFit, Ok}
+use Rattle.cw_machine.specs.Arrays.{IsFit}
 use Rattle.cw_machine.specs.Shows.{Shows}
-use Rattle.cw_machine.specs.JobRuns.{ok_of, IsBase, HoldsOf, IsEmptied}
+use Rattle.cw_machine.specs.JobRuns.{ok_of, HoldsOf, IsEmptied}
 use Rattle.cw_machine.specs.Stretches.{nothing, StandsRound}
 use Rattle.cw_strand.specs.declared.strand.Mode.TheVariants as mode
 use Rattle.cw_strand.specs.declared.strand.Strand.{Strand}
-use Rattle.cw_strand.specs.Holds.{its_job, its_parts, its_code, Ground, setting_of, ok_with, Lends, rests_at, Runs, HeldIn, Holds}
+use Rattle.cw_strand.specs.Holds.{its_job, its_parts, its_code, Ground, ok_with, Lends, rests_at, HeldIn, Holds}
 use Rattle.cw_strand.specs.Moves.{Begins, BeginsRun}
 use Rattle.cw_strand.proofs.Flat.{under_flat}
 

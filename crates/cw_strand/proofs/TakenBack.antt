@@ -1,10 +1,9 @@
 -- The newest job out came back unrun to a strand that waits for it: the strand goes on with it.
-use Rattle.std.proofs.Common.{◌≡◌, ℕ, suc, ◌+◌, ◌<◌, ◌≤◌, Some, List, [], ◌∷◌, length, refl, sym, ap, ◌∙◌, subst, arith}
-use Rattle.std.specs.Prelude.{map, reverse, slice_get}
+use Rattle.std.proofs.Common.{◌≡◌, suc, Some, List, [], ◌∷◌, length, refl, sym, ap, ◌∙◌, subst, arith}
+use Rattle.std.specs.Prelude.{reverse, slice_get}
 use Rattle.std.proofs.Math.Logic.{∥∥₁_elim, ∥∥₁_map}
 use Rattle.cw_code.specs.Code.{Code, code_view}
 use Rattle.cw_code.specs.Run.{State}
-use Rattle.cw_metered.specs.Strands.{TellsAll}
 use Rattle.cw_strands.specs.Jobs as jobs
 use Rattle.cw_strands.specs.Over.{beneath, under}
 use Rattle.cw_strands.specs.Strands.{Going, Waits, rest_of}
@@ -15,16 +14,16 @@ use Rattle.cw_jobs.specs.declared.call.Parts.{Parts}
 use Rattle.cw_jobs.specs.declared.job.Job.{Job}
 use Rattle.cw_jobs.specs.Jobs.{code_of}
 use Rattle.cw_machine.specs.declared.machine.Machine.{Machine}
-use Rattle.cw_machine.specs.Arrays.{Out, IsFit, Ok, AllAbove}
+use Rattle.cw_machine.specs.Arrays.{Out, IsFit, AllAbove}
 use Rattle.cw_machine.specs.Shows.{Shows}
-use Rattle.cw_machine.specs.Rests.{lending, IsLending, MayTake, TakesBack}
+use Rattle.cw_machine.specs.Rests.{IsLending, MayTake, TakesBack}
 use Rattle.cw_machine.specs.Unwinding.{LieBelow}
 use Rattle.cw_machine.specs.Stretches.{newest_spawn}
 use Rattle.cw_strand.specs.declared.strand.Lent.{Lent}
 use Rattle.cw_strand.specs.declared.strand.Mode.TheVariants as mode
 use Rattle.cw_strand.specs.declared.strand.Strand.{Strand}
 use Rattle.cw_strand.specs.Levels.{Level, levels_of}
-use Rattle.cw_strand.specs.Holds.{its_parts, its_code, lent_parts, Ground, setting_of, ok_with, IsLent, Lends, rests_at, Runs, HeldIn, Holds, AreSpare, IsRunning, IsWaiting}
+use Rattle.cw_strand.specs.Holds.{its_parts, its_code, lent_parts, Ground, ok_with, IsLent, Lends, rests_at, Holds, AreSpare, IsRunning, IsWaiting}
 use Rattle.cw_strand.specs.Moves.{HasSpared}
 use Rattle.cw_strand.proofs.Levels.{round_many}
 use Rattle.cw_strand.proofs.Onward.{lends_above, levels_under, newest_round}

@@ -1,10 +1,8 @@
 -- How a strand in memory holds a strand of the definitions.
-use Rattle.std.specs.Prelude.{◌≡◌, ◌≢◌, ℕ, ◌+◌, ◌-◌, ◌≤◌, Bool, true, false, List, [], ◌∷◌, length, map, reverse, Some, slice_get}
-use Rattle.std.specs.Arc.{arc_value}
+use Rattle.std.specs.Prelude.{◌≡◌, ◌≢◌, ℕ, ◌+◌, ◌≤◌, Bool, true, false, List, [], ◌∷◌, length, map, reverse, Some, slice_get}
 use Rattle.cw_model.specs.declared.limits.TheConstants.{MOST_LIMIT, MOST_BURDEN}
 use Rattle.cw_code.specs.Code.{code_view}
-use Rattle.cw_code.specs.Run.{Around, State}
-use Rattle.cw_meter.specs.Origins.{Main, Rest}
+use Rattle.cw_code.specs.Run.{State}
 use Rattle.cw_strands.specs.Jobs as jobs
 use Rattle.cw_strands.specs.Jobs.{ToJoin}
 use Rattle.cw_strands.specs.Over.{beneath}
@@ -17,7 +15,6 @@ use Rattle.cw_jobs.specs.declared.call.Extent.{Extent}
 use Rattle.cw_jobs.specs.declared.call.Extent.TheVariants as extent
 use Rattle.cw_jobs.specs.declared.call.Parts.{Parts}
 use Rattle.cw_jobs.specs.declared.job.Job.{Job}
-use Rattle.cw_jobs.specs.Calls.{placed}
 use Rattle.cw_jobs.specs.Jobs.{extent_of, begins_at, origin_of, code_of, IsJob}
 use Rattle.cw_machine.specs.Arrays.{Out, IsFit, Ok}
 use Rattle.cw_machine.specs.Shows.{Remains}

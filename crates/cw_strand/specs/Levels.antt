@@ -2,7 +2,7 @@
 use Rattle.std.specs.Prelude.{◌≡◌, ℕ, ℤ, List, [], ◌∷◌, ◌++◌, Option, Some, None}
 use Rattle.cw_model.specs.declared.syntax.CallKind.{CallKind}
 use Rattle.cw_model.specs.declared.syntax.CallKind.TheVariants.{Plain, Spawned}
-use Rattle.cw_code.specs.Run.{Results, Taken, Waiting, Around, Caller, Block, State}
+use Rattle.cw_code.specs.Run.{Results, Waiting, Around, Caller, Block, State}
 
 -- a spawned call: what waits for it, and what stands round the block of that
 pub record Level : Type 0 where

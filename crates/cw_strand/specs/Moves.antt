@@ -1,15 +1,11 @@
 -- What the calls on a strand keep.
-use Rattle.std.specs.Prelude.{◌≡◌, ◌≢◌, ℕ, ◌+◌, ◌-◌, ◌≤◌, Bool, true, List, [], ◌∷◌, length, reverse, Option, Some, None, Result as Checked, MatchResult, slice_get}
-use Rattle.cw_model.specs.declared.limits.TheConstants.{MOST_LIMIT}
+use Rattle.std.specs.Prelude.{◌≡◌, ◌≢◌, ℕ, ◌+◌, List, [], ◌∷◌, reverse, Option, Some, None}
 use Rattle.cw_code.specs.Code.{code_view}
 use Rattle.cw_code.specs.Run.{State}
-use Rattle.cw_meter.specs.declared.meter.Meter.{Meter}
 use Rattle.cw_strands.specs.Jobs as jobs
-use Rattle.cw_strands.specs.Over.{under}
 use Rattle.cw_strands.specs.Strands.{Going}
 use Rattle.cw_strands.specs.Promises.{IsStrandOf}
 use Rattle.cw_metered.specs.Strands.{StartsFrom}
-use Rattle.cw_verify.specs.declared.verified.Verified.{Verified}
 use Rattle.cw_jobs.specs.declared.call.Parts.{Parts}
 use Rattle.cw_jobs.specs.declared.call.Extent.TheVariants as extent
 use Rattle.cw_jobs.specs.declared.effect.Effect.{Effect}
@@ -26,7 +22,7 @@ use Rattle.cw_machine.specs.Calls.{listed}
 use Rattle.cw_machine.specs.Shows.{StaysBut}
 use Rattle.cw_machine.specs.Hands.{HandsOut}
 use Rattle.cw_machine.specs.JobRuns.{BeginsJob, IsEmptied}
-use Rattle.cw_machine.specs.Stretches.{ShowsRun, StopsAt}
+use Rattle.cw_machine.specs.Stretches.{StopsAt}
 use Rattle.cw_strand.specs.declared.strand.Lent.{Lent}
 use Rattle.cw_strand.specs.declared.strand.Mode.TheVariants as mode
 use Rattle.cw_strand.specs.declared.strand.Step.{Step}

@@ -16,8 +16,8 @@ use cw_machine::laws::machines_that_stop_remain;
 use cw_machine::machine::Machine;
 use cw_machine::run::Run;
 use cw_meter::Meter;
-use cw_slices::Slice;
 use cw_metered::laws::calls_keep_what_meters_tell;
+use cw_slices::Slice;
 use cw_strands::laws::{calls_on_a_strand_keep_its_job, rests_stay_in_their_functions};
 use std::mem;
 
@@ -104,11 +104,7 @@ impl Strand {
         runs_stay_in_their_functions();
         let alloc = *self.lent.allocator();
         let mut replaced = Vec::new(alloc);
-        match self
-            .run
-            .machine
-            .finish(&mut self.parts.rest, &mut replaced)
-        {
+        match self.run.machine.finish(&mut self.parts.rest, &mut replaced) {
             Ok(()) => Effect::Joined {
                 frame: mem::replace(&mut self.parts.rest, empty_rest(alloc)),
                 replaced,

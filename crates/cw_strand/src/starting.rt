@@ -17,12 +17,7 @@ use std::alloc::{AllocError, Global};
 use std::snapshot::Snapshot;
 
 // The meter of a job that goes so far, in the call of a site.
-fn begin_meter(
-    alloc: Global,
-    extent: Extent,
-    site: u32,
-    burden: u64,
-) -> Result<Meter, AllocError>
+fn begin_meter(alloc: Global, extent: Extent, site: u32, burden: u64) -> Result<Meter, AllocError>
     ensures { IfOk result (λ m. StartsFrom (begins_at extent site) burden m) }
 {
     match extent {

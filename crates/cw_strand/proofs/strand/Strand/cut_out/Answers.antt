@@ -1,11 +1,11 @@
-use Rattle.std.proofs.Common.{◌≡◌, ℕ, ◌+◌, ◌≤◌, refl, sym, ap, ap₂, ◌∙◌, subst, arith}
+use Rattle.std.proofs.Common.{◌≡◌, ℕ, ◌+◌, sym, ap, ap₂, ◌∙◌, subst, arith}
 use Rattle.cw_jobs.specs.declared.call.Parts.{Parts}
 use Rattle.cw_jobs.specs.Jobs.{code_of}
 use Rattle.cw_machine.specs.declared.run.Run.{Run}
 use Rattle.cw_machine.specs.Shows.{StaysBut}
 use Rattle.cw_machine.specs.Hands.{MayHand, HandsOut}
 use Rattle.cw_machine.specs.Calls.{listed}
-use Rattle.cw_strand.specs.Holds.{its_parts, its_code}
+use Rattle.cw_strand.specs.Holds.{its_code}
 use Rattle.cw_strand.proofs.Cutting.{may_hand_out}
 use Rattle.cw_strand.proofs.strand.Strand.cut_out.Goals as goal
 

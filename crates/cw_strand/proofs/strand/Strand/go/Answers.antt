@@ -1,4 +1,4 @@
-use Rattle.std.proofs.Common.{refl, sym}
+use Rattle.std.proofs.Common.{refl}
 use Rattle.cw_strand.proofs.RunsOn.{waiting_some, waits_at}
 use Rattle.cw_strand.proofs.strand.Strand.go.Goals as goal
 

@@ -1,5 +1,4 @@
 use Rattle.std.proofs.Common.{refl, subst}
-use Rattle.cw_machine.specs.declared.run.Stop.TheVariants as stop
 use Rattle.cw_strand.specs.declared.strand.Mode.TheVariants as mode
 use Rattle.cw_strand.specs.Moves.{HasCome}
 use Rattle.cw_strand.proofs.Halts.{trapped_runs, over_runs, lost_runs, back_runs}
