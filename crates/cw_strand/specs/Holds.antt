@@ -53,9 +53,8 @@ abbrev pub begins_as : (x : Extent) (site : ℕ) → IsFrom (begins_at x site) (
 begins_as extent.WholeCall site = tt
 begins_as extent.ToJoin site = tt
 
--- what a job stands on as it is run: what stands round it, how many parameters of its call lie still; and at the join
--- of
--- a rest its arrays go back to where they lay
+-- what a job stands on as it is run: what stands round it, and how many parameters of its call lie still; and at the
+-- join of a rest its arrays go back to where they lay
 pub record Ground (v : Verified) (is : IsFit v) (p : Parts) (j : jobs.Job) : Type 0 where
   pub job : IsJob v is p j
   pub light : p.burden ≤ MOST_BURDEN
@@ -110,8 +109,8 @@ rests_at p (l ∷ levels) (h ∷ lent) = rest_of l.waiting p.limit (lent_parts h
 rests_at p _ _ = []
 
 -- the run of a strand shows a state after so many instructions, with a job out at each of these levels
-pub record Runs (self : Strand) (is : IsFit (its_code self)) (j : jobs.Job) (g : Ground (its_code self) is (its_parts self) j)
-    (levels : List Level) (s : State) (count : ℕ) (jobs_out : List jobs.Job) : Type 0 where
+pub record Runs (self : Strand) (is : IsFit (its_code self)) (j : jobs.Job)
+    (g : Ground (its_code self) is (its_parts self) j) (levels : List Level) (s : State) (count : ℕ) (jobs_out : List jobs.Job) : Type 0 where
   pub counts : count ≡ self.count
   pub outs : List Out
   pub lends : Lends (its_code self) is (its_parts self) g.base levels outs (reverse self.lent.items)
@@ -169,7 +168,8 @@ AreSpare self = (k : ℕ) (b : _) → slice_get self.spares.items k ≡ Some b �
 
 -- and so have the jobs that are out
 abbrev pub ShareCode : Strand → Type 0
-ShareCode self = (k : ℕ) (h : Lent) → slice_get (reverse self.lent.items) k ≡ Some h → code_of (lent_parts h) ≡ its_code self
+ShareCode self =
+    (k : ℕ) (h : Lent) → slice_get (reverse self.lent.items) k ≡ Some h → code_of (lent_parts h) ≡ its_code self
 
 -- A STRAND OF ITS JOB, whichever of the definitions the job is
 pub record IsRunning (self : Strand) : Type 0 where

@@ -22,7 +22,7 @@ impl Strand {
     }
 
     // The run goes on up to its next stop, within so many instructions in all.
-    pub(crate) fn run_on(&mut self, limit: u64) -> Stop
+    fn run_on(&mut self, limit: u64) -> Stop
         requires running { IsRunning self.old }
         requires going { self.old.mode ≡ mode.Going }
         requires above { self.old.count ≤ limit }
@@ -116,8 +116,9 @@ impl Strand {
         }
     }
 
-    /// Ends the strand, without an instruction, where it has come to its end: where it has stopped, or is at the join of
-    /// its job, and nothing is out; its effect means its job. None where it is not at its end: then it goes on as before.
+    /// Ends the strand, without an instruction, where it has come to its end: where it has stopped, or is at the join
+    /// of its job, and nothing is out; its effect means its job. None where it is not at its end: then it goes on as
+    /// before.
     pub fn end(&mut self) -> Option<Effect>
         requires { IsRunning self.old }
         ensures of { self.new.of ≡ self.old.of }

@@ -78,7 +78,8 @@ impl Strand {
         Ok(parts)
     }
 
-    // The rest of the block that has just spawned a call, as a job's parts, with the cell of its call's first array slot.
+    // The rest of the block that has just spawned a call, as a job's parts, with the cell of its call's first array
+    // slot.
     fn cut_out(&mut self, spawn: &Spawn, end: u64) -> Result<(Box<Parts>, usize), AllocError>
         requires comes { HasCome self.old end (stop.Spawned spawn.now) }
         ensures cut { IfOk result (λ x. HasCut self.old self.new spawn.now x.0.value x.1) }

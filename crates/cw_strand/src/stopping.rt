@@ -37,7 +37,8 @@ fn bring_home(machine: &mut Machine, first: usize, rest: &mut Rest, is_lost: boo
 }
 
 impl Strand {
-    /// Whether it has stopped, by a trap, its limit or want of memory: it goes on no more, and ends once nothing is out.
+    /// Whether it has stopped, by a trap, its limit or want of memory: it goes on no more, and ends once nothing is
+    /// out.
     pub fn stopped(&self) -> bool
         ensures yes { result ≡ true → HasStopped self.now }
         ensures no { IsAtSync self.now → result ≡ false → IsWaiting self.now }

@@ -24,8 +24,8 @@ impl Strand {
         }
     }
 
-    /// Takes back the newest job out, which nobody ran, where the call beside it has returned: the strand goes on itself
-    /// with the rest that it was. Takes no memory but for what keeps the job's box for another, which may be refused.
+    /// Takes back the newest job out, which nobody ran, where the call beside it has returned: the strand goes on with
+    /// that rest itself. Takes no memory but for what keeps the job's box for another, which may be refused.
     pub fn take_back(&mut self, job: Job)
         requires running { IsRunning self.old }
         requires waiting { IsWaiting self.old }
