@@ -21,7 +21,7 @@ use Rattle.cw_strand.specs.declared.strand.Mode.{Mode}
 use Rattle.cw_strand.specs.declared.strand.Mode.TheVariants as mode
 use Rattle.cw_strand.specs.declared.strand.Strand.{Strand}
 use Rattle.cw_strand.specs.Levels.{levels_of}
-use Rattle.cw_strand.specs.Holds.{its_parts, its_code, lent_parts, ok_with, Lends, rests_at, Holds, KeepsJob, IsRunning}
+use Rattle.cw_strand.specs.Holds.{its_parts, its_code, IsRest, ok_with, Lends, rests_at, Holds, KeepsJob, IsRunning}
 use Rattle.cw_strand.specs.Moves.{CameTo, HasCome, HasSpared}
 use Rattle.cw_strand.proofs.Levels.{HasReturned, LevelsAfter, levels_move}
 use Rattle.cw_strand.proofs.Same.{same_strand}
@@ -130,7 +130,7 @@ module _ (keep : (code : Code) → CallsKeep code) (self : Strand) (limit : ℕ)
   trapped_runs trap line h = record {
     keeps = keeps_as self (mode.Trapped trap line) h.keeps;
     spares = h.spares;
-    shares = h.shares;
+    rests = h.rests;
     holds = λ is j job. ∥∥₁_map (h.comes is j job) (λ c. trapped is j h.keeps trap line c);
   }
 
@@ -138,7 +138,7 @@ module _ (keep : (code : Code) → CallsKeep code) (self : Strand) (limit : ℕ)
   over_runs remain end h = record {
     keeps = keeps_as self mode.Over h.keeps;
     spares = h.spares;
-    shares = h.shares;
+    rests = h.rests;
     holds = λ is j job. ∥∥₁_map (h.comes is j job) (λ c. over is j h.keeps remain end c);
   }
 
@@ -146,7 +146,7 @@ module _ (keep : (code : Code) → CallsKeep code) (self : Strand) (limit : ℕ)
   lost_runs to h = record {
     keeps = keeps_as self mode.Memory h.keeps;
     spares = h.spares;
-    shares = h.shares;
+    rests = h.rests;
     holds = λ is j job. ∥∥₁_map (h.comes is j job) (λ c. lost is j h.keeps to c);
   }
 
@@ -154,7 +154,7 @@ module _ (keep : (code : Code) → CallsKeep code) (self : Strand) (limit : ℕ)
   back_runs h = record {
     keeps = keeps_as self mode.Waiting h.keeps;
     spares = h.spares;
-    shares = h.shares;
+    rests = h.rests;
     holds = λ is j job. ∥∥₁_map (h.comes is j job) (λ c. came_back is j h.keeps c);
   }
 
@@ -163,7 +163,7 @@ pub fails : ((code : Code) → CallsKeep code) → (self : Strand) → IsRunning
 fails keep self h = record {
   keeps = keeps_as self mode.Memory h.keeps;
   spares = h.spares;
-  shares = h.shares;
+  rests = h.rests;
   holds = λ is j job. ∥∥₁_map (h.holds is j job) (λ d. record {
     ground = d.ground;
     strand = Halted jobs.Memory (outs_of d.strand);
@@ -189,7 +189,7 @@ spared_runs keep old new limit to h same = subst IsRunning
         range = h.keeps.range;
       };
       spares = subst (λ o. (k : ℕ) (b : _) → slice_get new.spares.items k ≡ Some b → code_of b.value ≡ code_of o.value.parts.value) same.of same.spares;
-      shares = subst (λ l. (k : ℕ) (x : Lent) → slice_get (reverse l) k ≡ Some x → code_of (lent_parts x) ≡ its_code old) (sym same.lent) h.shares;
+      rests = subst (λ l. (k : ℕ) (x : Lent) → slice_get (reverse l) k ≡ Some x → IsRest (its_code old) x) (sym same.lent) h.rests;
       holds = λ is j job. ∥∥₁_map (h.comes is j job) (λ c. record {
         ground = c.ground;
         strand = Halted jobs.Memory (rests_at (its_parts old) (levels_of c.state.around) (reverse old.lent.items));

@@ -24,12 +24,12 @@ use Rattle.cw_strand.specs.declared.strand.Lent.{Lent}
 use Rattle.cw_strand.specs.declared.strand.Mode.TheVariants as mode
 use Rattle.cw_strand.specs.declared.strand.Strand.{Strand}
 use Rattle.cw_strand.specs.Levels.{levels_of, waiting_over}
-use Rattle.cw_strand.specs.Holds.{its_parts, its_code, outs, lent_parts, IsLent, Lends, rests_at, HeldIn, Holds, KeepsJob, AreSpare, IsRunning}
+use Rattle.cw_strand.specs.Holds.{IsRest, its_parts, its_code, outs, lent_parts, IsLent, Lends, rests_at, HeldIn, Holds, KeepsJob, AreSpare, IsRunning}
 use Rattle.cw_strand.specs.Moves.{CameTo, HasCome, HasCut}
 use Rattle.cw_strand.proofs.Levels.{HasSpawned}
 use Rattle.cw_strand.proofs.Course.{ran}
 use Rattle.cw_jobs.specs.declared.job.Job.{Job}
-use Rattle.cw_strand.proofs.Same.{last_first}
+use Rattle.cw_strand.proofs.Same.{spare_as, last_first}
 use Rattle.cw_strand.proofs.Cutting.{over_slots, spawned, handed, rest_job, below}
 
 some_same : {A : Type 0} (x y : A) → Some x ≡ Some y → x ≡ y
@@ -119,12 +119,12 @@ module _ (keep : (code : Code) → CallsKeep code) (apart : OutsLieApart) (old m
           });
         }
 
-  shared : (HasCome old limit (stop.Spawned spawn)) → (l : List Lent) → l ≡ after → (k : ℕ) (y : Lent) → slice_get l k ≡ Some y → code_of (lent_parts y) ≡ its_code old
+  shared : (HasCome old limit (stop.Spawned spawn)) → (l : List Lent) → l ≡ after → (k : ℕ) (y : Lent) → slice_get l k ≡ Some y → IsRest (its_code old) y
   shared h l same k y e = at k (subst (λ z. slice_get z k ≡ Some y) (same ∙ are) e)
     where
-      at : (k : ℕ) → slice_get (x ∷ reverse old.lent.items) k ≡ Some y → code_of (lent_parts y) ≡ its_code old
-      at zero q = subst (λ z. code_of (lent_parts z) ≡ its_code old) (some_same x y q) cut.code
-      at (suc k) q = h.shares k y q
+      at : (k : ℕ) → slice_get (x ∷ reverse old.lent.items) k ≡ Some y → IsRest (its_code old) y
+      at zero q = subst (IsRest (its_code old)) (some_same x y q) (record { code = cut.code; joins = cut.joins })
+      at (suc k) q = h.rests k y q
 
   -- it is a strand of its job
   module _ (lent : Strand) (same : reverse lent.lent.items ≡ after) (bare : AreSpare (record old { run = mid.run; lent = lent.lent; spares = lent.spares })) (h : HasCome old limit (stop.Spawned spawn)) where
@@ -142,7 +142,7 @@ module _ (keep : (code : Code) → CallsKeep code) (apart : OutsLieApart) (old m
         range = h.keeps.range;
       };
       spares = bare;
-      shares = shared h (reverse lent.lent.items) same;
+      rests = shared h (reverse lent.lent.items) same;
       holds = λ is j job. ∥∥₁_map (h.comes is j job) (λ c. lent_holds is j h.keeps c lent same h.going);
     }
 
@@ -156,10 +156,6 @@ module _ (keep : (code : Code) → CallsKeep code) (apart : OutsLieApart) (old m
         ∙ ap (λ z. record old { of = new.of; parts = new.parts; run = new.run; count = new.count; lent = z; spares = lent.spares }) (sym l)
         ∙ ap (λ z. record old { of = new.of; parts = new.parts; run = new.run; count = new.count; lent = new.lent; spares = z }) (sym p)
         ∙ ap (λ z. record old { of = new.of; parts = new.parts; run = new.run; count = new.count; lent = new.lent; spares = new.spares; mode = z }) (sym m)) goes_on
-
--- a strand with the same spares and the same job
-spare_as : (a b : Strand) → b.spares ≡ a.spares → b.of ≡ a.of → AreSpare a → AreSpare b
-spare_as a b spares of h k x e = h k x (subst (λ s. slice_get s.items k ≡ Some x) spares e) ∙ ap (λ o. code_of o.value.parts.value) (sym of)
 
 -- the strand that the job was handed out of
 pub lent_step : ((code : Code) → CallsKeep code) → OutsLieApart → (old mid new : Strand) (limit : ℕ) (spawn : Spawn) (job : Job) (first : ℕ) (x : Lent) → HasCome old limit (stop.Spawned spawn) → HasCut old mid spawn job.parts.value first

@@ -1,5 +1,5 @@
--- The newest job out came back unrun to a strand that stopped: its arrays come home.
-use Rattle.std.proofs.Common.{◌≡◌, suc, true, false, Some, List, [], ◌∷◌, refl, sym, ap, ◌∙◌, subst}
+-- Slices come home to the newest job out of a strand that goes no further.
+use Rattle.std.proofs.Common.{◌≡◌, ℕ, suc, ◌+◌, ◌≤◌, true, false, Option, Some, List, [], ◌∷◌, length, refl, sym, ap, ◌∙◌, subst}
 use Rattle.std.specs.Prelude.{reverse, slice_get}
 use Rattle.std.proofs.Math.Logic.{∥∥₁_elim, ∥∥₁_map}
 use Rattle.cw_code.specs.Run.{State}
@@ -10,8 +10,9 @@ use Rattle.cw_strands.specs.Strands.{Going, Waits, Halted}
 use Rattle.cw_verify.specs.declared.verified.Verified.{Verified}
 use Rattle.cw_jobs.specs.declared.call.Parts.{Parts}
 use Rattle.cw_jobs.specs.declared.job.Job.{Job}
-use Rattle.cw_jobs.specs.Jobs.{KeepsHomes}
+use Rattle.cw_jobs.specs.Jobs.{IsJob, KeepsHomes}
 use Rattle.cw_machine.specs.declared.machine.Machine.{Machine}
+use Rattle.cw_machine.specs.declared.run.Run.{Run}
 use Rattle.cw_machine.specs.Arrays.{Out, IsFit}
 use Rattle.cw_machine.specs.Shows.{Remains}
 use Rattle.cw_machine.specs.Unwinding.{LieBelow, ComesTo, MayComeHome, ComesHome}
@@ -20,13 +21,13 @@ use Rattle.cw_strand.specs.declared.strand.Mode.{Mode}
 use Rattle.cw_strand.specs.declared.strand.Mode.TheVariants as mode
 use Rattle.cw_strand.specs.declared.strand.Strand.{Strand}
 use Rattle.cw_strand.specs.Levels.{Level}
-use Rattle.cw_strand.specs.Holds.{its_parts, its_code, Ground, ok_with, IsLent, Lends, Stands, HeldIn, AreSpare, IsRunning, stops, is_lost, HasStopped}
-use Rattle.cw_strand.specs.Moves.{HasSpared}
+use Rattle.cw_strand.specs.Holds.{its_parts, its_code, lent_parts, Ground, ok_with, IsLent, Lends, Stands, HeldIn, Holds, AreSpare, KeepsJob, IsRunning, stops, is_lost, HasStopped}
+use Rattle.cw_strand.specs.Moves.{HasPoppedHome, HasSpared}
 use Rattle.cw_strand.proofs.RunsOn.{sound_of}
-use Rattle.cw_strand.proofs.Same.{same_strand, Newest}
+use Rattle.cw_strand.proofs.Same.{same_strand, spare_as, Newest}
 
 -- the newest of what is out, at whichever level
-record Newly (v : Verified) (is : IsFit v) (p : Parts) (base : State) (levels : List Level) (outs : List Out) (x : Lent) (lent : List Lent) : Type 0 where
+pub record Newly (v : Verified) (is : IsFit v) (p : Parts) (base : State) (levels : List Level) (outs : List Out) (x : Lent) (lent : List Lent) : Type 0 where
   pub level : Level
   pub others_levels : List Level
   pub out : Out
@@ -46,6 +47,16 @@ newly_of v is p base (l ∷ levels) (o ∷ outs) x lent h = record { level = l; 
 same_homes : (slices back : List Placed) → back ≡ slices → KeepsHomes slices back []
 same_homes slices back e = subst (λ b. KeepsHomes slices b []) (sym e) (refl, λ a. (refl, refl))
 
+-- the newest job came home, whatever boxes are kept
+pub record CameHome (old : Strand) (back : List Placed) (replaced : List (Option Placed)) (new : Strand) : Type 0 where
+  pub of : new.of ≡ old.of
+  pub parts : new.parts ≡ old.parts
+  pub count : new.count ≡ old.count
+  pub mode : new.mode ≡ old.mode
+  pub lines : new.run.machine.lines.items ≡ old.run.machine.lines.items
+  pub left : (x : Lent) (xs : List Lent) → reverse old.lent.items ≡ x ∷ xs → reverse new.lent.items ≡ xs
+  pub home : (x : Lent) (xs : List Lent) → reverse old.lent.items ≡ x ∷ xs → is_lost old.mode ≡ false → ComesHome old.run.machine x.first back replaced new.run.machine
+
 module _ (self : Strand) (job : Job) (others : List Job) (newest : Newest self job others) where
   abbrev v : Verified
   v = its_code self
@@ -53,33 +64,36 @@ module _ (self : Strand) (job : Job) (others : List Job) (newest : Newest self j
   abbrev p : Parts
   p = its_parts self
 
-  abbrev slices : List Placed
-  slices = job.parts.value.rest.slices.items
+  abbrev pub rest_slices : List Placed
+  rest_slices = (lent_parts newest.lent).rest.slices.items
 
   module _ (is : IsFit (its_code self)) (j : jobs.Job) (g : Ground (its_code self) is (its_parts self) j) (h : Stands self is j g) where
-    newly : Newly v is p g.base h.levels h.outs newest.lent newest.rest
+    pub newly : Newly v is p g.base h.levels h.outs newest.lent newest.rest
     newly = newly_of v is p g.base h.levels h.outs newest.lent newest.rest (subst (Lends v is p g.base h.levels h.outs) newest.are h.lends)
 
-    comes : ComesTo v (ok_with g newly.others) newly.out self.run.machine newest.lent.first slices []
-    comes = record {
-      remains = subst (λ o. Remains v (ok_with g o) self.run.machine) newly.are h.remains;
-      first = newly.is_lent.first;
-      below = subst (LieBelow newly.others) newly.is_lent.first newly.below;
-      homes = same_homes newly.out.slices slices (sym (newly.is_lent.slices ∙ ap (λ (b : Job). b.parts.value.rest.slices.items) newest.job_is));
-    }
+    module _ (back : List Placed) (replaced : List (Option Placed)) (homes : KeepsHomes rest_slices back replaced) where
+      comes : ComesTo v (ok_with g newly.others) newly.out self.run.machine newest.lent.first back replaced
+      comes = record {
+        remains = subst (λ o. Remains v (ok_with g o) self.run.machine) newly.are h.remains;
+        first = newly.is_lent.first;
+        below = subst (LieBelow newly.others) newly.is_lent.first newly.below;
+        homes = subst (λ s. KeepsHomes s back replaced) (sym newly.is_lent.slices) homes;
+      }
 
-    may_home : MayComeHome self.run.machine newest.lent.first slices []
-    may_home = record { code = v; ok = ok_with g newly.others; out = newly.out; comes = comes }
+      pub may_home : MayComeHome self.run.machine newest.lent.first back replaced
+      may_home = record { code = v; ok = ok_with g newly.others; out = newly.out; comes = comes }
 
-    stands_on : (new : Strand) → reverse new.lent.items ≡ newest.rest → (m : Machine) → ComesHome self.run.machine newest.lent.first slices [] m → Stands (record self { run = record self.run { machine = m }; lent = new.lent; spares = new.spares }) is j g
-    stands_on new left m home = record {
-      levels = newly.others_levels;
-      outs = newly.others;
-      lends = subst (Lends v is p g.base newly.others_levels newly.others) (sym left) newly.rest;
-      remains = home v (ok_with g newly.others) newly.out comes;
-    }
+      -- and then the strand stands on with what is left
+      pub stands_on : (new : Strand) (m : Machine) → reverse new.lent.items ≡ newest.rest → ComesHome self.run.machine newest.lent.first back replaced m
+          → Stands (record self { run = record new.run { machine = m }; lent = new.lent; count = new.count; spares = new.spares; mode = new.mode }) is j g
+      stands_on new m left home = record {
+        levels = newly.others_levels;
+        outs = newly.others;
+        lends = subst (Lends v is p g.base newly.others_levels newly.others) (sym left) newly.rest;
+        remains = home v (ok_with g newly.others) newly.out comes;
+      }
 
-  stands_in : (is : IsFit (its_code self)) (j : jobs.Job) (g : Ground (its_code self) is (its_parts self) j) (m : Mode) (d : strands.Strand) → stops m ≡ true → is_lost m ≡ false → HeldIn self is j g m d → Stands self is j g
+  pub stands_in : (is : IsFit (its_code self)) (j : jobs.Job) (g : Ground (its_code self) is (its_parts self) j) (m : Mode) (d : strands.Strand) → stops m ≡ true → is_lost m ≡ false → HeldIn self is j g m d → Stands self is j g
   stands_in is j g mode.Going d s l h = cc
   stands_in is j g mode.Waiting d s l h = cc
   stands_in is j g mode.Memory d s l h = cc
@@ -90,52 +104,97 @@ module _ (self : Strand) (job : Job) (others : List Job) (newest : Newest self j
   stands_in is j g mode.Over (Waits t count out) s l h = absurd h
   stands_in is j g mode.Over (Halted e out) s l h = h.1
 
-  pub may_come : IsRunning self → HasStopped self → is_lost self.mode ≡ false → ∥ MayComeHome self.run.machine newest.lent.first slices [] ∥₁
-  may_come running stopped known = ∥∥₁_elim (sound_of self) (hlevel) (λ s. ∥∥₁_map (running.holds s.ok s.job s.is) (λ d.
-      may_home s.ok s.job d.ground (stands_in s.ok s.job d.ground self.mode d.strand stopped known d.held)))
+  -- a strand that has stopped holds what it held
+  held_on : (is : IsFit (its_code self)) (j : jobs.Job) (g : Ground (its_code self) is (its_parts self) j) (a : Mode) (d : strands.Strand) (new : Strand) → new.count ≡ self.count → new.run.machine.lines.items ≡ self.run.machine.lines.items → stops a ≡ true
+      → (is_lost a ≡ false → Stands (record self { run = new.run; lent = new.lent; count = new.count; spares = new.spares; mode = new.mode }) is j g) → HeldIn self is j g a d → HeldIn (record self { run = new.run; lent = new.lent; count = new.count; spares = new.spares; mode = new.mode }) is j g a d
+  held_on is j g mode.Going d new count lines s home h = cc
+  held_on is j g mode.Waiting d new count lines s home h = cc
+  held_on is j g (mode.Trapped c n) (Going t k out) new count lines s home h = absurd h
+  held_on is j g (mode.Trapped c n) (Waits t k out) new count lines s home h = absurd h
+  held_on is j g (mode.Trapped c n) (Halted e out) new count lines s home h =
+      (h.0 ∙ ap (λ l. jobs.TrapIn c n l self.count) (sym lines) ∙ ap (jobs.TrapIn c n new.run.machine.lines.items) (sym count), home refl)
+  held_on is j g mode.Over (Going t k out) new count lines s home h = absurd h
+  held_on is j g mode.Over (Waits t k out) new count lines s home h = absurd h
+  held_on is j g mode.Over (Halted e out) new count lines s home h = (h.0, home refl)
+  held_on is j g mode.Memory (Going t k out) new count lines s home h = absurd h
+  held_on is j g mode.Memory (Waits t k out) new count lines s home h = absurd h
+  held_on is j g mode.Memory (Halted e out) new count lines s home h = h
 
-  module _ (new : Strand) (left : reverse new.lent.items ≡ newest.rest) (m : Machine) (lines : m.lines.items ≡ self.run.machine.lines.items) where
-    abbrev skipped : Strand
-    skipped = record self { run = record self.run { machine = m }; lent = new.lent; spares = new.spares }
+  -- a strand after its newest job came back, whatever else it is now
+  module _ (running : IsRunning self) (new : Strand) (left : reverse new.lent.items ≡ newest.rest) (within : p.before + new.count ≤ p.limit)
+      (holds : (is : IsFit (its_code self)) (j : jobs.Job) → Holds self is j → ∥ Holds (record self { run = new.run; lent = new.lent; count = new.count; spares = new.spares; mode = new.mode }) is j ∥₁) where
+    pub goes_spared : new.of ≡ self.of → new.parts ≡ self.parts → AreSpare new → IsRunning new
+    goes_spared of parts bare =
+        let same = same_strand (record self { run = new.run; lent = new.lent; count = new.count; spares = new.spares; mode = new.mode }) new of parts refl refl refl refl refl in
+        subst IsRunning same (record {
+          keeps = record {
+            code = running.keeps.code;
+            extent = running.keeps.extent;
+            site = running.keeps.site;
+            burden = running.keeps.burden;
+            limit = running.keeps.limit;
+            before = running.keeps.before;
+            rest = running.keeps.rest;
+            within = within;
+            range = running.keeps.range;
+          };
+          spares = subst AreSpare (sym same) bare;
+          rests = λ k x e. running.rests (suc k) x (subst (λ l. slice_get l (suc k) ≡ Some x) (sym newest.are) (subst (λ l. slice_get l k ≡ Some x) left e));
+          holds = λ is j isj. ∥∥₁_elim (running.holds is j isj) (hlevel) (holds is j);
+        })
 
-    held_on : (is : IsFit (its_code self)) (j : jobs.Job) (g : Ground (its_code self) is (its_parts self) j) (a : Mode) (d : strands.Strand) → stops a ≡ true → (is_lost a ≡ false → ComesHome self.run.machine newest.lent.first slices [] m) → HeldIn self is j g a d → HeldIn skipped is j g a d
-    held_on is j g mode.Going d s home h = cc
-    held_on is j g mode.Waiting d s home h = cc
-    held_on is j g (mode.Trapped c n) (Going t count out) s home h = absurd h
-    held_on is j g (mode.Trapped c n) (Waits t count out) s home h = absurd h
-    held_on is j g (mode.Trapped c n) (Halted e out) s home h = (h.0 ∙ ap (λ l. jobs.TrapIn c n l self.count) (sym lines), stands_on is j g h.1 new left m (home refl))
-    held_on is j g mode.Over (Going t count out) s home h = absurd h
-    held_on is j g mode.Over (Waits t count out) s home h = absurd h
-    held_on is j g mode.Over (Halted e out) s home h = (h.0, stands_on is j g h.1 new left m (home refl))
-    held_on is j g mode.Memory (Going t count out) s home h = absurd h
-    held_on is j g mode.Memory (Waits t count out) s home h = absurd h
-    held_on is j g mode.Memory (Halted e out) s home h = h
+    pub goes_so : new.of ≡ self.of → new.parts ≡ self.parts → new.spares ≡ self.spares → IsRunning new
+    goes_so of parts spares = goes_spared of parts (spare_as self new spares of running.spares)
 
-    skips : IsRunning self → HasStopped self → (is_lost self.mode ≡ false → ComesHome self.run.machine newest.lent.first slices [] m) → AreSpare skipped → IsRunning skipped
-    skips running stopped home bare = record {
-      keeps = record {
-        code = running.keeps.code;
-        extent = running.keeps.extent;
-        site = running.keeps.site;
-        burden = running.keeps.burden;
-        limit = running.keeps.limit;
-        before = running.keeps.before;
-        rest = running.keeps.rest;
-        within = running.keeps.within;
-        range = running.keeps.range;
-      };
-      spares = bare;
-      shares = λ k x e. running.shares (suc k) x (subst (λ l. slice_get l (suc k) ≡ Some x) (sym newest.are) (subst (λ l. slice_get l k ≡ Some x) left e));
-      holds = λ is j isj. ∥∥₁_map (running.holds is j isj) (λ d. record {
-        ground = d.ground;
-        strand = d.strand;
-        is_of = d.is_of;
-        held = held_on is j d.ground self.mode d.strand stopped home d.held;
-      });
-    }
+  -- nobody ran it
+  pub may_skip : IsRunning self → HasStopped self → (back : List Placed) → back ≡ rest_slices → is_lost self.mode ≡ false → ∥ MayComeHome self.run.machine newest.lent.first back [] ∥₁
+  may_skip running stopped back e known = ∥∥₁_elim (sound_of self) (hlevel) (λ s. ∥∥₁_map (running.holds s.ok s.job s.is) (λ d.
+      may_home s.ok s.job d.ground (stands_in s.ok s.job d.ground self.mode d.strand stopped known d.held) back [] (same_homes rest_slices back e)))
 
-    pub skips_to : IsRunning self → HasStopped self → (is_lost self.mode ≡ false → ComesHome self.run.machine newest.lent.first slices [] m) → (mid : Strand) → mid ≡ record self { run = record self.run { machine = m }; lent = mid.lent } → HasSpared mid new → IsRunning new
-    skips_to running stopped home mid e spared =
-        let same : skipped ≡ new =
-        same_strand skipped new (spared.of ∙ ap (λ (z : Strand). z.of) e) (spared.parts ∙ ap (λ (z : Strand). z.parts) e) (spared.run ∙ ap (λ (z : Strand). z.run) e) (spared.count ∙ ap (λ (z : Strand). z.count) e) refl refl (spared.mode ∙ ap (λ (z : Strand). z.mode) e) in
-        subst IsRunning same (skips running stopped home (subst AreSpare (sym same) spared.spares))
+  -- a strand that has stopped, whose newest job came home
+  module _ (running : IsRunning self) (stopped : HasStopped self) (back : List Placed) (replaced : List (Option Placed)) (new : Strand) (home : CameHome self back replaced new) where
+    pub stops_on : AreSpare new →  ((is : IsFit (its_code self)) (j : jobs.Job) (g : Ground (its_code self) is (its_parts self) j) → Stands self is j g → ∥ KeepsHomes rest_slices back replaced ∥₁) → IsRunning new
+    stops_on bare homes = goes_spared running new left within on home.of home.parts bare
+      where
+        left : reverse new.lent.items ≡ newest.rest
+        left = home.left newest.lent newest.rest newest.are
+
+        within : p.before + new.count ≤ p.limit
+        within = subst (λ n. p.before + n ≤ p.limit) (sym home.count) running.keeps.within
+
+        on : (is : IsFit (its_code self)) (j : jobs.Job) → Holds self is j → ∥ Holds (record self { run = new.run; lent = new.lent; count = new.count; spares = new.spares; mode = new.mode }) is j ∥₁
+        on is j d = at (is_lost self.mode) refl
+          where
+            held : (is_lost self.mode ≡ false → Stands (record self { run = new.run; lent = new.lent; count = new.count; spares = new.spares; mode = new.mode }) is j d.ground) → Holds (record self { run = new.run; lent = new.lent; count = new.count; spares = new.spares; mode = new.mode }) is j
+            held stands = record {
+              ground = d.ground;
+              strand = d.strand;
+              is_of = d.is_of;
+              held = subst (λ m. HeldIn (record self { run = new.run; lent = new.lent; count = new.count; spares = new.spares; mode = new.mode }) is j d.ground m d.strand) (sym home.mode)
+                  (held_on is j d.ground self.mode d.strand new home.count home.lines stopped stands d.held);
+            }
+
+            differ : true ≡ false → ⊥
+            differ e = cc
+
+            at : (b : _) → is_lost self.mode ≡ b → ∥ Holds (record self { run = new.run; lent = new.lent; count = new.count; spares = new.spares; mode = new.mode }) is j ∥₁
+            at true e = ∣ held (λ k. absurd (differ (sym e ∙ k))) ∣₁
+            at false e =
+                let h = stands_in is j d.ground self.mode d.strand stopped e d.held in
+                ∥∥₁_map (homes is j d.ground h) (λ k. held (λ q. stands_on is j d.ground h back replaced k new new.run.machine left (home.home newest.lent newest.rest newest.are e)))
+
+pub came_home : (self : Strand) (back : List Placed) (replaced : List (Option Placed)) (popped : Strand) → HasPoppedHome self back replaced popped → CameHome self back replaced popped
+came_home self back replaced popped home = record { of = home.of; parts = home.parts; count = home.count; mode = home.mode; lines = home.lines; left = home.left; home = home.home }
+
+-- it was skipped
+pub skips : (self : Strand) (job : Job) (others : List Job) (newest : Newest self job others) → IsRunning self → HasStopped self → (back : List Placed) → back ≡ rest_slices self job others newest → (popped new : Strand) → HasPoppedHome self back [] popped → HasSpared popped new → IsRunning new
+skips self job others newest running stopped back e popped new home spared =
+    stops_on self job others newest running stopped back [] new (record {
+      of = spared.of ∙ home.of;
+      parts = spared.parts ∙ home.parts;
+      count = spared.count ∙ home.count;
+      mode = spared.mode ∙ home.mode;
+      lines = ap (λ (r : Run). r.machine.lines.items) spared.run ∙ home.lines;
+      left = λ x xs are. ap reverse spared.lent ∙ home.left x xs are;
+      home = λ x xs are known. subst (λ (r : Run). ComesHome self.run.machine x.first back [] r.machine) (sym spared.run) (home.home x xs are known);
+    }) spared.spares (λ is j g h. ∣ same_homes (rest_slices self job others newest) back e ∣₁)

@@ -12,3 +12,10 @@ pub mod Cutting
 pub mod HandedOn
 pub mod TakenBack
 pub mod Homes
+pub mod Given
+pub mod Effects
+pub mod Taken
+pub mod Gave
+pub mod GaveTrap
+pub mod GaveJoin
+pub mod Adding

@@ -86,7 +86,7 @@ run_came keep self r done limit to h e goes le within = record {
     range = h.keeps.range;
   };
   spares = h.spares;
-  shares = h.shares;
+  rests = h.rests;
   comes = λ is j job. ∥∥₁_map (h.holds is j job) (λ d.
       let at = going_of self is j e d in
       came_to keep self is j d.ground r done limit to at.state at.count at.out at.is_of at.runs goes le within (let w = h.keeps.within in omega (arith, w)));
@@ -157,7 +157,7 @@ pub over_goes : (self : Strand) (limit : ℕ) → HasCome self limit stop.Over �
 over_goes self limit h = record {
   keeps = h.keeps;
   spares = h.spares;
-  shares = h.shares;
+  rests = h.rests;
   holds = λ is j job. ∥∥₁_map (h.comes is j job) (λ c. record {
     ground = c.ground;
     strand = Going c.state c.later (rests_at (its_parts self) (levels_of c.state.around) (reverse self.lent.items));

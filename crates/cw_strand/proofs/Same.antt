@@ -1,11 +1,12 @@
 -- Strands with the same parts, and what is left of a list when its last one is taken.
-use Rattle.std.proofs.Common.{◌≡◌, ℕ, ◌+◌, Option, Some, None, List, [], ◌∷◌, ◌++◌, length, refl, sym, ap, ◌∙◌, arith}
-use Rattle.std.specs.Prelude.{map, reverse, option_to_list, MatchOption}
+use Rattle.std.proofs.Common.{◌≡◌, ℕ, ◌+◌, Option, Some, None, List, [], ◌∷◌, ◌++◌, length, refl, sym, ap, ◌∙◌, subst, arith}
+use Rattle.std.specs.Prelude.{map, reverse, option_to_list, MatchOption, slice_get}
 use Rattle.std.proofs.lemmas.List.{reverse-append}
 use Rattle.cw_jobs.specs.declared.job.Job.{Job}
+use Rattle.cw_jobs.specs.Jobs.{code_of}
 use Rattle.cw_strand.specs.declared.strand.Lent.{Lent}
 use Rattle.cw_strand.specs.declared.strand.Strand.{Strand}
-use Rattle.cw_strand.specs.Holds.{outs}
+use Rattle.cw_strand.specs.Holds.{outs, AreSpare}
 
 pub same_strand : (a b : Strand) → b.of ≡ a.of → b.parts ≡ a.parts → b.run ≡ a.run → b.count ≡ a.count → b.lent ≡ a.lent → b.spares ≡ a.spares → b.mode ≡ a.mode → a ≡ b
 same_strand a b o p r n l s m =
@@ -84,3 +85,13 @@ some_none y q = cc
 pub pops : {A : Type 0} (old new : List A) (n m : ℕ) (r : Option A) (x : A) (xs : List A) → n ≡ length old → old ≡ new ++ option_to_list r → MatchOption r ((n ≡ 0) × (m ≡ 0)) (λ _. m + 1 ≡ n) → reverse old ≡ x ∷ xs → Popped new r x xs
 pops old new n m None x xs many e h are = absurd (some_long old x xs (sym many ∙ h.0) are)
 pops old new n m (Some y) x xs many e h are = popped old new (Some y) x xs e (λ q. absurd (some_none y q)) are
+
+-- what is left of the jobs out
+pub others_left : (old new : Strand) (out : Job) (others : List Job) → outs old ≡ out ∷ others → ((x : Lent) (xs : List Lent) → reverse old.lent.items ≡ x ∷ xs → reverse new.lent.items ≡ xs) → outs new ≡ others
+others_left old new out others e left =
+    let n = newest_of old out others e in
+    ap (map (λ l. l.job.value)) (left n.lent n.rest n.are) ∙ n.others_are
+
+-- a strand with the same spares and the same job
+pub spare_as : (a b : Strand) → b.spares ≡ a.spares → b.of ≡ a.of → AreSpare a → AreSpare b
+spare_as a b spares of h k x e = h k x (subst (λ s. slice_get s.items k ≡ Some x) spares e) ∙ ap (λ o. code_of o.value.parts.value) (sym of)

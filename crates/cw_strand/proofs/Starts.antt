@@ -117,7 +117,7 @@ begins keep meters job p' self of parts none bare zero going b = record {
       range = ∥∥₁_elim sound le_prop (λ s. s.range);
     };
     spares = λ k q e. absurd (none_there k q (subst (λ l. slice_get l k ≡ Some q) bare e));
-    shares = λ k q e. absurd (none_there k q (subst (λ l. slice_get (reverse l) k ≡ Some q) none e));
+    rests = λ k q e. absurd (none_there k q (subst (λ l. slice_get (reverse l) k ≡ Some q) none e));
     holds = λ is j isj.
         let light : (its_parts self).burden ≤ MOST_BURDEN = ∥∥₁_elim sound le_prop (λ s. s.light) in
         let low : (its_parts self).before ≤ (its_parts self).limit = ∥∥₁_elim sound le_prop (λ s. s.within) in

@@ -107,7 +107,7 @@ module _ (self : Strand) (job : Job) (others : List Job) (newest : Newest self j
 
   -- it has a share of the strand's code
   pub job_code : IsRunning self → code_of job.parts.value ≡ its_code self
-  job_code running = subst (λ (b : Job). code_of b.parts.value ≡ its_code self) newest.job_is (running.shares 0 newest.lent (subst (λ l. slice_get l 0 ≡ Some newest.lent) (sym newest.are) refl))
+  job_code running = subst (λ (b : Job). code_of b.parts.value ≡ its_code self) newest.job_is (running.rests 0 newest.lent (subst (λ l. slice_get l 0 ≡ Some newest.lent) (sym newest.are) refl)).code
 
   pub may_take : IsRunning self → IsWaiting self → ∥ MayTake self.run.machine job.parts.value.rest.slices.items ∥₁
   may_take running waits = ∥∥₁_elim (sound_of self) (hlevel) (λ s. ∥∥₁_map (running.holds s.ok s.job s.is) (λ d.
@@ -128,7 +128,7 @@ module _ (self : Strand) (job : Job) (others : List Job) (newest : Newest self j
         range = running.keeps.range;
       };
       spares = bare;
-      shares = λ k x e. running.shares (suc k) x (subst (λ l. slice_get l (suc k) ≡ Some x) (sym newest.are) (subst (λ l. slice_get l k ≡ Some x) left e));
+      rests = λ k x e. running.rests (suc k) x (subst (λ l. slice_get l (suc k) ≡ Some x) (sym newest.are) (subst (λ l. slice_get l k ≡ Some x) left e));
       holds = λ is j isj. ∥∥₁_map (running.holds is j isj) (λ d. taken is j d.ground (waiting_of self is j waits d) keep m takes new left);
     }
 

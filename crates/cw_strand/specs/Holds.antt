@@ -166,16 +166,19 @@ pub record KeepsJob (self : Strand) : Type 0 where
 abbrev pub AreSpare : Strand → Type 0
 AreSpare self = (k : ℕ) (b : _) → slice_get self.spares.items k ≡ Some b → code_of b.value ≡ its_code self
 
--- and so have the jobs that are out
-abbrev pub ShareCode : Strand → Type 0
-ShareCode self =
-    (k : ℕ) (h : Lent) → slice_get (reverse self.lent.items) k ≡ Some h → code_of (lent_parts h) ≡ its_code self
+-- and so have the jobs that are out, which are rests of blocks
+pub record IsRest (v : Verified) (h : Lent) : Type 0 where
+  pub code : code_of (lent_parts h) ≡ v
+  pub joins : (lent_parts h).extent ≡ extent.ToJoin
+
+abbrev pub AreRests : Strand → Type 0
+AreRests self = (k : ℕ) (h : Lent) → slice_get (reverse self.lent.items) k ≡ Some h → IsRest (its_code self) h
 
 -- A STRAND OF ITS JOB, whichever of the definitions the job is
 pub record IsRunning (self : Strand) : Type 0 where
   pub keeps : KeepsJob self
   pub spares : AreSpare self
-  pub shares : ShareCode self
+  pub rests : AreRests self
   pub holds : (is : IsFit (its_code self)) (j : jobs.Job) → IsJob (its_code self) is (its_parts self) j
       → ∥ Holds self is j ∥₁
 

@@ -1,3 +1,4 @@
 pub mod Levels
 pub mod Holds
 pub mod Moves
+pub mod Giving

@@ -1,7 +1,8 @@
 -- What the calls on a strand keep.
-use Rattle.std.specs.Prelude.{◌≡◌, ◌≢◌, ℕ, ◌+◌, List, [], ◌∷◌, reverse, Option, Some, None}
+use Rattle.std.specs.Prelude.{◌≡◌, ◌≢◌, ℕ, ◌+◌, false, List, [], ◌∷◌, reverse, Option, Some, None}
 use Rattle.cw_code.specs.Code.{code_view}
 use Rattle.cw_code.specs.Run.{State}
+use Rattle.cw_slices.specs.Placed.{Placed}
 use Rattle.cw_strands.specs.Jobs as jobs
 use Rattle.cw_strands.specs.Strands.{Going}
 use Rattle.cw_strands.specs.Promises.{IsStrandOf}
@@ -22,6 +23,7 @@ use Rattle.cw_machine.specs.Calls.{listed}
 use Rattle.cw_machine.specs.Shows.{StaysBut}
 use Rattle.cw_machine.specs.Hands.{HandsOut}
 use Rattle.cw_machine.specs.JobRuns.{BeginsJob, IsEmptied}
+use Rattle.cw_machine.specs.Unwinding.{ComesHome, MayComeHome}
 use Rattle.cw_machine.specs.Stretches.{StopsAt}
 use Rattle.cw_strand.specs.declared.strand.Lent.{Lent}
 use Rattle.cw_strand.specs.declared.strand.Mode.TheVariants as mode
@@ -29,7 +31,7 @@ use Rattle.cw_strand.specs.declared.strand.Step.{Step}
 use Rattle.cw_strand.specs.declared.strand.Step.TheVariants as step
 use Rattle.cw_strand.specs.declared.strand.Strand.{Strand}
 use Rattle.cw_strand.specs.Levels.{levels_of}
-use Rattle.cw_strand.specs.Holds.{its_job, its_parts, its_code, outs, Ground, setting_of, ok_with, Lends, rests_at, KeepsJob, AreSpare, ShareCode, IsRunning, IsAtSync}
+use Rattle.cw_strand.specs.Holds.{its_job, its_parts, its_code, outs, Ground, setting_of, ok_with, Lends, rests_at, KeepsJob, AreSpare, AreRests, IsRunning, IsAtSync, is_lost}
 
 -- a run begins a job, whose arrays moved into it
 pub record BeginsRun (p p' : Parts) (r : Run) : Type 0 where
@@ -73,7 +75,7 @@ pub record HasCome (self : Strand) (limit : ℕ) (stop : Stop) : Type 0 where
   pub going : self.mode ≡ mode.Going
   pub keeps : KeepsJob self
   pub spares : AreSpare self
-  pub shares : ShareCode self
+  pub rests : AreRests self
   pub comes : (is : IsFit (its_code self)) (j : jobs.Job) → IsJob (its_code self) is (its_parts self) j
       → ∥ CameTo self limit stop is j ∥₁
 
@@ -144,3 +146,32 @@ abbrev pub IsStill : Stop → Type 0
 IsStill stop.Joined = Unit {0}
 IsStill stop.Over = Unit {0}
 IsStill _ = ⊥
+
+-- slices may come home to the newest job out, of a machine of which anything is known
+pub record MayPopHome (self : Strand) (back : List Placed) (replaced : List (Option Placed)) : Type 0 where
+  pub newest : Lent
+  pub older : List Lent
+  pub are : reverse self.lent.items ≡ newest ∷ older
+  pub home : is_lost self.mode ≡ false → ∥ MayComeHome self.run.machine newest.first back replaced ∥₁
+
+-- they did, and the job is out no more; all else is as it was, but for the blocks of the machine
+pub record HasPoppedHome (old : Strand) (back : List Placed) (replaced : List (Option Placed)) (new : Strand) : Type 0
+  where
+    pub of : new.of ≡ old.of
+    pub parts : new.parts ≡ old.parts
+    pub count : new.count ≡ old.count
+    pub spares : new.spares ≡ old.spares
+    pub mode : new.mode ≡ old.mode
+    pub lines : new.run.machine.lines.items ≡ old.run.machine.lines.items
+    pub left : (x : Lent) (xs : List Lent) → reverse old.lent.items ≡ x ∷ xs → reverse new.lent.items ≡ xs
+    pub home : (x : Lent) (xs : List Lent) → reverse old.lent.items ≡ x ∷ xs → is_lost old.mode ≡ false
+        → ComesHome old.run.machine x.first back replaced new.run.machine
+
+-- the newest job is out no more, and memory was wanting
+pub record HasLost (old new : Strand) : Type 0 where
+  pub of : new.of ≡ old.of
+  pub parts : new.parts ≡ old.parts
+  pub count : new.count ≡ old.count
+  pub spares : new.spares ≡ old.spares
+  pub mode : new.mode ≡ mode.Memory
+  pub left : (x : Lent) (xs : List Lent) → reverse old.lent.items ≡ x ∷ xs → reverse new.lent.items ≡ xs

@@ -13,7 +13,7 @@ use cw_strands::laws::calls_on_a_strand_keep_its_job;
 
 impl Strand {
     // As many instructions as its job may have in all.
-    fn end_of_job(&self) -> u64
+    pub(crate) fn end_of_job(&self) -> u64
         requires { IsRunning self.now }
         ensures end { result ≡ (its_parts self.now).limit - (its_parts self.now).before }
         ensures above { self.now.count ≤ result }

@@ -2,6 +2,7 @@
 #![tactic(auto)]
 
 mod ending;
+mod giving;
 mod going;
 mod lending;
 mod starting;

@@ -1,16 +1,17 @@
 //! A strand that stopped.
 
-ghost use Rattle.std.specs.Prelude.{◌≡◌, ◌∷◌, [], true, false, List};
+ghost use Rattle.std.specs.Prelude.{◌≡◌, ◌∷◌, true, false, List};
 ghost use Rattle.cw_jobs.specs.declared.job.Job as jobs;
 ghost use Rattle.cw_machine.specs.Unwinding.{ComesHome, MayComeHome};
 ghost use Rattle.cw_strand.specs.Holds as holds;
 ghost use Rattle.cw_strand.specs.Holds.{outs, HasStopped, IsAtSync, IsRunning, IsWaiting};
 ghost use Rattle.cw_strand.specs.Moves as moves;
+ghost use Rattle.cw_strand.specs.Moves.{HasLost, HasPoppedHome, MayPopHome};
 
 use crate::strand::{Lent, Mode, Strand};
-use cw_jobs::call::Rest;
 use cw_jobs::job::Job;
 use cw_machine::machine::Machine;
+use cw_slices::Slice;
 use cw_strands::laws::calls_on_a_strand_keep_its_job;
 
 // The cell of the first array slot of a job that was out.
@@ -23,17 +24,22 @@ fn first_of(lent: Option<Lent>) -> usize
     }
 }
 
-// The arrays of a rest that nobody ran come home into a machine, unless nothing is known of it any more.
-fn bring_home(machine: &mut Machine, first: usize, rest: &mut Rest, is_lost: bool)
-    requires { is_lost ≡ false → ∥ MayComeHome machine.old first rest.old.slices.items [] ∥₁ }
-    ensures home { is_lost ≡ false → ComesHome machine.old first rest.old.slices.items [] machine.new }
+// Slices come home to a call of a machine, unless nothing is known of the machine any more.
+fn bring_home(
+    machine: &mut Machine,
+    first: usize,
+    slices: &mut Vec<Slice>,
+    replaced: &mut Vec<Option<Slice>>,
+    is_lost: bool,
+)
+    requires { is_lost ≡ false → ∥ MayComeHome machine.old first slices.old.items replaced.old.items ∥₁ }
+    ensures home { is_lost ≡ false → ComesHome machine.old first slices.old.items replaced.old.items machine.new }
     ensures lines { machine.new.lines.items ≡ machine.old.lines.items }
 {
     if is_lost {
         return;
     }
-    let mut none = Vec::new(*machine.lines.allocator());
-    machine.come_home(first, &mut rest.slices, &mut none);
+    machine.come_home(first, slices, replaced);
 }
 
 impl Strand {
@@ -60,6 +66,24 @@ impl Strand {
         }
     }
 
+    // The newest job is out no more: its arrays come home.
+    pub(crate) fn pop_home(&mut self, slices: &mut Vec<Slice>, replaced: &mut Vec<Option<Slice>>)
+        requires { MayPopHome self.old slices.old.items replaced.old.items }
+        ensures { HasPoppedHome self.old slices.old.items replaced.old.items self.new }
+    {
+        let is_lost = self.is_lost();
+        let first = first_of(self.lent.pop());
+        bring_home(&mut self.run.machine, first, slices, replaced, is_lost);
+    }
+
+    // The newest job is out no more, and memory was wanting, so that nothing is known of its arrays.
+    pub(crate) fn lose(&mut self)
+        ensures { HasLost self.old self.new }
+    {
+        let _ = self.lent.pop();
+        self.mode = Mode::Memory;
+    }
+
     /// Skips the newest job out, which nobody ran, where the strand has stopped. Takes no memory but for what keeps the
     /// job's box for another, which may be refused.
     pub fn skip(&mut self, job: Job)
@@ -73,9 +97,8 @@ impl Strand {
     {
         let Job { parts } = job;
         let mut parts = parts;
-        let is_lost = self.is_lost();
-        let first = first_of(self.lent.pop());
-        bring_home(&mut self.run.machine, first, &mut parts.rest, is_lost);
+        let mut none = Vec::new(*self.lent.allocator());
+        self.pop_home(&mut parts.rest.slices, &mut none);
         self.spare(parts);
     }
 

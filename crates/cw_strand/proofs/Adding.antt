@@ -1,0 +1,41 @@
+-- Sums to which others are added, one after another.
+use Rattle.std.proofs.Common.{◌≡◌, ◌≢◌, ⊎_elim, ℕ, zero, suc, ◌+◌, ◌<◌, ◌≤◌, ℤ, ◌+ℤ◌, Some, List, length, refl, sym, ap, ◌∙◌, subst, arith}
+use Rattle.std.specs.Prelude.{◌⊎◌, slice_get}
+use Rattle.std.proofs.lemmas.Option.{slice_get_within}
+use Rattle.cw_machine.specs.Shows.{wrapped}
+use Rattle.cw_strand.specs.Giving.{AreAdded, IsAddedAt}
+
+-- the first ones, so many, have theirs added
+pub record AddedTo (old more : List ℤ) (k : ℕ) (now : List ℤ) : Type 0 where
+  pub as_many : length now ≡ length old
+  pub done : (i : ℕ) (x y : ℤ) → i < k → slice_get old i ≡ Some x → slice_get more i ≡ Some y → slice_get now i ≡ Some (wrapped (x +ℤ y))
+  pub still : (i : ℕ) → k ≤ i → slice_get now i ≡ slice_get old i
+
+pub none_added : (old more : List ℤ) → AddedTo old more 0 old
+none_added old more = record { as_many = refl; done = λ i x y lt e e'. absurd (omega (arith, lt)); still = λ i le. refl }
+
+same_or : (i k : ℕ) → (i ≡ k) ⊎ (i ≢ k)
+same_or i k = grind arith
+
+pub one_added : (old more now next : List ℤ) (k : ℕ) → AddedTo old more k now → IsAddedAt now more k next → AddedTo old more (k + 1) next
+one_added old more now next k to at = record {
+  as_many = at.as_many ∙ to.as_many;
+  done = λ i x y lt e e'. ⊎_elim
+      (λ (q : i ≡ k). subst (λ z. slice_get next z ≡ Some (wrapped (x +ℤ y))) (sym q)
+      (at.here x y (to.still k (omega arith) ∙ ap (slice_get old) (sym q) ∙ e) (ap (slice_get more) (sym q) ∙ e')))
+      (λ (d : i ≢ k). at.others i d ∙ to.done i x y (below i k lt d) e e')
+      (same_or i k);
+  still = λ i le. at.others i (λ q. omega (arith, q, le)) ∙ to.still i (omega (arith, le));
+}
+  where
+    below : (i k : ℕ) → i < k + 1 → i ≢ k → i < k
+    below zero zero lt d = absurd (d refl)
+    below zero (suc k) lt d = omega arith
+    below (suc i) zero lt d = absurd (omega (arith, lt))
+    below (suc i) (suc k) lt d = let r = below i k (omega (arith, lt)) (λ q. d (ap suc q)) in omega (arith, r)
+
+pub all_added : (old more now : List ℤ) (k : ℕ) → length old ≤ k → AddedTo old more k now → AreAdded old more now
+all_added old more now k le to = record {
+  as_many = to.as_many;
+  each = λ i x y e e'. let lt = slice_get_within old i x e in to.done i x y (omega (arith, lt, le)) e e';
+}

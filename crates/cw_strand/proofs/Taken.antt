@@ -1,0 +1,107 @@
+-- A machine that took in what a rest has shown.
+use Rattle.std.proofs.Common.{◌≡◌, ℕ, ◌+◌, ℤ, ◌+ℤ◌, pos, Bool, true, false, if◌then◌else◌, Some, List, [], ◌∷◌, ◌++◌, length, refl, sym, ap, ◌∙◌, subst, append_assoc}
+use Rattle.std.specs.Prelude.{slice_get}
+use Rattle.std.specs.Int.{w128, int_wrap}
+use Rattle.std.proofs.Math.IntN.{+ℤ_assoc, +ℤ_comm, +ℤ_idl}
+use Rattle.std.proofs.lemmas.Int.{int_wrap-add_left}
+use Rattle.std.proofs.lemmas.List.{append-nil}
+use Rattle.cw_model.specs.Syntax.{Name}
+use Rattle.cw_model.specs.Names.{same_name}
+use Rattle.cw_model.specs.Answers.{sum_to}
+use Rattle.cw_model.specs.Outcome.{Trace, quiet, joined}
+use Rattle.cw_code.specs.Code.{Code, code_view}
+use Rattle.cw_code.specs.Run.{Around, State}
+use Rattle.cw_code.specs.Good.{GoodState}
+use Rattle.cw_code.specs.Fits.{Fits}
+use Rattle.cw_strands.specs.Jobs.{Extent, WholeCall, ToJoin, Standing}
+use Rattle.cw_strands.specs.Over.{trace_under, under}
+use Rattle.cw_strands.specs.Strands.{resumed}
+use Rattle.cw_verify.specs.declared.verified.Verified.{Verified}
+use Rattle.cw_jobs.specs.Calls as calls
+use Rattle.cw_machine.specs.declared.machine.Machine.{Machine}
+use Rattle.cw_machine.specs.Arrays.{Ok}
+use Rattle.cw_machine.specs.Shows as shows
+use Rattle.cw_machine.specs.Shows.{wrapped, Shows}
+use Rattle.cw_machine.specs.Stretches.{StandsRound}
+use Rattle.cw_strand.specs.Giving.{AreAdded, HasTaken}
+
+all_fit : (a b : List (Name × ℤ)) → shows.AllFit a → calls.AllFit b → shows.AllFit (a ++ b)
+all_fit [] [] h k = tt
+all_fit [] (y ∷ b) h k = (k.0, all_fit [] b tt k.1)
+all_fit (x ∷ a) b h k = (h.0, all_fit a b h.1 k)
+
+sum_append : (name : Name) (a b : List (Name × ℤ)) → sum_to name (a ++ b) ≡ sum_to name a +ℤ sum_to name b
+sum_append name [] b = sym (+ℤ_idl (sum_to name b))
+sum_append name (x ∷ a) b = at (same_name name x.0) (sum_append name a b)
+  where
+    at : (c : Bool) → sum_to name (a ++ b) ≡ sum_to name a +ℤ sum_to name b → (if c then x.1 +ℤ sum_to name (a ++ b) else sum_to name (a ++ b)) ≡ (if c then x.1 +ℤ sum_to name a else sum_to name a) +ℤ sum_to name b
+    at true h = ap (λ z. x.1 +ℤ z) h ∙ sym (+ℤ_assoc x.1 (sum_to name a) (sum_to name b))
+    at false h = h
+
+wrap_both : (a b : ℤ) → wrapped (wrapped a +ℤ wrapped b) ≡ wrapped (a +ℤ b)
+wrap_both a b =
+    int_wrap-add_left w128 a (wrapped b) ∙ ap wrapped (+ℤ_comm a (wrapped b)) ∙ int_wrap-add_left w128 b a ∙ ap wrapped (+ℤ_comm b a)
+
+sums_both : (code : Code) (old more new : List ℤ) (a b : List (Name × ℤ)) → AreAdded old more new → shows.HoldsSums code old a → calls.HoldsSums code more b → shows.HoldsSums code new (a ++ b)
+sums_both code old more new a b added h k = record {
+  fit = all_fit a b h.fit k.fit;
+  as_many = added.as_many ∙ h.as_many;
+  are = λ i name e.
+      added.each i (wrapped (sum_to name a)) (wrapped (sum_to name b)) (h.are i name e) (k.are i name e)
+      ∙ ap (λ z. Some z) (wrap_both (sum_to name a) (sum_to name b) ∙ ap wrapped (sym (sum_append name a b)));
+}
+
+-- what a state has shown may be told otherwise
+good_with : (code : Code) (fits : Fits code) (s : State) (t : Trace) → GoodState code fits s → GoodState code fits (record s { trace = t })
+good_with code fits s t g = record {
+  seat = g.seat;
+  call = record { as_many = g.call.as_many; ints = g.call.ints; arrays = g.call.arrays; cuts = g.call.cuts };
+  others = g.others;
+}
+
+module _ (v : Verified) (ok : Ok v) (m m' : Machine) (lines sums : List ℤ) (taken : HasTaken m lines sums m') (s : State) (t : Trace) (more : List (Name × ℤ)) where
+  pub shows_taken : Shows v ok m s → calls.HoldsSums (code_view v.code) sums more → t.lines ≡ s.trace.lines ++ lines → t.additions ≡ s.trace.additions ++ more → Shows v ok m' (record s { trace = t })
+  shows_taken h summed l a = subst (λ x. Shows v ok x (record s { trace = t })) (sym taken.rest) (record {
+    good = good_with (code_view v.code) ok.verified.fits s t h.good;
+    holds = record {
+      at = h.holds.at;
+      keeps = h.holds.keeps;
+      comes = h.holds.comes;
+      lies = h.holds.lies;
+      room = h.holds.room;
+      round = h.holds.round;
+      shown = taken.lines_are ∙ ap (λ z. z ++ lines) h.holds.shown ∙ sym l;
+    };
+    deep = h.deep;
+    arrays = h.arrays;
+    sums = subst (shows.HoldsSums (code_view v.code) m'.sums.items) (sym a) (sums_both (code_view v.code) m.sums.items sums m'.sums.items s.trace.additions more taken.sums_are h.sums summed);
+    cuts = h.cuts;
+  })
+
+-- lines and additions of a run over what stands round it
+lines_under : (b : State) (around : List Around) (t : Trace) → (trace_under b around t).lines ≡ b.trace.lines ++ t.lines
+lines_under b [] t = refl
+lines_under b (a ∷ around) t = refl
+
+additions_under : (b : State) (around : List Around) (t : Trace) → (trace_under b around t).additions ≡ b.trace.additions ++ t.additions
+additions_under b [] t = refl
+additions_under b (a ∷ around) t = refl
+
+appended : {A : Type 0} (b s t : List A) → b ++ (s ++ t) ≡ (b ++ (s ++ [])) ++ t
+appended b s t = sym (append_assoc b s t) ∙ ap (λ z. (b ++ z) ++ t) (sym (append-nil s))
+
+-- a block that goes on from its join, with what the rest has shown
+pub shows_joined : (v : Verified) (ok : Ok v) (m m' : Machine) (sums : List ℤ) (b s : State) (frame : Standing) (t : Trace) → HasTaken m t.lines sums m' → Shows v ok m (under b (resumed s frame quiet)) → calls.HoldsSums (code_view v.code) sums t.additions
+    → Shows v ok m' (under b (resumed s frame t))
+shows_joined v ok m m' sums b s frame t taken h summed =
+    shows_taken v ok m m' t.lines sums taken (under b (resumed s frame quiet)) (trace_under b s.around (joined s.trace t)) t.additions h summed
+    (lines_under b s.around (joined s.trace t) ∙ appended b.trace.lines s.trace.lines t.lines ∙ ap (λ z. z ++ t.lines) (sym (lines_under b s.around (joined s.trace quiet))))
+    (additions_under b s.around (joined s.trace t) ∙ appended b.trace.additions s.trace.additions t.additions ∙ ap (λ z. z ++ t.additions) (sym (additions_under b s.around (joined s.trace quiet))))
+
+-- what stands round a run has shown nothing
+base_quiet : (x : Extent) (b : State) → StandsRound x b → b.trace ≡ quiet
+base_quiet WholeCall b e = ap (λ (z : State). z.trace) e
+base_quiet ToJoin b e = e
+
+pub lines_shown : (v : Verified) (ok : Ok v) (m : Machine) (x : Extent) (b s : State) → StandsRound x b → Shows v ok m (under b s) → m.lines.items ≡ s.trace.lines
+lines_shown v ok m x b s round h = h.holds.shown ∙ lines_under b s.around s.trace ∙ ap (λ (u : Trace). u.lines ++ s.trace.lines) (base_quiet x b round)

@@ -1,0 +1,268 @@
+//! The effect of the newest job out, which ran elsewhere, is given.
+
+ghost use Rattle.std.specs.Prelude.{◌≡◌, ◌<◌, ◌+ℤ◌, length, OnOk};
+ghost use Rattle.cw_jobs.specs.declared.effect.Effect.TheVariants as effect;
+ghost use Rattle.cw_machine.specs.Shows.{wrapped};
+ghost use Rattle.cw_machine.specs.Gives.{MayGive};
+ghost use Rattle.cw_strand.specs.Holds.{HasStopped, IsAtSync, IsRunning, IsWaiting};
+ghost use Rattle.cw_strand.specs.Giving.{passes_limit, AreAdded, IsAddedAt, HasJoined, HasTaken, IsGiven, LeavesOthers};
+ghost use Rattle.cw_strand.specs.Giving as giving;
+
+use crate::strand::{Lent, Mode, Strand};
+use cw_code::laws::{results_may_go_back, runs_stay_in_their_functions};
+use cw_jobs::call::Rest;
+use cw_jobs::effect::{Effect, Shown};
+use cw_machine::laws::machines_that_stop_remain;
+use cw_machine::machine::Machine;
+use cw_machine::run::Run;
+use cw_metered::laws::calls_keep_what_meters_tell;
+use cw_model::trap::Trap;
+use cw_slices::Slice;
+use cw_strands::laws::{calls_on_a_strand_keep_its_job, rests_stay_in_their_functions};
+use std::alloc::AllocError;
+
+// The slot that takes the result of the call beside a job that was out.
+fn target_of(lent: Option<Lent>) -> Option<u32>
+    ensures { result ≡ giving.target_of lent }
+{
+    match lent {
+        Some(lent) => lent.target,
+        None => None,
+    }
+}
+
+// Two sums as one, within 128 bits.
+fn add_up(sum: i128, more: i128) -> i128
+    ensures { result ≡ wrapped (sum +ℤ more) }
+{
+    sum.wrapping_add(more)
+}
+
+// A sum, with another one added, where there is one.
+fn add_at(sums: &mut Vec<i128>, more: &[i128], k: usize)
+    requires { k < length sums.old.items }
+    ensures { IsAddedAt sums.old.items more.now k sums.new.items }
+{
+    if k < more.len() {
+        sums[k] = add_up(sums[k], more[k]);
+    }
+}
+
+// Each sum, with another one added.
+fn add_sums(sums: &mut Vec<i128>, more: &[i128])
+    ensures { AreAdded sums.old.items more.now sums.new.items }
+{
+    for k in 0..sums.len() {
+        add_at(sums, more, k);
+    }
+}
+
+// A machine takes in what another one has shown.
+fn take_shown(machine: &mut Machine, lines: &[i64], sums: &[i128]) -> Result<(), AllocError>
+    ensures { OnOk result (HasTaken machine.old lines.now sums.now machine.new) }
+{
+    machine.lines.extend_from_slice(lines)?;
+    add_sums(&mut machine.sums, sums);
+    Ok(())
+}
+
+// The rest of the block that waits came back to a run, after so many instructions: it goes on from the join. The error
+// is want of memory.
+fn join_rest(
+    run: &mut Run,
+    count: u64,
+    frame: &mut Rest,
+    replaced: &mut Vec<Option<Slice>>,
+    target: Option<u32>,
+    shown: Shown,
+) -> Result<(), AllocError>
+    requires { ∥ MayGive run.old.machine frame.old replaced.old.items target ∥₁ }
+    ensures { OnOk result (HasJoined run.old count frame.old replaced.old.items target shown run.new) }
+{
+    let Shown {
+        lines,
+        sums,
+        meter,
+        cost,
+    } = shown;
+    run.machine.give_rest(frame, replaced, target);
+    take_shown(&mut run.machine, lines.as_slice(), sums.as_slice())?;
+    run.meter.rest(count, meter, cost)?;
+    Ok(())
+}
+
+impl Strand {
+    // Whether so many instructions more would pass the limit.
+    fn passes(&self, cost: u64) -> bool
+        requires { IsRunning self.now }
+        ensures { result ≡ passes_limit self.now cost }
+    {
+        cost > self.end_of_job() - self.count
+    }
+
+    // The effect of a rest that came to its join, given to a strand that waits for it.
+    fn give_joined(&mut self, frame: Rest, replaced: Vec<Option<Slice>>, shown: Shown)
+        requires running { IsRunning self.old }
+        requires waiting { IsWaiting self.old }
+        requires given { IsGiven self.old (effect.Joined frame replaced shown) }
+        ensures of { self.new.of ≡ self.old.of }
+        ensures running { IsRunning self.new }
+        ensures outs { LeavesOthers self.old self.new }
+    {
+        calls_on_a_strand_keep_its_job();
+        calls_keep_what_meters_tell();
+        machines_that_stop_remain();
+        results_may_go_back();
+        rests_stay_in_their_functions();
+        runs_stay_in_their_functions();
+        let mut frame = frame;
+        let mut replaced = replaced;
+        let cost = shown.cost;
+        if self.passes(cost) {
+            self.pop_home(&mut frame.slices, &mut replaced);
+            self.mode = Mode::Over;
+            return;
+        }
+        let count = self.count;
+        let target = target_of(self.lent.pop());
+        match join_rest(&mut self.run, count, &mut frame, &mut replaced, target, shown) {
+            Ok(()) => {
+                self.count = count + cost;
+                self.mode = Mode::Going;
+            }
+            Err(_) => self.mode = Mode::Memory,
+        }
+    }
+
+    // That of a rest that trapped, given so.
+    fn give_trap(&mut self, trap: Trap, line: u32, lines: Vec<i64>, cost: u64, back: Vec<Slice>)
+        requires running { IsRunning self.old }
+        requires waiting { IsWaiting self.old }
+        requires given { IsGiven self.old (effect.Trapped trap line lines cost back) }
+        ensures of { self.new.of ≡ self.old.of }
+        ensures running { IsRunning self.new }
+        ensures outs { LeavesOthers self.old self.new }
+    {
+        calls_on_a_strand_keep_its_job();
+        machines_that_stop_remain();
+        let mut back = back;
+        let mut none = Vec::new(*self.lent.allocator());
+        if self.passes(cost) {
+            self.pop_home(&mut back, &mut none);
+            self.mode = Mode::Over;
+            return;
+        }
+        match self.run.machine.lines.extend_from_slice(lines.as_slice()) {
+            Ok(()) => {
+                self.pop_home(&mut back, &mut none);
+                self.count += cost;
+                self.mode = Mode::Trapped(trap, line);
+            }
+            Err(_) => self.lose(),
+        }
+    }
+
+    // That of a rest that passed the limit, given so.
+    fn give_over(&mut self, back: Vec<Slice>)
+        requires running { IsRunning self.old }
+        requires waiting { IsWaiting self.old }
+        requires given { IsGiven self.old (effect.OverLimit back) }
+        ensures of { self.new.of ≡ self.old.of }
+        ensures running { IsRunning self.new }
+        ensures outs { LeavesOthers self.old self.new }
+    {
+        calls_on_a_strand_keep_its_job();
+        machines_that_stop_remain();
+        let mut back = back;
+        let mut none = Vec::new(*self.lent.allocator());
+        self.pop_home(&mut back, &mut none);
+        self.mode = Mode::Over;
+    }
+
+    // The effect of the newest job out, given to a strand that waits for it.
+    fn give_waiting(&mut self, effect: Effect)
+        requires running { IsRunning self.old }
+        requires waiting { IsWaiting self.old }
+        requires given { IsGiven self.old effect }
+        ensures of { self.new.of ≡ self.old.of }
+        ensures running { IsRunning self.new }
+        ensures outs { LeavesOthers self.old self.new }
+    {
+        calls_on_a_strand_keep_its_job();
+        match effect {
+            Effect::Joined {
+                frame,
+                replaced,
+                shown,
+            } => self.give_joined(frame, replaced, shown),
+            Effect::Trapped {
+                trap,
+                line,
+                lines,
+                cost,
+                back,
+            } => self.give_trap(trap, line, lines, cost, back),
+            Effect::OverLimit { back } => self.give_over(back),
+            Effect::Memory { back: _ } => self.lose(),
+            Effect::Ended { value: _, shown: _ } => unreachable!(),
+        }
+    }
+
+    // The same, to a strand that has stopped: the arrays come home, and nothing else counts but want of memory.
+    fn give_stopped(&mut self, effect: Effect)
+        requires running { IsRunning self.old }
+        requires stopped { HasStopped self.old }
+        requires given { IsGiven self.old effect }
+        ensures of { self.new.of ≡ self.old.of }
+        ensures running { IsRunning self.new }
+        ensures outs { LeavesOthers self.old self.new }
+    {
+        calls_on_a_strand_keep_its_job();
+        let mut none = Vec::new(*self.lent.allocator());
+        match effect {
+            Effect::Joined {
+                frame,
+                replaced,
+                shown: _,
+            } => {
+                let mut frame = frame;
+                let mut replaced = replaced;
+                self.pop_home(&mut frame.slices, &mut replaced);
+            }
+            Effect::Trapped {
+                trap: _,
+                line: _,
+                lines: _,
+                cost: _,
+                back,
+            } => {
+                let mut back = back;
+                self.pop_home(&mut back, &mut none);
+            }
+            Effect::OverLimit { back } => {
+                let mut back = back;
+                self.pop_home(&mut back, &mut none);
+            }
+            Effect::Memory { back: _ } => self.lose(),
+            Effect::Ended { value: _, shown: _ } => unreachable!(),
+        }
+    }
+
+    /// Gives the effect of the newest job out, which ran elsewhere, and which must mean it. Where the call beside it has
+    /// returned, the strand goes on at the join, with what the rest has printed, summed up and counted; or it stops, where
+    /// the rest trapped, or where both together passed the limit. A strand that has stopped takes the arrays home. Where
+    /// memory is wanting the strand stops for that.
+    pub fn give(&mut self, effect: Effect)
+        requires running { IsRunning self.old }
+        requires at_sync { IsAtSync self.old }
+        requires given { IsGiven self.old effect }
+        ensures of { self.new.of ≡ self.old.of }
+        ensures running { IsRunning self.new }
+        ensures outs { LeavesOthers self.old self.new }
+    {
+        match self.mode {
+            Mode::Waiting => self.give_waiting(effect),
+            _ => self.give_stopped(effect),
+        }
+    }
+}
