@@ -1,6 +1,7 @@
 -- Sums to which others are added, one after another.
-use Rattle.std.proofs.Common.{◌≡◌, ◌≢◌, ⊎_elim, ℕ, zero, suc, ◌+◌, ◌<◌, ◌≤◌, ℤ, ◌+ℤ◌, Some, List, length, refl, sym, ap, ◌∙◌, subst, arith}
-use Rattle.std.specs.Prelude.{◌⊎◌, slice_get}
+use Rattle.std.proofs.Common.{◌≡◌, ◌≢◌, ⊎_elim, ℕ, zero, suc, ◌+◌, ◌<◌, ◌≤◌, ℤ, ◌+ℤ◌, Some, List, [], ◌∷◌, length, refl, sym, ap, ◌∙◌, subst, arith}
+use Rattle.std.specs.Prelude.{◌⊎◌, slice_get, slice_set, slice_index_or}
+use Rattle.std.proofs.lemmas.List.{length-set}
 use Rattle.std.proofs.lemmas.Option.{slice_get_within}
 use Rattle.cw_machine.specs.Shows.{wrapped}
 use Rattle.cw_strand.specs.Giving.{AreAdded, IsAddedAt}
@@ -38,4 +39,35 @@ pub all_added : (old more now : List ℤ) (k : ℕ) → length old ≤ k → Add
 all_added old more now k le to = record {
   as_many = to.as_many;
   each = λ i x y e e'. let lt = slice_get_within old i x e in to.done i x y (omega (arith, lt, le)) e e';
+}
+
+pub got : (xs : List ℤ) (k : ℕ) (d x : ℤ) → slice_get xs k ≡ Some x → slice_index_or xs k d ≡ x
+got [] k d x e = cc
+got (y ∷ xs) zero d x e = cc
+got (y ∷ xs) (suc k) d x e = got xs k d x e
+
+set_same : (xs : List ℤ) (k : ℕ) (x : ℤ) → k < length xs → slice_get (slice_set xs k x) k ≡ Some x
+set_same [] k x lt = absurd (omega (arith, lt))
+set_same (y ∷ xs) zero x lt = refl
+set_same (y ∷ xs) (suc k) x lt = set_same xs k x (omega (arith, lt))
+
+set_other : (xs : List ℤ) (k j : ℕ) (x : ℤ) → j ≢ k → slice_get (slice_set xs k x) j ≡ slice_get xs j
+set_other [] k j x n = refl
+set_other (y ∷ xs) zero zero x n = absurd (n refl)
+set_other (y ∷ xs) zero (suc j) x n = refl
+set_other (y ∷ xs) (suc k) zero x n = refl
+set_other (y ∷ xs) (suc k) (suc j) x n = set_other xs k j x (λ e. n (ap suc e))
+
+pub set_added : (old more : List ℤ) (k : ℕ) (v : ℤ) → k < length old → ((x y : ℤ) → slice_get old k ≡ Some x → slice_get more k ≡ Some y → v ≡ wrapped (x +ℤ y)) → IsAddedAt old more k (slice_set old k v)
+set_added old more k v lt is = record {
+  as_many = length-set old k v;
+  here = λ x y e e'. set_same old k v lt ∙ ap (λ z. Some z) (is x y e e');
+  others = λ i d. set_other old k i v d;
+}
+
+pub none_more : (old more : List ℤ) (k : ℕ) → length more ≤ k → IsAddedAt old more k old
+none_more old more k le = record {
+  as_many = refl;
+  here = λ x y e e'. absurd (let lt = slice_get_within more k y e' in omega (arith, lt, le));
+  others = λ i d. refl;
 }

@@ -21,13 +21,7 @@ use Rattle.cw_jobs.specs.declared.job.Job.{Job}
 use Rattle.cw_jobs.specs.Jobs.{code_of, IsJob, KeepsHomes}
 use Rattle.cw_jobs.specs.Means.{Tells, Counts, ComeHome, MeansIt, IsMeaningOf}
 use Rattle.cw_machine.specs.Arrays.{IsFit}
-
--- the arrays that an effect of a rest gives back
-abbrev pub GivesBack : Effect → List Placed → List (Option Placed) → Type 0
-GivesBack (effect.Joined frame rep shown) back replaced = (frame.slices.items ≡ back) × (rep.items ≡ replaced)
-GivesBack (effect.Trapped c l lines cost b) back replaced = (b.items ≡ back) × ([] ≡ replaced)
-GivesBack (effect.OverLimit b) back replaced = (b.items ≡ back) × ([] ≡ replaced)
-GivesBack _ back replaced = ⊥
+use Rattle.cw_strand.specs.Giving.{GivesBack}
 
 -- its cost
 abbrev pub CostsAs : Effect → (cost : ℕ) → Type 0

@@ -47,14 +47,14 @@ use Rattle.cw_strand.specs.declared.strand.Strand.{Strand}
 use Rattle.cw_strand.specs.Levels.{levels_of}
 use Rattle.cw_strand.specs.Holds.{its_parts, its_code, lent_parts, Ground, setting_of, ok_with, Lends, rests_at, Stands, HeldIn, Holds, IsRunning, IsWaiting, HasStopped, is_lost}
 use Rattle.cw_strand.specs.Moves.{MayPopHome, HasPoppedHome, HasLost}
-use Rattle.cw_strand.specs.Giving.{passes_limit, HasTaken, HasJoined}
+use Rattle.cw_strand.specs.Giving.{passes_limit, IsOfRest, GivesBack, HasTaken, HasJoined}
 use Rattle.cw_strand.proofs.Course.{wants}
 use Rattle.cw_strand.proofs.RunsOn.{sound_of, IsHeldBack, waiting_of}
 use Rattle.cw_strand.proofs.Same.{spare_as, Newest}
 use Rattle.cw_strand.proofs.TakenBack.{Split, split}
 use Rattle.cw_strand.proofs.Homes.{rest_slices, newly, may_home, stands_on, stands_in, goes_so, stops_on, came_home}
 use Rattle.cw_strand.proofs.Given.{out, rests, out_is, waits, giving}
-use Rattle.cw_strand.proofs.Effects.{GivesBack, CostsAs, IsOver, meant, homes_in, cost_in, over_in, never_ends, gave_over, gave_limit, gave_within}
+use Rattle.cw_strand.proofs.Effects.{CostsAs, IsOver, meant, homes_in, cost_in, over_in, never_ends, gave_over, gave_limit, gave_within}
 use Rattle.cw_strand.proofs.Taken.{shows_joined, lines_shown}
 
 pub passes_is : (room cost : ℕ) → nat_lt room cost ≡ true → room < cost
@@ -199,3 +199,10 @@ never_given self job others newest running value shown means =
     ∥∥₁_elim newest.lent.job.value.sound ⊥_prop (λ s.
     ∥∥₁_elim (meant newest.lent.job.value (effect.Ended value shown) (subst (λ b. IsMeaningOf b (effect.Ended value shown)) (sym newest.job_is) means) (code_of (lent_parts newest.lent)) refl s.ok s.job s.is) ⊥_prop
     (λ m. never_ends (code_of (lent_parts newest.lent)) s.ok (lent_parts newest.lent) s.job value shown (s.is.extent ∙ ap extent_of joins) m))
+
+pub of_rest : (self : Strand) (job : Job) (others : List Job) (newest : Newest self job others) → IsRunning self → (e : Effect) → IsMeaningOf job e → IsOfRest e
+of_rest self job others newest running (effect.Ended value shown) means = never_given self job others newest running value shown means
+of_rest self job others newest running (effect.Joined f r s) means = tt
+of_rest self job others newest running (effect.Trapped c l ls n b) means = tt
+of_rest self job others newest running (effect.OverLimit b) means = tt
+of_rest self job others newest running (effect.Memory b) means = tt

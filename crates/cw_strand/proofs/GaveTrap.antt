@@ -46,14 +46,14 @@ use Rattle.cw_strand.specs.declared.strand.Strand.{Strand}
 use Rattle.cw_strand.specs.Levels.{levels_of}
 use Rattle.cw_strand.specs.Holds.{its_parts, its_code, lent_parts, Ground, setting_of, ok_with, Lends, rests_at, Stands, HeldIn, Holds, IsRunning, IsWaiting, HasStopped, is_lost}
 use Rattle.cw_strand.specs.Moves.{MayPopHome, HasPoppedHome, HasLost}
-use Rattle.cw_strand.specs.Giving.{passes_limit, HasTaken, HasJoined}
+use Rattle.cw_strand.specs.Giving.{passes_limit, IsOfRest, GivesBack, HasTaken, HasJoined}
 use Rattle.cw_strand.proofs.Course.{wants}
 use Rattle.cw_strand.proofs.RunsOn.{sound_of, IsHeldBack, waiting_of}
 use Rattle.cw_strand.proofs.Same.{Newest}
 use Rattle.cw_strand.proofs.TakenBack.{Split, split}
 use Rattle.cw_strand.proofs.Homes.{rest_slices, newly, may_home, stands_on, stands_in, goes_so, stops_on}
 use Rattle.cw_strand.proofs.Given.{out, rests, out_is, waits, giving}
-use Rattle.cw_strand.proofs.Effects.{GivesBack, CostsAs, IsOver, meant, homes_in, cost_in, over_in, never_ends, gave_over, gave_limit, gave_within}
+use Rattle.cw_strand.proofs.Effects.{CostsAs, IsOver, meant, homes_in, cost_in, over_in, never_ends, gave_over, gave_limit, gave_within}
 use Rattle.cw_strand.proofs.Taken.{shows_joined, lines_shown}
 use Rattle.cw_strand.proofs.Gave.{keeps_within, meant_in, may_waits, stands_waits}
 

@@ -31,6 +31,23 @@ LeavesOthers old new = (out : Job) (others : List Job) → outs old ≡ out ∷ 
 abbrev pub passes_limit : Strand → (cost : ℕ) → Bool
 passes_limit self cost = nat_lt (((its_parts self).limit - (its_parts self).before) - self.count) cost
 
+-- an effect of a rest, which does not end its call
+abbrev pub IsOfRest : Effect → Type 0
+IsOfRest (effect.Ended value shown) = ⊥
+IsOfRest _ = Unit {0}
+
+-- the arrays that an effect of a rest gives back
+abbrev pub GivesBack : Effect → List Placed → List (Option Placed) → Type 0
+GivesBack (effect.Joined frame rep shown) back replaced = (frame.slices.items ≡ back) × (rep.items ≡ replaced)
+GivesBack (effect.Trapped c l lines cost b) back replaced = (b.items ≡ back) × ([] ≡ replaced)
+GivesBack (effect.OverLimit b) back replaced = (b.items ≡ back) × ([] ≡ replaced)
+GivesBack _ back replaced = ⊥
+
+-- memory was wanting, and it gives none back
+abbrev pub IsMemory : Effect → Type 0
+IsMemory (effect.Memory b) = Unit {0}
+IsMemory _ = ⊥
+
 -- the slot that takes the result of the call beside a job that was out
 abbrev pub target_of : Option Lent → Option ℕ
 target_of (Some h) = h.target

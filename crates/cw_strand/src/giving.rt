@@ -1,11 +1,11 @@
 //! The effect of the newest job out, which ran elsewhere, is given.
 
-ghost use Rattle.std.specs.Prelude.{◌≡◌, ◌<◌, ◌+ℤ◌, length, OnOk};
+ghost use Rattle.std.specs.Prelude.{◌≡◌, ◌<◌, ◌+ℤ◌, length, MatchOption, OnOk};
 ghost use Rattle.cw_jobs.specs.declared.effect.Effect.TheVariants as effect;
 ghost use Rattle.cw_machine.specs.Shows.{wrapped};
 ghost use Rattle.cw_machine.specs.Gives.{MayGive};
 ghost use Rattle.cw_strand.specs.Holds.{HasStopped, IsAtSync, IsRunning, IsWaiting};
-ghost use Rattle.cw_strand.specs.Giving.{passes_limit, AreAdded, IsAddedAt, HasJoined, HasTaken, IsGiven, LeavesOthers};
+ghost use Rattle.cw_strand.specs.Giving.{passes_limit, AreAdded, GivesBack, HasJoined, HasTaken, IsAddedAt, IsGiven, IsMemory, IsOfRest, LeavesOthers};
 ghost use Rattle.cw_strand.specs.Giving as giving;
 
 use crate::strand::{Lent, Mode, Strand};
@@ -19,7 +19,7 @@ use cw_metered::laws::calls_keep_what_meters_tell;
 use cw_model::trap::Trap;
 use cw_slices::Slice;
 use cw_strands::laws::{calls_on_a_strand_keep_its_job, rests_stay_in_their_functions};
-use std::alloc::AllocError;
+use std::alloc::{AllocError, Global};
 
 // The slot that takes the result of the call beside a job that was out.
 fn target_of(lent: Option<Lent>) -> Option<u32>
@@ -89,6 +89,30 @@ fn join_rest(
     take_shown(&mut run.machine, lines.as_slice(), sums.as_slice())?;
     run.meter.rest(count, meter, cost)?;
     Ok(())
+}
+
+// The arrays that an effect of a rest gives back; none where memory was wanting.
+fn arrays_of(alloc: Global, effect: Effect) -> Option<(Vec<Slice>, Vec<Option<Slice>>)>
+    requires { IsOfRest effect }
+    ensures { MatchOption result (IsMemory effect) (λ x. GivesBack effect x.0.items x.1.items) }
+{
+    match effect {
+        Effect::Joined {
+            frame,
+            replaced,
+            shown: _,
+        } => Some((frame.slices, replaced)),
+        Effect::Trapped {
+            trap: _,
+            line: _,
+            lines: _,
+            cost: _,
+            back,
+        } => Some((back, Vec::new(alloc))),
+        Effect::OverLimit { back } => Some((back, Vec::new(alloc))),
+        Effect::Memory { back: _ } => None,
+        Effect::Ended { value: _, shown: _ } => unreachable!(),
+    }
 }
 
 impl Strand {
@@ -183,6 +207,7 @@ impl Strand {
     fn give_waiting(&mut self, effect: Effect)
         requires running { IsRunning self.old }
         requires waiting { IsWaiting self.old }
+        requires rest { IsOfRest effect }
         requires given { IsGiven self.old effect }
         ensures of { self.new.of ≡ self.old.of }
         ensures running { IsRunning self.new }
@@ -212,39 +237,20 @@ impl Strand {
     fn give_stopped(&mut self, effect: Effect)
         requires running { IsRunning self.old }
         requires stopped { HasStopped self.old }
+        requires rest { IsOfRest effect }
         requires given { IsGiven self.old effect }
         ensures of { self.new.of ≡ self.old.of }
         ensures running { IsRunning self.new }
         ensures outs { LeavesOthers self.old self.new }
     {
         calls_on_a_strand_keep_its_job();
-        let mut none = Vec::new(*self.lent.allocator());
-        match effect {
-            Effect::Joined {
-                frame,
-                replaced,
-                shown: _,
-            } => {
-                let mut frame = frame;
+        match arrays_of(*self.lent.allocator(), effect) {
+            Some((slices, replaced)) => {
+                let mut slices = slices;
                 let mut replaced = replaced;
-                self.pop_home(&mut frame.slices, &mut replaced);
+                self.pop_home(&mut slices, &mut replaced);
             }
-            Effect::Trapped {
-                trap: _,
-                line: _,
-                lines: _,
-                cost: _,
-                back,
-            } => {
-                let mut back = back;
-                self.pop_home(&mut back, &mut none);
-            }
-            Effect::OverLimit { back } => {
-                let mut back = back;
-                self.pop_home(&mut back, &mut none);
-            }
-            Effect::Memory { back: _ } => self.lose(),
-            Effect::Ended { value: _, shown: _ } => unreachable!(),
+            None => self.lose(),
         }
     }
 
