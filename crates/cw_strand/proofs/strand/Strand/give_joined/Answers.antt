@@ -1,0 +1,67 @@
+use Rattle.std.proofs.Common.{◌≡◌, ◌+◌, refl, sym, ap, ◌∙◌, subst}
+use Rattle.cw_jobs.specs.declared.effect.Effect.TheVariants as effect
+use Rattle.cw_machine.specs.Gives.{MayGive}
+use Rattle.cw_strand.specs.declared.strand.Mode.TheVariants as mode
+use Rattle.cw_strand.specs.declared.strand.Strand.{Strand}
+use Rattle.cw_strand.specs.Giving.{target_of, HasJoined}
+use Rattle.cw_strand.proofs.Same.{newest_of, others_left, pops}
+use Rattle.cw_strand.proofs.Gave.{lost_runs, may_waits, passes_runs, mode_back}
+use Rattle.cw_strand.proofs.GaveJoin.{may_join, join_runs}
+use Rattle.cw_strand.proofs.strand.Strand.give_joined.Goals as goal
+
+pub pop_home-requires : goal.pop_home-requires
+pop_home-requires c =
+    let self = c.args.self.now in
+    let given = c.requires.given in
+    let newest = newest_of self given.out given.others given.are in
+    may_waits self given.out given.others newest c.requires.running (effect.Joined c.args.frame c.args.replaced c.args.shown) given.means c.args.frame.slices.items c.args.replaced.items (refl, refl) c.requires.waiting c.machines_that_stop_remain.ensures.remain
+
+pub returns-then-passes-clause-running : goal.returns-then-passes-clause-running
+returns-then-passes-clause-running c =
+    let self = c.args.self.now in
+    let given = c.requires.given in
+    let newest = newest_of self given.out given.others given.are in
+    let popped = c.pop_home.new.self in
+    passes_runs self given.out given.others newest c.requires.running (effect.Joined c.args.frame c.args.replaced c.args.shown) given.means c.args.frame.slices.items c.args.replaced.items (refl, refl) c.requires.waiting c.machines_that_stop_remain.ensures.remain c.calls_on_a_strand_keep_its_job.ensures
+    (record popped { mode = mode.Over }) (mode_back self c.args.frame.slices.items c.args.replaced.items popped c.pop_home.ensures) refl c.args.shown.cost refl (sym c.passes.ensures ∙ c.if-passes.true)
+
+pub returns-then-passes-clause-outs : goal.returns-then-passes-clause-outs
+returns-then-passes-clause-outs c = λ out others e. others_left c.args.self.now c.pop_home.new.self out others e (λ x xs. c.pop_home.ensures.left x xs)
+
+pub join_rest-requires : goal.join_rest-requires
+join_rest-requires c =
+    let self = c.args.self.now in
+    let given = c.requires.given in
+    let newest = newest_of self given.out given.others given.are in
+    let popped = pops self.lent.items c.pop.new.self.items self.lent.len c.pop.new.self.len c.pop.result newest.lent newest.rest self.lent.ok.0 c.pop.ensures.items c.pop.ensures.cases newest.are in
+    subst (λ t. ∥ MayGive self.run.machine c.args.frame c.args.replaced.items t ∥₁) (sym (c.target_of-target.ensures ∙ ap target_of popped.result))
+    (may_join self given.out given.others newest c.requires.running c.requires.waiting c.rests_stay_in_their_functions.ensures c.runs_stay_in_their_functions.ensures.seats c.results_may_go_back.ensures
+    (effect.Joined c.args.frame c.args.replaced c.args.shown) given.means c.args.frame c.args.replaced.items c.args.shown (refl, refl, refl))
+
+pub returns-in-Ok-clause-running : goal.returns-in-Ok-clause-running
+returns-in-Ok-clause-running c =
+    let self = c.args.self.now in
+    let given = c.requires.given in
+    let newest = newest_of self given.out given.others given.are in
+    let popped = pops self.lent.items c.pop.new.self.items self.lent.len c.pop.new.self.len c.pop.result newest.lent newest.rest self.lent.ok.0 c.pop.ensures.items c.pop.ensures.cases newest.are in
+    let r = c.join_rest.new.run in
+    join_runs self given.out given.others newest c.requires.running c.requires.waiting c.rests_stay_in_their_functions.ensures c.runs_stay_in_their_functions.ensures.seats c.results_may_go_back.ensures
+    (effect.Joined c.args.frame c.args.replaced c.args.shown) given.means c.args.frame c.args.replaced.items c.args.shown (refl, refl, refl)
+    c.calls_on_a_strand_keep_its_job.ensures c.calls_keep_what_meters_tell.ensures r
+    (subst (λ t. HasJoined self.run self.count c.args.frame c.args.replaced.items t c.args.shown r) (c.target_of-target.ensures ∙ ap target_of popped.result) c.in-Ok.ensures)
+    (sym c.passes.ensures ∙ c.if-passes.false)
+    (record self { run = r; count = self.count + c.args.shown.cost; lent = c.pop.new.self; mode = mode.Going }) popped.left refl refl refl refl refl refl
+
+pub returns-clause-running : goal.returns-clause-running
+returns-clause-running c =
+    let self = c.args.self.now in
+    let given = c.requires.given in
+    let newest = newest_of self given.out given.others given.are in
+    lost_runs self given.out given.others newest c.requires.running c.calls_on_a_strand_keep_its_job.ensures (record self { run = c.join_rest.new.run; lent = c.pop.new.self; mode = mode.Memory }) (record {
+      of = refl;
+      parts = refl;
+      count = refl;
+      spares = refl;
+      mode = refl;
+      left = λ x xs are. (pops self.lent.items c.pop.new.self.items self.lent.len c.pop.new.self.len c.pop.result x xs self.lent.ok.0 c.pop.ensures.items c.pop.ensures.cases are).left;
+    })

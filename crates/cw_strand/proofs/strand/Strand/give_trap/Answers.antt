@@ -1,0 +1,69 @@
+use Rattle.std.proofs.Common.{◌≡◌, ◌+◌, [], ◌++◌, refl, sym, ap, ◌∙◌, subst}
+use Rattle.cw_jobs.specs.declared.effect.Effect.{Effect}
+use Rattle.cw_jobs.specs.declared.effect.Effect.TheVariants as effect
+use Rattle.cw_strand.specs.declared.strand.Mode.TheVariants as mode
+use Rattle.cw_strand.specs.declared.strand.Strand.{Strand}
+use Rattle.cw_strand.specs.Moves.{MayPopHome, HasPoppedHome}
+use Rattle.cw_strand.proofs.Same.{newest_of, others_left}
+use Rattle.cw_strand.proofs.Gave.{lost_runs, may_waits, passes_runs, mode_back}
+use Rattle.cw_strand.proofs.GaveTrap.{may_trapped, trap_runs}
+use Rattle.cw_strand.proofs.strand.Strand.give_trap.Goals as goal
+
+pub pop_home-requires : goal.pop_home-requires
+pop_home-requires c =
+    let self = c.args.self.now in
+    let given = c.requires.given in
+    let newest = newest_of self given.out given.others given.are in
+    subst (MayPopHome self c.args.back.items) (sym c.new-none.ensures.items)
+    (may_waits self given.out given.others newest c.requires.running (effect.Trapped c.args.trap c.args.line c.args.lines c.args.cost c.args.back) given.means c.args.back.items [] (refl, refl) c.requires.waiting c.machines_that_stop_remain.ensures.remain)
+
+pub returns-then-passes-clause-running : goal.returns-then-passes-clause-running
+returns-then-passes-clause-running c =
+    let self = c.args.self.now in
+    let given = c.requires.given in
+    let newest = newest_of self given.out given.others given.are in
+    let popped = c.pop_home.new.self in
+    let home = subst (λ r. HasPoppedHome self c.args.back.items r popped) c.new-none.ensures.items c.pop_home.ensures in
+    passes_runs self given.out given.others newest c.requires.running (effect.Trapped c.args.trap c.args.line c.args.lines c.args.cost c.args.back) given.means c.args.back.items [] (refl, refl) c.requires.waiting c.machines_that_stop_remain.ensures.remain c.calls_on_a_strand_keep_its_job.ensures
+    (record popped { mode = mode.Over }) (mode_back self c.args.back.items [] popped home) refl c.args.cost refl (sym c.passes.ensures ∙ c.if-passes.true)
+
+pub returns-then-passes-clause-outs : goal.returns-then-passes-clause-outs
+returns-then-passes-clause-outs c = λ out others e. others_left c.args.self.now c.pop_home.new.self out others e (λ x xs. c.pop_home.ensures.left x xs)
+
+pub pop_home-requires-in-Ok : goal.pop_home-requires-in-Ok
+pop_home-requires-in-Ok c =
+    let self = c.args.self.now in
+    let given = c.requires.given in
+    let newest = newest_of self given.out given.others given.are in
+    let mid : Strand = record self { run = record self.run { machine = record self.run.machine { lines = c.extend_from_slice.new.self } } } in
+    subst (MayPopHome mid c.args.back.items) (sym c.new-none.ensures.items)
+    (may_trapped self given.out given.others newest c.requires.running c.requires.waiting c.machines_that_stop_remain.ensures.remain (effect.Trapped c.args.trap c.args.line c.args.lines c.args.cost c.args.back) given.means
+    c.args.trap c.args.line c.args.lines.items c.args.cost c.args.back.items (refl, refl, refl, refl, refl) mid refl (c.in-Ok.ensures.items ∙ ap (λ l. self.run.machine.lines.items ++ l) c.as_slice.ensures.value))
+
+pub returns-in-Ok-clause-running : goal.returns-in-Ok-clause-running
+returns-in-Ok-clause-running c =
+    let self = c.args.self.now in
+    let given = c.requires.given in
+    let newest = newest_of self given.out given.others given.are in
+    let mid : Strand = record self { run = record self.run { machine = record self.run.machine { lines = c.extend_from_slice.new.self } } } in
+    let popped = c.pop_home-in-Ok.new.self in
+    let home = subst (λ r. HasPoppedHome mid c.args.back.items r popped) c.new-none.ensures.items c.pop_home-in-Ok.ensures in
+    trap_runs self given.out given.others newest c.requires.running c.requires.waiting c.machines_that_stop_remain.ensures.remain (effect.Trapped c.args.trap c.args.line c.args.lines c.args.cost c.args.back) given.means
+    c.args.trap c.args.line c.args.lines.items c.args.cost c.args.back.items (refl, refl, refl, refl, refl) mid refl (c.in-Ok.ensures.items ∙ ap (λ l. self.run.machine.lines.items ++ l) c.as_slice.ensures.value)
+    c.calls_on_a_strand_keep_its_job.ensures (record popped { count = popped.count + c.args.cost; mode = mode.Trapped c.args.trap c.args.line }) popped home (sym c.passes.ensures ∙ c.if-passes.false)
+    (ap (λ n. record popped { count = n + c.args.cost; mode = mode.Trapped c.args.trap c.args.line }) home.count)
+
+pub returns-in-Ok-clause-outs : goal.returns-in-Ok-clause-outs
+returns-in-Ok-clause-outs c = λ out others e. others_left c.args.self.now c.pop_home-in-Ok.new.self out others e (λ x xs. c.pop_home-in-Ok.ensures.left x xs)
+
+pub returns-clause-running : goal.returns-clause-running
+returns-clause-running c =
+    let self = c.args.self.now in
+    let given = c.requires.given in
+    let newest = newest_of self given.out given.others given.are in
+    let lost = c.lose.ensures in
+    lost_runs self given.out given.others newest c.requires.running c.calls_on_a_strand_keep_its_job.ensures c.lose.new.self
+    (record { of = lost.of; parts = lost.parts; count = lost.count; spares = lost.spares; mode = lost.mode; left = lost.left })
+
+pub returns-clause-outs : goal.returns-clause-outs
+returns-clause-outs c = λ out others e. others_left c.args.self.now c.lose.new.self out others e (λ x xs. c.lose.ensures.left x xs)
