@@ -1,25 +1,22 @@
 -- What an effect that means a job says of it.
-use Rattle.std.proofs.Common.{◌≡◌, ℕ, ◌+◌, ◌-◌, ◌<◌, ◌≤◌, ℤ, true, false, nat_lt, if◌then◌else◌, List, [], ◌∷◌, Option, length, refl, sym, ap, ◌∙◌, subst, arith}
+use Rattle.std.proofs.Common.{◌≡◌, ℕ, ◌+◌, ◌<◌, ◌≤◌, true, false, nat_lt, if◌then◌else◌, List, [], ◌∷◌, Option, refl, sym, ap, ◌∙◌, subst, arith}
 use Rattle.std.proofs.lemmas.Bool.Decides.{nat_tests}
-use Rattle.cw_model.specs.declared.trap.Trap.{Trap}
 use Rattle.cw_slices.specs.Placed.{Placed}
 use Rattle.cw_code.specs.Code.{Code, code_view}
 use Rattle.cw_code.specs.Run.{State}
-use Rattle.cw_model.specs.Outcome.{Trace}
 use Rattle.cw_strands.specs.Jobs as jobs
 use Rattle.cw_strands.specs.Jobs.{WholeCall, ToJoin, Standing, JobMeaning}
-use Rattle.cw_strands.specs.Strands.{Going, Waits, Halted, resumed, stopped_after, cost_of}
+use Rattle.cw_strands.specs.Strands.{Waits, Halted, cost_of}
 use Rattle.cw_strands.specs.Promises.{IsStrandOf}
 use Rattle.cw_strands.specs.Steps.{CallsKeep, give, given_to}
 use Rattle.cw_verify.specs.declared.verified.Verified.{Verified}
 use Rattle.cw_jobs.specs.declared.call.Parts.{Parts}
-use Rattle.cw_jobs.specs.declared.call.Rest.{Rest}
 use Rattle.cw_jobs.specs.declared.effect.Effect.{Effect}
 use Rattle.cw_jobs.specs.declared.effect.Effect.TheVariants as effect
 use Rattle.cw_jobs.specs.declared.effect.Shown.{Shown}
 use Rattle.cw_jobs.specs.declared.job.Job.{Job}
 use Rattle.cw_jobs.specs.Jobs.{code_of, IsJob, KeepsHomes}
-use Rattle.cw_jobs.specs.Means.{Tells, Counts, ComeHome, MeansIt, IsMeaningOf}
+use Rattle.cw_jobs.specs.Means.{Tells, MeansIt, IsMeaningOf}
 use Rattle.cw_machine.specs.Arrays.{IsFit}
 use Rattle.cw_strand.specs.Giving.{GivesBack}
 

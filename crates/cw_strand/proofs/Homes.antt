@@ -1,5 +1,5 @@
 -- Slices come home to the newest job out of a strand that goes no further.
-use Rattle.std.proofs.Common.{◌≡◌, ℕ, suc, ◌+◌, ◌≤◌, true, false, Option, Some, List, [], ◌∷◌, length, refl, sym, ap, ◌∙◌, subst}
+use Rattle.std.proofs.Common.{◌≡◌, suc, ◌+◌, ◌≤◌, true, false, Option, Some, List, [], ◌∷◌, refl, sym, ap, ◌∙◌, subst}
 use Rattle.std.specs.Prelude.{reverse, slice_get}
 use Rattle.std.proofs.Math.Logic.{∥∥₁_elim, ∥∥₁_map}
 use Rattle.cw_code.specs.Run.{State}
@@ -10,7 +10,7 @@ use Rattle.cw_strands.specs.Strands.{Going, Waits, Halted}
 use Rattle.cw_verify.specs.declared.verified.Verified.{Verified}
 use Rattle.cw_jobs.specs.declared.call.Parts.{Parts}
 use Rattle.cw_jobs.specs.declared.job.Job.{Job}
-use Rattle.cw_jobs.specs.Jobs.{IsJob, KeepsHomes}
+use Rattle.cw_jobs.specs.Jobs.{KeepsHomes}
 use Rattle.cw_machine.specs.declared.machine.Machine.{Machine}
 use Rattle.cw_machine.specs.declared.run.Run.{Run}
 use Rattle.cw_machine.specs.Arrays.{Out, IsFit}
@@ -21,7 +21,7 @@ use Rattle.cw_strand.specs.declared.strand.Mode.{Mode}
 use Rattle.cw_strand.specs.declared.strand.Mode.TheVariants as mode
 use Rattle.cw_strand.specs.declared.strand.Strand.{Strand}
 use Rattle.cw_strand.specs.Levels.{Level}
-use Rattle.cw_strand.specs.Holds.{its_parts, its_code, lent_parts, Ground, ok_with, IsLent, Lends, Stands, HeldIn, Holds, AreSpare, KeepsJob, IsRunning, stops, is_lost, HasStopped}
+use Rattle.cw_strand.specs.Holds.{its_parts, its_code, lent_parts, Ground, ok_with, IsLent, Lends, Stands, HeldIn, Holds, AreSpare, IsRunning, stops, is_lost, HasStopped}
 use Rattle.cw_strand.specs.Moves.{HasPoppedHome, HasSpared}
 use Rattle.cw_strand.proofs.RunsOn.{sound_of}
 use Rattle.cw_strand.proofs.Same.{same_strand, spare_as, Newest}

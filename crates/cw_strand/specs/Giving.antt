@@ -1,5 +1,5 @@
 -- The effect of the newest job out is given.
-use Rattle.std.specs.Prelude.{◌≡◌, ◌≢◌, ℕ, ◌+◌, ◌-◌, ℤ, ◌+ℤ◌, Bool, nat_lt, List, [], ◌∷◌, ◌++◌, length, Option, Some, None, slice_get}
+use Rattle.std.specs.Prelude.{◌≡◌, ◌≢◌, ℕ, ◌-◌, ℤ, ◌+ℤ◌, Bool, nat_lt, List, [], ◌∷◌, ◌++◌, length, Option, Some, None, slice_get}
 use Rattle.cw_slices.specs.Placed.{Placed}
 use Rattle.cw_meter.specs.Meters.{Rests}
 use Rattle.cw_jobs.specs.declared.call.Rest.{Rest}
@@ -62,7 +62,8 @@ pub record AreAdded (old more new : List ℤ) : Type 0 where
 -- one of them has
 pub record IsAddedAt (old more : List ℤ) (k : ℕ) (new : List ℤ) : Type 0 where
   pub as_many : length new ≡ length old
-  pub here : (x y : ℤ) → slice_get old k ≡ Some x → slice_get more k ≡ Some y → slice_get new k ≡ Some (wrapped (x +ℤ y))
+  pub here : (x y : ℤ) → slice_get old k ≡ Some x → slice_get more k ≡ Some y
+      → slice_get new k ≡ Some (wrapped (x +ℤ y))
   pub others : (i : ℕ) → i ≢ k → slice_get new i ≡ slice_get old i
 
 -- a machine has taken in what another one has shown

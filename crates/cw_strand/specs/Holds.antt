@@ -110,7 +110,8 @@ rests_at p _ _ = []
 
 -- the run of a strand shows a state after so many instructions, with a job out at each of these levels
 pub record Runs (self : Strand) (is : IsFit (its_code self)) (j : jobs.Job)
-    (g : Ground (its_code self) is (its_parts self) j) (levels : List Level) (s : State) (count : ℕ) (jobs_out : List jobs.Job) : Type 0 where
+    (g : Ground (its_code self) is (its_parts self) j) (levels : List Level) (s : State) (count : ℕ)
+    (jobs_out : List jobs.Job) : Type 0 where
   pub counts : count ≡ self.count
   pub outs : List Out
   pub lends : Lends (its_code self) is (its_parts self) g.base levels outs (reverse self.lent.items)
@@ -191,10 +192,13 @@ stops mode.Going = false
 stops mode.Waiting = false
 stops _ = true
 
--- nothing is known of the run any more
+-- memory was wanting, and nothing is known of the run any more
 abbrev pub is_lost : Mode → Bool
 is_lost mode.Memory = true
 is_lost _ = false
+
+abbrev pub LacksMemory : Strand → Type 0
+LacksMemory self = is_lost self.mode ≡ true
 
 abbrev pub HasStopped : Strand → Type 0
 HasStopped self = stops self.mode ≡ true

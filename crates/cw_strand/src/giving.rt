@@ -261,10 +261,10 @@ impl Strand {
         }
     }
 
-    /// Gives the effect of the newest job out, which ran elsewhere, and which must mean it. Where the call beside it has
-    /// returned, the strand goes on at the join, with what the rest has printed, summed up and counted; or it stops, where
-    /// the rest trapped, or where both together passed the limit. A strand that has stopped takes the arrays home. Where
-    /// memory is wanting the strand stops for that.
+    /// Gives the effect of the newest job out, which ran elsewhere and which it must mean. Where the call beside it has
+    /// returned, the strand goes on at the join, with what the rest has printed, summed up and counted; or it stops,
+    /// where the rest trapped, or where both together passed the limit. A strand that has stopped takes the arrays home,
+    /// and nothing else of the effect counts but want of memory. Where memory is refused the strand stops for that.
     pub fn give(&mut self, effect: Effect)
         requires running { IsRunning self.old }
         requires at_sync { IsAtSync self.old }

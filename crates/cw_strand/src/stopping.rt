@@ -4,7 +4,7 @@ ghost use Rattle.std.specs.Prelude.{◌≡◌, ◌∷◌, true, false, List};
 ghost use Rattle.cw_jobs.specs.declared.job.Job as jobs;
 ghost use Rattle.cw_machine.specs.Unwinding.{ComesHome, MayComeHome};
 ghost use Rattle.cw_strand.specs.Holds as holds;
-ghost use Rattle.cw_strand.specs.Holds.{outs, HasStopped, IsAtSync, IsRunning, IsWaiting};
+ghost use Rattle.cw_strand.specs.Holds.{outs, HasStopped, IsAtSync, IsRunning, IsWaiting, LacksMemory};
 ghost use Rattle.cw_strand.specs.Moves as moves;
 ghost use Rattle.cw_strand.specs.Moves.{HasLost, HasPoppedHome, MayPopHome};
 
@@ -93,6 +93,7 @@ impl Strand {
         ensures of { self.new.of ≡ self.old.of }
         ensures running { IsRunning self.new }
         ensures stopped { HasStopped self.new }
+        ensures memory { LacksMemory self.new → LacksMemory self.old }
         ensures outs { job ∷ outs self.new ≡ outs self.old }
     {
         let Job { parts } = job;

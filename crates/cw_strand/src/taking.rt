@@ -3,7 +3,7 @@
 ghost use Rattle.std.specs.Prelude.{◌≡◌, ◌∷◌, List};
 ghost use Rattle.cw_jobs.specs.declared.job.Job as jobs;
 ghost use Rattle.cw_jobs.specs.Jobs.{code_of};
-ghost use Rattle.cw_strand.specs.Holds.{its_code, outs, AreSpare, IsRunning, IsWaiting};
+ghost use Rattle.cw_strand.specs.Holds.{its_code, outs, AreSpare, IsAtSync, IsRunning, IsWaiting};
 ghost use Rattle.cw_strand.specs.Moves.{HasSpared};
 
 use crate::strand::{Mode, Strand};
@@ -32,6 +32,7 @@ impl Strand {
         requires out { (others : List jobs.Job) × (outs self.old ≡ job ∷ others) }
         ensures of { self.new.of ≡ self.old.of }
         ensures running { IsRunning self.new }
+        ensures going { IsAtSync self.new → ⊥ }
         ensures outs { job ∷ outs self.new ≡ outs self.old }
     {
         calls_on_a_strand_keep_its_job();

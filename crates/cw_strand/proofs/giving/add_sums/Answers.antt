@@ -1,4 +1,4 @@
-use Rattle.std.proofs.Common.{arith, ◌≤◌, length, ◌∙◌, sym}
+use Rattle.std.proofs.Common.{arith}
 use Rattle.cw_strand.proofs.Adding.{none_added, one_added, all_added}
 use Rattle.cw_strand.proofs.giving.add_sums.Goals as goal
 

@@ -1,4 +1,4 @@
-use Rattle.std.proofs.Common.{sym, subst}
+use Rattle.std.proofs.Common.{subst}
 use Rattle.cw_strand.specs.Giving.{HasTaken}
 use Rattle.cw_strand.proofs.giving.join_rest.Goals as goal
 

@@ -1,8 +1,7 @@
-use Rattle.std.proofs.Common.{◌≡◌, ◌+◌, refl, sym, ap, ◌∙◌, subst}
+use Rattle.std.proofs.Common.{◌+◌, refl, sym, ap, ◌∙◌, subst}
 use Rattle.cw_jobs.specs.declared.effect.Effect.TheVariants as effect
 use Rattle.cw_machine.specs.Gives.{MayGive}
 use Rattle.cw_strand.specs.declared.strand.Mode.TheVariants as mode
-use Rattle.cw_strand.specs.declared.strand.Strand.{Strand}
 use Rattle.cw_strand.specs.Giving.{target_of, HasJoined}
 use Rattle.cw_strand.proofs.Same.{newest_of, others_left, pops}
 use Rattle.cw_strand.proofs.Gave.{lost_runs, may_waits, passes_runs, mode_back}

@@ -1,4 +1,4 @@
-use Rattle.std.proofs.Common.{◌≡◌, refl, sym, ap, ◌∙◌, subst}
+use Rattle.std.proofs.Common.{refl, sym, ap, ◌∙◌, subst}
 use Rattle.cw_machine.specs.Unwinding.{ComesHome, MayComeHome}
 use Rattle.cw_strand.specs.Moves.{first_of}
 use Rattle.cw_strand.proofs.Same.{pops}
