@@ -1,18 +1,22 @@
 //! The program `cilkwork`: reads its words, opens the source, and answers.
 #![tactic(auto)]
 
-ghost use Rattle.std.specs.Prelude.{◌≡◌};
+ghost use Rattle.std.specs.Prelude.{◌≡◌, ◌<◌, ◌-◌, ◌^◌};
 ghost use Rattle.std.specs.IoError.{error_kind};
 ghost use Rattle.cilkwork.specs.Words.{unread_fault};
 
-use cw_cli::{Request, is_version, refuse, request, say, take_explain, tool, unread, version};
-use cw_report::Counted;
+use cw_cli::{
+    Request, crew_of, is_version, refuse, request, say, take_explain, tool, unread, version,
+};
+use cw_pool::gate::Quiet;
+use cw_report::{Counted, Input, Sink};
 use cw_text::Fault;
 use std::alloc::Global;
 use std::fs::File;
 use std::io::ErrorKind;
 use std::process::ExitCode;
 use std::rt::Env;
+use std::sync::Arc;
 use std::{env, io};
 
 fn main(rt: HostRuntime) -> ExitCode {
@@ -28,7 +32,7 @@ fn main(rt: HostRuntime) -> ExitCode {
                 let mut asked = Request::of_standard_input(alloc);
                 asked.explain = explain;
                 let mut source = Counted::new(rt.reader());
-                tool(alloc, &asked, &mut source, &mut out, &mut err)
+                answer(&rt, alloc, &asked, &mut source, &mut out, &mut err)
             } else if is_version(words.as_slice()) {
                 say(&version(alloc), &mut out, &mut err)
             } else {
@@ -40,7 +44,7 @@ fn main(rt: HostRuntime) -> ExitCode {
                             let mut asked = asked;
                             asked.explain = explain;
                             let mut source = Counted::new(file);
-                            tool(alloc, &asked, &mut source, &mut out, &mut err)
+                            answer(&rt, alloc, &asked, &mut source, &mut out, &mut err)
                         }
                     },
                 }
@@ -48,6 +52,27 @@ fn main(rt: HostRuntime) -> ExitCode {
         }
     };
     ExitCode::from(status)
+}
+
+// Answers on a source, with as many workers as are asked for; gives the exit status.
+fn answer<D: Input, W: Sink, E: Sink>(
+    rt: &HostRuntime,
+    alloc: Global,
+    asked: &Request,
+    source: &mut D,
+    out: &mut W,
+    err: &mut E,
+) -> u8
+    requires out { (W.seen out.old).failures < 2 ^ 64 - 1 }
+    requires err { (E.seen err.old).failures < 2 ^ 64 - 1 }
+{
+    let Ok(crew) = crew_of(alloc, *rt, asked.workers) else {
+        return refuse(&Fault::Memory, err);
+    };
+    let Ok(gate) = Arc::new(alloc, Quiet) else {
+        return refuse(&Fault::Memory, err);
+    };
+    tool(rt, alloc, asked, source, crew, gate, out, err)
 }
 
 // The words behind the program's own name.

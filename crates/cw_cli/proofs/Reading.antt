@@ -13,7 +13,7 @@ use Rattle.clap.specs.Walk.{first_of, long_or_other, short_or_plain, trailing, H
 use Rattle.clap.specs.Simple.{App, Shape, built, names_of, entered, new_shape, subcommand_of}
 use Rattle.clap.specs.Faults.{flag_word_fault, bundle_fault, other_fault, turn_fault, walk_fault, step_fault, settle_fault, defaults_fault, check_fault, entered_fault}
 use Rattle.clap.proofs.OnLiterals.{clap_on_literals}
-use Rattle.cw_cli.specs.Command.{burden_row, command_line, command_name, limit_row, processors_row}
+use Rattle.cw_cli.specs.Command.{burden_row, command_line, command_name, limit_row, processors_row, workers_row}
 use Rattle.cw_cli.specs.Requests.{AreRead, HaveCommand, Words, faults, numbers_of, texts_of}
 use Rattle.cw_cli.specs.WordLaws.{IsPlain, TakesBurden, checking}
 use Rattle.cw_cli.specs.declared.verb.Verb.{Verb}
@@ -106,17 +106,19 @@ held rows pending = record { rows = rows; pending = pending; skip = 0 }
 
 -- ---- the words after a command that takes a burden
 
--- what is given before the source: no number, a limit or a burden
+-- what is given before the source: no number, a limit, a burden or workers
 pub data Given : Type 0 where
   nothing : Given
   limited : Text → Given
   burdened : Text → Given
+  worked : Text → Given
 
 -- what is held before the source
 abbrev before : Given → Held
 before nothing = held [] None
 before (limited n) = held [] (Some (codes "limit", n ∷ []))
 before (burdened n) = held [] (Some (codes "burden", n ∷ []))
+before (worked n) = held [] (Some (codes "workers", n ∷ []))
 
 abbrev rows_before : Given → List Row
 rows_before g = (settled run.rules (before g)).rows
@@ -134,11 +136,13 @@ source_step : (g : Given) (file : Text) → IsPlain file → walked run.rules []
 source_step nothing file plain = step run.rules idle 1 file (before nothing) refl plain
 source_step (limited n) file plain = step run.rules idle 1 file (before (limited n)) refl plain
 source_step (burdened n) file plain = step run.rules idle 1 file (before (burdened n)) refl plain
+source_step (worked n) file plain = step run.rules idle 1 file (before (worked n)) refl plain
 
 source_turn : (name : Text) (g : Given) (file : Text) → IsPlain file → turn_fault (running name) [] (at idle 1 (before g)) file ≡ []
 source_turn name nothing file plain = turn (running name) idle 1 file (before nothing) refl plain
 source_turn name (limited n) file plain = turn (running name) idle 1 file (before (limited n)) refl plain
 source_turn name (burdened n) file plain = turn (running name) idle 1 file (before (burdened n)) refl plain
+source_turn name (worked n) file plain = turn (running name) idle 1 file (before (worked n)) refl plain
 
 first_step : (g : Given) (file v : Text) → IsPlain v → walked run.rules [] (source_met g file) v ≡ args_met g file v []
 first_step g file v plain = step run.rules idle 2 v (source_met g file).held refl plain
@@ -147,6 +151,7 @@ first_turn : (name : Text) (g : Given) (file v : Text) → IsPlain v → turn_fa
 first_turn name nothing file v plain = turn (running name) idle 2 v (source_met nothing file).held refl plain
 first_turn name (limited n) file v plain = turn (running name) idle 2 v (source_met (limited n) file).held refl plain
 first_turn name (burdened n) file v plain = turn (running name) idle 2 v (source_met (burdened n) file).held refl plain
+first_turn name (worked n) file v plain = turn (running name) idle 2 v (source_met (worked n) file).held refl plain
 
 next_step : (g : Given) (file v : Text) (vs : List Text) (word : Text) → IsPlain word → walked run.rules [] (args_met g file v vs) word ≡ args_met g file v (vs ++ word ∷ [])
 next_step g file v vs word plain = step run.rules positional 2 word (args_met g file v vs).held refl plain
@@ -200,11 +205,13 @@ abbrev number_words : Given → List Text
 number_words nothing = []
 number_words (limited n) = codes "--limit" ∷ n ∷ []
 number_words (burdened n) = codes "--burden" ∷ n ∷ []
+number_words (worked n) = codes "--workers" ∷ n ∷ []
 
 abbrev IsGiven : Given → Type 0
 IsGiven nothing = Unit {0}
 IsGiven (limited n) = IsPlain n
 IsGiven (burdened n) = IsPlain n
+IsGiven (worked n) = IsPlain n
 
 -- between the name of an option and its value
 abbrev waiting : Text → Walk
@@ -226,6 +233,14 @@ burden_turn : (name : Text) → turn_fault (running name) [] (walk_from nothing_
 unfolding clap_on_literals
 burden_turn name = refl
 
+workers_step : walked run.rules [] (walk_from nothing_held) (codes "--workers") ≡ waiting (codes "workers")
+unfolding clap_on_literals
+workers_step = refl
+
+workers_turn : (name : Text) → turn_fault (running name) [] (walk_from nothing_held) (codes "--workers") ≡ []
+unfolding clap_on_literals
+workers_turn name = refl
+
 limit_value_step : (n : Text) → IsPlain n → walked run.rules [] (waiting (codes "limit")) n ≡ at idle 1 (before (limited n))
 limit_value_step n plain = step run.rules (option (codes "limit")) 1 n (waiting (codes "limit")).held refl plain
 
@@ -238,6 +253,12 @@ burden_value_step n plain = step run.rules (option (codes "burden")) 1 n (waitin
 burden_value_turn : (name : Text) (n : Text) → IsPlain n → turn_fault (running name) [] (waiting (codes "burden")) n ≡ []
 burden_value_turn name n plain = turn (running name) (option (codes "burden")) 1 n (waiting (codes "burden")).held refl plain
 
+workers_value_step : (n : Text) → IsPlain n → walked run.rules [] (waiting (codes "workers")) n ≡ at idle 1 (before (worked n))
+workers_value_step n plain = step run.rules (option (codes "workers")) 1 n (waiting (codes "workers")).held refl plain
+
+workers_value_turn : (name : Text) (n : Text) → IsPlain n → turn_fault (running name) [] (waiting (codes "workers")) n ≡ []
+workers_value_turn name n plain = turn (running name) (option (codes "workers")) 1 n (waiting (codes "workers")).held refl plain
+
 words_walk : (g : Given) (file : Text) (args : List Text) → IsGiven g → IsPlain file → All IsPlain args
     → fold (walked run.rules []) (walk_from nothing_held) (number_words g ++ file ∷ args) ≡ end g file args
 words_walk nothing file args given plain plains = source_walk nothing file args plain plains
@@ -247,6 +268,9 @@ words_walk (limited n) file args given plain plains =
 words_walk (burdened n) file args given plain plains =
     ap (λ w. fold (walked run.rules []) w (n ∷ file ∷ args)) burden_step ∙ ap (λ w. fold (walked run.rules []) w (file ∷ args)) (burden_value_step n given)
     ∙ source_walk (burdened n) file args plain plains
+words_walk (worked n) file args given plain plains =
+    ap (λ w. fold (walked run.rules []) w (n ∷ file ∷ args)) workers_step ∙ ap (λ w. fold (walked run.rules []) w (file ∷ args)) (workers_value_step n given)
+    ∙ source_walk (worked n) file args plain plains
 
 words_fault : (name : Text) (g : Given) (file : Text) (args : List Text) → IsGiven g → IsPlain file → All IsPlain args
     → walk_fault (running name) [] (walk_from nothing_held) (number_words g ++ file ∷ args) ≡ []
@@ -258,6 +282,9 @@ words_fault name (limited n) file args given plain plains =
 words_fault name (burdened n) file args given plain plains =
     ap₂ (λ k w. or_else k (walk_fault (running name) [] w (n ∷ file ∷ args))) (burden_turn name) burden_step
     ∙ ap₂ (λ k w. or_else k (walk_fault (running name) [] w (file ∷ args))) (burden_value_turn name n given) (burden_value_step n given) ∙ source_fault name (burdened n) file args plain plains
+words_fault name (worked n) file args given plain plains =
+    ap₂ (λ k w. or_else k (walk_fault (running name) [] w (n ∷ file ∷ args))) (workers_turn name) workers_step
+    ∙ ap₂ (λ k w. or_else k (walk_fault (running name) [] w (file ∷ args))) (workers_value_turn name n given) (workers_value_step n given) ∙ source_fault name (worked n) file args plain plains
 
 -- ---- the word after `check`
 
@@ -296,9 +323,11 @@ unfolding defaults_fault
 end_level name nothing file [] lt = refl
 end_level name (limited n) file [] lt = refl
 end_level name (burdened n) file [] lt = refl
+end_level name (worked n) file [] lt = refl
 end_level name nothing file (v ∷ vs) lt = ap (level (running name) (end nothing file (v ∷ vs)) false [] []) (ap₂ or_else (range_fits (length (v ∷ vs)) lt) (values_accepted false (v ∷ vs)))
 end_level name (limited n) file (v ∷ vs) lt = ap (level (running name) (end (limited n) file (v ∷ vs)) false [] []) (ap₂ or_else (range_fits (length (v ∷ vs)) lt) (values_accepted false (v ∷ vs)))
 end_level name (burdened n) file (v ∷ vs) lt = ap (level (running name) (end (burdened n) file (v ∷ vs)) false [] []) (ap₂ or_else (range_fits (length (v ∷ vs)) lt) (values_accepted false (v ∷ vs)))
+end_level name (worked n) file (v ∷ vs) lt = ap (level (running name) (end (worked n) file (v ∷ vs)) false [] []) (ap₂ or_else (range_fits (length (v ∷ vs)) lt) (values_accepted false (v ∷ vs)))
 
 check_level : (file : Text) → command_level check (check_met file) [] ≡ []
 unfolding defaults_fault
@@ -365,9 +394,10 @@ command_rows verb.Greedy rest = ap (λ w. entered line w.stopped) (top_walk verb
 -- ---- what the words are read as
 
 abbrev numbers_given : Given → List Text
-numbers_given nothing = limit_row.usual ∷ burden_row.usual ∷ processors_row.usual ∷ []
-numbers_given (limited n) = n ∷ burden_row.usual ∷ processors_row.usual ∷ []
-numbers_given (burdened n) = limit_row.usual ∷ n ∷ processors_row.usual ∷ []
+numbers_given nothing = limit_row.usual ∷ burden_row.usual ∷ processors_row.usual ∷ workers_row.usual ∷ []
+numbers_given (limited n) = n ∷ burden_row.usual ∷ processors_row.usual ∷ workers_row.usual ∷ []
+numbers_given (burdened n) = limit_row.usual ∷ n ∷ processors_row.usual ∷ workers_row.usual ∷ []
+numbers_given (worked n) = limit_row.usual ∷ burden_row.usual ∷ processors_row.usual ∷ n ∷ []
 
 abbrev ran : Verb → Given → Text → List Text → Words
 ran m g file args = record { verb = m; file = file; args = args; numbers = numbers_given g }
@@ -378,7 +408,9 @@ end_rows words m nothing file (v ∷ vs) h = record { rows = _; command = h; fil
 end_rows words m (limited n) file [] h = record { rows = _; command = h; file_is = refl; args_are = refl; numbers_are = refl }
 end_rows words m (limited n) file (v ∷ vs) h = record { rows = _; command = h; file_is = refl; args_are = refl; numbers_are = refl }
 end_rows words m (burdened n) file [] h = record { rows = _; command = h; file_is = refl; args_are = refl; numbers_are = refl }
+end_rows words m (worked n) file [] h = record { rows = _; command = h; file_is = refl; args_are = refl; numbers_are = refl }
 end_rows words m (burdened n) file (v ∷ vs) h = record { rows = _; command = h; file_is = refl; args_are = refl; numbers_are = refl }
+end_rows words m (worked n) file (v ∷ vs) h = record { rows = _; command = h; file_is = refl; args_are = refl; numbers_are = refl }
 
 -- what a level says of the words, and the rows that it ends with
 abbrev pub level_of : Shape → List Text → Kinds

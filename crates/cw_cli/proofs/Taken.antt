@@ -172,11 +172,12 @@ stops (word ∷ words) h = let parts = both_none (turn_by (subcommand_met names 
 
 -- ---- the words after the command
 
-number_or_help : (a b c : Bool) → NotSource (cond a (Some (first (drop 2 run.rules))) (cond b (Some (first (drop 3 run.rules))) (cond c (Some (first (drop 4 run.rules))) None)))
-number_or_help true b c = λ is. cc
-number_or_help false true c = λ is. cc
-number_or_help false false true = λ is. cc
-number_or_help false false false = tt
+number_or_help : (a b c d : Bool) → NotSource (cond a (Some (first (drop 2 run.rules))) (cond b (Some (first (drop 3 run.rules))) (cond c (Some (first (drop 4 run.rules))) (cond d (Some (first (drop 5 run.rules))) None))))
+number_or_help true b c d = λ is. cc
+number_or_help false true c d = λ is. cc
+number_or_help false false true d = λ is. cc
+number_or_help false false false true = λ is. cc
+number_or_help false false false false = tt
 
 help_or_none : (a : Bool) → NotSource (cond a (Some (first (drop 1 check.rules))) None)
 help_or_none true = λ is. cc
@@ -184,14 +185,15 @@ help_or_none false = tt
 
 no_number_of_source : NamesNoSource run.rules
 no_number_of_source = (
-  (λ name. number_or_help (has_long (first (drop 2 run.rules)) name) (has_long (first (drop 3 run.rules)) name) (has_long (first (drop 4 run.rules)) name)),
-  (λ x. number_or_help false false (has_short (first (drop 4 run.rules)) x)),
+  (λ name. number_or_help (has_long (first (drop 2 run.rules)) name) (has_long (first (drop 3 run.rules)) name) (has_long (first (drop 4 run.rules)) name) (has_long (first (drop 5 run.rules)) name)),
+  (λ x. number_or_help false false false (has_short (first (drop 5 run.rules)) x)),
 )
 
-limit_or_help : (a b : Bool) → NotSource (cond a (Some (first (drop 3 greedy.rules))) (cond b (Some (first (drop 4 greedy.rules))) None))
-limit_or_help true b = λ is. cc
-limit_or_help false true = λ is. cc
-limit_or_help false false = tt
+limit_or_help : (a b c : Bool) → NotSource (cond a (Some (first (drop 3 greedy.rules))) (cond b (Some (first (drop 4 greedy.rules))) (cond c (Some (first (drop 5 greedy.rules))) None)))
+limit_or_help true b c = λ is. cc
+limit_or_help false true c = λ is. cc
+limit_or_help false false true = λ is. cc
+limit_or_help false false false = tt
 
 no_flag_of_source : (m : Verb) → NamesNoSource (shape_of m).rules
 no_flag_of_source verb.Check = (
@@ -202,8 +204,8 @@ no_flag_of_source verb.Run = no_number_of_source
 no_flag_of_source verb.Scale = no_number_of_source
 no_flag_of_source verb.Sites = no_number_of_source
 no_flag_of_source verb.Greedy = (
-  (λ name. limit_or_help (has_long (first (drop 3 greedy.rules)) name) (has_long (first (drop 4 greedy.rules)) name)),
-  (λ x. limit_or_help false (has_short (first (drop 4 greedy.rules)) x)),
+  (λ name. limit_or_help (has_long (first (drop 3 greedy.rules)) name) (has_long (first (drop 4 greedy.rules)) name) (has_long (first (drop 5 greedy.rules)) name)),
+  (λ x. limit_or_help false false (has_short (first (drop 5 greedy.rules)) x)),
 )
 
 -- a source is required

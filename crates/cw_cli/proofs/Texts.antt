@@ -72,11 +72,13 @@ unless_weaker P Q fault.Write w h = h
 unless_weaker P Q fault.Strands w h = h
 
 -- the options of numbers that the words write
-pub options_given : (v : Verb) (m : Mode) (limit burden processors l b p : ℕ) → m ≡ mode_with v processors → limit ≡ l → burden ≡ b → processors ≡ p
-    → AreOptionsOf v (l ∷ b ∷ p ∷ []) (record { mode = m; limit = limit; burden = burden })
-options_given v m limit burden processors l b p is limit_is burden_is processors_is =
-    ap (λ x. with_numbers x limit burden) (is ∙ ap (mode_with v) processors_is)
-    ∙ ap (λ n. with_numbers (mode_with v p) n burden) limit_is ∙ ap (with_numbers (mode_with v p) l) burden_is
+pub options_given : (v : Verb) (m : Mode) (limit burden processors workers l b p w : ℕ) → m ≡ mode_with v processors → limit ≡ l → burden ≡ b → processors ≡ p → workers ≡ w
+    → AreOptionsOf v (l ∷ b ∷ p ∷ w ∷ []) (record { mode = m; limit = limit; burden = burden }) workers
+options_given v m limit burden processors workers l b p w is limit_is burden_is processors_is workers_is = (
+  ap (λ x. with_numbers x limit burden) (is ∙ ap (mode_with v) processors_is)
+      ∙ ap (λ n. with_numbers (mode_with v p) n burden) limit_is ∙ ap (with_numbers (mode_with v p) l) burden_is,
+  workers_is,
+)
   where
     with_numbers : Mode → (limit burden : ℕ) → Options
     with_numbers m limit burden = record { mode = m; limit = limit; burden = burden }

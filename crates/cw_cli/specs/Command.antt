@@ -5,6 +5,7 @@ use Rattle.clap.specs.Words.{AddsSubcommand, App, Rule, Text, app_of, new_app, n
 use Rattle.clap.specs.declared.builder.Command.{Command}
 use Rattle.clap.specs.declared.builder.ArgAction.TheVariants.{Append, Set}
 use Rattle.cw_model.specs.declared.limits.TheConstants.{MOST_LIMIT, MOST_BURDEN}
+use Rattle.cw_yard.specs.declared.open.TheConstants.{MOST_WORKERS}
 use Rattle.cw_scheduled.specs.declared.schedules.TheConstants.{MOST_PROCESSORS}
 use Rattle.cw_cli.specs.declared.verb.Verb.{Verb}
 use Rattle.cw_cli.specs.declared.verb.Verb.TheVariants as verb
@@ -29,13 +30,17 @@ burden_row = record { name = codes "burden"; least = 0; most = MOST_BURDEN; usua
 abbrev pub processors_row : NumberRow
 processors_row = record { name = codes "P"; least = 1; most = MOST_PROCESSORS; usual = codes "1" }
 
+-- the workers of a run
+abbrev pub workers_row : NumberRow
+workers_row = record { name = codes "workers"; least = 1; most = MOST_WORKERS; usual = codes "2" }
+
 -- the numbers, in their order
 abbrev pub number_rows : List NumberRow
-number_rows = limit_row ∷ burden_row ∷ processors_row ∷ []
+number_rows = limit_row ∷ burden_row ∷ processors_row ∷ workers_row ∷ []
 
 -- the options that take a number
 abbrev pub option_rows : List NumberRow
-option_rows = limit_row ∷ burden_row ∷ []
+option_rows = limit_row ∷ burden_row ∷ workers_row ∷ []
 
 -- the words for the numbers that are not given
 abbrev pub usual_numbers : List Text
@@ -70,10 +75,10 @@ abbrev pub running_line : Text → App
 running_line name =
     fold with_rule (with_rule (with_rule (new_app name) file_rule) args_rule) (map number_rule option_rows)
 
--- the command for a schedule: with its processors before its source, its arguments and the limit
+-- the command for a schedule: with its processors before its source, its arguments, the limit and the workers
 abbrev pub greedy_line : App
 greedy_line = fold with_rule (new_app (codes "greedy"))
-    (needed_rule processors_row.name ∷ file_rule ∷ args_rule ∷ number_rule limit_row ∷ [])
+    (needed_rule processors_row.name ∷ file_rule ∷ args_rule ∷ number_rule limit_row ∷ number_rule workers_row ∷ [])
 
 -- the words of each command: a check has its source alone
 abbrev pub line_of : Verb → App

@@ -10,4 +10,5 @@ pub mod Told
 pub mod Tools
 pub mod Laws
 pub mod WordLaws
+pub mod Crews
 pub mod Explaining

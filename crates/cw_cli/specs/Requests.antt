@@ -60,11 +60,11 @@ pub record Words : Type 0 where
   pub args : List Text
   pub numbers : List Text
 
--- the options of a command with these numbers, in the order of the table
-abbrev pub AreOptionsOf : Verb → List ℕ → Options → Type 0
-AreOptionsOf v (limit ∷ burden ∷ processors ∷ []) o =
-    o ≡ record { mode = mode_with v processors; limit = limit; burden = burden }
-AreOptionsOf v _ o = ⊥
+-- the options and the workers of a command with these numbers, in the order of the table
+abbrev pub AreOptionsOf : Verb → List ℕ → Options → (workers : ℕ) → Type 0
+AreOptionsOf v (limit ∷ burden ∷ processors ∷ workers ∷ []) o w =
+    (o ≡ record { mode = mode_with v processors; limit = limit; burden = burden }) × (w ≡ workers)
+AreOptionsOf v _ o w = ⊥
 
 -- what the rows have for an argument that is given any number of times
 abbrev pub texts_of : List Row → Text → List Text
@@ -105,7 +105,7 @@ pub record IsRequestOf (words : Words) (r : Request) : Type 0 where
   pub in_range : AreNumbers words.args words.numbers
   pub file_is : string_bytes r.file ≡ words.file
   pub args_are : r.args.items ≡ values_of words.args
-  pub options_are : AreOptionsOf words.verb (map decimal_value words.numbers) r.options
+  pub options_are : AreOptionsOf words.verb (map decimal_value words.numbers) r.options r.workers
 
 -- the words that the rows of a command have, of this source
 abbrev pub words_in : Verb → Text → List Row → Words

@@ -4,7 +4,8 @@ use Rattle.clap.specs.Words.{Text}
 use Rattle.clap.specs.declared.error.ErrorKind.TheVariants as kind
 use Rattle.cw_model.specs.declared.limits.TheConstants.{USUAL_LIMIT, USUAL_BURDEN}
 use Rattle.cw_model.specs.Pieces.{decimal_value}
-use Rattle.cw_cli.specs.Command.{command_name, limit_row, burden_row, processors_row, number_rows, usual_numbers}
+use Rattle.cw_cli.specs.Command.{command_name, limit_row, burden_row, processors_row, workers_row, number_rows, usual_numbers}
+use Rattle.cw_cli.specs.declared.asked.TheConstants.{USUAL_WORKERS}
 use Rattle.cw_cli.specs.Requests.{AreRead, AreWithin, Words, faults}
 use Rattle.cw_cli.specs.declared.verb.Verb.{Verb}
 use Rattle.cw_cli.specs.declared.verb.Verb.TheVariants as verb
@@ -20,12 +21,22 @@ checking file = record { verb = verb.Check; file = file; args = []; numbers = us
 -- a run of this source on these arguments, by this verb, with the words for the limit and the burden
 abbrev pub running : Verb → (file : Text) (args : List Text) (limit burden : Text) → Words
 running v file args limit burden =
-    record { verb = v; file = file; args = args; numbers = limit ∷ burden ∷ processors_row.usual ∷ [] }
+    record { verb = v; file = file; args = args; numbers = limit ∷ burden ∷ processors_row.usual ∷ workers_row.usual ∷ [] }
+
+-- a run of this source on these arguments, by this verb, with the word for the workers
+abbrev pub running_on : Verb → (file : Text) (args : List Text) (workers : Text) → Words
+running_on v file args workers =
+    record {
+      verb = v;
+      file = file;
+      args = args;
+      numbers = limit_row.usual ∷ burden_row.usual ∷ processors_row.usual ∷ workers ∷ [];
+    }
 
 -- a schedule of this source on these arguments, with the words for the processors and the limit
 abbrev pub scheduling : (processors file : Text) (args : List Text) (limit : Text) → Words
 scheduling processors file args limit =
-    record { verb = verb.Greedy; file = file; args = args; numbers = limit ∷ burden_row.usual ∷ processors ∷ [] }
+    record { verb = verb.Greedy; file = file; args = args; numbers = limit ∷ burden_row.usual ∷ processors ∷ workers_row.usual ∷ [] }
 
 -- the command runs a program, and takes a burden
 abbrev pub TakesBurden : Verb → Type 0
@@ -58,6 +69,13 @@ BurdenIsRead =
     → IsPlain burden → IsPlain file → All IsPlain args → length args < 2 ^ 64
     → AreRead (command_name v ∷ codes "--burden" ∷ burden ∷ file ∷ args) (running v file args limit_row.usual burden)
 
+-- the same with workers before them
+abbrev pub WorkersAreRead : Type 0
+WorkersAreRead =
+    (v : Verb) (workers file : Text) (args : List Text) → TakesBurden v
+    → IsPlain workers → IsPlain file → All IsPlain args → length args < 2 ^ 64
+    → AreRead (command_name v ∷ codes "--workers" ∷ workers ∷ file ∷ args) (running_on v file args workers)
+
 -- such words after `greedy` are the processors, the source and the arguments, in their order
 abbrev pub GreedyIsRead : Type 0
 GreedyIsRead =
@@ -81,11 +99,12 @@ TakenWordsAreRead = (given : List Text) → faults given ≡ [] → (words : Wor
 abbrev pub WordsAreReadOnce : Type 0
 WordsAreReadOnce = (given : List Text) (words words' : Words) → AreRead given words → AreRead given words' → words ≡ words'
 
--- the words for the usual numbers are numbers in range, and write the usual limit, the usual burden and one processor
+-- the words for the usual numbers are numbers in range, and write the usual limit, the usual burden, one processor and
+-- two workers
 abbrev pub UsualNumbersAreWritten : Type 0
 UsualNumbersAreWritten =
     AreWithin number_rows usual_numbers
-    × (map decimal_value usual_numbers ≡ USUAL_LIMIT ∷ USUAL_BURDEN ∷ 1 ∷ [])
+    × (map decimal_value usual_numbers ≡ USUAL_LIMIT ∷ USUAL_BURDEN ∷ 1 ∷ USUAL_WORKERS ∷ [])
 
 -- numbers after the source, attached to their names, and words after `--`
 abbrev pub WordExamples : Type 0
@@ -108,9 +127,11 @@ WordExamples =
     (scheduling (codes "2") (codes "f") (codes "4" ∷ codes "7" ∷ []) (codes "9"))
     × AreRead (codes "greedy" ∷ codes "--limit=9" ∷ codes "007" ∷ codes "--" ∷ codes "-f" ∷ codes "-1" ∷ [])
     (scheduling (codes "007") (codes "-f") (codes "-1" ∷ []) (codes "9"))
+    × AreRead (codes "sites" ∷ codes "f" ∷ codes "4" ∷ codes "--workers=64" ∷ [])
+    (running_on verb.Sites (codes "f") (codes "4" ∷ []) (codes "64"))
 
--- words that are not taken: none, no source, a word too many for a check, a limit or a burden for a check, an unknown
--- word, a negative number, no limit, two limits, no burden, two burdens, a schedule without processors, without a source
+-- words that are not taken: none, no source, a word too many for a check, a limit, a burden or workers for a check, an unknown
+-- word, a negative number, no limit, two limits, no burden, two burdens, no workers, a schedule without processors, without a source
 -- or with a burden, and calls for help
 abbrev pub RefusalExamples : Type 0
 RefusalExamples =
@@ -128,6 +149,8 @@ RefusalExamples =
     × (faults (codes "run" ∷ codes "f" ∷ codes "--limit=1" ∷ codes "--limit=2" ∷ []) ≡ kind.ArgumentConflict ∷ [])
     × (faults (codes "scale" ∷ codes "f" ∷ codes "--burden" ∷ []) ≡ kind.InvalidValue ∷ [])
     × (faults (codes "sites" ∷ codes "--burden=1" ∷ codes "f" ∷ codes "--burden=2" ∷ []) ≡ kind.ArgumentConflict ∷ [])
+    × (faults (codes "check" ∷ codes "f" ∷ codes "--workers=2" ∷ []) ≡ kind.UnknownArgument ∷ [])
+    × (faults (codes "run" ∷ codes "f" ∷ codes "--workers" ∷ []) ≡ kind.InvalidValue ∷ [])
     × (faults (codes "greedy" ∷ []) ≡ kind.MissingRequiredArgument ∷ [])
     × (faults (codes "greedy" ∷ codes "2" ∷ []) ≡ kind.MissingRequiredArgument ∷ [])
     × (faults (codes "greedy" ∷ codes "2" ∷ codes "f" ∷ codes "--burden=9" ∷ []) ≡ kind.UnknownArgument ∷ [])

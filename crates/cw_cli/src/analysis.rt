@@ -1,27 +1,28 @@
 //! From bytes to a report.
 
-ghost use Rattle.std.specs.Prelude.{◌≡◌, ◌<◌, ◌-◌, ◌^◌, ℕ, List, [], true};
-ghost use Rattle.std.specs.List.{list_all};
+ghost use Rattle.std.specs.Prelude.{◌≡◌, ◌<◌, ◌≤◌, ◌-◌, ◌^◌, ℕ, List, length};
 ghost use Rattle.cw_code.specs.Code.{code_view};
+ghost use Rattle.cw_pool.specs.declared.run.TheConstants.{MOST_BODIES};
 ghost use Rattle.cw_cli.specs.declared.asked.Mode.TheVariants as mode;
 ghost use Rattle.cw_cli.specs.Compiled.{IsCompiled};
 ghost use Rattle.cw_cli.specs.Analyses.{IsAnalysed, IsRun};
-ghost use Rattle.cw_cli.specs.Told.{HasTables, told_in};
-ghost use Rattle.cw_model.specs.Ints.{fits};
-ghost use Rattle.cw_report.specs.Answers.{AnswersText};
+ghost use Rattle.cw_cli.specs.Told.{HasTables};
 
 use crate::asked::{Mode, Options};
 use crate::compiling::compile;
-use cw_machine::alone::{Ended, run_alone};
+use crate::reporting::{are_words, values_of, write_tables, write_values};
+use cw_machine::alone::run_alone;
 use cw_machine::values::values_alone;
-use cw_model::laws::derived_sites_are_numbered;
 use cw_model::limits::MOST_BURDEN;
-use cw_report::{Sink, answer, ok, scale, schedule, sites};
+use cw_pool::crew::Body;
+use cw_pool::gate::Gate;
+use cw_report::{Sink, ok, schedule};
 use cw_scheduled::schedules::schedule_alone;
 use cw_text::Fault;
 use cw_verify::verified::Verified;
 use std::alloc::Global;
-use std::sync::Arc;
+use std::sync::{Arc, Wait};
+use std::thread::Threads;
 
 /// Analyses the program that these bytes are the source of, and writes the report of the mode, with
 /// one worker.
@@ -54,6 +55,45 @@ pub fn analyse_alone<W: Sink>(
     }
 }
 
+/// Analyses the program that these bytes are the source of, and writes the report of the mode, with the caller's thread
+/// and one for each body of the crew as workers that steal from each other.
+///
+/// The errors and what is written are those of `analyse_alone`, which it calls where the crew is empty: no byte depends
+/// on the crew, on what its bodies and the gate do, or on the order in which workers come to steal. A check and a
+/// schedule are made by the caller's thread alone.
+///
+/// It asks that the crew has at most 63 bodies, and that fewer than 2^64 - 1 writes to the sink failed before.
+pub fn analyse<
+    W: Sink,
+    G: Gate + Drop + Send + Sync + 'static,
+    B: Body<G> + Send + Drop + 'static,
+    R: Threads + Wait,
+>(
+    rt: &R,
+    alloc: Global,
+    bytes: &[u8],
+    args: &[i64],
+    options: Options,
+    crew: Vec<B>,
+    gate: Arc<G>,
+    out: &mut W,
+) -> Result<(), Fault>
+    requires out { (W.seen out.old).failures < 2 ^ 64 - 1 }
+    requires few { length crew.items ≤ MOST_BODIES }
+    ensures { IsAnalysed W.seen out.old out.new bytes.now args.now options result }
+{
+    if crew.is_empty() {
+        return analyse_alone(alloc, bytes, args, options, out);
+    }
+    let code = compile(alloc, bytes)?;
+    match options.mode {
+        Mode::Check => ok(out),
+        Mode::Run => run_plain_with(rt, alloc, code, args, options, crew, gate, out),
+        Mode::Scale | Mode::Sites => run_with(rt, alloc, code, args, options, crew, gate, out),
+        Mode::Greedy(processors) => run_greedy(alloc, code, args, processors, options, out),
+    }
+}
+
 // Runs code with nothing counted, and writes the values of the run.
 fn run_plain<W: Sink>(
     alloc: Global,
@@ -66,13 +106,10 @@ fn run_plain<W: Sink>(
     ensures { (bytes : List ℕ) → options.mode ≡ mode.Run → IsCompiled bytes (code_view code.code)
         → IsRun W.seen out.old out.new bytes args.now options result }
 {
-    are_words(args);
     let code = Arc::new(alloc, code)?;
     let share = Arc::try_clone(&code)?;
     let values = values_alone(alloc, share, args, options.limit, options.burden);
-    answer(alloc, &code, &values, out)?;
-    values?;
-    Ok(())
+    write_values(alloc, &code, args, options, values, out)
 }
 
 // Runs code and writes what is counted of the run.
@@ -87,14 +124,82 @@ fn run<W: Sink>(
     ensures { (bytes : List ℕ) → HasTables options.mode → IsCompiled bytes (code_view code.code)
         → IsRun W.seen out.old out.new bytes args.now options result }
 {
-    derived_sites_are_numbered();
-    are_words(args);
     let code = Arc::new(alloc, code)?;
     let share = Arc::try_clone(&code)?;
     let ended = run_alone(alloc, share, args, options.limit, options.burden);
-    report(alloc, options.mode, &code, &ended, out)?;
-    ended?;
-    Ok(())
+    write_tables(alloc, &code, args, options, ended, out)
+}
+
+// Runs code with a crew, and writes the values of the run.
+fn run_plain_with<
+    W: Sink,
+    G: Gate + Drop + Send + Sync + 'static,
+    B: Body<G> + Send + Drop + 'static,
+    R: Threads + Wait,
+>(
+    rt: &R,
+    alloc: Global,
+    code: Verified,
+    args: &[i64],
+    options: Options,
+    crew: Vec<B>,
+    gate: Arc<G>,
+    out: &mut W,
+) -> Result<(), Fault>
+    requires out { (W.seen out.old).failures < 2 ^ 64 - 1 }
+    requires few { length crew.items ≤ MOST_BODIES }
+    ensures { (bytes : List ℕ) → options.mode ≡ mode.Run → IsCompiled bytes (code_view code.code)
+        → IsRun W.seen out.old out.new bytes args.now options result }
+{
+    let code = Arc::new(alloc, code)?;
+    let share = Arc::try_clone(&code)?;
+    let ended = cw_pool::run::run(
+        rt,
+        alloc,
+        share,
+        args,
+        options.limit,
+        options.burden,
+        crew,
+        gate,
+    );
+    write_values(alloc, &code, args, options, values_of(ended), out)
+}
+
+// Runs code with a crew, and writes what is counted of the run.
+fn run_with<
+    W: Sink,
+    G: Gate + Drop + Send + Sync + 'static,
+    B: Body<G> + Send + Drop + 'static,
+    R: Threads + Wait,
+>(
+    rt: &R,
+    alloc: Global,
+    code: Verified,
+    args: &[i64],
+    options: Options,
+    crew: Vec<B>,
+    gate: Arc<G>,
+    out: &mut W,
+) -> Result<(), Fault>
+    requires out { (W.seen out.old).failures < 2 ^ 64 - 1 }
+    requires few { length crew.items ≤ MOST_BODIES }
+    ensures { (bytes : List ℕ) → HasTables options.mode → IsCompiled bytes (code_view code.code)
+        → IsRun W.seen out.old out.new bytes args.now options result }
+{
+    let code = Arc::new(alloc, code)?;
+    let share = Arc::try_clone(&code)?;
+    let ended = cw_pool::run::run(
+        rt,
+        alloc,
+        share,
+        args,
+        options.limit,
+        options.burden,
+        crew,
+        gate,
+    );
+    write_tables(alloc, &code, args, options, ended, out)
 }
 
 // Runs code for its greedy schedule on so many processors, and writes what is told of that. The burden is tested as for
@@ -120,38 +225,4 @@ fn run_greedy<W: Sink>(
     schedule(alloc, &told, out)?;
     told?;
     Ok(())
-}
-
-// Reads each argument: it is a word of 64 bits.
-fn are_words(args: &[i64])
-    ensures { list_all fits args.now ≡ true }
-{
-    for arg in args {
-        is_word(*arg);
-    }
-}
-
-// A word of 64 bits is one.
-fn is_word(word: i64)
-    ensures { fits word ≡ true }
-{}
-
-// Writes what the mode tells of what is counted of a run. A check, a run of values alone and a schedule tell nothing of
-// it.
-fn report<W: Sink>(
-    alloc: Global,
-    mode: Mode,
-    code: &Verified,
-    ended: &Result<Ended, Fault>,
-    out: &mut W,
-) -> Result<(), Fault>
-    requires { (W.seen out.old).failures < 2 ^ 64 - 1 }
-    ensures idle { told_in mode code.now ended.now ≡ [] → out.new ≡ out.old }
-    ensures answers { AnswersText W.seen out.old out.new (told_in mode code.now ended.now) result }
-{
-    match mode {
-        Mode::Check | Mode::Run | Mode::Greedy(_) => Ok(()),
-        Mode::Scale => scale(alloc, ended, out),
-        Mode::Sites => sites(alloc, code, ended, out),
-    }
 }

@@ -7,6 +7,9 @@ use cw_model::limits::{USUAL_BURDEN, USUAL_LIMIT};
 use cw_text::Fault;
 use std::alloc::Global;
 
+/// The workers of a run where no number of them is given.
+pub const USUAL_WORKERS: u64 = 2;
+
 /// What the program is asked to write.
 #[derive(Clone, Copy, Debug, PartialEq, Eq)]
 pub enum Mode {
@@ -42,6 +45,8 @@ pub struct Request {
     /// The arguments of `main`, each from 0 on; none of a check.
     pub args: Vec<i64>,
     pub options: Options,
+    /// How many workers run the program, from 1 to 64; no report depends on it, and a check and `Greedy` do not use it.
+    pub workers: u64,
     /// Whether standard error explains a refusal or a trap behind its line.
     pub explain: bool,
 }
@@ -69,11 +74,12 @@ impl Request {
     ghost use Rattle.cw_cli.specs.Requests.{usual_options};
 
     /// A run of the source on standard input, which has no path, without arguments: the limit is
-    /// `USUAL_LIMIT` and the burden `USUAL_BURDEN`, and nothing is explained.
+    /// `USUAL_LIMIT`, the burden `USUAL_BURDEN` and the workers `USUAL_WORKERS`, and nothing is explained.
     pub fn of_standard_input(alloc: Global) -> Self
         ensures file { string_bytes result.file ≡ [] }
         ensures args { result.args.items ≡ [] }
         ensures options { result.options ≡ usual_options }
+        ensures workers { result.workers ≡ USUAL_WORKERS }
         ensures explain { result.explain ≡ false }
     {
         Request {
@@ -84,6 +90,7 @@ impl Request {
                 limit: USUAL_LIMIT,
                 burden: USUAL_BURDEN,
             },
+            workers: USUAL_WORKERS,
             explain: false,
         }
     }

@@ -16,7 +16,7 @@ ghost use Rattle.cw_cli.specs.declared.verb.Verb.TheVariants as verb;
 ghost use Rattle.cw_cli.specs.Rows.{row_of};
 
 use crate::help::{OF_CHECK, OF_GREEDY, OF_PROGRAM, OF_RUN, OF_SCALE, OF_SITES};
-use crate::number::{BURDEN, LIMIT, NumberOption, PROCESSORS};
+use crate::number::{BURDEN, LIMIT, NumberOption, PROCESSORS, WORKERS};
 use clap::{Arg, ArgAction, Command};
 use std::alloc::{AllocError, Global};
 
@@ -77,7 +77,8 @@ fn greedy_command<'a>(alloc: Global) -> Result<Command<'a>, AllocError>
         .arg(needed(alloc, PROCESSORS.name, PROCESSORS.help))?
         .arg(file(alloc))?
         .arg(main_args(alloc))?
-        .arg(number(alloc, LIMIT))?;
+        .arg(number(alloc, LIMIT))?
+        .arg(number(alloc, WORKERS))?;
     Ok(command)
 }
 
@@ -96,7 +97,8 @@ fn running_command<'a>(
         .arg(file(alloc))?
         .arg(main_args(alloc))?
         .arg(number(alloc, LIMIT))?
-        .arg(number(alloc, BURDEN))?;
+        .arg(number(alloc, BURDEN))?
+        .arg(number(alloc, WORKERS))?;
     Ok(command)
 }
 

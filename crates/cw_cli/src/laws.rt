@@ -12,6 +12,7 @@ ghost use Rattle.cw_cli.specs.WordLaws.{
   TakenWordsAreRead,
   UsualNumbersAreWritten,
   WordExamples,
+  WorkersAreRead,
   WordsAreReadOnce,
 };
 
@@ -39,13 +40,14 @@ pub fn one_answer()
 }
 
 /// A word after `check` that starts with no hyphen is the source. Such words after `run`, `scale` or
-/// `sites` are the source and the arguments, and `--limit` or `--burden` with a word before them is that
-/// number; after `greedy` they are the processors, the source and the arguments, and `--limit` is the same.
+/// `sites` are the source and the arguments, and `--limit`, `--burden` or `--workers` with a word before them is
+/// that number; after `greedy` they are the processors, the source and the arguments, and `--limit` is the same.
 pub fn plain_words()
     ensures check { CheckIsRead }
     ensures usual { PlainWordsAreRead }
     ensures limited { LimitIsRead }
     ensures burdened { BurdenIsRead }
+    ensures worked { WorkersAreRead }
     ensures greedy { GreedyIsRead }
     ensures greedy_limited { GreedyLimitIsRead }
 {}

@@ -8,6 +8,7 @@ ghost use Rattle.cw_cli.specs.Numbers.{IsNumber, IsNumberWithin};
 
 use cw_model::limits::{MOST_BURDEN, MOST_LIMIT};
 use cw_scheduled::schedules::MOST_PROCESSORS;
+use cw_yard::open::MOST_WORKERS;
 
 /// A number that a command takes.
 #[derive(Clone, Copy)]
@@ -40,6 +41,15 @@ pub const BURDEN: NumberOption = NumberOption {
     most: MOST_BURDEN,
     usual: "15000",
     help: "The instructions that a spawn is charged",
+};
+
+/// The workers of a run.
+pub const WORKERS: NumberOption = NumberOption {
+    name: "workers",
+    least: 1,
+    most: MOST_WORKERS as u64,
+    usual: "2",
+    help: "How many threads run the program; no report depends on it",
 };
 
 /// The processors of a schedule, a word of its own and no option.

@@ -1,7 +1,8 @@
 //! What the program answers on a source, and what it says in place of a run.
 
-ghost use Rattle.std.specs.Prelude.{◌≡◌, ◌<◌, ◌-◌, ◌^◌, ◌++◌, codes};
+ghost use Rattle.std.specs.Prelude.{◌≡◌, ◌<◌, ◌≤◌, ◌-◌, ◌^◌, ◌++◌, codes, length};
 ghost use Rattle.std.specs.IoError.{error_kind};
+ghost use Rattle.cw_pool.specs.declared.run.TheConstants.{MOST_BODIES};
 ghost use Rattle.cw_text.specs.Faults.{fault_status, fault_text};
 ghost use Rattle.cw_cli.specs.Tools.{
   IsFileAnswer,
@@ -13,39 +14,55 @@ ghost use Rattle.cw_cli.specs.Tools.{
   OnItsBytes,
 };
 
-use crate::analysis::analyse_alone;
+use crate::analysis::analyse;
 use crate::asked::{Request, Said};
 use cw_model::limits::MOST_SOURCE_BYTES;
+use cw_pool::crew::Body;
+use cw_pool::gate::Gate;
 use cw_report::{Input, Sink, write_fault, write_text};
 use cw_text::Fault;
 use cw_told::explain;
 use std::alloc::Global;
 use std::io;
 use std::io::Read;
+use std::sync::{Arc, Wait};
+use std::thread::Threads;
 
 /// One byte more than a source may have: as much as is read of one.
 const MOST_READ: u64 = MOST_SOURCE_BYTES as u64 + 1;
 
-/// Reads the source, analyses it as asked, and writes the report to `out`; gives the exit status.
+/// Reads the source, analyses it as asked, and writes the report to `out`; gives the exit status. The caller's thread
+/// and one for each body of the crew are the workers of the run; nothing that is written depends on them.
 ///
 /// The status is 0 where the report was written, else that of the fault, whose line is written to
 /// `err`, and behind it, where the request explains, why the source has the fault (`cw_told`). No
 /// more than one byte past the greatest size of a source is read. Whether the write to `err` fails
-/// changes nothing. Fewer than 2^64 - 1 writes to each sink failed before.
+/// changes nothing. Fewer than 2^64 - 1 writes to each sink failed before, and the crew has at most 63 bodies.
 ///
 /// Where a read of the source failed for another reason than want of memory, and so it cannot be
 /// read, the line is `file` and the status 5, and nothing is written to `out`. It is `memory` and 6
 /// where memory ran out for the bytes or in a read. Of a reader that does not tell its bytes, as a
 /// file, some bytes are meant.
-pub fn tool<D: Input, W: Sink, E: Sink>(
+pub fn tool<
+    D: Input,
+    W: Sink,
+    E: Sink,
+    G: Gate + Drop + Send + Sync + 'static,
+    B: Body<G> + Send + Drop + 'static,
+    R: Threads + Wait,
+>(
+    rt: &R,
     alloc: Global,
     asked: &Request,
     source: &mut D,
+    crew: Vec<B>,
+    gate: Arc<G>,
     out: &mut W,
     err: &mut E,
 ) -> u8
     requires out { (W.seen out.old).failures < 2 ^ 64 - 1 }
     requires err { (E.seen err.old).failures < 2 ^ 64 - 1 }
+    requires few { length crew.items ≤ MOST_BODIES }
     ensures { OnItsBytes (D.remaining source.old) (λ bytes. IsToolAnswer W.seen out.old out.new
         E.seen err.old err.new asked.now (D.failed source.old) (D.failed source.new) bytes result) }
 {
@@ -62,7 +79,16 @@ pub fn tool<D: Input, W: Sink, E: Sink>(
         return refuse(&Fault::Memory, err);
     }
     let args = asked.args.as_slice();
-    match analyse_alone(alloc, bytes.as_slice(), args, asked.options, out) {
+    match analyse(
+        rt,
+        alloc,
+        bytes.as_slice(),
+        args,
+        asked.options,
+        crew,
+        gate,
+        out,
+    ) {
         Ok(()) => 0,
         Err(fault) => tell(alloc, asked.explain, bytes.as_slice(), &fault, err),
     }

@@ -33,7 +33,7 @@ ghost use Rattle.cw_cli.specs.Rows.{IsGivenNumber};
 
 use crate::asked::{Options, Request, Said};
 use crate::command::command;
-use crate::number::{BURDEN, LIMIT, NumberOption, PROCESSORS, read_number};
+use crate::number::{BURDEN, LIMIT, NumberOption, PROCESSORS, WORKERS, read_number};
 use crate::verb::{Verb, mode_of, verb_named};
 use clap::error::ErrorKind;
 use clap::{ArgMatches, Error};
@@ -45,7 +45,7 @@ use std::alloc::Global;
 /// the request explains nothing.
 ///
 /// The error is what to say in place of a run: the help, what is wrong with the words, `Arguments`
-/// where the limit, the burden, the processors or an argument of `main` is no number or out of range, or `Memory`.
+/// where the limit, the burden, the processors, the workers or an argument of `main` is no number or out of range, or `Memory`.
 pub fn request(alloc: Global, words: &[String]) -> Result<Request, Said>
     ensures ok { IfOk result (Asks (map string_bytes words.now)) }
     ensures why { IfErr result (IsSaidOf (map string_bytes words.now)) }
@@ -84,11 +84,12 @@ fn asked_by(alloc: Global, verb: Verb, given: &ArgMatches<'_>) -> Result<Request
     ensures ok { IfOk result (IsAskedBy verb (rows_of (found_of given.now))) }
     ensures why { IfErr result (IsFaultUnless (AreProper (rows_of (found_of given.now)))) }
 {
-    let (Some(file), Some(limit), Some(burden), Some(processors)) = (
+    let (Some(file), Some(limit), Some(burden), Some(processors), Some(workers)) = (
         given.get_str("FILE"),
         number_of(given, LIMIT),
         number_of(given, BURDEN),
         number_of(given, PROCESSORS),
+        number_of(given, WORKERS),
     ) else {
         return Err(Fault::Arguments);
     };
@@ -103,6 +104,7 @@ fn asked_by(alloc: Global, verb: Verb, given: &ArgMatches<'_>) -> Result<Request
         file,
         args,
         options,
+        workers,
         explain: false,
     })
 }

@@ -1,18 +1,16 @@
 //! Runs of the language with arrays: elements, lengths, calls that take arrays, cuts, and their traps. The limits are
 //! exact: one instruction less is over.
 
-use crate::program::answer;
-use std::alloc::Global;
-use std::process::Abort;
+use crate::program::answer_by_all;
 use std::test::Fail;
 
 // The words, the source, the exit status, standard output and standard error.
 type Row<'a> = (&'a str, &'a str, u8, &'a str, &'a str);
 
 // Each of these rows holds.
-fn all_hold(rt: &impl Abort, alloc: Global, rows: &[Row]) -> Result<(), Fail> {
+fn all_hold(rt: HostRuntime, rows: &[Row]) -> Result<(), Fail> {
     for row in rows {
-        let (status, out, err) = answer(alloc, row.0, row.1.as_bytes())?;
+        let (status, out, err) = answer_by_all(rt, row.0, row.1.as_bytes())?;
         assert_eq!(rt; status, row.2, "{}: {}", row.0, row.1);
         assert_eq!(rt; out.as_slice(), row.3.as_bytes(), "{}: {}", row.0, row.1);
         assert_eq!(rt; err.as_slice(), row.4.as_bytes(), "{}: {}", row.0, row.1);
@@ -111,7 +109,7 @@ fn runs_arrays_and_cuts(rt: HostRuntime) -> Result<(), Fail> {
             "",
         ),
     ];
-    all_hold(&rt, rt.alloc(), rows)
+    all_hold(rt, rows)
 }
 
 #[test]
@@ -172,7 +170,7 @@ fn traps_outside_an_array(rt: HostRuntime) -> Result<(), Fail> {
             "trap 3 line 2\n",
         ),
     ];
-    all_hold(&rt, rt.alloc(), rows)
+    all_hold(rt, rows)
 }
 
 const TWO_ADDITIONS: &str = "reducer sum s; void add() { s += 9223372036854775807; } \
@@ -221,5 +219,5 @@ fn runs_sums(rt: HostRuntime) -> Result<(), Fail> {
             "",
         ),
     ];
-    all_hold(&rt, rt.alloc(), rows)
+    all_hold(rt, rows)
 }

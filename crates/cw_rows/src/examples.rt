@@ -21,9 +21,7 @@ mod roots_mended;
 mod spawned;
 mod stencil;
 
-use crate::program::answer;
-use std::alloc::Global;
-use std::process::Abort;
+use crate::program::{answer, answer_by_all};
 use std::test::Fail;
 
 // A program, the words that name its file and its arguments, and its reports.
@@ -62,11 +60,15 @@ const WITH_LOOPS: [Example; 7] = [
 ];
 
 // The exit status, standard output and standard error of the program in this mode, with its words before the file.
-fn answer_in(alloc: Global, mode: &str, example: &Example) -> Result<(u8, Vec<u8>, Vec<u8>), Fail> {
-    let mut words = String::from_str(alloc, mode)?;
+fn answer_in(
+    rt: HostRuntime,
+    mode: &str,
+    example: &Example,
+) -> Result<(u8, Vec<u8>, Vec<u8>), Fail> {
+    let mut words = String::from_str(rt.alloc(), mode)?;
     words.push_str(" ")?;
     words.push_str(example.words)?;
-    answer(alloc, words.as_str(), example.source.as_bytes())
+    answer_by_all(rt, words.as_str(), example.source.as_bytes())
 }
 
 // What stands beside an example of its answer in this mode.
@@ -80,14 +82,9 @@ fn beside(example: &Example, mode: &str) -> &'static str {
 }
 
 // Each of these answers what stands beside it.
-fn all_answer(
-    rt: &impl Abort,
-    alloc: Global,
-    mode: &str,
-    examples: &[Example],
-) -> Result<(), Fail> {
+fn all_answer(rt: HostRuntime, mode: &str, examples: &[Example]) -> Result<(), Fail> {
     for example in examples {
-        let (status, out, err) = answer_in(alloc, mode, example)?;
+        let (status, out, err) = answer_in(rt, mode, example)?;
         assert_eq!(rt; (status, err.len()), (0, 0), "{mode} {}", example.words);
         let wanted = beside(example, mode);
         assert_eq!(rt;
@@ -101,10 +98,10 @@ fn all_answer(
 }
 
 // Each of these is accepted.
-fn all_are_accepted(rt: &impl Abort, alloc: Global, examples: &[Example]) -> Result<(), Fail> {
+fn all_are_accepted(rt: HostRuntime, examples: &[Example]) -> Result<(), Fail> {
     for example in examples {
         let source = example.source.as_bytes();
-        let (status, out, err) = answer(alloc, "check example.cilk", source)?;
+        let (status, out, err) = answer(rt, "check example.cilk", source)?;
         assert_eq!(rt; (status, err.len()), (0, 0), "{}", example.words);
         assert_eq!(rt; out.as_slice(), "ok\n".as_bytes(), "{}", example.words);
     }
@@ -114,19 +111,19 @@ fn all_are_accepted(rt: &impl Abort, alloc: Global, examples: &[Example]) -> Res
 #[test]
 fn the_examples_report_as_beside_them(rt: HostRuntime) -> Result<(), Fail> {
     let examples = &EXAMPLES;
-    all_are_accepted(&rt, rt.alloc(), examples)?;
-    all_answer(&rt, rt.alloc(), "run", examples)?;
-    all_answer(&rt, rt.alloc(), "scale", examples)?;
-    all_answer(&rt, rt.alloc(), "sites", examples)?;
-    all_answer(&rt, rt.alloc(), "greedy 8", examples)
+    all_are_accepted(rt, examples)?;
+    all_answer(rt, "run", examples)?;
+    all_answer(rt, "scale", examples)?;
+    all_answer(rt, "sites", examples)?;
+    all_answer(rt, "greedy 8", examples)
 }
 
 #[test]
 fn those_with_loops_report_as_beside_them(rt: HostRuntime) -> Result<(), Fail> {
     let examples = &WITH_LOOPS;
-    all_are_accepted(&rt, rt.alloc(), examples)?;
-    all_answer(&rt, rt.alloc(), "run", examples)?;
-    all_answer(&rt, rt.alloc(), "scale", examples)?;
-    all_answer(&rt, rt.alloc(), "sites", examples)?;
-    all_answer(&rt, rt.alloc(), "greedy 8", examples)
+    all_are_accepted(rt, examples)?;
+    all_answer(rt, "run", examples)?;
+    all_answer(rt, "scale", examples)?;
+    all_answer(rt, "sites", examples)?;
+    all_answer(rt, "greedy 8", examples)
 }

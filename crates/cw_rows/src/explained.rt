@@ -35,7 +35,7 @@ const EXPLAINED: &[(&str, &str, &str)] = &[
 #[test]
 fn explains_where_it_is_asked(rt: HostRuntime) -> Result<(), Fail> {
     for (words, source, text) in EXPLAINED {
-        let (_, out, err) = answer(rt.alloc(), words, source.as_bytes())?;
+        let (_, out, err) = answer(rt, words, source.as_bytes())?;
         assert_eq!(rt; err.as_slice(), text.as_bytes(), "{words}");
         assert_eq!(rt; out.len(), 0, "{words}");
     }
@@ -45,7 +45,7 @@ fn explains_where_it_is_asked(rt: HostRuntime) -> Result<(), Fail> {
 // Without the word standard error has the line of the fault alone.
 #[test]
 fn explains_nothing_else(rt: HostRuntime) -> Result<(), Fail> {
-    let (status, _, err) = answer(rt.alloc(), "check f", b"int main() {\n  return m;\n}")?;
+    let (status, _, err) = answer(rt, "check f", b"int main() {\n  return m;\n}")?;
     assert_eq!(rt; status, 2);
     assert_eq!(rt; err.as_slice(), b"refused 3 line 2\n".as_slice());
     Ok(())

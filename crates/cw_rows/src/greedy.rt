@@ -1,6 +1,6 @@
 //! The schedule of a run, from the words to the exit status.
 
-use crate::program::answer;
+use crate::program::{answer, answer_by_all};
 use crate::tables::{DIVIDED, FIB, PRINTED};
 use std::test::Fail;
 
@@ -22,7 +22,7 @@ fn writes_schedules(rt: HostRuntime) -> Result<(), Fail> {
         ("greedy 2 f", PRINTED, "2,15,10,10\n"),
         ("greedy 1 f", PRINTED, "1,15,10,15\n"),
     ] {
-        let (status, out, err) = answer(rt.alloc(), words, source)?;
+        let (status, out, err) = answer_by_all(rt, words, source)?;
         assert_eq!(rt; (status, err.len()), (0, 0), "{words}");
         let text = String::from_utf8(out).map_err(|_| Fail::from("no text"))?;
         let table = text.as_str().strip_prefix(HEADER);
@@ -50,7 +50,7 @@ fn writes_no_schedule(rt: HostRuntime) -> Result<(), Fail> {
             "refused 3 line 1\n",
         ),
     ] {
-        let (found, out, err) = answer(rt.alloc(), words, source)?;
+        let (found, out, err) = answer_by_all(rt, words, source)?;
         assert_eq!(rt; (found, out.len()), (status, 0), "{words}");
         assert_eq!(rt; err.as_slice(), line.as_bytes(), "{words}");
     }
@@ -59,16 +59,16 @@ fn writes_no_schedule(rt: HostRuntime) -> Result<(), Fail> {
 
 #[test]
 fn schedules_a_million_strands(rt: HostRuntime) -> Result<(), Fail> {
-    let (status, out, err) = answer(rt.alloc(), "greedy 1 f", MOST)?;
+    let (status, out, err) = answer(rt, "greedy 1 f", MOST)?;
     assert_eq!(rt; (status, err.len()), (0, 0));
     let text = String::from_utf8(out).map_err(|_| Fail::from("no text"))?;
     let table = text.as_str().strip_prefix(HEADER);
     assert_eq!(rt; table, Some("1,15333348,429,15333348\n"));
-    let (status, out, err) = answer(rt.alloc(), "greedy 1 f", MORE)?;
+    let (status, out, err) = answer(rt, "greedy 1 f", MORE)?;
     assert_eq!(rt; (status, out.len()), (4, 0));
     assert_eq!(rt; err.as_slice(), b"too many strands\n".as_slice());
     // a limit that the run passes is told first
-    let (status, out, err) = answer(rt.alloc(), "greedy 1 f --limit 15333347", MORE)?;
+    let (status, out, err) = answer(rt, "greedy 1 f --limit 15333347", MORE)?;
     assert_eq!(rt; (status, out.len()), (4, 0));
     assert_eq!(rt; err.as_slice(), b"over limit\n".as_slice());
     Ok(())

@@ -191,7 +191,7 @@ fn runs_control_flow_and_recursion(rt: HostRuntime) -> Result<(), Fail> {
         ),
     ];
     for row in rows {
-        let (status, out, err) = answer(rt.alloc(), row.0, row.1.as_bytes())?;
+        let (status, out, err) = answer(rt, row.0, row.1.as_bytes())?;
         assert_eq!(rt; status, row.2, "{}: {}", row.0, row.1);
         assert_eq!(rt; out.as_slice(), row.3.as_bytes(), "{}: {}", row.0, row.1);
         assert_eq!(rt; err.as_slice(), row.4.as_bytes(), "{}: {}", row.0, row.1);
@@ -266,7 +266,7 @@ fn runs_traps_lines_and_sums(rt: HostRuntime) -> Result<(), Fail> {
         ("run f --limit 9", IN_A_SCOPE, 4, "", "over limit\n"),
     ];
     for row in rows {
-        let (status, out, err) = answer(rt.alloc(), row.0, row.1.as_bytes())?;
+        let (status, out, err) = answer(rt, row.0, row.1.as_bytes())?;
         assert_eq!(rt; status, row.2, "{}: {}", row.0, row.1);
         assert_eq!(rt; out.as_slice(), row.3.as_bytes(), "{}: {}", row.0, row.1);
         assert_eq!(rt; err.as_slice(), row.4.as_bytes(), "{}: {}", row.0, row.1);
@@ -314,7 +314,7 @@ fn runs_the_deepest_expressions(rt: HostRuntime) -> Result<(), Fail> {
         ("run f", "-", "1", "", 255, 2, "", "refused 5 line 1\n"),
     ] {
         let source = nested(alloc, open, operand, close, count)?;
-        let told = answer(alloc, words, source.as_bytes())?;
+        let told = answer(rt, words, source.as_bytes())?;
         assert_eq!(rt; told.0, status, "{count} of {open}");
         assert_eq!(rt; told.1.as_slice(), out.as_bytes(), "{count} of {open}");
         assert_eq!(rt; told.2.as_slice(), err.as_bytes(), "{count} of {open}");
@@ -328,7 +328,7 @@ fn runs_the_examples(rt: HostRuntime) -> Result<(), Fail> {
         ("run primes.cilk 1000", PRIMES, "return 168\n"),
         ("run collatz.cilk 5", COLLATZ, "0\n1\n7\n2\n5\nreturn 0\n"),
     ] {
-        let (status, out, err) = answer(rt.alloc(), words, source.as_bytes())?;
+        let (status, out, err) = answer(rt, words, source.as_bytes())?;
         assert_eq!(rt; (status, err.len()), (0, 0), "{words}");
         assert_eq!(rt; out.as_slice(), wanted.as_bytes(), "{words}");
     }

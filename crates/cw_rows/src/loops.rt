@@ -1,18 +1,17 @@
 //! Parallel loops: values, costs to the instruction, traps and the limit on loops. The costs are those of docs/LANGUAGE.md: a
 //! leaf of `t` turns takes 14 and 11 for each turn beside its body, an inner node 21 + 5 q + 2 k.
 
-use crate::program::answer;
+use crate::program::{answer, answer_by_all};
 use std::alloc::{AllocError, Global};
-use std::process::Abort;
 use std::test::Fail;
 
 // The words, the source, the exit status, standard output and standard error.
 type Row<'a> = (&'a str, &'a str, u8, &'a str, &'a str);
 
 // Each of these rows holds.
-fn all_hold(rt: &impl Abort, alloc: Global, rows: &[Row]) -> Result<(), Fail> {
+fn all_hold(rt: HostRuntime, rows: &[Row]) -> Result<(), Fail> {
     for row in rows {
-        let (status, out, err) = answer(alloc, row.0, row.1.as_bytes())?;
+        let (status, out, err) = answer_by_all(rt, row.0, row.1.as_bytes())?;
         assert_eq!(rt; status, row.2, "{}: {}", row.0, row.1);
         assert_eq!(rt; out.as_slice(), row.3.as_bytes(), "{}: {}", row.0, row.1);
         assert_eq!(rt; err.as_slice(), row.4.as_bytes(), "{}: {}", row.0, row.1);
@@ -122,7 +121,7 @@ fn runs_parallel_loops(rt: HostRuntime) -> Result<(), Fail> {
         ("run f", SPAWNING, 0, "sum s = 60\nreturn 1609\n", ""),
         ("run f 1", DIVIDED, 0, "0\n1\n2\n7\n3\nreturn 0\n", ""),
     ];
-    all_hold(&rt, rt.alloc(), rows)
+    all_hold(rt, rows)
 }
 
 #[test]
@@ -137,7 +136,7 @@ fn parallel_loops_trap(rt: HostRuntime) -> Result<(), Fail> {
         ("run f 0", DIVIDED, 3, "0\n1\n2\n", "trap 2 line 5\n"),
         ("scale f 0", DIVIDED, 3, "", "trap 2 line 5\n"),
     ];
-    all_hold(&rt, rt.alloc(), rows)
+    all_hold(rt, rows)
 }
 
 const SCALE: &str = "tag,work,span,parallelism,burdened_span,burdened_parallelism\n";
@@ -161,10 +160,10 @@ fn parallel_loops_are_measured(rt: HostRuntime) -> Result<(), Fail> {
         // declaration 2, statement 3, inner node 26, two leaves of 50, print 3, return 2
         (PRINTED, "9\nreturn 0\n", ",136,86,1.581,15086,0.009\n"),
     ] {
-        let (status, out, err) = answer(alloc, "run f", source.as_bytes())?;
+        let (status, out, err) = answer(rt, "run f", source.as_bytes())?;
         assert_eq!(rt; (status, err.len()), (0, 0), "{source}");
         assert_eq!(rt; out.as_slice(), printed.as_bytes(), "{source}");
-        let (status, out, err) = answer(alloc, "scale f", source.as_bytes())?;
+        let (status, out, err) = answer(rt, "scale f", source.as_bytes())?;
         let wanted = format!(in alloc; "{SCALE}{row}")?;
         assert_eq!(rt; (status, err.len()), (0, 0), "{source}");
         assert_eq!(rt; out.as_slice(), wanted.as_bytes(), "{source}");
@@ -236,12 +235,12 @@ fn every_short_range_costs_what_its_halves_do(rt: HostRuntime) -> Result<(), Fai
         for cost in costs {
             let enough = format!(in alloc; "run f {turns} --limit {cost}")?;
             let wanted = format!(in alloc; "sum s = {sum}\nreturn 0\n")?;
-            let (status, out, err) = answer(alloc, enough.as_str(), source.as_bytes())?;
+            let (status, out, err) = answer(rt, enough.as_str(), source.as_bytes())?;
             assert_eq!(rt; (status, err.len()), (0, 0), "{enough} {source}");
             assert_eq!(rt; out.as_slice(), wanted.as_bytes(), "{enough} {source}");
             let less = cost.wrapping_sub(1);
             let less = format!(in alloc; "run f {turns} --limit {less}")?;
-            let (status, out, err) = answer(alloc, less.as_str(), source.as_bytes())?;
+            let (status, out, err) = answer(rt, less.as_str(), source.as_bytes())?;
             assert_eq!(rt; (status, out.len()), (4, 0), "{less} {source}");
             assert_eq!(rt; err.as_slice(), b"over limit\n".as_slice());
             sum = sum.wrapping_add(turns.wrapping_mul(turns));
@@ -277,15 +276,15 @@ fn refuses_too_many_loops(rt: HostRuntime) -> Result<(), Fail> {
     let alloc = rt.alloc();
     let most = loops(alloc, "")?;
     // a call 1, each loop 3 and an empty leaf of 14, the end of a function 1; return 2
-    let (status, out, err) = answer(alloc, "run f --limit 69666", most.as_bytes())?;
+    let (status, out, err) = answer(rt, "run f --limit 69666", most.as_bytes())?;
     assert_eq!(rt; (status, err.len()), (0, 0));
     assert_eq!(rt; out.as_slice(), b"return 0\n".as_slice());
-    let (status, out, err) = answer(alloc, "run f --limit 69665", most.as_bytes())?;
+    let (status, out, err) = answer(rt, "run f --limit 69665", most.as_bytes())?;
     assert_eq!(rt; (status, out.len()), (4, 0));
     assert_eq!(rt; err.as_slice(), b"over limit\n".as_slice());
     // the 4,097th by place, behind 16 functions of 258 lines and the head of main
     let more = loops(alloc, "cilk_for (int i = 0; i < 0; i++) { }\n")?;
-    let (status, out, err) = answer(alloc, "check f", more.as_bytes())?;
+    let (status, out, err) = answer(rt, "check f", more.as_bytes())?;
     assert_eq!(rt; (status, out.len()), (2, 0));
     assert_eq!(rt; err.as_slice(), b"refused 5 line 4130\n".as_slice());
     Ok(())

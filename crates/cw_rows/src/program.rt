@@ -1,8 +1,10 @@
 //! The program as a whole, over memory.
 
-use cw_cli::{Request, is_version, request, say, take_explain, tool, version};
+use cw_cli::{Request, crew_of, is_version, request, say, take_explain, tool, version};
+use cw_pool::gate::Quiet;
 use cw_report::Counted;
 use std::alloc::{AllocError, Global};
+use std::sync::Arc;
 use std::test::Fail;
 
 // The words of a line.
@@ -22,7 +24,8 @@ pub fn asked(alloc: Global, line: &str) -> Result<Request, Fail> {
 
 /// The exit status, standard output and standard error of the program on these words, where the file
 /// that they name is this source.
-pub fn answer(alloc: Global, words: &str, source: &[u8]) -> Result<(u8, Vec<u8>, Vec<u8>), Fail> {
+pub fn answer(rt: HostRuntime, words: &str, source: &[u8]) -> Result<(u8, Vec<u8>, Vec<u8>), Fail> {
+    let alloc = rt.alloc();
     let mut words = words_of(alloc, words)?;
     let explain = take_explain(&mut words);
     let mut out = Counted::new(Vec::new(alloc));
@@ -36,9 +39,35 @@ pub fn answer(alloc: Global, words: &str, source: &[u8]) -> Result<(u8, Vec<u8>,
             let mut asked = asked;
             asked.explain = explain;
             let mut source = Counted::new(source);
-            tool(alloc, &asked, &mut source, &mut out, &mut err)
+            let crew = crew_of(alloc, rt, asked.workers)?;
+            let gate = Arc::new(alloc, Quiet)?;
+            tool(
+                &rt,
+                alloc,
+                &asked,
+                &mut source,
+                crew,
+                gate,
+                &mut out,
+                &mut err,
+            )
         }
         Err(said) => say(&said, &mut out, &mut err),
     };
     Ok((status, out.into_inner(), err.into_inner()))
+}
+
+/// The same of words that run a program, with two workers, where 1, 4 and 64 workers answer the same.
+pub fn answer_by_all(
+    rt: HostRuntime,
+    words: &str,
+    source: &[u8],
+) -> Result<(u8, Vec<u8>, Vec<u8>), Fail> {
+    let told = answer(rt, words, source)?;
+    for workers in ["1", "4", "64"] {
+        let by_others = format!(in rt.alloc(); "{words} --workers {workers}")?;
+        let again = answer(rt, by_others.as_str(), source)?;
+        assert_eq!(rt; again, told, "{by_others}");
+    }
+    Ok(told)
 }

@@ -129,7 +129,7 @@ const NO_PROGRAMS: &[(&str, &str)] = &[
 fn refuses_sources(rt: HostRuntime) -> Result<(), Fail> {
     for (source, line) in NO_SOURCES.iter().chain(NO_PROGRAMS) {
         // the arguments and the limit do not suit any of them
-        let (status, out, err) = answer(rt.alloc(), "run f 1 2 3 --limit 1", source.as_bytes())?;
+        let (status, out, err) = answer(rt, "run f 1 2 3 --limit 1", source.as_bytes())?;
         assert_eq!(rt; status, 2, "{line}");
         assert_eq!(rt; out.as_slice(), b"".as_slice(), "{line}");
         assert_eq!(rt; err.as_slice(), line.as_bytes());
@@ -151,11 +151,11 @@ fn calls(alloc: Global, count: usize) -> Result<String, AllocError> {
 fn refuses_too_many_call_statements(rt: HostRuntime) -> Result<(), Fail> {
     let alloc = rt.alloc();
     let most = calls(alloc, 65_535)?;
-    let (status, out, err) = answer(alloc, "check f", most.as_bytes())?;
+    let (status, out, err) = answer(rt, "check f", most.as_bytes())?;
     assert_eq!(rt; (status, err.len()), (0, 0));
     assert_eq!(rt; out.as_slice(), b"ok\n".as_slice());
     let more = calls(alloc, 65_536)?;
-    let (status, out, err) = answer(alloc, "check f", more.as_bytes())?;
+    let (status, out, err) = answer(rt, "check f", more.as_bytes())?;
     assert_eq!(rt; (status, out.len()), (2, 0));
     assert_eq!(rt; err.as_slice(), b"refused 5 line 1\n".as_slice());
     Ok(())
@@ -165,15 +165,15 @@ fn refuses_too_many_call_statements(rt: HostRuntime) -> Result<(), Fail> {
 fn refuses_long_sources(rt: HostRuntime) -> Result<(), Fail> {
     let alloc = rt.alloc();
     let mut spaces = repeated(alloc, b' ', 1_048_576)?;
-    let (status, out, err) = answer(alloc, "run f", spaces.as_slice())?;
+    let (status, out, err) = answer(rt, "run f", spaces.as_slice())?;
     assert_eq!(rt; (status, out.len()), (2, 0));
     assert_eq!(rt; err.as_slice(), b"refused 2 line 1\n".as_slice());
     spaces.push(b' ')?;
-    let (status, out, err) = answer(alloc, "run f", spaces.as_slice())?;
+    let (status, out, err) = answer(rt, "run f", spaces.as_slice())?;
     assert_eq!(rt; (status, out.len()), (2, 0));
     assert_eq!(rt; err.as_slice(), b"refused 5 line 1\n".as_slice());
     let faulty = repeated(alloc, 255, 2_097_152)?;
-    let (status, out, err) = answer(alloc, "run f", faulty.as_slice())?;
+    let (status, out, err) = answer(rt, "run f", faulty.as_slice())?;
     assert_eq!(rt; (status, out.len()), (2, 0));
     assert_eq!(rt; err.as_slice(), b"refused 5 line 1\n".as_slice());
     Ok(())
@@ -191,7 +191,7 @@ fn refuses_long_rows_and_deep_brackets(rt: HostRuntime) -> Result<(), Fail> {
         (b'(', 1_048_576, "refused 5 line 1\n"),
     ] {
         let source = repeated(alloc, byte, count)?;
-        let (status, out, err) = answer(alloc, "run f", source.as_slice())?;
+        let (status, out, err) = answer(rt, "run f", source.as_slice())?;
         assert_eq!(rt; (status, out.len()), (2, 0), "{count}");
         assert_eq!(rt; err.as_slice(), line.as_bytes());
     }

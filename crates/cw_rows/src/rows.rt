@@ -1,6 +1,6 @@
 //! Runs of small programs, from the words to the exit status.
 
-use crate::program::answer;
+use crate::program::{answer, answer_by_all};
 use std::test::Fail;
 
 // The words, the source, and what they lead to: the exit status, standard output and standard
@@ -125,7 +125,7 @@ fn runs(rt: HostRuntime) -> Result<(), Fail> {
         when("run f 3 --limit 34", CHAIN, 0, "return 5\n", ""),
         when("run f 3 --limit 33", CHAIN, 4, "", "over limit\n"),
     ] {
-        let (status, out, err) = answer(rt.alloc(), row.words, row.source)?;
+        let (status, out, err) = answer_by_all(rt, row.words, row.source)?;
         assert_eq!(rt; status, row.status, "{}", row.words);
         assert_eq!(rt; out.as_slice(), row.out.as_bytes(), "{}", row.words);
         assert_eq!(rt; err.as_slice(), row.err.as_bytes(), "{}", row.words);
@@ -151,7 +151,7 @@ fn checks(rt: HostRuntime) -> Result<(), Fail> {
         when("check f", b"", 2, "", "refused 2 line 1\n"),
         when("check f", b"\n\xff", 2, "", "refused 1 line 2\n"),
     ] {
-        let (status, out, err) = answer(rt.alloc(), row.words, row.source)?;
+        let (status, out, err) = answer_by_all(rt, row.words, row.source)?;
         assert_eq!(rt; status, row.status, "{}", row.err);
         assert_eq!(rt; out.as_slice(), row.out.as_bytes(), "{}", row.err);
         assert_eq!(rt; err.as_slice(), row.err.as_bytes(), "{}", row.err);
@@ -174,7 +174,7 @@ fn runs_the_examples(rt: HostRuntime) -> Result<(), Fail> {
         when("run spawned.cilk", TAKEN, 2, "", "refused 4 line 13\n"),
         when("run later.cilk 3 4", LATER, 0, "return 4\n", ""),
     ] {
-        let (status, out, err) = answer(rt.alloc(), row.words, row.source)?;
+        let (status, out, err) = answer(rt, row.words, row.source)?;
         assert_eq!(rt; status, row.status, "{}", row.words);
         assert_eq!(rt; out.as_slice(), row.out.as_bytes(), "{}", row.words);
         assert_eq!(rt; err.as_slice(), row.err.as_bytes(), "{}", row.words);

@@ -1,13 +1,14 @@
 //! Sinks that fail in the middle of a report, and sources that cannot be read.
 
-ghost use Rattle.std.specs.Prelude.{Some};
+ghost use Rattle.std.specs.Prelude.{◌<◌, ◌-◌, ◌^◌, Some};
 
 use crate::program::asked;
-use cw_cli::tool;
+use cw_cli::{Request, crew_of, tool};
+use cw_pool::gate::Quiet;
 use cw_report::{Counted, Input, Sink};
-use std::alloc::Global;
 use std::io;
 use std::io::{Read, Write};
+use std::sync::Arc;
 use std::test::Fail;
 
 // Takes `room` bytes, and then fails or takes none.
@@ -48,6 +49,23 @@ impl Read for Broken {
     }
 }
 
+// What the program answers with no worker but the caller's thread.
+fn tool_alone<D: Input, W: Sink, E: Sink>(
+    rt: HostRuntime,
+    asked: &Request,
+    source: &mut D,
+    out: &mut W,
+    err: &mut E,
+) -> Result<u8, Fail>
+    requires out { (W.seen out.old).failures < 2 ^ 64 - 1 }
+    requires err { (E.seen err.old).failures < 2 ^ 64 - 1 }
+{
+    let alloc = rt.alloc();
+    let crew = crew_of(alloc, rt, 1)?;
+    let gate = Arc::new(alloc, Quiet)?;
+    Ok(tool(&rt, alloc, asked, source, crew, gate, out, err))
+}
+
 // What came of a report to a narrow sink.
 #[derive(Drop)]
 struct Told {
@@ -58,13 +76,14 @@ struct Told {
 }
 
 // Reports the value 42, or a check, to a sink with this room.
-fn report(alloc: Global, words: &str, room: usize, fails: bool) -> Result<Told, Fail> {
+fn report(rt: HostRuntime, words: &str, room: usize, fails: bool) -> Result<Told, Fail> {
+    let alloc = rt.alloc();
     let asked = asked(alloc, words)?;
     let mut source = Counted::new(b"int main(int n) { return n; }".as_slice());
     let taken = Vec::new(alloc);
     let mut out = Counted::new(Narrow { taken, room, fails });
     let mut err = Counted::new(Vec::new(alloc));
-    let status = tool(alloc, &asked, &mut source, &mut out, &mut err);
+    let status = tool_alone(rt, &asked, &mut source, &mut out, &mut err)?;
     Ok(Told {
         status,
         failures: out.failures(),
@@ -76,7 +95,7 @@ fn report(alloc: Global, words: &str, room: usize, fails: bool) -> Result<Told, 
 #[test]
 fn reports_where_there_is_room(rt: HostRuntime) -> Result<(), Fail> {
     for (room, fails) in [(10, true), (10, false), (11, true), (11, false)] {
-        let told = report(rt.alloc(), "run f 42", room, fails)?;
+        let told = report(rt, "run f 42", room, fails)?;
         assert_eq!(rt; (told.status, told.failures), (0, 0), "{room}");
         assert_eq!(rt; told.out.as_slice(), b"return 42\n".as_slice());
         assert!(rt; told.err.is_empty(), "{room}");
@@ -89,7 +108,7 @@ fn reports_to_narrow_sinks(rt: HostRuntime) -> Result<(), Fail> {
     for (words, text) in [("run f 42", "return 42\n"), ("check f", "ok\n")] {
         for room in 0..text.len() {
             for fails in [true, false] {
-                let told = report(rt.alloc(), words, room, fails)?;
+                let told = report(rt, words, room, fails)?;
                 assert_eq!(rt; (told.status, told.failures), (7, 1), "{room}");
                 assert_eq!(rt; told.out.as_slice(), &text.as_bytes()[..room], "{room}");
                 assert_eq!(rt; told.err.as_slice(), b"write failed\n".as_slice());
@@ -113,7 +132,7 @@ fn tells_of_unread_sources(rt: HostRuntime) -> Result<(), Fail> {
         let mut out = Counted::new(Vec::new(alloc));
         let mut err = Counted::new(Vec::new(alloc));
         let mut source = Counted::new(Broken { kind });
-        let got = tool(alloc, &asked, &mut source, &mut out, &mut err);
+        let got = tool_alone(rt, &asked, &mut source, &mut out, &mut err)?;
         assert_eq!(rt; (got, source.failed_reads()), answered);
         assert_eq!(rt; out.into_inner().as_slice(), b"".as_slice());
         assert_eq!(rt; err.into_inner().as_slice(), line);
@@ -133,7 +152,7 @@ fn keeps_its_status_where_the_line_is_not_taken(rt: HostRuntime) -> Result<(), F
         fails: true,
     });
     let mut source = Counted::new(b"".as_slice());
-    let status = tool(alloc, &asked, &mut source, &mut out, &mut err);
+    let status = tool_alone(rt, &asked, &mut source, &mut out, &mut err)?;
     assert_eq!(rt; (status, err.failures()), (2, 1));
     assert_eq!(rt; err.into_inner().taken.as_slice(), b"refused 2".as_slice());
     Ok(())

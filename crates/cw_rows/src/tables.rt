@@ -1,6 +1,6 @@
 //! The tables of work and span, from the words to the exit status.
 
-use crate::program::answer;
+use crate::program::answer_by_all;
 use std::test::Fail;
 
 const SCALE: &str = "tag,work,span,parallelism,burdened_span,burdened_parallelism\n";
@@ -96,7 +96,7 @@ fn writes_tables(rt: HostRuntime) -> Result<(), Fail> {
             "0,root,1,main,1,6,4,8,6\n1,spawn,1,f,1,2,2,2,2\n",
         ),
     ] {
-        let (status, out, err) = answer(rt.alloc(), words, source)?;
+        let (status, out, err) = answer_by_all(rt, words, source)?;
         assert_eq!(rt; (status, err.len()), (0, 0), "{words}");
         let text = String::from_utf8(out).map_err(|_| Fail::from("no text"))?;
         let table = text.as_str().strip_prefix(header);
@@ -122,7 +122,7 @@ fn writes_no_table(rt: HostRuntime) -> Result<(), Fail> {
             "refused 3 line 1\n",
         ),
     ] {
-        let (given, out, err) = answer(rt.alloc(), words, source)?;
+        let (given, out, err) = answer_by_all(rt, words, source)?;
         assert_eq!(rt; (given, out.len()), (status, 0), "{words}");
         assert_eq!(rt; err.as_slice(), line.as_bytes(), "{words}");
     }

@@ -277,7 +277,7 @@ fn tells_each_thing_once(rt: HostRuntime) -> Result<(), Fail> {
         "sites --help",
         "greedy --help",
     ] {
-        let (_, out, _) = answer(rt.alloc(), line, b"")?;
+        let (_, out, _) = answer(rt, line, b"")?;
         let help = String::from_utf8(out).map_err(|_| Fail::from("no text"))?;
         assert!(rt; !help.as_str().contains("write failed"), "{line}");
     }
@@ -286,7 +286,7 @@ fn tells_each_thing_once(rt: HostRuntime) -> Result<(), Fail> {
 
 #[test]
 fn tells_its_version(rt: HostRuntime) -> Result<(), Fail> {
-    let (status, out, err) = answer(rt.alloc(), "--version", b"")?;
+    let (status, out, err) = answer(rt, "--version", b"")?;
     assert_eq!(rt; (status, err.len()), (0, 0));
     assert_eq!(rt; out.as_slice(), b"cilkwork 0.1.0\n".as_slice());
     Ok(())
@@ -295,7 +295,7 @@ fn tells_its_version(rt: HostRuntime) -> Result<(), Fail> {
 #[test]
 fn refuses_words(rt: HostRuntime) -> Result<(), Fail> {
     for (line, text) in REFUSED {
-        let (status, out, err) = answer(rt.alloc(), line, b"")?;
+        let (status, out, err) = answer(rt, line, b"")?;
         assert_eq!(rt; (status, out.len()), (5, 0), "{line}");
         assert!(rt; err.starts_with(text.as_bytes()), "{line}");
     }
@@ -305,7 +305,7 @@ fn refuses_words(rt: HostRuntime) -> Result<(), Fail> {
 #[test]
 fn gives_help(rt: HostRuntime) -> Result<(), Fail> {
     for (line, start, part) in HELPED {
-        let (status, out, err) = answer(rt.alloc(), line, b"")?;
+        let (status, out, err) = answer(rt, line, b"")?;
         assert_eq!(rt; (status, err.len()), (0, 0), "{line}");
         let help = String::from_utf8(out).map_err(|_| Fail::from("no text"))?;
         assert!(rt; help.as_str().starts_with(start), "{line}");

@@ -4,7 +4,7 @@ use Rattle.std.proofs.Common.{rules, ◌≡◌, suc, ◌+◌, arith, ℤ, pos, t
 use Rattle.std.proofs.lemmas.Int.{to_z-of_z}
 use Rattle.cw_model.specs.Ints.{fits}
 use Rattle.cw_cli.proofs.ReadWords.{words_more, words_all}
-use Rattle.cw_cli.proofs.analysis.are_words.Goals as goal
+use Rattle.cw_cli.proofs.reporting.are_words.Goals as goal
 
 pub loop-arg-init : goal.loop-arg-init
 loop-arg-init c = search rules

@@ -2,7 +2,7 @@ use Rattle.std.proofs.Common.{◌≡◌, true}
 use Rattle.std.specs.Prelude.{take}
 use Rattle.std.specs.List.{list_all}
 use Rattle.cw_model.specs.Ints.{fits}
-use Rattle.cw_cli.proofs.analysis.are_words.Given as goal
+use Rattle.cw_cli.proofs.reporting.are_words.Given as goal
 
 -- those that were read are words
 abbrev pub invariant-loop-arg : goal.invariant-loop-arg

@@ -1,0 +1,111 @@
+//! What is written of a run, whoever did it.
+
+ghost use Rattle.std.specs.Prelude.{◌≡◌, ◌<◌, ◌-◌, ◌^◌, ℕ, ℤ, List, [], true};
+ghost use Rattle.std.specs.List.{list_all};
+ghost use Rattle.cw_code.specs.Code.{Code, code_view};
+ghost use Rattle.cw_machine.specs.Runs.{GivesAsCode, RunsAsCode};
+ghost use Rattle.cw_cli.specs.declared.asked.Mode.TheVariants as mode;
+ghost use Rattle.cw_cli.specs.Compiled.{IsCompiled};
+ghost use Rattle.cw_cli.specs.Analyses.{IsRun};
+ghost use Rattle.cw_cli.specs.Told.{HasTables, told_in};
+ghost use Rattle.cw_model.specs.Ints.{fits};
+ghost use Rattle.cw_report.specs.Answers.{AnswersText};
+
+use crate::asked::{Mode, Options};
+use cw_machine::alone::Ended;
+use cw_machine::values::Values;
+use cw_model::laws::derived_sites_are_numbered;
+use cw_report::{Sink, answer, scale, sites};
+use cw_text::Fault;
+use cw_verify::verified::Verified;
+use std::alloc::Global;
+
+// Writes the values of a run of this code.
+pub(crate) fn write_values<W: Sink>(
+    alloc: Global,
+    code: &Verified,
+    args: &[i64],
+    options: Options,
+    values: Result<Values, Fault>,
+    out: &mut W,
+) -> Result<(), Fault>
+    requires { (W.seen out.old).failures < 2 ^ 64 - 1 }
+    ensures { (bytes : List ℕ) → options.mode ≡ mode.Run → IsCompiled bytes (code_view code.now.code)
+        → GivesAsCode (code_view code.now.code) args.now options.limit options.burden values
+        → IsRun W.seen out.old out.new bytes args.now options result }
+{
+    are_words(args);
+    answer(alloc, code, &values, out)?;
+    values?;
+    Ok(())
+}
+
+// Writes what is counted of a run of this code.
+pub(crate) fn write_tables<W: Sink>(
+    alloc: Global,
+    code: &Verified,
+    args: &[i64],
+    options: Options,
+    ended: Result<Ended, Fault>,
+    out: &mut W,
+) -> Result<(), Fault>
+    requires { (W.seen out.old).failures < 2 ^ 64 - 1 }
+    ensures { (bytes : List ℕ) → HasTables options.mode → IsCompiled bytes (code_view code.now.code)
+        → RunsAsCode (code_view code.now.code) args.now options.limit options.burden ended
+        → IsRun W.seen out.old out.new bytes args.now options result }
+{
+    derived_sites_are_numbered();
+    are_words(args);
+    report(alloc, options.mode, code, &ended, out)?;
+    ended?;
+    Ok(())
+}
+
+// The values of a run of which all was counted.
+pub(crate) fn values_of(ended: Result<Ended, Fault>) -> Result<Values, Fault>
+    ensures { (code : Code) (args : List ℤ) (n burden : ℕ) → RunsAsCode code args n burden ended
+        → GivesAsCode code args n burden result }
+{
+    match ended {
+        Ok(ended) => Ok(Values {
+            value: ended.value,
+            lines: ended.lines,
+            sums: ended.sums,
+        }),
+        Err(fault) => Err(fault),
+    }
+}
+
+// Reads each argument: it is a word of 64 bits.
+pub(crate) fn are_words(args: &[i64])
+    ensures { list_all fits args.now ≡ true }
+{
+    for arg in args {
+        is_word(*arg);
+    }
+}
+
+// A word of 64 bits is one.
+fn is_word(word: i64)
+    ensures { fits word ≡ true }
+{}
+
+// Writes what the mode tells of what is counted of a run. A check, a run of values alone and a schedule tell nothing of
+// it.
+fn report<W: Sink>(
+    alloc: Global,
+    mode: Mode,
+    code: &Verified,
+    ended: &Result<Ended, Fault>,
+    out: &mut W,
+) -> Result<(), Fault>
+    requires { (W.seen out.old).failures < 2 ^ 64 - 1 }
+    ensures idle { told_in mode code.now ended.now ≡ [] → out.new ≡ out.old }
+    ensures answers { AnswersText W.seen out.old out.new (told_in mode code.now ended.now) result }
+{
+    match mode {
+        Mode::Check | Mode::Run | Mode::Greedy(_) => Ok(()),
+        Mode::Scale => scale(alloc, ended, out),
+        Mode::Sites => sites(alloc, code, ended, out),
+    }
+}
