@@ -25,6 +25,7 @@ use Rattle.cw_code.specs.declared.code.Instr.{Instr}
 use Rattle.cw_code.specs.declared.code.Instr.TheVariants as instr
 use Rattle.cw_code.specs.Code.{Code}
 use Rattle.cw_code.specs.Run.{Slots, Results, Around, Caller, Block, Opened, State, Transition, On, Ends, Stops, Stuck, synced, is_full, on_top, on_two, stored, operated, set_array, apply_unary, jumped, onto, prints, adds, settled, put_in, Entering, Whole, arguments_of, may_begin, begun, begins, call_of, on_arrays, arrays_in, enter, recur, parts_of, looped, start, given, awaited, result_of, event_of, rejoined, going_on, returns_to, given_back, back, opened, opened_region, opens, cut_arrays, may_cut, cuts, resumes, closed, uncut_arrays, resumes_uncut, cut_ends, passed_by, act, step, go_on, steps, reducers_of}
+use Rattle.cw_strands.specs.Jobs.{WholeCall, Came, Arrives, Returns, Falls, Beyond, Lost, moved, travel}
 use Rattle.cw_machine.specs.Shows.{wrapped, AllFit, HoldsSums}
 use Rattle.cw_machine.proofs.Going as going
 
@@ -184,6 +185,33 @@ counted code (suc n) s r left t e = cases (step code s) (adds_one code s (slice_
     cases (Ends v arrays u) h from e = let same : u ≡ t = cc in let is = ap (λ x. length x.additions) same in omega (arith, h, is)
     cases (Stops trap line lines) h from e = cc
     cases Stuck h from e = cc
+
+-- the end of a whole call has no more values than these
+abbrev pub ReturnsWithin : ℕ → Came → Type 0
+ReturnsWithin k (Arrives frame t left) = ⊥
+ReturnsWithin k (Returns v arrays t left) = length t.additions ≤ k
+ReturnsWithin k (Falls trap line lines left) = Unit {0}
+ReturnsWithin k Beyond = Unit {0}
+ReturnsWithin k Lost = Unit {0}
+
+-- a whole call comes to no join, and where it ends it has added no more values than it was given instructions
+pub travelled : (code : Code) (n : ℕ) (s : State) → ReturnsWithin (length s.trace.additions + n) (travel WholeCall code n s)
+travelled code zero s = tt
+travelled code (suc n) s = cases (step code s) (adds_one code s (slice_get code.instrs s.place)) (λ s'. travelled code n s')
+  where
+    wider : (j k : ℕ) (c : Came) → j ≤ k → ReturnsWithin j c → ReturnsWithin k c
+    wider j k (Arrives frame t left) le h = h
+    wider j k (Returns v arrays t left) le h = omega (arith, le, h)
+    wider j k (Falls trap line lines left) le h = tt
+    wider j k Beyond le h = tt
+    wider j k Lost le h = tt
+
+    cases : (w : Transition) → Within (suc (length s.trace.additions)) w → ((s' : State) → ReturnsWithin (length s'.trace.additions + n) (travel WholeCall code n s')) →
+        ReturnsWithin (length s.trace.additions + suc n) (moved w n (λ s'. travel WholeCall code n s'))
+    cases (On s') h more = wider (length s'.trace.additions + n) (length s.trace.additions + suc n) (travel WholeCall code n s') (omega (arith, h)) (more s')
+    cases (Ends v arrays u) h more = omega (arith, h)
+    cases (Stops trap line lines) h more = tt
+    cases Stuck h more = tt
 
 -- a value of 64 bits is at most so far from 0
 abbrev most_abs : ℕ

@@ -28,6 +28,7 @@ pub mod Keeping
 pub mod Strands
 pub mod Keyed
 pub mod FromMain
+pub mod RootEnds
 pub mod Landing
 pub mod Given
 pub mod Home

@@ -10,6 +10,7 @@ ghost use Rattle.cw_model.specs.Answers as answers;
 use crate::machine::Moved;
 use crate::run::Run;
 use cw_code::code::Code;
+use cw_jobs::effect::Shown;
 use cw_meter::Readings;
 use cw_model::limits::{MOST_BURDEN, MOST_LIMIT};
 use cw_model::syntax::Name;
@@ -73,7 +74,14 @@ pub fn run_alone(
     let (stop, count) = run.go(verified, n);
     match stop {
         Moved::Gave(value) => {
-            let ended = finished(alloc, &verified.code, run, value, count)?;
+            let Run { machine, meter } = run;
+            let shown = Shown {
+                lines: machine.lines,
+                sums: machine.sums,
+                meter,
+                cost: count,
+            };
+            let ended = end_of(alloc, &verified.code, value, shown)?;
             Ok(ended)
         }
         Moved::On => Err(Fault::OverLimit),
@@ -86,27 +94,31 @@ pub fn run_alone(
     }
 }
 
-// What a run of code comes to that ended after so many instructions, with this value if it gives one. Of the code's tags
-// no two are the same.
-fn finished(
+// What a run of code comes to that ended with this value, if it gives one, and has shown this. Of the code's tags no two
+// are the same.
+pub(crate) fn end_of(
     alloc: Global,
     code: &Code,
-    run: Run,
     value: Option<i64>,
-    count: u64,
+    shown: Shown,
 ) -> Result<Ended, AllocError>
     requires { fits.are_apart code.now.tags.items ≡ true }
-    ensures { IfOk result (λ e. runs.IsEndOf code.now run value count e) }
+    ensures { IfOk result (λ e. runs.IsEndOf code.now value shown e) }
 {
-    let Run { machine, meter } = run;
+    let Shown {
+        lines,
+        sums,
+        meter,
+        cost,
+    } = shown;
     let sites = code.sites.len() + 1;
-    let all = meter.finish(alloc, count, sites, code.tags.len())?;
+    let all = meter.finish(alloc, cost, sites, code.tags.len())?;
     let sites = by_number(alloc, all.sites.as_slice())?;
     let regions = by_tag(alloc, code.tags.as_slice(), all.regions.as_slice())?;
     Ok(Ended {
         value: int_given(value),
-        lines: machine.lines,
-        sums: machine.sums,
+        lines,
+        sums,
         measure: all.measure,
         sites,
         regions,

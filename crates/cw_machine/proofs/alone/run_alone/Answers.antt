@@ -1,5 +1,4 @@
 use Rattle.std.proofs.Common.{arith, ◌≡◌, ℕ, ◌+◌, ℤ, List, ◌≤◌, [], ◌∙◌, length, map, true, sym, ap, subst}
-use Rattle.std.specs.List.{range_with_len}
 use Rattle.std.specs.Coded.{le_prop}
 use Rattle.std.proofs.Math.Bool.{Bool-set}
 use Rattle.std.proofs.Math.Logic.{∥∥₁_elim, ∥∥₁_map}
@@ -12,10 +11,8 @@ use Rattle.cw_verify.specs.Resolved.{room_of}
 use Rattle.cw_machine.specs.declared.run.Run.{Run}
 use Rattle.cw_machine.specs.Metered.{IsNewRun, Reaches}
 use Rattle.cw_machine.specs.Runs.{is_asked, Runs, IsFailure}
-use Rattle.cw_meter.specs.Whole.{AreReadings, AreSiteRows, AreRegionRows}
-use Rattle.cw_machine.proofs.Keyed.{numbers_are, rows_are, tags_are, rows_under_tags}
 use Rattle.cw_machine.proofs.Metering.{gauge_of}
-use Rattle.cw_machine.proofs.FromMain.{IsEnded-prop, is_ended, is_over, was_over, IsTrapped-prop, was_trapped, requested, asked_count, asked_limit, asked_burden, main_there, main_has_room, main_room, main_frame, first_run, ended, over, trapped}
+use Rattle.cw_machine.proofs.FromMain.{IsEnded-prop, shown_by, told, is_over, was_over, IsTrapped-prop, was_trapped, requested, asked_count, asked_limit, asked_burden, main_there, main_has_room, main_room, main_frame, first_run, ended, over, trapped}
 use Rattle.cw_machine.proofs.alone.run_alone.Goals as goal
 
 -- a new run has main's room and a sum for each reducer
@@ -57,8 +54,8 @@ go-stop-requires-clause-small c =
     let asked : is_asked f.params (length args) c.args.n c.args.burden ≡ true = sym c.is_asked.ensures ∙ c.if-not-is_asked.false in
     asked_limit f args c.args.n c.args.burden asked
 
-pub finished-requires : goal.finished-requires
-finished-requires c = let v = c.deref-verified.result.now in ∥∥₁_elim v.ok (hlevel Bool-set) (λ ok. ok.fits.tags)
+pub end_of-requires : goal.end_of-requires
+end_of-requires c = let v = c.deref-verified.result.now in ∥∥₁_elim v.ok (hlevel Bool-set) (λ ok. ok.fits.tags)
 
 pub returns-in-Gave : goal.returns-in-Gave
 returns-in-Gave c =
@@ -77,22 +74,11 @@ returns-in-Gave c =
     let serial = code_serial code args n in
     let e = c.in_ok-ended-in-Gave.ended in
     let end = c.in_ok-ended-in-Gave.ensures in
-    let is = is_ended code burden e end.all serial (∥∥₁_elim v.ok (IsEnded-prop code burden e end.all serial) (λ ok.
+    let is = ∥∥₁_elim v.ok (IsEnded-prop code burden e end.all serial) (λ ok.
     let g = gauge_of v ok burden light in
-    ended v f args n burden count r c.func-f.ensures asked ok g c.in-Gave.value e c.go-stop.ensures.within end (subst (λ to. Reaches v ok g count to r n (first_state f args [])) c.in-Gave.is (c.go-stop.ensures.reaches ok g (first_state f args []) (first_run v ok g f args c.in_ok-run.run' c.func-f.ensures many made))))) in
-    let rows = is.2 in
+    ended v f args n burden count r c.func-f.ensures asked ok g c.in-Gave.value e c.go-stop.ensures.within end (subst (λ to. Reaches v ok g count to r n (first_state f args [])) c.in-Gave.is (c.go-stop.ensures.reaches ok g (first_state f args []) (first_run v ok g f args c.in_ok-run.run' c.func-f.ensures many made)))) in
     subst (λ (w : Verified). Runs (code_view w.code) args n burden e) c.deref-verified.ensures
-    (record {
-      asked = requested code f args n burden c.func-f.ensures asked;
-      tree = is.0;
-      answer = is.1;
-      within = subst (λ k. k ≤ n) (sym end.counted ∙ rows.measure.work) c.go-stop.ensures.within;
-      measure = subst (AreReadings burden is.0) (sym end.measure) rows.measure;
-      numbers = ap (map (λ entry. entry.0)) end.sites ∙ numbers_are 0 end.all.sites.items ∙ ap (range_with_len 0) rows.sites.as_many;
-      sites = subst (AreSiteRows (length code.sites + 1) is.0) (sym (ap (map (λ entry. entry.1)) end.sites ∙ rows_are 0 end.all.sites.items)) rows.sites;
-      tags = tags_are e.regions.entries code.tags end.all.regions.items end.regions rows.regions.as_many;
-      regions = subst (AreRegionRows burden code.tags is.0) (sym (rows_under_tags e.regions.entries code.tags end.all.regions.items end.regions rows.regions.as_many)) rows.regions;
-    })
+    (told v args n burden c.in-Gave.value (shown_by r count) e (requested code f args n burden c.func-f.ensures asked) c.go-stop.ensures.within end is)
 
 pub returns-in-On : goal.returns-in-On
 returns-in-On c =

@@ -1,12 +1,12 @@
 use Rattle.std.proofs.Common.{rules, ◌≡◌, ◌+◌, length, refl, ap, ap₂, ◌∙◌, subst, w64, of_z, to_z}
 use Rattle.std.specs.List.{enumerate_from, zip}
 use Rattle.cw_meter.specs.Whole.{Reads}
-use Rattle.cw_machine.proofs.alone.finished.Goals as goal
+use Rattle.cw_machine.proofs.alone.end_of.Goals as goal
 
 pub returns : goal.returns
 returns c =
     let code = c.args.code.now in
-    let m = c.args.run.meter in
+    let m = c.args.shown.meter in
     let all = c.in_ok-all.all in
     let x = c.int_given.result in
     let same : to_z w64 (of_z w64 x) ≡ x = search rules in
@@ -17,7 +17,7 @@ returns c =
       lines = refl;
       sums = refl;
       all = all;
-      reads = subst (λ k. Reads m c.args.count (k + 1) (length code.tags.items) all) sites (subst (λ k. Reads m c.args.count (c.len-sites.result + 1) k all) tags c.in_ok-all.ensures.reads);
+      reads = subst (λ k. Reads m c.args.shown.cost (k + 1) (length code.tags.items) all) sites (subst (λ k. Reads m c.args.shown.cost (c.len-sites.result + 1) k all) tags c.in_ok-all.ensures.reads);
       counted = c.in_ok-all.ensures.counted;
       measure = refl;
       sites = c.in_ok-sites.ensures ∙ ap (enumerate_from 0) c.as_slice.ensures.value;

@@ -1,0 +1,180 @@
+-- What the effect of a whole run tells of the run.
+use Rattle.std.proofs.Common.{◌≡◌, ◌⊎◌, inl, inr, ℕ, ◌+◌, ◌-◌, ◌≤◌, ℤ, Bool, true, false, Option, Some, None, List, [], ◌∷◌, length, refl, sym, ap, ◌∙◌, subst, arith}
+use Rattle.std.specs.Prelude.{slice_get}
+use Rattle.std.proofs.lemmas.List.{length-map}
+use Rattle.std.specs.Coded.{le_prop}
+use Rattle.std.proofs.Math.Bool.{Bool-set}
+use Rattle.std.proofs.Math.Logic.{∥∥₁_elim}
+use Rattle.cw_model.specs.declared.limits.TheConstants.{MOST_LIMIT, MOST_BURDEN}
+use Rattle.cw_model.specs.declared.trap.Trap.{Trap}
+use Rattle.cw_model.specs.Outcome.{Trace}
+use Rattle.cw_model.specs.Trees.{Marked, Invocation, tree_of, normal}
+use Rattle.cw_model.specs.Answers.{int_given, TrappedAt, OverLimit}
+use Rattle.cw_model.specs.Ints.{trap_number}
+use Rattle.cw_code.specs.declared.code.Func.{Func}
+use Rattle.cw_code.specs.Code.{Code, code_view}
+use Rattle.cw_code.specs.Run.{Slots, On, first_state, first_transition, code_serial}
+use Rattle.cw_strands.specs.Jobs as jobs
+use Rattle.cw_strands.specs.Jobs.{Came, Arrives, Returns, Falls, Beyond, Lost, IsOf, JobMeaning, Same, Passed, Short, root_job, course}
+use Rattle.cw_strands.specs.RestLaws.{RootsAreSerial}
+use Rattle.cw_meter.specs.Whole.{AreMeasures}
+use Rattle.cw_meter.specs.Origins.{Main as MainOrigin}
+use Rattle.cw_meter.specs.Meters.{Meters}
+use Rattle.cw_metered.specs.Opens.{whole}
+use Rattle.cw_verify.specs.declared.verified.Verified.{Verified}
+use Rattle.cw_jobs.specs.declared.effect.Effect.{Effect}
+use Rattle.cw_jobs.specs.declared.effect.Effect.TheVariants as effect
+use Rattle.cw_jobs.specs.declared.effect.Shown.{Shown}
+use Rattle.cw_jobs.specs.declared.call.Rest.{Rest}
+use Rattle.cw_jobs.specs.declared.job.Job.{Job}
+use Rattle.cw_jobs.specs.Calls as calls
+use Rattle.cw_jobs.specs.Jobs.{Ok, IsJob, IsRoot, code_of}
+use Rattle.cw_jobs.specs.Means.{IsMeaningOf, MeansIt, Tells, Counts, HasShown}
+use Rattle.cw_machine.specs.declared.alone.Ended as alone
+use Rattle.cw_machine.specs.Arrays.{IsFit}
+use Rattle.cw_machine.specs.Runs.{is_asked, is_request, IsEndOf, Runs}
+use Rattle.cw_machine.specs.Shows as shows
+use Rattle.cw_machine.proofs.Additions.{ReturnsWithin, travelled, sums_are}
+use Rattle.cw_machine.proofs.Metering.{gauge_of}
+use Rattle.cw_machine.proofs.FromMain.{Main, main_of, asked_of, told, IsEnded, IsEnded-prop, IsTrapped, IsTrapped-prop, was_trapped, is_over, was_over, same_as, first_is, asked_count, asked_limit, asked_burden, main_room, main_arrays}
+
+-- an effect that means the job of a whole run means what the definitions have as that job
+pub means_root : (v : Verified) (args : List ℤ) (n burden : ℕ) (root : Job) (e : Effect) → IsRoot v args n burden root.parts.value → IsMeaningOf root e
+    → (ok : Ok v) (f : Func) → slice_get (code_view v.code).funcs v.code.main ≡ Some f → ∥ MeansIt v ok root.parts.value e (root_job f args n) ∥₁
+unfolding IsMeaningOf
+means_root v args n burden root e r means ok f found =
+    subst (λ (w : Verified). (ok : Ok w) (j : jobs.Job) → IsJob w ok root.parts.value j → ∥ MeansIt w ok root.parts.value e j ∥₁) r.code means ok (root_job f args n) (r.is ok f found)
+
+-- the definition of the run of a whole call ends with a value only within the limit, and comes to no join
+abbrev Few : ℕ → jobs.Effect → Type 0
+Few n (jobs.Ended x arrays t cost) = (length t.additions ≤ n) × (cost ≤ n)
+Few n (jobs.Joined frame t cost) = ⊥
+Few n (jobs.TrapIn trap line lines cost) = Unit {0}
+Few n jobs.OverLimit = Unit {0}
+Few n jobs.Memory = Unit {0}
+
+few : (code : Code) (f : Func) (args : List ℤ) (n : ℕ) (e : jobs.Effect) → JobMeaning code (root_job f args n) e → Few n e
+few code f args n e (Same h) = cases (course code (root_job f args n) n) (travelled code n (first_state f args [])) h
+  where
+    cases : (c : Came) → ReturnsWithin (0 + n) c → IsOf c n e → Few n e
+    cases (Arrives frame t left) w h = absurd w
+    cases (Returns v arrays t left) w h = subst (Few n) (sym h) (omega (arith, w), omega arith)
+    cases (Falls trap line lines left) w h = subst (Few n) (sym h) tt
+    cases Beyond w h = subst (Few n) (sym h) tt
+    cases Lost w h = absurd h
+few code f args n e (Passed h k) = subst (Few n) (sym h) tt
+few code f args n e (Short h) = subst (Few n) (sym h) tt
+
+-- the sums of a run, by the machine's own words
+sums_as : (code : Code) (sums : List ℤ) (t : Trace) → calls.HoldsSums code sums t.additions → shows.HoldsSums code sums t.additions
+sums_as code sums t h = record { fit = fits t.additions h.fit; as_many = h.as_many; are = h.are }
+  where
+    fits : (ts : _) → calls.AllFit ts → shows.AllFit ts
+    fits [] h = tt
+    fits (a ∷ ts) h = (h.0, fits ts h.1)
+
+module _ (laws : RootsAreSerial) (v : Verified) (ok : IsFit v) (f : Func) (args : List ℤ) (n burden : ℕ) (root : Job) (found : slice_get (code_view v.code).funcs v.code.main ≡ Some f) (asked : is_asked f.params (length args) n burden ≡ true) (r : IsRoot v args n burden root.parts.value) where
+  begins : first_transition (slice_get (code_view v.code).funcs v.code.main) args ≡ On (first_state f args [])
+  begins = first_is (code_view v.code) f args found (asked_count f args n burden asked) (main_room v f ok found) (main_arrays v f ok found)
+
+  -- what the run answers is what the code gives, but where memory was wanting
+  serial : (w : jobs.Effect) → JobMeaning (code_view v.code) (root_job f args n) w → (w ≡ jobs.Memory) ⊎ (jobs.answered (code_view v.code) w ≡ code_serial (code_view v.code) args n)
+  serial w m = laws (code_view v.code) f args n w begins m
+
+  pub trapped : (trap : Trap) (line : ℕ) (lines : _) (cost : ℕ) (back : _) → MeansIt v ok root.parts.value (effect.Trapped trap line lines cost back) (root_job f args n) → IsTrapped trap line lines.items (code_serial (code_view v.code) args n)
+  trapped trap line lines cost back m = cases m.effect m.tells (serial m.effect m.means)
+    where
+      cases : (w : jobs.Effect) → Tells (code_view v.code) (root_job f args n) root.parts.value.rest (effect.Trapped trap line lines cost back) w
+          → (w ≡ jobs.Memory) ⊎ (jobs.answered (code_view v.code) w ≡ code_serial (code_view v.code) args n) → IsTrapped trap line lines.items (code_serial (code_view v.code) args n)
+      cases (jobs.TrapIn t l ls c) h (inr e) = subst (λ o. IsTrapped trap line lines.items o) e (ap trap_number (sym h.0), sym h.1, same_as ls lines.items (sym h.2))
+      cases (jobs.TrapIn t l ls c) h (inl e) = cc
+      cases (jobs.Ended x arrays t c) h e = absurd h
+      cases (jobs.Joined frame t c) h e = absurd h
+      cases jobs.OverLimit h e = absurd h
+      cases jobs.Memory h e = absurd h
+
+  pub over : (back : _) → MeansIt v ok root.parts.value (effect.OverLimit back) (root_job f args n) → is_over (code_serial (code_view v.code) args n) ≡ true
+  over back m = cases m.effect m.tells (serial m.effect m.means)
+    where
+      cases : (w : jobs.Effect) → Tells (code_view v.code) (root_job f args n) root.parts.value.rest (effect.OverLimit back) w
+          → (w ≡ jobs.Memory) ⊎ (jobs.answered (code_view v.code) w ≡ code_serial (code_view v.code) args n) → is_over (code_serial (code_view v.code) args n) ≡ true
+      cases jobs.OverLimit h (inr e) = ap is_over (sym e)
+      cases jobs.OverLimit h (inl e) = cc
+      cases (jobs.TrapIn t l ls c) h e = absurd h
+      cases (jobs.Ended x arrays t c) h e = absurd h
+      cases (jobs.Joined frame t c) h e = absurd h
+      cases jobs.Memory h e = absurd h
+
+  pub never_joined : (frame : Rest) (replaced : _) (shown : Shown) → MeansIt v ok root.parts.value (effect.Joined frame replaced shown) (root_job f args n) → ⊥
+  never_joined frame replaced shown m = cases m.effect m.tells (few (code_view v.code) f args n m.effect m.means)
+    where
+      cases : (w : jobs.Effect) → Tells (code_view v.code) (root_job f args n) root.parts.value.rest (effect.Joined frame replaced shown) w → Few n w → ⊥
+      cases (jobs.Joined frame t c) h w = w
+      cases (jobs.Ended x arrays t c) h w = absurd h
+      cases (jobs.TrapIn t l ls c) h w = absurd h
+      cases jobs.OverLimit h w = absurd h
+      cases jobs.Memory h w = absurd h
+
+  -- a run that ended: within the limit, and with what the code gives
+  pub ended : (x : Option ℤ) (shown : Shown) (e : alone.Ended) → (end : IsEndOf v.code x shown e) → MeansIt v ok root.parts.value (effect.Ended x shown) (root_job f args n)
+      → (shown.cost ≤ n) × IsEnded (code_view v.code) burden e end.all (code_serial (code_view v.code) args n)
+  ended x shown e end m = cases m.effect m.tells m.counts (few code f args n m.effect m.means) (serial m.effect m.means)
+    where
+      code : Code
+      code = code_view v.code
+
+      most : n ≤ MOST_LIMIT
+      most = asked_limit f args n burden asked
+
+      cases : (w : jobs.Effect) → Tells (code_view v.code) (root_job f args n) root.parts.value.rest (effect.Ended x shown) w → Counts (code_view v.code) root.parts.value.burden root.parts.value.site (effect.Ended x shown) w → Few n w
+          → (w ≡ jobs.Memory) ⊎ (jobs.answered (code_view v.code) w ≡ code_serial (code_view v.code) args n) → (shown.cost ≤ n) × IsEnded (code_view v.code) burden e end.all (code_serial (code_view v.code) args n)
+      cases (jobs.Ended y arrays t cost) h counts w (inr s) =
+          let has : HasShown (code_view v.code) shown t cost = h.2 in
+          let within : shown.cost ≤ n = let k = has.cost in let le = w.1 in omega (arith, k, le) in
+          let light = asked_burden f args n burden asked in
+          let g = gauge_of v ok burden light in
+          let sites : length (code_view v.code).sites ≡ length v.code.sites.items = length-map v.code.sites.items _ in
+          let meters = subst (λ k. Meters g.burden g.tags MainOrigin k [] (whole t) shown.meter) (sym has.cost) (counts g (sym r.burden)) in (
+            within,
+            subst (λ o. IsEnded (code_view v.code) burden e end.all o) s (
+              ap int_given (sym h.1) ∙ sym end.value,
+              same_as t.lines e.lines.items (sym has.lines ∙ sym end.lines),
+              same_as _ e.sums.items (sums_are (code_view v.code) shown.sums.items t.additions (sums_as (code_view v.code) shown.sums.items t has.sums) (let le = w.0 in omega (arith, le, most)) ∙ sym end.sums),
+              subst (λ k. AreMeasures burden (k + 1) (code_view v.code).tags (normal (Marked (Invocation 0) (tree_of t.events))) end.all) (sym sites) (end.reads burden g.tags (code_view v.code).tags t.events (omega (arith, within, most)) light g.named refl meters),
+            ),
+          )
+      cases (jobs.Ended y arrays t cost) h counts w (inl s) = cc
+      cases (jobs.Joined frame t c) h counts w s = absurd h
+      cases (jobs.TrapIn t l ls c) h counts w s = absurd h
+      cases jobs.OverLimit h counts w s = absurd h
+      cases jobs.Memory h counts w s = absurd h
+
+-- whatever is a proposition and holds of the job's meaning holds
+on_root : {P : Type 0} → IsProp P → (v : Verified) (args : List ℤ) (n burden : ℕ) (root : Job) (e : Effect) → IsRoot v args n burden root.parts.value → IsMeaningOf root e
+    → ((ok : IsFit v) (main : Main v) → is_asked main.func.params (length args) n burden ≡ true → MeansIt v ok root.parts.value e (root_job main.func args n) → P) → P
+on_root prop v args n burden root e r means f = ∥∥₁_elim v.ok prop (λ ok.
+    let main = main_of v ok in
+    ∥∥₁_elim (means_root v args n burden root e r means ok main.func main.found) prop (f ok main (asked_of v main args n burden r.asked)))
+
+module _ (laws : RootsAreSerial) (v : Verified) (args : List ℤ) (n burden : ℕ) (root : Job) (r : IsRoot v args n burden root.parts.value) where
+  pub ended_as_code : (x : Option ℤ) (shown : Shown) (e : alone.Ended) → IsMeaningOf root (effect.Ended x shown) → IsEndOf v.code x shown e → Runs (code_view v.code) args n burden e
+  ended_as_code x shown e means end =
+      let is_end = IsEnded-prop (code_view v.code) burden e end.all (code_serial (code_view v.code) args n) in
+      let both = on_root (hlevel (le_prop, is_end)) v args n burden root (effect.Ended x shown) r means (λ ok main asked m. ended laws v ok main.func args n burden root main.found asked r x shown e end m) in
+      told v args n burden x shown e r.asked both.0 end both.1
+
+  pub trapped_as_code : (trap : Trap) (line : ℕ) (lines : _) (cost : ℕ) (back : _) → IsMeaningOf root (effect.Trapped trap line lines cost back) → code_serial (code_view v.code) args n ≡ Some (TrappedAt trap line lines.items)
+  trapped_as_code trap line lines cost back means =
+      let serial = code_serial (code_view v.code) args n in
+      was_trapped trap line lines.items serial (on_root (IsTrapped-prop trap line lines.items serial) v args n burden root (effect.Trapped trap line lines cost back) r means
+      (λ ok main asked m. trapped laws v ok main.func args n burden root main.found asked r trap line lines cost back m))
+
+  pub over_as_code : (back : _) → IsMeaningOf root (effect.OverLimit back) → code_serial (code_view v.code) args n ≡ Some OverLimit
+  over_as_code back means =
+      was_over (code_serial (code_view v.code) args n) (on_root (hlevel Bool-set) v args n burden root (effect.OverLimit back) r means
+      (λ ok main asked m. over laws v ok main.func args n burden root main.found asked r back m))
+
+  pub comes_to_no_join : (frame : Rest) (replaced : _) (shown : Shown) → IsMeaningOf root (effect.Joined frame replaced shown) → ⊥
+  comes_to_no_join frame replaced shown means =
+      on_root (hlevel le_prop) v args n burden root (effect.Joined frame replaced shown) r means
+      (λ ok main asked m. never_joined laws v ok main.func args n burden root main.found asked r frame replaced shown m)

@@ -1,0 +1,36 @@
+use Rattle.std.proofs.Common.{◌≡◌, ℕ, ℤ, List, subst}
+use Rattle.std.specs.Coded.{le_prop}
+use Rattle.std.proofs.Math.Bool.{Bool-set}
+use Rattle.std.proofs.Math.Logic.{∥∥₁_elim}
+use Rattle.cw_jobs.specs.declared.effect.Effect.{Effect}
+use Rattle.cw_jobs.specs.declared.job.Job as jobs
+use Rattle.cw_jobs.specs.Means.{IsMeaningOf}
+use Rattle.cw_machine.proofs.RootEnds.{ended_as_code, trapped_as_code, over_as_code, comes_to_no_join}
+use Rattle.cw_machine.proofs.answering.answer.Goals as goal
+
+pub end_of-requires : goal.end_of-requires
+end_of-requires c = ∥∥₁_elim c.args.code.now.ok (hlevel Bool-set) (λ ok. ok.fits.tags)
+
+pub returns-in-Ended : goal.returns-in-Ended
+returns-in-Ended c = λ args n burden root r means.
+    ended_as_code c.the_root_answers_what_the_code_gives.ensures c.args.code.now args n burden root r c.in-Ended.value c.in-Ended.shown c.in_ok-ended-in-Ended.ended
+    (subst (λ (e : Effect). IsMeaningOf root e) c.in-Ended.is means) c.in_ok-ended-in-Ended.ensures
+
+pub returns-in-Trapped : goal.returns-in-Trapped
+returns-in-Trapped c = λ args n burden root r means. (
+  r.asked,
+  trapped_as_code c.the_root_answers_what_the_code_gives.ensures c.args.code.now args n burden root r c.in-Trapped.trap c.in-Trapped.line c.in-Trapped.lines c.in-Trapped.cost c.in-Trapped.back
+      (subst (λ (e : Effect). IsMeaningOf root e) c.in-Trapped.is means),
+)
+
+pub returns-in-OverLimit : goal.returns-in-OverLimit
+returns-in-OverLimit c = λ args n burden root r means. (
+  r.asked,
+  over_as_code c.the_root_answers_what_the_code_gives.ensures c.args.code.now args n burden root r c.in-OverLimit.back
+      (subst (λ (e : Effect). IsMeaningOf root e) c.in-OverLimit.is means),
+)
+
+pub unreachable-requires : goal.unreachable-requires
+unreachable-requires c = ∥∥₁_elim c.requires.whole (hlevel le_prop) (λ whole.
+    comes_to_no_join c.the_root_answers_what_the_code_gives.ensures c.args.code.now whole.args whole.limit whole.burden whole.root whole.is c.in-Joined.frame c.in-Joined.replaced c.in-Joined.shown
+    (subst (λ (e : Effect). IsMeaningOf whole.root e) c.in-Joined.is whole.means))

@@ -1,0 +1,52 @@
+//! What the effect of a whole run answers.
+
+ghost use Rattle.std.specs.Prelude.{ℕ, ℤ, List};
+ghost use Rattle.cw_code.specs.Code.{code_view};
+ghost use Rattle.cw_jobs.specs.Jobs.{IsRoot};
+ghost use Rattle.cw_jobs.specs.Means.{IsMeaningOf};
+ghost use Rattle.cw_jobs.specs.declared.job.Job as jobs;
+ghost use Rattle.cw_machine.specs.Answering.{IsOfWhole};
+ghost use Rattle.cw_machine.specs.Runs.{RunsAsCode};
+
+use crate::alone::{Ended, end_of};
+use cw_jobs::effect::Effect;
+use cw_strands::laws::the_root_answers_what_the_code_gives;
+use cw_text::Fault;
+use cw_verify::verified::Verified;
+use std::alloc::Global;
+
+/// What a run of this code answers whose job, that of the whole run, came to this effect: as `run_alone` answers, whoever
+/// ran the job, on however many workers.
+///
+/// The error is `OverLimit` or `Trap`, as the effect tells, and `Memory` where memory was wanting, in the run or here.
+pub fn answer(alloc: Global, code: &Verified, effect: Effect) -> Result<Ended, Fault>
+    requires whole { ∥ IsOfWhole code.now effect ∥₁ }
+    ensures { (args : List ℤ) (n burden : ℕ) (root : jobs.Job) → IsRoot code.now args n burden root.parts.value
+        → IsMeaningOf root effect → RunsAsCode (code_view code.now.code) args n burden result }
+{
+    the_root_answers_what_the_code_gives();
+    match effect {
+        Effect::Ended { value, shown } => {
+            let ended = end_of(alloc, &code.code, value, shown)?;
+            Ok(ended)
+        }
+        Effect::Trapped {
+            trap,
+            line,
+            lines,
+            cost: _,
+            back: _,
+        } => Err(Fault::Trap {
+            code: trap,
+            line,
+            output: lines,
+        }),
+        Effect::OverLimit { back: _ } => Err(Fault::OverLimit),
+        Effect::Memory { back: _ } => Err(Fault::Memory),
+        Effect::Joined {
+            frame: _,
+            replaced: _,
+            shown: _,
+        } => unreachable!(),
+    }
+}
