@@ -44,3 +44,7 @@ parted y bodies seats others s e h =
     let n : length seats ≡ length others + 1 = ap length e ∙ snoc_length others s in
     let m : length seats ≡ bodies + 1 = h.0 in
     ((omega (arith, n, m), r.0), r.1)
+
+-- the last of them
+pub last : (y : Yard) (bodies : ℕ) (seats others : List Seat) (s : Seat) → seats ≡ others ++ s ∷ [] → AreSeatsFor y bodies seats → IsSeatOf y s
+last y bodies seats others s e h = (each_init (IsSeatOf y) others s (subst (λ l. Each (IsSeatOf y) l) e h.1)).1

@@ -2,15 +2,20 @@
 
 ghost use Rattle.std.specs.Prelude.{◌≡◌, ◌≤◌, ◌+◌, length, vec_capacity, MatchResult};
 ghost use Rattle.std.specs.Arc.{arc_value};
+ghost use Rattle.cw_code.specs.Code.{code_view};
 ghost use Rattle.cw_yard.specs.Seats.{IsSeatOf};
-ghost use Rattle.cw_pool.specs.Driven.{IsDriven, IsNotDriven, AreSeatsFor};
+ghost use Rattle.cw_pool.specs.Driven.{AreSeatsFor, IsDriven, IsNotDriven};
+ghost use Rattle.cw_pool.specs.Crews.{RunsByCrew};
 
 use crate::crew::{Body, Helper};
 use crate::gate::Gate;
 use crate::work::work;
 use cw_jobs::effect::Effect;
 use cw_jobs::job::Job;
+use cw_machine::alone::Ended;
+use cw_machine::answering::answer;
 use cw_text::Fault;
+use cw_verify::verified::Verified;
 use cw_yard::seat::{Seat, Yard};
 use std::alloc::Global;
 use std::sync::{Arc, Wait};
@@ -123,4 +128,36 @@ pub(crate) fn drive<
     yard.end(&mut seat);
     join_all(rt, handles);
     Ok(effect)
+}
+
+/// Runs code on these arguments within `n` instructions, with the caller's thread as worker 0 and a thread for each body:
+/// what `run_alone` gives, whatever the bodies and the gate do, and in whatever order workers come to steal. Returns once
+/// each thread has ended.
+///
+/// The error is `Arguments` exactly where the crew has more than 63 bodies, before anything is made, or as `run_alone`
+/// has it; otherwise that of `run_alone`: `Memory` where memory runs out, in any worker.
+pub fn run<
+    G: Gate + Drop + Send + Sync + 'static,
+    B: Body<G> + Send + Drop + 'static,
+    R: Threads + Wait,
+>(
+    rt: &R,
+    alloc: Global,
+    code: Arc<Verified>,
+    args: &[i64],
+    n: u64,
+    burden: u64,
+    crew: Vec<B>,
+    gate: Arc<G>,
+) -> Result<Ended, Fault>
+    ensures { RunsByCrew (length crew.items) (code_view code.value.code) args.now n burden result }
+{
+    if crew.len() > MOST_BODIES {
+        return Err(Fault::Arguments);
+    }
+    let root = Job::root(alloc, code, args, n, burden)?;
+    let share = Arc::try_clone(&root.parts.code)?;
+    let effect = drive(rt, alloc, root, crew, gate)?;
+    let ended = answer(alloc, &share, effect)?;
+    Ok(ended)
 }
