@@ -7,8 +7,9 @@ use cw_pool::gate::{Gate, Quiet};
 use cw_pool::run::run;
 use cw_text::Fault;
 use std::alloc::Global;
-use std::sync::Arc;
+use std::sync::{Arc, Wait};
 use std::test::Fail;
+use std::thread::Threads;
 
 const MOST: u64 = 1_000_000;
 
@@ -35,35 +36,47 @@ fn alone(alloc: Global, source: &[u8], arg: i64, n: u64) -> Result<Result<Ended,
 }
 
 // What a crew answers.
-fn together<G: Gate + Drop + Send + Sync + 'static>(
-    rt: HostRuntime,
+fn together<
+    G: Gate + Drop + Send + Sync + 'static,
+    R: Threads + Wait + Copy + Send + Drop + 'static,
+>(
+    rt: R,
+    alloc: Global,
     source: &[u8],
     arg: i64,
     n: u64,
-    crew: Vec<Hand<HostRuntime>>,
+    crew: Vec<Hand<R>>,
     gate: Arc<G>,
 ) -> Result<Result<Ended, Fault>, Fault> {
-    let alloc = rt.alloc();
     let code = code_of(alloc, source)?;
     Ok(run(&rt, alloc, code, &[arg], n, 3, crew, gate))
 }
 
-// By 1, 2, 4 and 64 workers as by one alone; the answer of that one.
-fn alike(rt: HostRuntime, source: &[u8], arg: i64, n: u64) -> Result<Result<Ended, Fault>, Fail> {
-    let alloc = rt.alloc();
-    let wanted = alone(alloc, source, arg, n)?;
+// Whether 1, 2, 4 and 64 workers answer this.
+fn all_answer<R: Threads + Wait + Copy + Send + Drop + 'static>(
+    rt: R,
+    alloc: Global,
+    source: &[u8],
+    arg: i64,
+    n: u64,
+    wanted: &Result<Ended, Fault>,
+) -> Result<bool, Fault> {
     for bodies in [0usize, 1, 3, 63] {
         let crew = serving(alloc, rt, bodies)?;
         let gate = Arc::new(alloc, Quiet)?;
-        let got = together(rt, source, arg, n, crew, gate)?;
-        assert!(rt; is_same(&got, &wanted), "{bodies} bodies");
+        let got = together(rt, alloc, source, arg, n, crew, gate)?;
+        if !is_same(&got, wanted) {
+            return Ok(false);
+        }
     }
-    Ok(wanted)
+    Ok(true)
 }
 
 #[test]
 fn spawns_and_regions(rt: HostRuntime) -> Result<(), Fail> {
-    match alike(rt, FIB, 10, MOST)? {
+    let wanted = alone(rt.alloc(), FIB, 10, MOST)?;
+    assert!(rt; all_answer(rt, rt.alloc(), FIB, 10, MOST, &wanted)?);
+    match wanted {
         Ok(ended) => assert_eq!(rt; ended.value, 55),
         Err(_) => panic!(rt; "the run failed"),
     }
@@ -72,7 +85,9 @@ fn spawns_and_regions(rt: HostRuntime) -> Result<(), Fail> {
 
 #[test]
 fn arrays_are_lent(rt: HostRuntime) -> Result<(), Fail> {
-    match alike(rt, HALVES, 40, MOST)? {
+    let wanted = alone(rt.alloc(), HALVES, 40, MOST)?;
+    assert!(rt; all_answer(rt, rt.alloc(), HALVES, 40, MOST, &wanted)?);
+    match wanted {
         Ok(ended) => assert_eq!(rt; ended.value, 780),
         Err(_) => panic!(rt; "the run failed"),
     }
@@ -80,12 +95,21 @@ fn arrays_are_lent(rt: HostRuntime) -> Result<(), Fail> {
 }
 
 #[test]
-fn traps_and_limits(rt: HostRuntime) -> Result<(), Fail> {
-    match alike(rt, TRAPS, 8, MOST)? {
+fn traps(rt: HostRuntime) -> Result<(), Fail> {
+    let wanted = alone(rt.alloc(), TRAPS, 8, MOST)?;
+    assert!(rt; all_answer(rt, rt.alloc(), TRAPS, 8, MOST, &wanted)?);
+    match wanted {
         Err(Fault::Trap { .. }) => {}
         _ => panic!(rt; "the run did not trap"),
     }
-    match alike(rt, FIB, 10, 2000)? {
+    Ok(())
+}
+
+#[test]
+fn limits(rt: HostRuntime) -> Result<(), Fail> {
+    let wanted = alone(rt.alloc(), FIB, 10, 2000)?;
+    assert!(rt; all_answer(rt, rt.alloc(), FIB, 10, 2000, &wanted)?);
+    match wanted {
         Err(Fault::OverLimit) => {}
         _ => panic!(rt; "the run did not pass its limit"),
     }
@@ -97,9 +121,9 @@ fn traps_and_limits(rt: HostRuntime) -> Result<(), Fail> {
 fn crews_that_do_nothing(rt: HostRuntime) -> Result<(), Fail> {
     let alloc = rt.alloc();
     let wanted = alone(alloc, FIB, 10, MOST)?;
-    let got = together(rt, FIB, 10, MOST, idle(alloc, 63)?, Arc::new(alloc, Quiet)?)?;
+    let got = together(rt, alloc, FIB, 10, MOST, idle(alloc, 63)?, Arc::new(alloc, Quiet)?)?;
     assert!(rt; is_same(&got, &wanted));
-    let got = together(rt, FIB, 10, MOST, idle(alloc, 64)?, Arc::new(alloc, Quiet)?)?;
+    let got = together(rt, alloc, FIB, 10, MOST, idle(alloc, 64)?, Arc::new(alloc, Quiet)?)?;
     assert!(rt; is_same(&got, &Err(Fault::Arguments)));
     Ok(())
 }
@@ -111,7 +135,7 @@ fn a_job_is_settled_while_its_owner_is_held(rt: HostRuntime) -> Result<(), Fail>
     let wanted = alone(alloc, STEPS, 3, MOST)?;
     let gate = Arc::new(alloc, Holder::new(true))?;
     let told = Arc::try_clone(&gate)?;
-    let got = together(rt, STEPS, 3, MOST, serving(alloc, rt, 1)?, gate)?;
+    let got = together(rt, alloc, STEPS, 3, MOST, serving(alloc, rt, 1)?, gate)?;
     assert!(rt; is_same(&got, &wanted));
     assert_eq!(rt; told.used_up(), 0);
     assert!(rt; told.settled() >= 1);
@@ -125,7 +149,7 @@ fn each_rest_is_run_by_the_other(rt: HostRuntime) -> Result<(), Fail> {
     let wanted = alone(alloc, FIB, 12, MOST)?;
     let gate = Arc::new(alloc, Holder::new(false))?;
     let told = Arc::try_clone(&gate)?;
-    let got = together(rt, FIB, 12, MOST, serving(alloc, rt, 1)?, gate)?;
+    let got = together(rt, alloc, FIB, 12, MOST, serving(alloc, rt, 1)?, gate)?;
     assert!(rt; is_same(&got, &wanted));
     match got {
         Ok(ended) => assert_eq!(rt; ended.value, 144),

@@ -108,7 +108,7 @@ pub fn serving<R: Wait + Copy + Drop>(
 }
 
 /// So many that return at once.
-pub fn idle<R>(alloc: Global, bodies: usize) -> Result<Vec<Hand<R>>, AllocError> {
+pub fn idle<R: Drop>(alloc: Global, bodies: usize) -> Result<Vec<Hand<R>>, AllocError> {
     let mut crew = Vec::new(alloc);
     for _k in 0..bodies {
         crew.push(Hand::Returns)?;
