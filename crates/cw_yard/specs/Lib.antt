@@ -5,7 +5,9 @@ pub mod Ledger
 pub mod Marks
 pub mod Opened
 pub mod Opens
+pub mod Seated
 pub mod Seats
 pub mod Steps
 pub mod Tickets
 pub mod Words
+pub mod lemmas

@@ -17,6 +17,7 @@ use crate::seat::{Seat, Yard};
 use crate::ticket::FreeCell;
 use crate::{deque, mark};
 use crossbeam_utils::CachePadded;
+use crossbeam_utils::sync::EventCount;
 use cw_text::Fault;
 use std::alloc::{AllocError, Global};
 
@@ -231,6 +232,7 @@ fn open_all(alloc: Global, workers: usize, cells: usize) -> Result<(Yard, Vec<Se
         table,
         mark,
         stealers,
+        bell: CachePadded::new(EventCount::new()),
     };
     let parts = parts(alloc, &yard, &mut all, &mut owns, &mut watch, cells)?;
     let seats = seats(alloc, &yard, owns, parts, cells)?;

@@ -6,14 +6,16 @@ use crate::deque::{OwnDeque, ThiefPass, Victim};
 use crate::mark::{MarkTable, Watch};
 use crate::ticket::FreeCell;
 use crossbeam_utils::CachePadded;
+use crossbeam_utils::sync::EventCount;
 
-/// Where workers hand jobs and effects to each other, shared by all of them: the cells, the end mark, and a stealer of
-/// each worker's deque.
+/// Where workers hand jobs and effects to each other, shared by all of them: the cells, the end mark, a stealer of each
+/// worker's deque, and the bell that wakes those who wait for any of these.
 #[derive(Drop)]
 pub struct Yard {
     pub(crate) table: CellTable,
     pub(crate) mark: MarkTable,
     pub(crate) stealers: Vec<CachePadded<Victim>>,
+    pub(crate) bell: CachePadded<EventCount>,
     ghost words: { table.shared.table_id.words ≡ table.shared.table_id.slots + 1 },
 }
 

@@ -10,6 +10,7 @@ ghost use Rattle.cw_yard.specs.Seats.{IsSeatOf, IsTicketOf, IsDutyOf, offered_by
 use crate::seat::{Seat, Yard};
 use crate::ticket::{Duty, Ticket};
 use crate::{handoff, mark};
+use crossbeam_utils::sync::EventCount;
 use cw_jobs::effect::Effect;
 use cw_jobs::job::Job;
 
@@ -31,7 +32,7 @@ pub enum Collected {
 
 impl Yard {
     /// Offers a job, which is then the newest in the seat's deque: it is the next number of the seat, and the ticket
-    /// names it. Waits for nobody.
+    /// names it. Rings the bell for one. Waits for nobody.
     ///
     /// The error is the same job, whole, with nothing offered: where the seat has no free cell, or its deque has no
     /// slot left and could not grow.
@@ -45,7 +46,10 @@ impl Yard {
             return Err(job);
         };
         match handoff::offer(&self.table.shared, &mut seat.own, free, job) {
-            Ok(ticket) => Ok(ticket),
+            Ok(ticket) => {
+                self.bell.notify_one();
+                Ok(ticket)
+            }
             Err((job, free)) => {
                 match seat.free.push(free) {
                     Ok(()) => {}
@@ -91,13 +95,15 @@ impl Yard {
         handoff::steal(&self.table.shared, stealer, pass)
     }
 
-    /// Leaves the effect of a stolen job in its cell, for who offered it. Takes no memory and waits for nobody.
+    /// Leaves the effect of a stolen job in its cell, for who offered it, and rings the bell for all. Takes no memory and
+    /// waits for nobody.
     pub fn settle(&self, _seat: &mut Seat, duty: Duty, effect: Effect)
         requires duty { IsDutyOf self.now duty }
         requires means { (j : Job) × (duty_job duty ≡ Some j) × IsMeaningOf j effect }
         ensures { _seat.new ≡ _seat.old }
     {
         handoff::settle(&self.table.shared, duty, effect);
+        self.bell.notify_all();
     }
 
     /// Collects the effect of a job that was stolen, where it has come. Waits for nobody, and takes no memory where each
@@ -121,13 +127,14 @@ impl Yard {
         }
     }
 
-    /// Marks the end, for all seats. Takes no memory and waits for nobody.
+    /// Marks the end, for all seats, and then rings the bell for all. Takes no memory and waits for nobody.
     pub fn end(&self, seat: &mut Seat)
         requires { IsSeatOf self.now seat.old }
         ensures seat { IsSeatOf self.now seat.new }
         ensures seen { HasSeenEnd seat.new }
     {
         mark::end(&self.mark.shared, &mut seat.watch);
+        self.bell.notify_all();
     }
 
     /// Whether the end is marked: so for ever at a seat that marked it or once saw it marked, and never before some
@@ -139,6 +146,13 @@ impl Yard {
         ensures told { result ≡ true → HasSeenEnd seat.new }
     {
         mark::ended(&self.mark.shared, &mut seat.watch)
+    }
+
+    /// It rings after a job was offered, an effect left, or the end marked. Who would sleep until then asks it for a key,
+    /// looks at the end mark and at each victim once more, and waits on the key: what came before the key is found by
+    /// that look, what comes after it wakes the sleeper. No contract speaks of it.
+    pub fn bell(&self) -> &EventCount {
+        &self.bell
     }
 
     /// How many workers it has, 1 to 64.

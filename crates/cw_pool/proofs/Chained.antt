@@ -1,0 +1,34 @@
+-- The posts of a worker as jobs are stolen and settled.
+use Rattle.std.proofs.Common.{◌≡◌, ◌∙◌, ◌++◌, List, [], ◌∷◌, Option, Some, None, refl, sym, ap, subst, reverse}
+use Rattle.std.specs.declared.snapshot.Snapshot.{Snapshot}
+use Rattle.cw_jobs.specs.declared.job.Job.{Job}
+use Rattle.cw_strand.specs.declared.strand.Strand.{Strand}
+use Rattle.cw_strand.specs.Holds.{its_job}
+use Rattle.cw_yard.specs.declared.ticket.Duty.{Duty}
+use Rattle.cw_yard.specs.declared.seat.Yard.{Yard}
+use Rattle.cw_yard.specs.Tickets.{duty_job}
+use Rattle.cw_yard.specs.Seats.{IsDutyOf}
+use Rattle.cw_pool.specs.declared.post.Post.{Post}
+use Rattle.cw_pool.specs.declared.work.Below.{Below}
+use Rattle.cw_pool.specs.Posts.{Works}
+use Rattle.cw_pool.specs.Chains.{Chain, StandsOn}
+use Rattle.cw_pool.proofs.Joins.{last_first}
+
+pub same_of : (s t : Strand) → s.of ≡ t.of → its_job s ≡ its_job t
+same_of s t e = ap (λ (o : Snapshot Job). o.value) e
+
+abbrev pub below : Post → Duty → Below
+below p d = record { post = p; duty = d }
+
+pub begun : (y : Yard) (root job : Job) (bs : List Below) → bs ≡ [] → job ≡ root → Chain y root job (reverse bs)
+begun y root job bs none e = subst (λ l. Chain y root job (reverse l)) (sym none) e
+
+pub same_chain : (y : Yard) (root job job' : Job) (bs bs' : List Below) → job' ≡ job → bs' ≡ bs → Chain y root job (reverse bs) → Chain y root job' (reverse bs')
+same_chain y root job job' bs bs' e same h = subst (λ l. Chain y root job' (reverse l)) (sym same) (subst (λ j. Chain y root j (reverse bs)) (sym e) h)
+
+pub more : (y : Yard) (root job : Job) (bs bs' : List Below) (b : Below) → bs' ≡ bs ++ b ∷ [] → duty_job b.duty ≡ Some job → IsDutyOf y b.duty → Works y b.post → Chain y root (its_job b.post.strand) (reverse bs) → Chain y root job (reverse bs')
+more y root job bs bs' b e d of w h = subst (λ l. Chain y root job l) (sym (last_first bs' bs b e)) (d, of, w, h)
+
+pub less : (y : Yard) (root job : Job) (bs bs' : List Below) (b : Below) → bs ≡ bs' ++ b ∷ [] → Chain y root job (reverse bs)
+    → (duty_job b.duty ≡ Some job) × IsDutyOf y b.duty × Works y b.post × Chain y root (its_job b.post.strand) (reverse bs')
+less y root job bs bs' b e h = subst (λ l. Chain y root job l) (last_first bs bs' b e) h

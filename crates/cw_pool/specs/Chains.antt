@@ -1,0 +1,24 @@
+-- The posts of a worker, one above the other.
+use Rattle.std.specs.Prelude.{◌≡◌, List, [], ◌∷◌, reverse, Some}
+use Rattle.cw_jobs.specs.declared.job.Job.{Job}
+use Rattle.cw_strand.specs.Holds.{its_job}
+use Rattle.cw_yard.specs.declared.seat.Yard.{Yard}
+use Rattle.cw_yard.specs.Tickets.{duty_job}
+use Rattle.cw_yard.specs.Seats.{IsDutyOf}
+use Rattle.cw_pool.specs.declared.post.Post.{Post}
+use Rattle.cw_pool.specs.declared.work.Below.{Below}
+use Rattle.cw_pool.specs.Posts.{Works}
+
+-- THE JOB ABOVE EACH WAITING POST IS THAT OF THE DUTY BESIDE IT, and the lowest one's is the root
+abbrev pub Chain : Yard → (root above : Job) → List Below → Type 0
+Chain y root above [] = above ≡ root
+Chain y root above (b ∷ bs) =
+    (duty_job b.duty ≡ Some above) × IsDutyOf y b.duty × Works y b.post × Chain y root (its_job b.post.strand) bs
+
+-- the same of a post and of those below it, the uppermost last
+abbrev pub StandsOn : Yard → (root : Job) → Post → List Below → Type 0
+StandsOn y root p below = Works y p × Chain y root (its_job p.strand) (reverse below)
+
+-- whatever the root is
+abbrev pub KeepsStanding : Yard → (p : Post) → List Below → (p' : Post) → List Below → Type 0
+KeepsStanding y p below p' below' = (root : Job) → StandsOn y root p below → StandsOn y root p' below'

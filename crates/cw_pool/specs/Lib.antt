@@ -1,0 +1,4 @@
+pub mod Chains
+pub mod Crews
+pub mod Driven
+pub mod Posts

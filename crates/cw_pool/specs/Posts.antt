@@ -1,0 +1,64 @@
+-- What a post knows of its strand and of the jobs that it has out.
+use Rattle.std.specs.Prelude.{◌≡◌, List, [], ◌∷◌, map, reverse, Option, Some}
+use Rattle.cw_jobs.specs.declared.effect.Effect.{Effect}
+use Rattle.cw_jobs.specs.declared.job.Job.{Job}
+use Rattle.cw_jobs.specs.Means.{IsMeaningOf}
+use Rattle.cw_strand.specs.declared.strand.Strand.{Strand}
+use Rattle.cw_strand.specs.Holds.{its_job, outs, IsRunning}
+use Rattle.cw_yard.specs.declared.seat.Yard.{Yard}
+use Rattle.cw_yard.specs.declared.ticket.Duty.{Duty}
+use Rattle.cw_yard.specs.Ledger.{Each}
+use Rattle.cw_yard.specs.Tickets.{ticket_job, duty_job}
+use Rattle.cw_yard.specs.Seats.{IsTicketOf, IsDutyOf}
+use Rattle.cw_pool.specs.declared.post.Kept.{Kept}
+use Rattle.cw_pool.specs.declared.post.Kept.TheVariants as kept
+use Rattle.cw_pool.specs.declared.post.Post.{Post}
+use Rattle.cw_pool.specs.declared.post.Event.{Event}
+use Rattle.cw_pool.specs.declared.post.Event.TheVariants as event
+
+-- this is the newest job that a strand has out
+abbrev pub IsNewest : Strand → Job → Type 0
+IsNewest self job = (others : List Job) × (outs self ≡ job ∷ others)
+
+-- the job that is kept, or that a ticket stands for
+abbrev pub kept_job : Kept → Option Job
+kept_job (kept.Own job) = Some job
+kept_job (kept.Out t) = ticket_job t
+
+-- the jobs kept or offered, the newest first
+abbrev pub kept_jobs : List Kept → List (Option Job)
+kept_jobs ks = map kept_job (reverse ks)
+
+abbrev pub IsKeptOf : Yard → Kept → Type 0
+IsKeptOf y (kept.Own job) = Unit {0}
+IsKeptOf y (kept.Out t) = IsTicketOf y t
+
+-- A STRAND BESIDE EXACTLY THE JOBS THAT IT HAS OUT
+abbrev pub Works : Yard → Post → Type 0
+Works y p =
+    IsRunning p.strand × (kept_jobs p.kept.items ≡ map (λ j. Some j) (outs p.strand))
+    × Each (IsKeptOf y) p.kept.items
+
+-- the same, but that the newest job out is neither kept nor offered
+abbrev pub Lacks : Yard → Post → Option Job → Type 0
+Lacks y p newest =
+    IsRunning p.strand × (newest ∷ kept_jobs p.kept.items ≡ map (λ j. Some j) (outs p.strand))
+    × Each (IsKeptOf y) p.kept.items
+
+-- a post that begins a job, whatever the yard
+abbrev pub Begins : Job → Post → Type 0
+Begins job p = (its_job p.strand ≡ job) × ((y : Yard) → Works y p)
+
+-- what a turn keeps: what it ends with means the strand's job, and then nothing is out
+abbrev pub EventFor : Yard → Post → Event → Type 0
+EventFor y p event.Went = Works y p
+EventFor y p event.Waits = Works y p
+EventFor y p (event.Ended e) = IsMeaningOf (its_job p.strand) e × (p.kept.items ≡ [])
+
+-- a stolen job with the duty to settle it
+abbrev pub IsFound : Yard → Job × Duty → Type 0
+IsFound y found = IsDutyOf y found.1 × (duty_job found.1 ≡ Some found.0)
+
+-- the effect means the job of the duty
+abbrev pub Settles : Yard → Duty → Effect → Type 0
+Settles y d e = IsDutyOf y d × ((job : Job) × (duty_job d ≡ Some job) × IsMeaningOf job e)

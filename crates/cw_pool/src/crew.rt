@@ -1,0 +1,53 @@
+//! The bodies of workers, and what each is given.
+
+ghost use Rattle.std.specs.Arc.{arc_value};
+ghost use Rattle.cw_yard.specs.Seated.{IsSeated};
+
+use crate::gate::Gate;
+use crate::work::help;
+use cw_yard::seat::{Seat, Yard};
+use std::alloc::Global;
+use std::sync::{Arc, Wait};
+
+/// A worker's seat, with shares of the yard and of the gate.
+#[derive(Drop)]
+pub struct Helper<G> {
+    pub(crate) yard: Arc<Yard>,
+    pub(crate) seat: Seat,
+    pub(crate) gate: Arc<G>,
+    pub(crate) me: usize,
+    pub(crate) alloc: Global,
+    ghost seated: { IsSeated (arc_value yard) seat },
+}
+
+impl<G: Gate + Drop> Helper<G> {
+    /// Steals, runs and settles jobs, until the run that it helps has ended. It sleeps where there is nothing to steal
+    /// for long.
+    pub fn serve<R: Wait>(self, rt: &R) {
+        let Helper {
+            yard,
+            mut seat,
+            gate,
+            me,
+            alloc,
+        } = self;
+        help(rt, alloc, &yard, &mut seat, &*gate, me);
+    }
+}
+
+/// What a worker's thread does with its helper. Whatever it does changes no answer: where it returns at once the others
+/// do its work.
+pub trait Body<G> {
+    /// The thread ends when this returns.
+    fn begin(self, helper: Helper<G>);
+}
+
+/// The body that serves.
+#[derive(Drop)]
+pub struct Serving<R>(pub R);
+
+impl<G: Gate + Drop, R: Wait + Drop> Body<G> for Serving<R> {
+    fn begin(self, helper: Helper<G>) {
+        helper.serve(&self.0);
+    }
+}

@@ -1,0 +1,163 @@
+//! A run with many workers.
+
+ghost use Rattle.std.specs.Prelude.{◌≡◌, ◌≤◌, ◌+◌, length, vec_capacity, MatchResult};
+ghost use Rattle.std.specs.Arc.{arc_value};
+ghost use Rattle.cw_code.specs.Code.{code_view};
+ghost use Rattle.cw_yard.specs.Seats.{IsSeatOf};
+ghost use Rattle.cw_pool.specs.Driven.{AreSeatsFor, IsDriven, IsNotDriven};
+ghost use Rattle.cw_pool.specs.Crews.{RunsByCrew};
+
+use crate::crew::{Body, Helper};
+use crate::gate::Gate;
+use crate::work::work;
+use cw_jobs::effect::Effect;
+use cw_jobs::job::Job;
+use cw_machine::alone::Ended;
+use cw_machine::answering::answer;
+use cw_text::Fault;
+use cw_verify::verified::Verified;
+use cw_yard::seat::{Seat, Yard};
+use std::alloc::Global;
+use std::sync::{Arc, Wait};
+use std::thread;
+use std::thread::{JoinHandle, Threads};
+
+/// Bodies of a crew: with the caller's thread they are the workers of a run.
+pub const MOST_BODIES: usize = 63;
+
+/// Jobs that a worker may have offered at a time.
+const CELLS: usize = 256;
+
+// A thread for a body, if one can be started.
+fn start<G: Gate + Drop + Send + Sync + 'static, B: Body<G> + Send + Drop + 'static, R: Threads>(
+    rt: &R,
+    alloc: Global,
+    yard: &Arc<Yard>,
+    seat: Seat,
+    gate: &Arc<G>,
+    me: usize,
+    body: B,
+) -> Option<JoinHandle<()>>
+    requires { IsSeatOf (arc_value yard.now) seat }
+{
+    let Ok(yard) = Arc::try_clone(yard) else {
+        return None;
+    };
+    let Ok(gate) = Arc::try_clone(gate) else {
+        return None;
+    };
+    let helper = Helper {
+        yard,
+        seat,
+        gate,
+        me,
+        alloc,
+    };
+    match thread::spawn(rt, move || body.begin(helper)) {
+        Ok(handle) => Some(handle),
+        Err(_) => None,
+    }
+}
+
+// A thread for each body. One that can't be started is left out, and the others do its work.
+fn start_all<
+    G: Gate + Drop + Send + Sync + 'static,
+    B: Body<G> + Send + Drop + 'static,
+    R: Threads,
+>(
+    rt: &R,
+    alloc: Global,
+    yard: &Arc<Yard>,
+    mut seats: Vec<Seat>,
+    gate: &Arc<G>,
+    mut crew: Vec<B>,
+    handles: &mut Vec<JoinHandle<()>>,
+)
+    requires seats { AreSeatsFor (arc_value yard.now) (length crew.items) seats.items }
+    requires few { length crew.items ≤ MOST_BODIES }
+    requires room { length handles.old.items + length crew.items ≤ vec_capacity handles.old }
+{
+    let mut me = 1;
+    while let Some(body) = crew.pop() {
+        let Some(seat) = seats.pop() else {
+            unreachable!()
+        };
+        if let Some(handle) = start(rt, alloc, yard, seat, gate, me, body) {
+            handles.push_reserved(handle);
+        }
+        me += 1;
+    }
+}
+
+// Each thread ends.
+fn join_all<R: Threads + Wait>(rt: &R, mut handles: Vec<JoinHandle<()>>) {
+    while let Some(handle) = handles.pop() {
+        handle.join(rt);
+    }
+}
+
+/// Runs a job, with a thread for each body: its effect, whatever the bodies and the gate do.
+///
+/// The error is `Arguments` exactly where the crew has more than 63 bodies, before anything is made; otherwise `Memory`,
+/// where memory runs out before the first thread is started. From then on there is no way out but the job's effect.
+pub(crate) fn drive<
+    G: Gate + Drop + Send + Sync + 'static,
+    B: Body<G> + Send + Drop + 'static,
+    R: Threads + Wait,
+>(
+    rt: &R,
+    alloc: Global,
+    root: Job,
+    crew: Vec<B>,
+    gate: Arc<G>,
+) -> Result<Effect, Fault>
+    ensures { MatchResult result (IsDriven (length crew.items) root) (IsNotDriven (length crew.items)) }
+{
+    let bodies = crew.len();
+    if bodies > MOST_BODIES {
+        return Err(Fault::Arguments);
+    }
+    let (yard, mut seats) = Yard::open(alloc, bodies + 1, CELLS)?;
+    let Some(mut seat) = seats.pop() else {
+        unreachable!()
+    };
+    let yard = Arc::new(alloc, yard)?;
+    let mut handles = Vec::with_capacity(alloc, bodies)?;
+    start_all(rt, alloc, &yard, seats, &gate, crew, &mut handles);
+    let effect = work(rt, alloc, &*yard, &mut seat, &*gate, 0, root);
+    yard.end(&mut seat);
+    join_all(rt, handles);
+    Ok(effect)
+}
+
+/// Runs code on these arguments within `n` instructions, with the caller's thread as worker 0 and a thread for each body:
+/// what `run_alone` gives, whatever the bodies and the gate do, and in whatever order workers come to steal. Returns once
+/// each thread has ended.
+///
+/// The error is `Arguments` exactly where the crew has more than 63 bodies, before anything is made, or as `run_alone`
+/// has it; otherwise that of `run_alone`: `Memory` where memory runs out, in any worker.
+pub fn run<
+    G: Gate + Drop + Send + Sync + 'static,
+    B: Body<G> + Send + Drop + 'static,
+    R: Threads + Wait,
+>(
+    rt: &R,
+    alloc: Global,
+    code: Arc<Verified>,
+    args: &[i64],
+    n: u64,
+    burden: u64,
+    crew: Vec<B>,
+    gate: Arc<G>,
+) -> Result<Ended, Fault>
+    ensures { RunsByCrew (length crew.items) (code_view code.value.code) args.now n burden result }
+{
+    if crew.len() > MOST_BODIES {
+        return Err(Fault::Arguments);
+    }
+    let root = Job::root(alloc, code, args, n, burden)?;
+    let share = Arc::try_clone(&root.parts.code)?;
+    let effect = drive(rt, alloc, root, crew, gate)?;
+    let ended = answer(alloc, &share, effect)?;
+    Ok(ended)
+}

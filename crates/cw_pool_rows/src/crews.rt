@@ -1,0 +1,161 @@
+//! Runs by crews, beside those of one worker.
+
+use crate::gates::{Hand, Holder, idle, serving};
+use crate::programs::{FIB, HALVES, STEPS, TRAPS, code_of};
+use cw_machine::alone::{Ended, run_alone};
+use cw_pool::gate::{Gate, Quiet};
+use cw_pool::run::run;
+use cw_text::Fault;
+use std::alloc::Global;
+use std::sync::{Arc, Wait};
+use std::test::Fail;
+use std::thread::Threads;
+
+const MOST: u64 = 1_000_000;
+
+// Whether two runs ended alike, with the same counts everywhere, or failed alike.
+fn is_same(one: &Result<Ended, Fault>, other: &Result<Ended, Fault>) -> bool {
+    match (one, other) {
+        (Ok(a), Ok(b)) => {
+            a.value == b.value
+                && a.lines == b.lines
+                && a.sums == b.sums
+                && a.measure == b.measure
+                && a.sites == b.sites
+                && a.regions == b.regions
+        }
+        (Err(a), Err(b)) => a == b,
+        _ => false,
+    }
+}
+
+// What one worker answers.
+fn alone(alloc: Global, source: &[u8], arg: i64, n: u64) -> Result<Result<Ended, Fault>, Fault> {
+    let code = code_of(alloc, source)?;
+    Ok(run_alone(alloc, code, &[arg], n, 3))
+}
+
+// What a crew answers.
+fn together<
+    G: Gate + Drop + Send + Sync + 'static,
+    R: Threads + Wait + Copy + Send + Drop + 'static,
+>(
+    rt: R,
+    alloc: Global,
+    source: &[u8],
+    arg: i64,
+    n: u64,
+    crew: Vec<Hand<R>>,
+    gate: Arc<G>,
+) -> Result<Result<Ended, Fault>, Fault> {
+    let code = code_of(alloc, source)?;
+    Ok(run(&rt, alloc, code, &[arg], n, 3, crew, gate))
+}
+
+// Whether 1, 2, 4 and 64 workers answer this.
+fn all_answer<R: Threads + Wait + Copy + Send + Drop + 'static>(
+    rt: R,
+    alloc: Global,
+    source: &[u8],
+    arg: i64,
+    n: u64,
+    wanted: &Result<Ended, Fault>,
+) -> Result<bool, Fault> {
+    for bodies in [0usize, 1, 3, 63] {
+        let crew = serving(alloc, rt, bodies)?;
+        let gate = Arc::new(alloc, Quiet)?;
+        let got = together(rt, alloc, source, arg, n, crew, gate)?;
+        if !is_same(&got, wanted) {
+            return Ok(false);
+        }
+    }
+    Ok(true)
+}
+
+#[test]
+fn spawns_and_regions(rt: HostRuntime) -> Result<(), Fail> {
+    let wanted = alone(rt.alloc(), FIB, 10, MOST)?;
+    assert!(rt; all_answer(rt, rt.alloc(), FIB, 10, MOST, &wanted)?);
+    match wanted {
+        Ok(ended) => assert_eq!(rt; ended.value, 55),
+        Err(_) => panic!(rt; "the run failed"),
+    }
+    Ok(())
+}
+
+#[test]
+fn arrays_are_lent(rt: HostRuntime) -> Result<(), Fail> {
+    let wanted = alone(rt.alloc(), HALVES, 40, MOST)?;
+    assert!(rt; all_answer(rt, rt.alloc(), HALVES, 40, MOST, &wanted)?);
+    match wanted {
+        Ok(ended) => assert_eq!(rt; ended.value, 780),
+        Err(_) => panic!(rt; "the run failed"),
+    }
+    Ok(())
+}
+
+#[test]
+fn traps(rt: HostRuntime) -> Result<(), Fail> {
+    let wanted = alone(rt.alloc(), TRAPS, 8, MOST)?;
+    assert!(rt; all_answer(rt, rt.alloc(), TRAPS, 8, MOST, &wanted)?);
+    match wanted {
+        Err(Fault::Trap { .. }) => {}
+        _ => panic!(rt; "the run did not trap"),
+    }
+    Ok(())
+}
+
+#[test]
+fn limits(rt: HostRuntime) -> Result<(), Fail> {
+    let wanted = alone(rt.alloc(), FIB, 10, 2000)?;
+    assert!(rt; all_answer(rt, rt.alloc(), FIB, 10, 2000, &wanted)?);
+    match wanted {
+        Err(Fault::OverLimit) => {}
+        _ => panic!(rt; "the run did not pass its limit"),
+    }
+    Ok(())
+}
+
+// The others do the work of bodies that return at once, and a crew of more than 63 bodies is refused.
+#[test]
+fn crews_that_do_nothing(rt: HostRuntime) -> Result<(), Fail> {
+    let alloc = rt.alloc();
+    let wanted = alone(alloc, FIB, 10, MOST)?;
+    let got = together(rt, alloc, FIB, 10, MOST, idle(alloc, 63)?, Arc::new(alloc, Quiet)?)?;
+    assert!(rt; is_same(&got, &wanted));
+    let got = together(rt, alloc, FIB, 10, MOST, idle(alloc, 64)?, Arc::new(alloc, Quiet)?)?;
+    assert!(rt; is_same(&got, &Err(Fault::Arguments)));
+    Ok(())
+}
+
+// While worker 0 is held at its first offer, worker 1 steals that job and settles it.
+#[test]
+fn a_job_is_settled_while_its_owner_is_held(rt: HostRuntime) -> Result<(), Fail> {
+    let alloc = rt.alloc();
+    let wanted = alone(alloc, STEPS, 3, MOST)?;
+    let gate = Arc::new(alloc, Holder::new(true))?;
+    let told = Arc::try_clone(&gate)?;
+    let got = together(rt, alloc, STEPS, 3, MOST, serving(alloc, rt, 1)?, gate)?;
+    assert!(rt; is_same(&got, &wanted));
+    assert_eq!(rt; told.used_up(), 0);
+    assert!(rt; told.settled() >= 1);
+    Ok(())
+}
+
+// Worker 0 is held at each offer until as many jobs were settled by worker 1: all work of its rests is done there.
+#[test]
+fn each_rest_is_run_by_the_other(rt: HostRuntime) -> Result<(), Fail> {
+    let alloc = rt.alloc();
+    let wanted = alone(alloc, FIB, 12, MOST)?;
+    let gate = Arc::new(alloc, Holder::new(false))?;
+    let told = Arc::try_clone(&gate)?;
+    let got = together(rt, alloc, FIB, 12, MOST, serving(alloc, rt, 1)?, gate)?;
+    assert!(rt; is_same(&got, &wanted));
+    match got {
+        Ok(ended) => assert_eq!(rt; ended.value, 144),
+        Err(_) => panic!(rt; "the run failed"),
+    }
+    assert_eq!(rt; told.used_up(), 0);
+    assert_eq!(rt; told.all_offered(), 232);
+    Ok(())
+}

@@ -1,0 +1,9 @@
+//! Tests of runs with many workers, by public calls alone.
+#![tactic(auto)]
+
+#[cfg(test)]
+mod crews;
+#[cfg(test)]
+mod gates;
+#[cfg(test)]
+mod programs;

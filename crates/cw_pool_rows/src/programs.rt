@@ -1,0 +1,95 @@
+//! Small programs, and their code.
+
+use cw_gen::generate;
+use cw_lex::lex;
+use cw_loops::lower;
+use cw_own::own;
+use cw_parse::parse;
+use cw_text::{Fault, Source};
+use cw_types::check;
+use cw_verify::verified::Verified;
+use cw_verify::verify::verify;
+use std::alloc::Global;
+use std::sync::Arc;
+
+/// Spawns one call within another, n deep, and gives n.
+pub const STEPS: &[u8] = b"
+int f(int n) {
+  if (n < 1) { return 0; }
+  int x = 0;
+  x = cilk_spawn f(n - 1);
+  cilk_sync;
+  return x + 1;
+}
+int main(int n) { int r = 0; r = f(n); return r; }
+";
+
+/// The n-th Fibonacci number, with one spawn of each call but the smallest; prints each 5 that it comes to.
+pub const FIB: &[u8] = b"
+reducer sum leaves;
+int fib(int n) {
+  if (n < 2) { leaves += 1; return n; }
+  int x = 0;
+  int y = 0;
+  region inner {
+    x = cilk_spawn fib(n - 1);
+    y = fib(n - 2);
+    cilk_sync;
+  }
+  if (x + y == 5) { print(5); }
+  return x + y;
+}
+int main(int n) { int r = 0; r = fib(n); return r; }
+";
+
+/// The numbers below n lie in an array, and are summed by halves, each lent to a call of its own.
+pub const HALVES: &[u8] = b"
+int total(int a[]) {
+  int n = len(a);
+  if (n < 2) { return a[0]; }
+  int x = 0;
+  int y = 0;
+  cut a at n / 2 as l, r {
+    x = cilk_spawn total(l);
+    y = total(r);
+  }
+  return x + y;
+}
+int main(int n) {
+  int a[n];
+  int i = 0;
+  while (i < n) { a[i] = i; i = i + 1; }
+  int r = 0;
+  r = total(a);
+  return r;
+}
+";
+
+/// As the Fibonacci numbers, but that each call prints, and the call of 5 divides by zero.
+pub const TRAPS: &[u8] = b"
+int fib(int n) {
+  if (n < 2) { return n; }
+  int x = 0;
+  int y = 0;
+  x = cilk_spawn fib(n - 1);
+  y = fib(n - 2);
+  cilk_sync;
+  print(n);
+  if (n > 4) { x = x / (n - 5); }
+  return x + y;
+}
+int main(int n) { int r = 0; r = fib(n); return r; }
+";
+
+/// The code of a program.
+pub fn code_of(alloc: Global, bytes: &[u8]) -> Result<Arc<Verified>, Fault> {
+    let source = Source::read(alloc, bytes)?;
+    let tokens = lex(alloc, &source)?;
+    let ast = parse(alloc, &source, tokens.as_slice())?;
+    let typed = check(alloc, ast)?;
+    let owned = own(alloc, typed)?;
+    let core = lower(alloc, owned)?;
+    let code = generate(alloc, &core)?;
+    let verified = verify(alloc, code)?;
+    Ok(Arc::new(alloc, verified)?)
+}
