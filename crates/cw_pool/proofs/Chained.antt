@@ -1,5 +1,5 @@
 -- The posts of a worker as jobs are stolen and settled.
-use Rattle.std.proofs.Common.{◌≡◌, ◌∙◌, ◌++◌, List, [], ◌∷◌, Option, Some, None, refl, sym, ap, subst, reverse}
+use Rattle.std.proofs.Common.{◌≡◌, ◌++◌, List, [], ◌∷◌, Some, sym, ap, subst, reverse}
 use Rattle.std.specs.declared.snapshot.Snapshot.{Snapshot}
 use Rattle.cw_jobs.specs.declared.job.Job.{Job}
 use Rattle.cw_strand.specs.declared.strand.Strand.{Strand}
@@ -11,7 +11,7 @@ use Rattle.cw_yard.specs.Seats.{IsDutyOf}
 use Rattle.cw_pool.specs.declared.post.Post.{Post}
 use Rattle.cw_pool.specs.declared.work.Below.{Below}
 use Rattle.cw_pool.specs.Posts.{Works}
-use Rattle.cw_pool.specs.Chains.{Chain, StandsOn}
+use Rattle.cw_pool.specs.Chains.{Chain}
 use Rattle.cw_pool.proofs.Joins.{last_first}
 
 pub same_of : (s t : Strand) → s.of ≡ t.of → its_job s ≡ its_job t

@@ -1,5 +1,5 @@
 -- The seats of a yard that was opened, as they are popped.
-use Rattle.std.proofs.Common.{◌≡◌, ◌∙◌, ◌<◌, ◌+◌, ◌-◌, ◌++◌, ℕ, zero, suc, List, [], ◌∷◌, length, refl, sym, ap, subst, arith, Option, Some, None}
+use Rattle.std.proofs.Common.{◌≡◌, ◌∙◌, ◌<◌, ◌+◌, ◌-◌, ◌++◌, ℕ, zero, suc, List, [], ◌∷◌, length, refl, ap, subst, arith, Option, Some, None}
 use Rattle.std.specs.Prelude.{slice_get}
 use Rattle.cw_yard.specs.declared.seat.Yard.{Yard}
 use Rattle.cw_yard.specs.declared.seat.Seat.{Seat}
@@ -31,9 +31,9 @@ pub opened : (y : Yard) (workers cells : ℕ) (seats : List Seat) → IsOpened w
 opened y workers cells seats h = (
   h.1.count ∙ h.0,
   each_of (IsSeatOf y) seats (λ j s e.
-  let lt : j < length seats = inside seats j s e in
-  let n : length seats ≡ workers_of y = h.1.count in
-  (h.1.each j (workers_of y - (j + 1)) s e (omega (arith, lt, n))).seat),
+      let lt : j < length seats = inside seats j s e in
+      let n : length seats ≡ workers_of y = h.1.count in
+      (h.1.each j (workers_of y - (j + 1)) s e (omega (arith, lt, n))).seat),
 )
 
 -- the last one and the others

@@ -104,13 +104,7 @@ pub(crate) fn drive<
     G: Gate + Drop + Send + Sync + 'static,
     B: Body<G> + Send + Drop + 'static,
     R: Threads + Wait,
->(
-    rt: &R,
-    alloc: Global,
-    root: Job,
-    crew: Vec<B>,
-    gate: Arc<G>,
-) -> Result<Effect, Fault>
+>(rt: &R, alloc: Global, root: Job, crew: Vec<B>, gate: Arc<G>) -> Result<Effect, Fault>
     ensures { MatchResult result (IsDriven (length crew.items) root) (IsNotDriven (length crew.items)) }
 {
     let bodies = crew.len();

@@ -13,10 +13,8 @@ use cw_jobs::job::Job;
 use cw_yard::seat::{Seat, Yard};
 use cw_yard::ticket::Duty;
 use std::alloc::Global;
-use std::hint;
-use std::mem;
 use std::sync::Wait;
-use std::thread;
+use std::{hint, mem, thread};
 
 /// So many looks in vain are followed by a pause alone, those behind them by a yield.
 const SPINS: u32 = 64;
@@ -213,10 +211,12 @@ pub(crate) fn work<G: Gate, R: Wait>(
                 &mut search,
             ),
             Event::Ended(effect) => match below.pop() {
-                Some(Below {
-                    post: waiting,
-                    duty,
-                }) => {
+                Some(
+                    Below {
+                        post: waiting,
+                        duty,
+                    },
+                ) => {
                     let ended = mem::replace(&mut post, waiting);
                     ended.finish();
                     settle(yard, seat, gate, me, duty, effect);

@@ -121,9 +121,25 @@ fn limits(rt: HostRuntime) -> Result<(), Fail> {
 fn crews_that_do_nothing(rt: HostRuntime) -> Result<(), Fail> {
     let alloc = rt.alloc();
     let wanted = alone(alloc, FIB, 10, MOST)?;
-    let got = together(rt, alloc, FIB, 10, MOST, idle(alloc, 63)?, Arc::new(alloc, Quiet)?)?;
+    let got = together(
+        rt,
+        alloc,
+        FIB,
+        10,
+        MOST,
+        idle(alloc, 63)?,
+        Arc::new(alloc, Quiet)?,
+    )?;
     assert!(rt; is_same(&got, &wanted));
-    let got = together(rt, alloc, FIB, 10, MOST, idle(alloc, 64)?, Arc::new(alloc, Quiet)?)?;
+    let got = together(
+        rt,
+        alloc,
+        FIB,
+        10,
+        MOST,
+        idle(alloc, 64)?,
+        Arc::new(alloc, Quiet)?,
+    )?;
     assert!(rt; is_same(&got, &Err(Fault::Arguments)));
     Ok(())
 }

@@ -16,8 +16,11 @@ settle-requires-clause-settles g c =
     let y = c.args.yard.now in
     let l = less y c.args.job _ c.loop.below.items c.pop.new.self.items c.in-Some-pop.field-0 c.in-Some-pop.ensures.items c.loop.invariant.3.1 in (
       l.1,
-      (its_job c.loop.post.strand, l.0,
-        subst (λ j. IsMeaningOf j c.in-Ended.effect) (same_of c.turn.new.self.strand c.loop.post.strand c.in-Ended.ensures.of) c.in-Ended.ensures.event.0),
+      (
+        its_job c.loop.post.strand,
+        l.0,
+        subst (λ j. IsMeaningOf j c.in-Ended.effect) (same_of c.turn.new.self.strand c.loop.post.strand c.in-Ended.ensures.of) c.in-Ended.ensures.event.0,
+      ),
     )
 
 pub loop-preserved : goal.loop-preserved

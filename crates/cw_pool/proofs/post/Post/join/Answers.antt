@@ -1,4 +1,4 @@
-use Rattle.std.proofs.Common.{◌≡◌, ◌∙◌, ◌∷◌, Some, refl, sym, ap, subst}
+use Rattle.std.proofs.Common.{◌∙◌, Some, refl, ap, subst}
 use Rattle.cw_yard.specs.Tickets.{ticket_job}
 use Rattle.cw_pool.specs.Posts.{Lacks, kept_job}
 use Rattle.cw_pool.proofs.Joins.{after, after_back, lacks_newest, newest, popped, post}
@@ -34,7 +34,7 @@ returns-in-Mine-clause-works c =
     let l = popped y c.args.self.now c.pop.new.self c.in-Some-Out.field-0 c.requires.works c.in-Some-Out.ensures.items in
     let t : Lacks y p (ticket_job c.in-Some-Out.ticket) = subst (λ k. Lacks y p (kept_job k)) c.in-Some-Out.field-0-is l.0 in
     after_back y p (ticket_job c.in-Some-Out.ticket) c.take_in-in-Mine.new.strand c.pop.new.self c.in-Mine.rest t refl
-        c.take_in-in-Mine.ensures.running c.take_in-in-Mine.ensures.outs
+    c.take_in-in-Mine.ensures.running c.take_in-in-Mine.ensures.outs
 
 pub give-requires-clause-given : goal.give-requires-clause-given
 give-requires-clause-given c =

@@ -1,4 +1,4 @@
-use Rattle.std.proofs.Common.{◌∙◌, sym, ap, subst}
+use Rattle.std.proofs.Common.{◌∙◌}
 use Rattle.cw_pool.proofs.Joins.{after_back, lacks_newest}
 use Rattle.cw_pool.proofs.post.Post.keep.Goals as goal
 
@@ -10,4 +10,4 @@ skip-requires-clause-out g c =
 pub returns-in-Err-clause-works : goal.returns-in-Err-clause-works
 returns-in-Err-clause-works g c =
     after_back c.args.yard.now c.args.self.now _ c.skip.new.self c.reserve.new.self c.args.rest c.requires.lacks c.reserve.ensures.items
-        c.skip.ensures.running (c.skip.ensures.outs ∙ c.fail.ensures.outs)
+    c.skip.ensures.running (c.skip.ensures.outs ∙ c.fail.ensures.outs)

@@ -1,4 +1,4 @@
-use Rattle.std.proofs.Common.{sym, ap, subst}
+use Rattle.std.proofs.Common.{sym, subst}
 use Rattle.cw_jobs.specs.Means.{IsMeaningOf}
 use Rattle.cw_strand.specs.Holds.{outs}
 use Rattle.cw_pool.proofs.Joins.{nothing}
