@@ -98,14 +98,16 @@ fn join_all<R: Threads + Wait>(rt: &R, mut handles: Vec<JoinHandle<()>>) {
 
 /// Runs a job, with a thread for each body: its effect, whatever the bodies and the gate do.
 ///
-/// The error is `Arguments` exactly where the crew has more than 63 bodies, before anything is made; otherwise `Memory`,
-/// where memory runs out before the first thread is started. From then on there is no way out but the job's effect.
+/// The error is `Arguments` exactly where the crew has more than 63 bodies, before anything is made; otherwise
+/// `Memory`, where memory runs out before the first thread is started. From then on there is no way out but the job's
+/// effect.
 pub(crate) fn drive<
     G: Gate + Drop + Send + Sync + 'static,
     B: Body<G> + Send + Drop + 'static,
     R: Threads + Wait,
 >(rt: &R, alloc: Global, root: Job, crew: Vec<B>, gate: Arc<G>) -> Result<Effect, Fault>
-    ensures { MatchResult result (IsDriven (length crew.items) root) (IsNotDriven (length crew.items)) }
+    ensures { MatchResult result (IsDriven (length crew.items) root)
+        (IsNotDriven (length crew.items)) }
 {
     let bodies = crew.len();
     if bodies > MOST_BODIES {
@@ -124,9 +126,10 @@ pub(crate) fn drive<
     Ok(effect)
 }
 
-/// Runs code on these arguments within `n` instructions, with the caller's thread as worker 0 and a thread for each body:
-/// what `run_alone` gives, whatever the bodies and the gate do, and in whatever order workers come to steal. Returns once
-/// each thread has ended.
+/// Runs code on these arguments within `n` instructions, with the caller's thread as worker 0 and a thread for each
+/// body: what `run_alone` gives, whatever the bodies and the gate do, and in whatever order workers come to steal.
+/// `burden` is the cost of a spawn in instructions, by which the burdened spans alone are told. Returns once each thread
+/// has ended.
 ///
 /// The error is `Arguments` exactly where the crew has more than 63 bodies, before anything is made, or as `run_alone`
 /// has it; otherwise that of `run_alone`: `Memory` where memory runs out, in any worker.

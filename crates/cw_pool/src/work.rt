@@ -176,8 +176,8 @@ fn run_above<G: Gate>(
     }
 }
 
-/// Runs a job to its end. While it waits for a job that another worker has, it runs stolen ones. Without memory to begin
-/// it, the job is given up.
+/// Runs a job to its end. While it waits for a job that another worker has, it runs stolen ones. Without memory to
+/// begin it, the job is given up.
 pub(crate) fn work<G: Gate, R: Wait>(
     rt: &R,
     alloc: Global,

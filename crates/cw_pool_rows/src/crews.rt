@@ -29,6 +29,22 @@ fn is_same(one: &Result<Ended, Fault>, other: &Result<Ended, Fault>) -> bool {
     }
 }
 
+// The value of a run that ended.
+fn value_of(run: &Result<Ended, Fault>) -> Option<i64> {
+    match run {
+        Ok(ended) => Some(ended.value),
+        Err(_) => None,
+    }
+}
+
+// The number of the fault of one that failed: 7 is its limit, 8 a trap.
+fn fault_of(run: &Result<Ended, Fault>) -> Option<u8> {
+    match run {
+        Ok(_) => None,
+        Err(fault) => Some(fault.number()),
+    }
+}
+
 // What one worker answers.
 fn alone(alloc: Global, source: &[u8], arg: i64, n: u64) -> Result<Result<Ended, Fault>, Fault> {
     let code = code_of(alloc, source)?;
@@ -76,10 +92,7 @@ fn all_answer<R: Threads + Wait + Copy + Send + Drop + 'static>(
 fn spawns_and_regions(rt: HostRuntime) -> Result<(), Fail> {
     let wanted = alone(rt.alloc(), FIB, 10, MOST)?;
     assert!(rt; all_answer(rt, rt.alloc(), FIB, 10, MOST, &wanted)?);
-    match wanted {
-        Ok(ended) => assert_eq!(rt; ended.value, 55),
-        Err(_) => panic!(rt; "the run failed"),
-    }
+    assert_eq!(rt; value_of(&wanted), Some(55));
     Ok(())
 }
 
@@ -87,10 +100,7 @@ fn spawns_and_regions(rt: HostRuntime) -> Result<(), Fail> {
 fn arrays_are_lent(rt: HostRuntime) -> Result<(), Fail> {
     let wanted = alone(rt.alloc(), HALVES, 40, MOST)?;
     assert!(rt; all_answer(rt, rt.alloc(), HALVES, 40, MOST, &wanted)?);
-    match wanted {
-        Ok(ended) => assert_eq!(rt; ended.value, 780),
-        Err(_) => panic!(rt; "the run failed"),
-    }
+    assert_eq!(rt; value_of(&wanted), Some(780));
     Ok(())
 }
 
@@ -98,10 +108,7 @@ fn arrays_are_lent(rt: HostRuntime) -> Result<(), Fail> {
 fn traps(rt: HostRuntime) -> Result<(), Fail> {
     let wanted = alone(rt.alloc(), TRAPS, 8, MOST)?;
     assert!(rt; all_answer(rt, rt.alloc(), TRAPS, 8, MOST, &wanted)?);
-    match wanted {
-        Err(Fault::Trap { .. }) => {}
-        _ => panic!(rt; "the run did not trap"),
-    }
+    assert_eq!(rt; fault_of(&wanted), Some(8));
     Ok(())
 }
 
@@ -109,10 +116,7 @@ fn traps(rt: HostRuntime) -> Result<(), Fail> {
 fn limits(rt: HostRuntime) -> Result<(), Fail> {
     let wanted = alone(rt.alloc(), FIB, 10, 2000)?;
     assert!(rt; all_answer(rt, rt.alloc(), FIB, 10, 2000, &wanted)?);
-    match wanted {
-        Err(Fault::OverLimit) => {}
-        _ => panic!(rt; "the run did not pass its limit"),
-    }
+    assert_eq!(rt; fault_of(&wanted), Some(7));
     Ok(())
 }
 
@@ -167,10 +171,7 @@ fn each_rest_is_run_by_the_other(rt: HostRuntime) -> Result<(), Fail> {
     let told = Arc::try_clone(&gate)?;
     let got = together(rt, alloc, FIB, 12, MOST, serving(alloc, rt, 1)?, gate)?;
     assert!(rt; is_same(&got, &wanted));
-    match got {
-        Ok(ended) => assert_eq!(rt; ended.value, 144),
-        Err(_) => panic!(rt; "the run failed"),
-    }
+    assert_eq!(rt; value_of(&got), Some(144));
     assert_eq!(rt; told.used_up(), 0);
     assert_eq!(rt; told.all_offered(), 232);
     Ok(())

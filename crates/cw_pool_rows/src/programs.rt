@@ -2,7 +2,9 @@
 
 use cw_gen::generate;
 use cw_lex::lex;
+use cw_loops::laws::derived_is_source_like;
 use cw_loops::lower;
+use cw_model::laws::derived_sites_are_numbered;
 use cw_own::own;
 use cw_parse::parse;
 use cw_text::{Fault, Source};
@@ -83,6 +85,8 @@ int main(int n) { int r = 0; r = fib(n); return r; }
 
 /// The code of a program.
 pub fn code_of(alloc: Global, bytes: &[u8]) -> Result<Arc<Verified>, Fault> {
+    derived_sites_are_numbered();
+    derived_is_source_like();
     let source = Source::read(alloc, bytes)?;
     let tokens = lex(alloc, &source)?;
     let ast = parse(alloc, &source, tokens.as_slice())?;
