@@ -25,6 +25,8 @@ use Rattle.cw_machine.specs.Hands.{HandsOut}
 use Rattle.cw_machine.specs.JobRuns.{BeginsJob, IsEmptied}
 use Rattle.cw_machine.specs.Unwinding.{ComesHome, MayComeHome}
 use Rattle.cw_machine.specs.Stretches.{StopsAt}
+use Rattle.cw_strand.specs.declared.strand.Advance.{Advance}
+use Rattle.cw_strand.specs.declared.strand.Advance.TheVariants as advance
 use Rattle.cw_strand.specs.declared.strand.Lent.{Lent}
 use Rattle.cw_strand.specs.declared.strand.Mode.TheVariants as mode
 use Rattle.cw_strand.specs.declared.strand.Step.{Step}
@@ -57,6 +59,11 @@ abbrev pub KeptBy : Step → (old new : Strand) → Type 0
 KeptBy (step.Spawned job) old new = IsRunning new × (outs new ≡ job ∷ outs old)
 KeptBy step.AtSync old new = IsRunning new × (outs new ≡ outs old) × (outs old ≢ []) × IsAtSync new
 KeptBy (step.Ended e) old new = IsMeaningOf (its_job old) e × (outs old ≡ [])
+
+-- ONE INSTRUCTION OF A STRAND: it was done, and all else is as it was; or it came to an event
+abbrev pub AdvancesBy : Advance → (old new : Strand) → Type 0
+AdvancesBy advance.Ran old new = IsRunning new × (outs new ≡ outs old) × (new.count ≡ old.count + 1)
+AdvancesBy (advance.Came s) old new = KeptBy s old new
 
 -- the strand goes on from where its run came to a stop: from a state of the serial run, by the instruction there
 pub record CameTo (self : Strand) (limit : ℕ) (stop : Stop) (is : IsFit (its_code self)) (j : jobs.Job) : Type 0 where

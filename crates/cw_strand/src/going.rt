@@ -22,7 +22,7 @@ impl Strand {
     }
 
     // The run goes on up to its next stop, within so many instructions in all.
-    fn run_on(&mut self, limit: u64) -> Stop
+    pub(crate) fn run_on(&mut self, limit: u64) -> Stop
         requires running { IsRunning self.old }
         requires going { self.old.mode ≡ mode.Going }
         requires above { self.old.count ≤ limit }
@@ -51,7 +51,7 @@ impl Strand {
     }
 
     // What a strand that went on came to.
-    fn settle(&mut self, stop: Stop, end: u64) -> Step
+    pub(crate) fn settle(&mut self, stop: Stop, end: u64) -> Step
         requires comes { HasCome self.old end stop }
         requires end { end ≡ (its_parts self.old).limit - (its_parts self.old).before }
         ensures of { self.new.of ≡ self.old.of }

@@ -48,6 +48,15 @@ pub enum Step {
     Ended(Effect),
 }
 
+/// What one instruction led a strand to.
+#[derive(Drop)]
+pub enum Advance {
+    /// The instruction was done, and the strand goes on behind it.
+    Ran,
+    /// What the strand came to, by that instruction or by none.
+    Came(Step),
+}
+
 /// What runs a job.
 #[derive(Drop)]
 pub struct Strand {
