@@ -104,6 +104,7 @@ for run in 'fib strands 8 0' 'cuts taken 16 5' 'cuts apart 16 5' 'cuts apart 1 5
         case $said in
         "$answer") same=$((same + 1)) ;;
         'status 6') memory=$((memory + 1)) ;;
+        '') grep -q OutOfMemory "$work/err" && memory=$((memory + 1)) || other=$((other + 1)) ;;
         *) other=$((other + 1)) && echo "  at $refused: $said $(head -n 1 "$work/err")" ;;
         esac
     done

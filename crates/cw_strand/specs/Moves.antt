@@ -27,13 +27,15 @@ use Rattle.cw_machine.specs.Unwinding.{ComesHome, MayComeHome}
 use Rattle.cw_machine.specs.Stretches.{StopsAt}
 use Rattle.cw_strand.specs.declared.strand.Advance.{Advance}
 use Rattle.cw_strand.specs.declared.strand.Advance.TheVariants as advance
+use Rattle.cw_strand.specs.declared.strand.Event.{Event}
+use Rattle.cw_strand.specs.declared.strand.Event.TheVariants as event
 use Rattle.cw_strand.specs.declared.strand.Lent.{Lent}
 use Rattle.cw_strand.specs.declared.strand.Mode.TheVariants as mode
 use Rattle.cw_strand.specs.declared.strand.Step.{Step}
 use Rattle.cw_strand.specs.declared.strand.Step.TheVariants as step
 use Rattle.cw_strand.specs.declared.strand.Strand.{Strand}
 use Rattle.cw_strand.specs.Levels.{levels_of}
-use Rattle.cw_strand.specs.Holds.{its_job, its_parts, its_code, outs, Ground, setting_of, ok_with, Lends, rests_at, KeepsJob, AreSpare, AreRests, IsRunning, IsAtSync, is_lost}
+use Rattle.cw_strand.specs.Holds.{its_job, its_parts, its_code, outs, Ground, setting_of, ok_with, Lends, rests_at, KeepsJob, AreSpare, AreRests, IsRunning, IsAtSync, HasStopped, is_lost}
 
 -- a run begins a job, whose arrays moved into it
 pub record BeginsRun (p p' : Parts) (r : Run) : Type 0 where
@@ -60,11 +62,6 @@ KeptBy (step.Spawned job) old new = IsRunning new × (outs new ≡ job ∷ outs 
 KeptBy step.AtSync old new = IsRunning new × (outs new ≡ outs old) × (outs old ≢ []) × IsAtSync new
 KeptBy (step.Ended e) old new = IsMeaningOf (its_job old) e × (outs old ≡ [])
 
--- ONE INSTRUCTION OF A STRAND: it was done, and all else is as it was; or it came to an event
-abbrev pub AdvancesBy : Advance → (old new : Strand) → Type 0
-AdvancesBy advance.Ran old new = IsRunning new × (outs new ≡ outs old) × (new.count ≡ old.count + 1)
-AdvancesBy (advance.Came s) old new = KeptBy s old new
-
 -- the strand goes on from where its run came to a stop: from a state of the serial run, by the instruction there
 pub record CameTo (self : Strand) (limit : ℕ) (stop : Stop) (is : IsFit (its_code self)) (j : jobs.Job) : Type 0 where
   pub ground : Ground (its_code self) is (its_parts self) j
@@ -85,6 +82,19 @@ pub record HasCome (self : Strand) (limit : ℕ) (stop : Stop) : Type 0 where
   pub rests : AreRests self
   pub comes : (is : IsFit (its_code self)) (j : jobs.Job) → IsJob (its_code self) is (its_parts self) j
       → ∥ CameTo self limit stop is j ∥₁
+
+-- the same before its effect is made: it has stopped with nothing out, or its run has come to the end of its job
+abbrev pub ComesTo : Event → (old new : Strand) → Type 0
+ComesTo (event.Spawned job) old new = KeptBy (step.Spawned job) old new
+ComesTo event.AtSync old new = KeptBy step.AtSync old new
+ComesTo event.Stopped old new = IsRunning new × HasStopped new × (outs new ≡ []) × (outs old ≡ [])
+ComesTo (event.Joined end) old new = HasCome new end stop.Joined × (outs new ≡ outs old)
+ComesTo (event.Gave value end) old new = HasCome new end (stop.Gave value) × (outs new ≡ outs old)
+
+-- ONE INSTRUCTION OF A STRAND: it was done, and all else is as it was; or it came to an event
+abbrev pub AdvancesBy : Advance → (old new : Strand) → Type 0
+AdvancesBy advance.Ran old new = IsRunning new × (outs new ≡ outs old) × (new.count ≡ old.count + 1)
+AdvancesBy (advance.Came s) old new = KeptBy s old new
 
 -- the same job, and the same jobs out
 abbrev pub IsSame : (old new : Strand) → Type 0

@@ -5,7 +5,7 @@ ghost use Rattle.cw_strand.specs.declared.strand.Mode.TheVariants as mode;
 ghost use Rattle.cw_strand.specs.Holds.{its_parts, IsRunning};
 ghost use Rattle.cw_strand.specs.Moves.{AdvancesBy};
 
-use crate::strand::{Advance, Mode, Strand};
+use crate::strand::{Advance, Event, Mode, Step, Strand};
 use cw_machine::run::Stop;
 
 impl Strand {
@@ -22,7 +22,13 @@ impl Strand {
         let stop = self.run_on(next);
         match stop {
             Stop::Over => Advance::Ran,
-            _ => Advance::Came(self.settle(stop, end)),
+            _ => Advance::Came(match self.settle(stop, end) {
+                Event::Spawned(job) => Step::Spawned(job),
+                Event::AtSync => Step::AtSync,
+                Event::Stopped => Step::Ended(self.stop_effect()),
+                Event::Joined(end) => Step::Ended(self.join_effect(end)),
+                Event::Gave(value, end) => Step::Ended(self.call_effect(value, end)),
+            }),
         }
     }
 

@@ -3,9 +3,9 @@
 ghost use Rattle.std.specs.Prelude.{◌≡◌, ◌-◌, ◌≤◌, [], IsSome};
 ghost use Rattle.cw_strand.specs.declared.strand.Mode.TheVariants as mode;
 ghost use Rattle.cw_strand.specs.Holds.{its_parts, outs, HasStopped, IsRunning};
-ghost use Rattle.cw_strand.specs.Moves.{EndsBy, HasCome, IsSame, IsStill, KeptBy};
+ghost use Rattle.cw_strand.specs.Moves.{EndsBy, HasCome, IsSame, IsStill, KeptBy, ComesTo};
 
-use crate::strand::{Mode, Step, Strand};
+use crate::strand::{Event, Mode, Step, Strand};
 use cw_jobs::effect::Effect;
 use cw_machine::laws::machines_that_stop_remain;
 use cw_machine::run::Stop;
@@ -38,24 +38,26 @@ impl Strand {
     }
 
     // The strand has stopped for good: it ends where nothing is out.
-    pub(crate) fn rest(&mut self) -> Step
+    #[inline(always)]
+    pub(crate) fn rest(&mut self) -> Event
         requires running { IsRunning self.old }
         requires stopped { HasStopped self.old }
         ensures of { self.new.of ≡ self.old.of }
-        ensures keeps { KeptBy result self.old self.new }
+        ensures keeps { ComesTo result self.old self.new }
     {
         if self.lent.is_empty() {
-            return Step::Ended(self.stop_effect());
+            return Event::Stopped;
         }
-        Step::AtSync
+        Event::AtSync
     }
 
     // What a strand that went on came to.
-    pub(crate) fn settle(&mut self, stop: Stop, end: u64) -> Step
+    #[inline(always)]
+    pub(crate) fn settle(&mut self, stop: Stop, end: u64) -> Event
         requires comes { HasCome self.old end stop }
         requires end { end ≡ (its_parts self.old).limit - (its_parts self.old).before }
         ensures of { self.new.of ≡ self.old.of }
-        ensures keeps { KeptBy result self.old self.new }
+        ensures keeps { ComesTo result self.old self.new }
     {
         calls_on_a_strand_keep_its_job();
         machines_that_stop_remain();
@@ -63,10 +65,10 @@ impl Strand {
             Stop::Spawned(spawn) => self.lend(spawn, end),
             Stop::CameBack => {
                 self.mode = Mode::Waiting;
-                Step::AtSync
+                Event::AtSync
             }
-            Stop::Joined => Step::Ended(self.join_effect(end)),
-            Stop::Gave(value) => Step::Ended(self.call_effect(value, end)),
+            Stop::Joined => Event::Joined(end),
+            Stop::Gave(value) => Event::Gave(value, end),
             Stop::Trapped(trap, line) => {
                 self.mode = Mode::Trapped(trap, line);
                 self.rest()
@@ -79,6 +81,24 @@ impl Strand {
                 self.mode = Mode::Memory;
                 self.rest()
             }
+        }
+    }
+
+    // Goes on to the next event.
+    #[inline(always)]
+    fn to_event(&mut self) -> Event
+        requires { IsRunning self.old }
+        ensures of { self.new.of ≡ self.old.of }
+        ensures keeps { ComesTo result self.old self.new }
+    {
+        match self.mode {
+            Mode::Going => {
+                let end = self.end_of_job();
+                let stop = self.run_on(end);
+                self.settle(stop, end)
+            }
+            Mode::Waiting => Event::AtSync,
+            _ => self.rest(),
         }
     }
 
@@ -105,14 +125,12 @@ impl Strand {
         ensures of { self.new.of ≡ self.old.of }
         ensures keeps { KeptBy result self.old self.new }
     {
-        match self.mode {
-            Mode::Going => {
-                let end = self.end_of_job();
-                let stop = self.run_on(end);
-                self.settle(stop, end)
-            }
-            Mode::Waiting => Step::AtSync,
-            _ => self.rest(),
+        match self.to_event() {
+            Event::Spawned(job) => Step::Spawned(job),
+            Event::AtSync => Step::AtSync,
+            Event::Stopped => Step::Ended(self.stop_effect()),
+            Event::Joined(end) => Step::Ended(self.join_effect(end)),
+            Event::Gave(value, end) => Step::Ended(self.call_effect(value, end)),
         }
     }
 

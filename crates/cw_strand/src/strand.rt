@@ -48,6 +48,21 @@ pub enum Step {
     Ended(Effect),
 }
 
+/// What a strand came to, before its effect is made: an effect is wide, and most events have none.
+#[derive(Drop)]
+pub(crate) enum Event {
+    /// As `Step` has it.
+    Spawned(Job),
+    /// As `Step` has it.
+    AtSync,
+    /// It has stopped, and nothing is out.
+    Stopped,
+    /// It is at the join of its job, within so many instructions.
+    Joined(u64),
+    /// Its call has ended, with this value if it gives one, within so many instructions.
+    Gave(Option<i64>, u64),
+}
+
 /// What one instruction led a strand to.
 #[derive(Drop)]
 pub enum Advance {

@@ -70,8 +70,8 @@ fn fails_now(guide: &mut Guide) -> bool {
     guide.sound == 0
 }
 
-// A rest that nobody ran comes back to its join.
-fn come_back(strand: &mut Strand, job: Job)
+/// A rest that nobody ran comes back to its join.
+pub fn come_back(strand: &mut Strand, job: Job)
     requires running { IsRunning strand.old }
     requires at_sync { IsAtSync strand.old }
     requires out { (others : List jobs.Job) × (outs strand.old ≡ job ∷ others) }
