@@ -27,6 +27,8 @@ use Rattle.cw_machine.specs.Unwinding.{ComesHome, MayComeHome}
 use Rattle.cw_machine.specs.Stretches.{StopsAt}
 use Rattle.cw_strand.specs.declared.strand.Advance.{Advance}
 use Rattle.cw_strand.specs.declared.strand.Advance.TheVariants as advance
+use Rattle.cw_strand.specs.declared.strand.End.{End}
+use Rattle.cw_strand.specs.declared.strand.End.TheVariants as end
 use Rattle.cw_strand.specs.declared.strand.Event.{Event}
 use Rattle.cw_strand.specs.declared.strand.Event.TheVariants as event
 use Rattle.cw_strand.specs.declared.strand.Lent.{Lent}
@@ -83,13 +85,17 @@ pub record HasCome (self : Strand) (limit : ℕ) (stop : Stop) : Type 0 where
   pub comes : (is : IsFit (its_code self)) (j : jobs.Job) → IsJob (its_code self) is (its_parts self) j
       → ∥ CameTo self limit stop is j ∥₁
 
--- the same before its effect is made: it has stopped with nothing out, or its run has come to the end of its job
+-- A STRAND HAS COME TO AN END: it has stopped, with nothing out, or its run is at the end of its job
+abbrev pub EndsAt : End → Strand → Type 0
+EndsAt end.Stopped self = IsRunning self × HasStopped self × (outs self ≡ [])
+EndsAt (end.Joined limit) self = HasCome self limit stop.Joined
+EndsAt (end.Gave value limit) self = HasCome self limit (stop.Gave value)
+
+-- an event, as above, but that the effect is not made yet
 abbrev pub ComesTo : Event → (old new : Strand) → Type 0
 ComesTo (event.Spawned job) old new = KeptBy (step.Spawned job) old new
 ComesTo event.AtSync old new = KeptBy step.AtSync old new
-ComesTo event.Stopped old new = IsRunning new × HasStopped new × (outs new ≡ []) × (outs old ≡ [])
-ComesTo (event.Joined end) old new = HasCome new end stop.Joined × (outs new ≡ outs old)
-ComesTo (event.Gave value end) old new = HasCome new end (stop.Gave value) × (outs new ≡ outs old)
+ComesTo (event.AtEnd e) old new = EndsAt e new × (outs new ≡ outs old)
 
 -- ONE INSTRUCTION OF A STRAND: it was done, and all else is as it was; or it came to an event
 abbrev pub AdvancesBy : Advance → (old new : Strand) → Type 0

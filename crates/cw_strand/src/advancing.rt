@@ -25,9 +25,7 @@ impl Strand {
             _ => Advance::Came(match self.settle(stop, end) {
                 Event::Spawned(job) => Step::Spawned(job),
                 Event::AtSync => Step::AtSync,
-                Event::Stopped => Step::Ended(self.stop_effect()),
-                Event::Joined(end) => Step::Ended(self.join_effect(end)),
-                Event::Gave(value, end) => Step::Ended(self.call_effect(value, end)),
+                Event::AtEnd(end) => Step::Ended(self.effect_at(end)),
             }),
         }
     }

@@ -2,10 +2,11 @@
 
 ghost use Rattle.std.specs.Prelude.{◌≡◌, ◌-◌, ◌≤◌, [], IsSome};
 ghost use Rattle.cw_strand.specs.declared.strand.Mode.TheVariants as mode;
-ghost use Rattle.cw_strand.specs.Holds.{its_parts, outs, HasStopped, IsRunning};
-ghost use Rattle.cw_strand.specs.Moves.{EndsBy, HasCome, IsSame, IsStill, KeptBy, ComesTo};
+ghost use Rattle.cw_jobs.specs.Means.{IsMeaningOf};
+ghost use Rattle.cw_strand.specs.Holds.{its_job, its_parts, outs, HasStopped, IsRunning};
+ghost use Rattle.cw_strand.specs.Moves.{EndsBy, HasCome, IsSame, IsStill, KeptBy, ComesTo, EndsAt};
 
-use crate::strand::{Event, Mode, Step, Strand};
+use crate::strand::{End, Event, Mode, Step, Strand};
 use cw_jobs::effect::Effect;
 use cw_machine::laws::machines_that_stop_remain;
 use cw_machine::run::Stop;
@@ -46,7 +47,7 @@ impl Strand {
         ensures keeps { ComesTo result self.old self.new }
     {
         if self.lent.is_empty() {
-            return Event::Stopped;
+            return Event::AtEnd(End::Stopped);
         }
         Event::AtSync
     }
@@ -67,8 +68,8 @@ impl Strand {
                 self.mode = Mode::Waiting;
                 Event::AtSync
             }
-            Stop::Joined => Event::Joined(end),
-            Stop::Gave(value) => Event::Gave(value, end),
+            Stop::Joined => Event::AtEnd(End::Joined(end)),
+            Stop::Gave(value) => Event::AtEnd(End::Gave(value, end)),
             Stop::Trapped(trap, line) => {
                 self.mode = Mode::Trapped(trap, line);
                 self.rest()
@@ -81,24 +82,6 @@ impl Strand {
                 self.mode = Mode::Memory;
                 self.rest()
             }
-        }
-    }
-
-    // Goes on to the next event.
-    #[inline(always)]
-    fn to_event(&mut self) -> Event
-        requires { IsRunning self.old }
-        ensures of { self.new.of ≡ self.old.of }
-        ensures keeps { ComesTo result self.old self.new }
-    {
-        match self.mode {
-            Mode::Going => {
-                let end = self.end_of_job();
-                let stop = self.run_on(end);
-                self.settle(stop, end)
-            }
-            Mode::Waiting => Event::AtSync,
-            _ => self.rest(),
         }
     }
 
@@ -118,6 +101,38 @@ impl Strand {
         }
     }
 
+    /// Goes on to its next event, as `go`, but that an effect is not made yet.
+    pub fn next_event(&mut self) -> Event
+        requires { IsRunning self.old }
+        ensures of { self.new.of ≡ self.old.of }
+        ensures keeps { ComesTo result self.old self.new }
+    {
+        match self.mode {
+            Mode::Going => {
+                let end = self.end_of_job();
+                let stop = self.run_on(end);
+                self.settle(stop, end)
+            }
+            Mode::Waiting => Event::AtSync,
+            _ => self.rest(),
+        }
+    }
+
+    /// The effect of a strand that has come to this end: it means its job.
+    #[inline(never)]
+    pub fn effect_at(&mut self, end: End) -> Effect
+        requires { EndsAt end self.old }
+        ensures of { self.new.of ≡ self.old.of }
+        ensures means { IsMeaningOf (its_job self.old) result }
+        ensures none { outs self.old ≡ [] }
+    {
+        match end {
+            End::Stopped => self.stop_effect(),
+            End::Joined(limit) => self.join_effect(limit),
+            End::Gave(value, limit) => self.call_effect(value, limit),
+        }
+    }
+
     /// Goes on to its next event: a spawn, whose rest it hands out; `AtSync`, where the newest job out must come back
     /// first; or its end, with an effect that means its job. Where memory was wanting, that is its effect.
     pub fn go(&mut self) -> Step
@@ -125,12 +140,10 @@ impl Strand {
         ensures of { self.new.of ≡ self.old.of }
         ensures keeps { KeptBy result self.old self.new }
     {
-        match self.to_event() {
+        match self.next_event() {
             Event::Spawned(job) => Step::Spawned(job),
             Event::AtSync => Step::AtSync,
-            Event::Stopped => Step::Ended(self.stop_effect()),
-            Event::Joined(end) => Step::Ended(self.join_effect(end)),
-            Event::Gave(value, end) => Step::Ended(self.call_effect(value, end)),
+            Event::AtEnd(end) => Step::Ended(self.effect_at(end)),
         }
     }
 
