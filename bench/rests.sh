@@ -28,7 +28,6 @@ for part in driving programs calls; do
     cp "$rows/src/$part.rt" "$program/src/"
     [ ! -d "$rows/proofs/$part" ] || cp -a "$rows/proofs/$part" "$program/proofs/"
 done
-cp -a "$rows"/proofs/+driving "$program/proofs/" 2>/dev/null || true
 grep -rl cw_strand_rows "$program/proofs" | while read -r file; do
     sed -i 's/cw_strand_rows/rests_bench/g' "$file"
 done
