@@ -1,14 +1,14 @@
 //! A job run on one thread. What becomes of each rest that a strand hands out is told beforehand.
 
-ghost use Rattle.std.specs.Prelude.{◌≡◌, ◌∷◌, List, None, IfOk};
+ghost use Rattle.std.specs.Prelude.{◌≡◌, ◌∷◌, List, None, IfOk, IfSome};
 ghost use Rattle.cw_jobs.specs.declared.job.Job as jobs;
 ghost use Rattle.cw_jobs.specs.Means.{IsMeaningOf};
 ghost use Rattle.cw_strand.specs.Holds.{outs, IsAtSync, IsRunning};
-ghost use Rattle.cw_strand.specs.Moves.{EndsBy};
+ghost use Rattle.cw_strand.specs.Moves.{EndsBy, KeptBy};
 
 use cw_jobs::effect::Effect;
 use cw_jobs::job::Job;
-use cw_strand::strand::{Step, Strand};
+use cw_strand::strand::{Advance, Step, Strand};
 use std::alloc::Global;
 use std::snapshot::Snapshot;
 
@@ -34,6 +34,8 @@ pub struct Way<'a> {
     pub fates: &'a [Fate],
     /// Whether a strand is asked for its end before it goes on.
     pub asks_ends: bool,
+    /// Whether a strand goes on by one instruction at a time.
+    pub by_one: bool,
 }
 
 // A run under way.
@@ -99,6 +101,22 @@ fn come_in(strand: &mut Strand, job: Snapshot<Job>, effect: Effect)
     strand.give(effect);
 }
 
+// Goes on with a strand to its next event, or by one instruction, which may be none.
+fn step(strand: &mut Strand, by_one: bool) -> Option<Step>
+    requires running { IsRunning strand.old }
+    ensures of { strand.new.of ≡ strand.old.of }
+    ensures none { result ≡ None → IsRunning strand.new × (outs strand.new ≡ outs strand.old) }
+    ensures some { IfSome result (λ step. KeptBy step strand.old strand.new) }
+{
+    if !by_one {
+        return Some(strand.go());
+    }
+    match strand.advance() {
+        Advance::Ran => None,
+        Advance::Came(step) => Some(step),
+    }
+}
+
 // Runs a job by a strand of its own.
 #[cycle(driving)]
 fn run_apart(guide: &mut Guide, depth: u32, job: Job) -> Result<Effect, Lost>
@@ -133,10 +151,13 @@ fn go_on(guide: &mut Guide, depth: u32, strand: &mut Strand) -> Result<Option<Ef
                 return Ok(Some(effect));
             }
         }
-        match strand.go() {
-            Step::Spawned(job) => see_to(guide, depth - 1, strand, job)?,
-            Step::AtSync => return Ok(None),
-            Step::Ended(effect) => return Ok(Some(effect)),
+        match step(strand, guide.way.by_one) {
+            None => {}
+            Some(step) => match step {
+                Step::Spawned(job) => see_to(guide, depth - 1, strand, job)?,
+                Step::AtSync => return Ok(None),
+                Step::Ended(effect) => return Ok(Some(effect)),
+            },
         }
     }
     Err(Lost)

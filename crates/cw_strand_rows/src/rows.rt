@@ -29,35 +29,43 @@ struct Row<'a> {
     told: Told<'a>,
 }
 
-// What becomes of rests: all the same; or in turn; once where each strand is asked for its end before it goes on.
+// What becomes of rests: all the same; or in turn; twice by one instruction at a time, where each strand is
+// asked for its end before each.
 const WAYS: [Way<'static>; 7] = [
     Way {
         fates: &[Fate::TakenBack],
         asks_ends: false,
+        by_one: false,
     },
     Way {
         fates: &[Fate::ApartAtOnce],
         asks_ends: false,
+        by_one: false,
     },
     Way {
         fates: &[Fate::ApartAtJoin],
         asks_ends: false,
+        by_one: false,
     },
     Way {
         fates: &[Fate::TakenBack, Fate::ApartAtOnce],
         asks_ends: false,
+        by_one: false,
     },
     Way {
         fates: &[Fate::ApartAtJoin, Fate::TakenBack],
         asks_ends: false,
+        by_one: false,
     },
     Way {
         fates: &[Fate::ApartAtOnce, Fate::ApartAtJoin, Fate::TakenBack],
         asks_ends: true,
+        by_one: true,
     },
     Way {
         fates: &[Fate::TakenBack],
         asks_ends: true,
+        by_one: true,
     },
 ];
 
