@@ -19,3 +19,4 @@ pub mod Gave
 pub mod GaveTrap
 pub mod GaveJoin
 pub mod Adding
+pub mod Advanced

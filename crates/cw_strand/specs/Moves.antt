@@ -25,13 +25,19 @@ use Rattle.cw_machine.specs.Hands.{HandsOut}
 use Rattle.cw_machine.specs.JobRuns.{BeginsJob, IsEmptied}
 use Rattle.cw_machine.specs.Unwinding.{ComesHome, MayComeHome}
 use Rattle.cw_machine.specs.Stretches.{StopsAt}
+use Rattle.cw_strand.specs.declared.strand.Advance.{Advance}
+use Rattle.cw_strand.specs.declared.strand.Advance.TheVariants as advance
+use Rattle.cw_strand.specs.declared.strand.End.{End}
+use Rattle.cw_strand.specs.declared.strand.End.TheVariants as end
+use Rattle.cw_strand.specs.declared.strand.Event.{Event}
+use Rattle.cw_strand.specs.declared.strand.Event.TheVariants as event
 use Rattle.cw_strand.specs.declared.strand.Lent.{Lent}
 use Rattle.cw_strand.specs.declared.strand.Mode.TheVariants as mode
 use Rattle.cw_strand.specs.declared.strand.Step.{Step}
 use Rattle.cw_strand.specs.declared.strand.Step.TheVariants as step
 use Rattle.cw_strand.specs.declared.strand.Strand.{Strand}
 use Rattle.cw_strand.specs.Levels.{levels_of}
-use Rattle.cw_strand.specs.Holds.{its_job, its_parts, its_code, outs, Ground, setting_of, ok_with, Lends, rests_at, KeepsJob, AreSpare, AreRests, IsRunning, IsAtSync, is_lost}
+use Rattle.cw_strand.specs.Holds.{its_job, its_parts, its_code, outs, Ground, setting_of, ok_with, Lends, rests_at, KeepsJob, AreSpare, AreRests, IsRunning, IsAtSync, HasStopped, is_lost}
 
 -- a run begins a job, whose arrays moved into it
 pub record BeginsRun (p p' : Parts) (r : Run) : Type 0 where
@@ -78,6 +84,23 @@ pub record HasCome (self : Strand) (limit : ℕ) (stop : Stop) : Type 0 where
   pub rests : AreRests self
   pub comes : (is : IsFit (its_code self)) (j : jobs.Job) → IsJob (its_code self) is (its_parts self) j
       → ∥ CameTo self limit stop is j ∥₁
+
+-- A STRAND HAS COME TO AN END: it has stopped, with nothing out, or its run is at the end of its job
+abbrev pub EndsAt : End → Strand → Type 0
+EndsAt end.Stopped self = IsRunning self × HasStopped self × (outs self ≡ [])
+EndsAt (end.Joined limit) self = HasCome self limit stop.Joined
+EndsAt (end.Gave value limit) self = HasCome self limit (stop.Gave value)
+
+-- an event, as above, but that the effect is not made yet
+abbrev pub ComesTo : Event → (old new : Strand) → Type 0
+ComesTo (event.Spawned job) old new = KeptBy (step.Spawned job) old new
+ComesTo event.AtSync old new = KeptBy step.AtSync old new
+ComesTo (event.AtEnd e) old new = EndsAt e new × (outs new ≡ outs old)
+
+-- ONE INSTRUCTION OF A STRAND: it was done, and all else is as it was; or it came to an event
+abbrev pub AdvancesBy : Advance → (old new : Strand) → Type 0
+AdvancesBy advance.Ran old new = IsRunning new × (outs new ≡ outs old) × (new.count ≡ old.count + 1)
+AdvancesBy (advance.Came s) old new = KeptBy s old new
 
 -- the same job, and the same jobs out
 abbrev pub IsSame : (old new : Strand) → Type 0

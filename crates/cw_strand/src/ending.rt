@@ -46,6 +46,7 @@ fn given_up(machine: &mut Machine, rest: &mut Rest) -> Vec<Slice>
 
 impl Strand {
     // The effect of a strand that stopped and has nothing out.
+    #[inline(never)]
     pub(crate) fn stop_effect(&mut self) -> Effect
         requires running { IsRunning self.old }
         requires stopped { HasStopped self.old }
@@ -78,6 +79,7 @@ impl Strand {
     }
 
     // The effect of a strand whose call has ended, with this value if it gives one.
+    #[inline(never)]
     pub(crate) fn call_effect(&mut self, value: Option<i64>, end: u64) -> Effect
         requires comes { HasCome self.old end (stop.Gave value) }
         ensures of { self.new.of ≡ self.old.of }
@@ -92,6 +94,7 @@ impl Strand {
     }
 
     // The effect of a strand that is at the join of its job.
+    #[inline(never)]
     pub(crate) fn join_effect(&mut self, end: u64) -> Effect
         requires comes { HasCome self.old end stop.Joined }
         ensures of { self.new.of ≡ self.old.of }

@@ -2,10 +2,11 @@
 
 ghost use Rattle.std.specs.Prelude.{◌≡◌, ◌-◌, ◌≤◌, [], IsSome};
 ghost use Rattle.cw_strand.specs.declared.strand.Mode.TheVariants as mode;
-ghost use Rattle.cw_strand.specs.Holds.{its_parts, outs, HasStopped, IsRunning};
-ghost use Rattle.cw_strand.specs.Moves.{EndsBy, HasCome, IsSame, IsStill, KeptBy};
+ghost use Rattle.cw_jobs.specs.Means.{IsMeaningOf};
+ghost use Rattle.cw_strand.specs.Holds.{its_job, its_parts, outs, HasStopped, IsRunning};
+ghost use Rattle.cw_strand.specs.Moves.{EndsBy, HasCome, IsSame, IsStill, KeptBy, ComesTo, EndsAt};
 
-use crate::strand::{Mode, Step, Strand};
+use crate::strand::{End, Event, Mode, Step, Strand};
 use cw_jobs::effect::Effect;
 use cw_machine::laws::machines_that_stop_remain;
 use cw_machine::run::Stop;
@@ -22,7 +23,7 @@ impl Strand {
     }
 
     // The run goes on up to its next stop, within so many instructions in all.
-    fn run_on(&mut self, limit: u64) -> Stop
+    pub(crate) fn run_on(&mut self, limit: u64) -> Stop
         requires running { IsRunning self.old }
         requires going { self.old.mode ≡ mode.Going }
         requires above { self.old.count ≤ limit }
@@ -38,24 +39,26 @@ impl Strand {
     }
 
     // The strand has stopped for good: it ends where nothing is out.
-    pub(crate) fn rest(&mut self) -> Step
+    #[inline(always)]
+    pub(crate) fn rest(&mut self) -> Event
         requires running { IsRunning self.old }
         requires stopped { HasStopped self.old }
         ensures of { self.new.of ≡ self.old.of }
-        ensures keeps { KeptBy result self.old self.new }
+        ensures keeps { ComesTo result self.old self.new }
     {
         if self.lent.is_empty() {
-            return Step::Ended(self.stop_effect());
+            return Event::AtEnd(End::Stopped);
         }
-        Step::AtSync
+        Event::AtSync
     }
 
     // What a strand that went on came to.
-    fn settle(&mut self, stop: Stop, end: u64) -> Step
+    #[inline(always)]
+    pub(crate) fn settle(&mut self, stop: Stop, end: u64) -> Event
         requires comes { HasCome self.old end stop }
         requires end { end ≡ (its_parts self.old).limit - (its_parts self.old).before }
         ensures of { self.new.of ≡ self.old.of }
-        ensures keeps { KeptBy result self.old self.new }
+        ensures keeps { ComesTo result self.old self.new }
     {
         calls_on_a_strand_keep_its_job();
         machines_that_stop_remain();
@@ -63,10 +66,10 @@ impl Strand {
             Stop::Spawned(spawn) => self.lend(spawn, end),
             Stop::CameBack => {
                 self.mode = Mode::Waiting;
-                Step::AtSync
+                Event::AtSync
             }
-            Stop::Joined => Step::Ended(self.join_effect(end)),
-            Stop::Gave(value) => Step::Ended(self.call_effect(value, end)),
+            Stop::Joined => Event::AtEnd(End::Joined(end)),
+            Stop::Gave(value) => Event::AtEnd(End::Gave(value, end)),
             Stop::Trapped(trap, line) => {
                 self.mode = Mode::Trapped(trap, line);
                 self.rest()
@@ -98,12 +101,11 @@ impl Strand {
         }
     }
 
-    /// Goes on to its next event: a spawn, whose rest it hands out; `AtSync`, where the newest job out must come back
-    /// first; or its end, with an effect that means its job. Where memory was wanting, that is its effect.
-    pub fn go(&mut self) -> Step
+    /// Goes on to its next event, as `go`, but that an effect is not made yet.
+    pub fn next_event(&mut self) -> Event
         requires { IsRunning self.old }
         ensures of { self.new.of ≡ self.old.of }
-        ensures keeps { KeptBy result self.old self.new }
+        ensures keeps { ComesTo result self.old self.new }
     {
         match self.mode {
             Mode::Going => {
@@ -111,8 +113,37 @@ impl Strand {
                 let stop = self.run_on(end);
                 self.settle(stop, end)
             }
-            Mode::Waiting => Step::AtSync,
+            Mode::Waiting => Event::AtSync,
             _ => self.rest(),
+        }
+    }
+
+    /// The effect of a strand that has come to this end: it means its job.
+    #[inline(never)]
+    pub fn effect_at(&mut self, end: End) -> Effect
+        requires { EndsAt end self.old }
+        ensures of { self.new.of ≡ self.old.of }
+        ensures means { IsMeaningOf (its_job self.old) result }
+        ensures none { outs self.old ≡ [] }
+    {
+        match end {
+            End::Stopped => self.stop_effect(),
+            End::Joined(limit) => self.join_effect(limit),
+            End::Gave(value, limit) => self.call_effect(value, limit),
+        }
+    }
+
+    /// Goes on to its next event: a spawn, whose rest it hands out; `AtSync`, where the newest job out must come back
+    /// first; or its end, with an effect that means its job. Where memory was wanting, that is its effect.
+    pub fn go(&mut self) -> Step
+        requires { IsRunning self.old }
+        ensures of { self.new.of ≡ self.old.of }
+        ensures keeps { KeptBy result self.old self.new }
+    {
+        match self.next_event() {
+            Event::Spawned(job) => Step::Spawned(job),
+            Event::AtSync => Step::AtSync,
+            Event::AtEnd(end) => Step::Ended(self.effect_at(end)),
         }
     }
 

@@ -6,9 +6,9 @@ ghost use Rattle.cw_jobs.specs.Jobs.{code_of};
 ghost use Rattle.cw_machine.specs.declared.run.Stop.TheVariants as stop;
 ghost use Rattle.cw_machine.specs.Calls.{listed};
 ghost use Rattle.cw_strand.specs.Holds.{its_parts, its_code, AreSpare};
-ghost use Rattle.cw_strand.specs.Moves.{HasCome, KeptBy, HasCut, HasSpared, IsAddressed};
+ghost use Rattle.cw_strand.specs.Moves.{HasCome, ComesTo, HasCut, HasSpared, IsAddressed};
 
-use crate::strand::{Lent, Mode, Step, Strand};
+use crate::strand::{Event, Lent, Mode, Strand};
 use cw_jobs::call::{Extent, Parts, Rest};
 use cw_jobs::job::Job;
 use cw_machine::laws::machines_that_stop_remain;
@@ -96,10 +96,11 @@ impl Strand {
     }
 
     // The rest of the block that has just spawned a call is handed out.
-    pub(crate) fn lend(&mut self, spawn: Spawn, end: u64) -> Step
+    #[inline(always)]
+    pub(crate) fn lend(&mut self, spawn: Spawn, end: u64) -> Event
         requires comes { HasCome self.old end (stop.Spawned spawn) }
         ensures of { self.new.of ≡ self.old.of }
-        ensures keeps { KeptBy result self.old self.new }
+        ensures keeps { ComesTo result self.old self.new }
     {
         calls_on_a_strand_keep_its_job();
         machines_that_stop_remain();
@@ -111,7 +112,7 @@ impl Strand {
                     first,
                     target: spawn.target,
                 });
-                Step::Spawned(job)
+                Event::Spawned(job)
             }
             Err(_) => {
                 self.mode = Mode::Memory;

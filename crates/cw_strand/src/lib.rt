@@ -1,6 +1,7 @@
 //! Strands that run: what a worker runs a job with.
 #![tactic(auto)]
 
+mod advancing;
 mod ending;
 mod giving;
 mod going;

@@ -48,6 +48,38 @@ pub enum Step {
     Ended(Effect),
 }
 
+/// The end that a strand has come to, of which its effect is to be made.
+#[derive(Clone, Copy, Debug)]
+pub enum End {
+    /// It has stopped, and nothing is out.
+    Stopped,
+    /// It is at the join of its job, within so many instructions.
+    Joined(u64),
+    /// Its call has ended, with this value if it gives one, within so many instructions.
+    Gave(Option<i64>, u64),
+}
+
+/// What a strand came to, as `Step`, but that the effect of one that has ended is not made yet: an effect is wide, and
+/// most events have none.
+#[derive(Drop)]
+pub enum Event {
+    /// A call was spawned, and this job, the rest of the block that spawned it, is out.
+    Spawned(Job),
+    /// The newest job out must come back first: it is given, taken back or skipped.
+    AtSync,
+    /// The strand has ended: its effect is made of this end.
+    AtEnd(End),
+}
+
+/// What one instruction led a strand to.
+#[derive(Drop)]
+pub enum Advance {
+    /// The instruction was done, and the strand goes on behind it.
+    Ran,
+    /// What the strand came to, by that instruction or by none.
+    Came(Step),
+}
+
 /// What runs a job.
 #[derive(Drop)]
 pub struct Strand {

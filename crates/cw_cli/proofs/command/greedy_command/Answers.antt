@@ -18,4 +18,4 @@ returns c =
     ∙ ap₂ with_rule (c.in_ok-arg-3.ensures.shape args_is_local
     ∙ ap₂ with_rule (c.in_ok-arg-2.ensures.shape file_is_local
     ∙ ap₂ with_rule (c.in_ok-arg.ensures.shape processors_is_local ∙ ap₂ with_rule new_is c.needed.ensures.rule) c.file.ensures.rule) c.main_args.ensures.rule) c.number.ensures.rule) c.number-2.ensures.rule in
-    record { shape = shape; below = λ above whole adds. adds.shape (search rules) ∙ ap (λ (a : App). with_subcommand (app_of above) a.top) shape }
+    record { shape = shape; below = λ above whole adds. adds.shape (search (rules, processors_is_local, file_is_local, args_is_local, limit_is_local, workers_is_local, c.in_ok-command.ensures.globals, c.in_ok-arg-4.ensures.globals, c.in_ok-arg-3.ensures.globals, c.in_ok-arg-2.ensures.globals, c.in_ok-arg.ensures.globals, c.after_help.ensures, c.about.ensures, c.new.ensures)) ∙ ap (λ (a : App). with_subcommand (app_of above) a.top) shape }

@@ -5,9 +5,9 @@ use Rattle.cw_cli.proofs.reporting.write_tables.Goals as goal
 
 pub returns-in_err-report : goal.returns-in_err-report
 returns-in_err-report g c = λ bytes has compiled ran.
-    handed_on _ _ _ c.from_residual-in_err-report.result
+    handed_on _ _ _ c.from_residual.result
     (unwritten bytes c.args.args.now c.are_words.ensures c.args.options _ compiled _ _ _ (tables_tell bytes c.args.args.now c.are_words.ensures c.args.options _ compiled has c.derived_sites_are_numbered.ensures) g.W.Sink.seen c.args.out.now c.report.new.out c.args.ended ran c.in_err-report.ensures.idle _ c.in_err-report.ensures.answers)
-    c.from_residual-in_err-report.ensures.1
+    c.from_residual.ensures.1
 
 pub returns-in_err-ended : goal.returns-in_err-ended
 returns-in_err-ended g c = λ bytes has compiled ran.

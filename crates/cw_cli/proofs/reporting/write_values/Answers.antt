@@ -5,9 +5,9 @@ use Rattle.cw_cli.proofs.reporting.write_values.Goals as goal
 
 pub returns-in_err-answer : goal.returns-in_err-answer
 returns-in_err-answer g c = λ bytes runs compiled ran.
-    handed_on _ _ _ c.from_residual-in_err-answer.result
+    handed_on _ _ _ c.from_residual.result
     (unwritten bytes c.args.args.now c.are_words.ensures c.args.options _ compiled _ _ _ (values_tell bytes c.args.args.now c.are_words.ensures c.args.options _ compiled runs) g.W.Sink.seen c.args.out.now c.answer.new.to c.args.values ran c.in_err-answer.ensures.idle _ c.in_err-answer.ensures.answers)
-    c.from_residual-in_err-answer.ensures.1
+    c.from_residual.ensures.1
 
 pub returns-in_err-values : goal.returns-in_err-values
 returns-in_err-values g c = λ bytes runs compiled ran.

@@ -1,6 +1,6 @@
 use Rattle.std.proofs.Common.{refl}
 use Rattle.cw_strand.proofs.RunsOn.{waiting_some, waits_at}
-use Rattle.cw_strand.proofs.strand.Strand.go.Goals as goal
+use Rattle.cw_strand.proofs.strand.Strand.next_event.Goals as goal
 
 pub returns-in-Waiting-clause-keeps : goal.returns-in-Waiting-clause-keeps
 returns-in-Waiting-clause-keeps c =

@@ -1,0 +1,185 @@
+//! What a run came to: by hand, with one worker, and by strands.
+
+use cw_code::code::Code;
+use cw_jobs::effect::{Effect, Shown};
+use cw_machine::alone::Ended;
+use cw_meter::Readings;
+use cw_model::trap::Trap;
+use cw_regions::RegionRow;
+use cw_sites::table::SiteRow;
+use cw_text::Fault;
+use std::alloc::Global;
+
+/// The calls of a site, their own work and span, and their work and span.
+pub type Site = (u64, u64, u64, u64, u64);
+
+/// The work, span and burdened span of a tag.
+pub type Region = (u64, u64, u128);
+
+/// What a run comes to by hand. Where there are no rows, none were worked out.
+#[derive(Clone, Copy, Debug)]
+pub enum Told<'a> {
+    /// It ends.
+    Ends {
+        value: i64,
+        lines: &'a [i64],
+        sums: &'a [i128],
+        span: u64,
+        burdened: u128,
+        sites: &'a [Site],
+        regions: &'a [Region],
+    },
+    /// It traps, by the trap of this number and in this line, and has printed so many lines.
+    Traps {
+        number: u8,
+        line: u32,
+        lines: &'a [i64],
+    },
+}
+
+// Whether rows are those that were worked out, if any were.
+fn are_sites(rows: &[SiteRow], hand: &[Site]) -> bool {
+    let mut all = hand.is_empty() || rows.len() == hand.len();
+    for (row, site) in rows.iter().zip(hand) {
+        let found = (row.calls, row.own_work, row.own_span, row.work, row.span);
+        all = all && found == *site;
+    }
+    all
+}
+
+fn are_regions(rows: &[RegionRow], hand: &[Region]) -> bool {
+    let mut all = hand.is_empty() || rows.len() == hand.len();
+    for (row, region) in rows.iter().zip(hand) {
+        all = all && (row.work, row.span, row.burdened) == *region;
+    }
+    all
+}
+
+// Whether a run that ended, with so much work, is the one that was worked out.
+fn is_end_told(ended: &Ended, told: &Told, cost: u64) -> bool {
+    match told {
+        Told::Ends {
+            value,
+            lines,
+            sums,
+            span,
+            burdened,
+            sites,
+            regions,
+        } => {
+            let measure = Readings {
+                work: cost,
+                span: *span,
+                burdened: *burdened,
+            };
+            ended.value == *value
+                && ended.lines.as_slice() == *lines
+                && ended.sums.as_slice() == *sums
+                && ended.measure == measure
+                && are_sites(ended.sites.values().as_slice(), sites)
+                && are_regions(ended.regions.values().as_slice(), regions)
+        }
+        Told::Traps { .. } => false,
+    }
+}
+
+// Whether a trap is the one that was worked out.
+fn is_trap_told(code: Trap, line: u32, output: &[i64], told: &Told) -> bool {
+    match told {
+        Told::Ends { .. } => false,
+        Told::Traps {
+            number,
+            line: at,
+            lines,
+        } => code.number() == *number && line == *at && output == *lines,
+    }
+}
+
+/// Whether a run with one worker came to what was worked out, at this cost.
+pub fn is_told(alone: &Result<Ended, Fault>, told: &Told, cost: u64) -> bool {
+    match alone {
+        Ok(ended) => is_end_told(ended, told, cost),
+        Err(fault) => match fault {
+            Fault::Trap { code, line, output } => {
+                is_trap_told(*code, *line, output.as_slice(), told)
+            }
+            _other => false,
+        },
+    }
+}
+
+// Whether a whole call that ended with this value has shown what a run with one worker has. The error is want of memory.
+fn is_same_end(
+    alloc: Global,
+    code: &Code,
+    ended: &Ended,
+    value: Option<i64>,
+    shown: Shown,
+) -> Result<bool, Fault> {
+    let Shown {
+        lines,
+        sums,
+        meter,
+        cost,
+    } = shown;
+    let all = meter.finish(alloc, cost, code.sites.len() + 1, code.tags.len())?;
+    Ok(
+        value == Some(ended.value)
+            && lines.as_slice() == ended.lines.as_slice()
+            && sums.as_slice() == ended.sums.as_slice()
+            && all.measure == ended.measure
+            && all.sites.as_slice() == ended.sites.values().as_slice()
+            && all.regions.as_slice() == ended.regions.values().as_slice(),
+    )
+}
+
+// Whether a run with one worker trapped so.
+fn is_same_trap(alone: &Result<Ended, Fault>, trap: Trap, at: u32, lines: &[i64]) -> bool {
+    match alone {
+        Ok(_) => false,
+        Err(fault) => match fault {
+            Fault::Trap { code, line, output } => {
+                *code == trap && *line == at && output.as_slice() == lines
+            }
+            _other => false,
+        },
+    }
+}
+
+// Whether a run with one worker passed its limit.
+fn is_over(alone: &Result<Ended, Fault>) -> bool {
+    match alone {
+        Ok(_) => false,
+        Err(fault) => match fault {
+            Fault::OverLimit => true,
+            _other => false,
+        },
+    }
+}
+
+/// Whether the effect of a whole run's job is what a run with one worker came to: value, lines, sums, measures and rows;
+/// trap, line, lines and cost; or over the limit. The error is want of memory.
+pub fn is_same(
+    alloc: Global,
+    code: &Code,
+    alone: &Result<Ended, Fault>,
+    effect: Effect,
+    at: u64,
+) -> Result<bool, Fault> {
+    match effect {
+        Effect::Ended { value, shown } => match alone {
+            Ok(ended) => is_same_end(alloc, code, ended, value, shown),
+            Err(_) => Ok(false),
+        },
+        Effect::Joined { .. } => Ok(false),
+        Effect::Trapped {
+            trap,
+            line,
+            lines,
+            cost,
+            back: _,
+        } => Ok(cost == at && is_same_trap(alone, trap, line, lines.as_slice())),
+        Effect::OverLimit { back: _ } => Ok(is_over(alone)),
+        Effect::Memory { back: _ } => Err(Fault::Memory),
+    }
+}

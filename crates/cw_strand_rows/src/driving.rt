@@ -1,0 +1,226 @@
+//! A job run on one thread. What becomes of each rest that a strand hands out is told beforehand.
+
+ghost use Rattle.std.specs.Prelude.{◌≡◌, ◌∷◌, List, None, IfOk, IfSome};
+ghost use Rattle.cw_jobs.specs.declared.job.Job as jobs;
+ghost use Rattle.cw_jobs.specs.Means.{IsMeaningOf};
+ghost use Rattle.cw_strand.specs.Holds.{outs, IsAtSync, IsRunning};
+ghost use Rattle.cw_strand.specs.Moves.{EndsBy, KeptBy};
+
+use cw_jobs::effect::Effect;
+use cw_jobs::job::Job;
+use cw_strand::strand::{Advance, Step, Strand};
+use std::alloc::Global;
+use std::snapshot::Snapshot;
+
+/// What becomes of a rest.
+#[derive(Clone, Copy, Debug)]
+pub enum Fate {
+    /// It lies unrun up to its join, and is taken back.
+    TakenBack,
+    /// It is run by a strand of its own before the call beside it goes on.
+    ApartAtOnce,
+    /// It is run by a strand of its own when the call beside it has ended.
+    ApartAtJoin,
+}
+
+/// No whole run in sight: too deep, or too many events.
+#[derive(Clone, Copy, Debug)]
+pub struct Lost;
+
+/// What is told beforehand of a run.
+#[derive(Clone, Copy, Debug)]
+pub struct Way<'a> {
+    /// What becomes of its rests, in the order in which they are handed out, over and over.
+    pub fates: &'a [Fate],
+    /// Whether a strand is asked for its end before it goes on.
+    pub asks_ends: bool,
+    /// Whether a strand goes on by one instruction at a time.
+    pub by_one: bool,
+}
+
+// A run under way.
+#[derive(Drop)]
+struct Guide<'a> {
+    // What its strands take their memory from.
+    alloc: Global,
+    // What was told of it.
+    way: Way<'a>,
+    // The place of the next rest's fate.
+    turn: usize,
+    // The rests up to the one at which the strand that hands it out fails.
+    sound: u64,
+}
+
+// As deep as strands are run inside one another, and as many events as a strand has between two of its spawns.
+const MOST_DEPTH: u32 = 64;
+
+const MOST_EVENTS: u32 = 1000;
+
+// The fate of the next rest.
+fn next_fate(guide: &mut Guide) -> Fate {
+    let fate = guide.way.fates.get(guide.turn).copied();
+    guide.turn = guide.turn.wrapping_add(1);
+    if guide.turn >= guide.way.fates.len() {
+        guide.turn = 0;
+    }
+    fate.unwrap_or(Fate::TakenBack)
+}
+
+// Whether the strand that has just handed out a rest fails.
+fn fails_now(guide: &mut Guide) -> bool {
+    guide.sound = guide.sound.wrapping_sub(1);
+    guide.sound == 0
+}
+
+/// A rest that nobody ran comes back to its join.
+pub fn come_back(strand: &mut Strand, job: Job)
+    requires running { IsRunning strand.old }
+    requires at_sync { IsAtSync strand.old }
+    requires out { (others : List jobs.Job) × (outs strand.old ≡ job ∷ others) }
+    ensures of { strand.new.of ≡ strand.old.of }
+    ensures running { IsRunning strand.new }
+    ensures outs { job ∷ outs strand.new ≡ outs strand.old }
+{
+    if strand.stopped() {
+        strand.skip(job);
+    } else {
+        strand.take_back(job);
+    }
+}
+
+// What a rest came to that ran apart comes to its join.
+fn come_in(strand: &mut Strand, job: Snapshot<Job>, effect: Effect)
+    requires running { IsRunning strand.old }
+    requires at_sync { IsAtSync strand.old }
+    requires out { (others : List jobs.Job) × (outs strand.old ≡ job.value ∷ others) }
+    requires means { IsMeaningOf job.value effect }
+    ensures of { strand.new.of ≡ strand.old.of }
+    ensures running { IsRunning strand.new }
+    ensures outs { job.value ∷ outs strand.new ≡ outs strand.old }
+{
+    strand.give(effect);
+}
+
+// Goes on with a strand to its next event, or by one instruction, which may be none.
+fn step(strand: &mut Strand, by_one: bool) -> Option<Step>
+    requires running { IsRunning strand.old }
+    ensures of { strand.new.of ≡ strand.old.of }
+    ensures none { result ≡ None → IsRunning strand.new × (outs strand.new ≡ outs strand.old) }
+    ensures some { IfSome result (λ step. KeptBy step strand.old strand.new) }
+{
+    if !by_one {
+        return Some(strand.go());
+    }
+    match strand.advance() {
+        Advance::Ran => None,
+        Advance::Came(step) => Some(step),
+    }
+}
+
+// Runs a job by a strand of its own.
+#[cycle(driving)]
+fn run_apart(guide: &mut Guide, depth: u32, job: Job) -> Result<Effect, Lost>
+    ensures { IfOk result (λ effect. IsMeaningOf job effect) }
+{
+    match Strand::start(guide.alloc, job) {
+        Ok(strand) => {
+            let mut strand = strand;
+            match go_on(guide, depth, &mut strand)? {
+                Some(effect) => Ok(effect),
+                None => Err(Lost),
+            }
+        }
+        Err(back) => Ok(back.give_up()),
+    }
+}
+
+// Goes on with a strand up to the join of the newest rest out, or to its end.
+#[cycle(driving)]
+fn go_on(guide: &mut Guide, depth: u32, strand: &mut Strand) -> Result<Option<Effect>, Lost>
+    requires running { IsRunning strand.old }
+    ensures of { strand.new.of ≡ strand.old.of }
+    ensures ends { IfOk result (λ came. EndsBy came strand.old strand.new) }
+    ensures waits { IfOk result (λ came. came ≡ None → IsAtSync strand.new) }
+{
+    if depth == 0 {
+        return Err(Lost);
+    }
+    for _ in 0..MOST_EVENTS {
+        if guide.way.asks_ends {
+            if let Some(effect) = strand.end() {
+                return Ok(Some(effect));
+            }
+        }
+        match step(strand, guide.way.by_one) {
+            None => {}
+            Some(step) => match step {
+                Step::Spawned(job) => see_to(guide, depth - 1, strand, job)?,
+                Step::AtSync => return Ok(None),
+                Step::Ended(effect) => return Ok(Some(effect)),
+            },
+        }
+    }
+    Err(Lost)
+}
+
+// Goes on with a strand up to the join of the rest that it has just handed out.
+#[cycle(driving)]
+fn go_to_join(guide: &mut Guide, depth: u32, strand: &mut Strand) -> Result<(), Lost>
+    requires running { IsRunning strand.old }
+    ensures of { strand.new.of ≡ strand.old.of }
+    ensures running { IfOk result (λ _. IsRunning strand.new) }
+    ensures outs { IfOk result (λ _. outs strand.new ≡ outs strand.old) }
+    ensures at_sync { IfOk result (λ _. IsAtSync strand.new) }
+{
+    match go_on(guide, depth, strand)? {
+        Some(_) => Err(Lost),
+        None => Ok(()),
+    }
+}
+
+// Sees to a rest that was handed out, up to where it is out no more.
+#[cycle(driving)]
+fn see_to(guide: &mut Guide, depth: u32, strand: &mut Strand, job: Job) -> Result<(), Lost>
+    requires running { IsRunning strand.old }
+    requires out { (others : List jobs.Job) × (outs strand.old ≡ job ∷ others) }
+    ensures of { strand.new.of ≡ strand.old.of }
+    ensures running { IfOk result (λ _. IsRunning strand.new) }
+    ensures outs { IfOk result (λ _. job ∷ outs strand.new ≡ outs strand.old) }
+{
+    let of = Snapshot::of(&job);
+    let fate = next_fate(guide);
+    if fails_now(guide) {
+        strand.fail();
+    }
+    match fate {
+        Fate::TakenBack => {
+            go_to_join(guide, depth, strand)?;
+            come_back(strand, job);
+        }
+        Fate::ApartAtOnce => {
+            let effect = run_apart(guide, depth, job)?;
+            go_to_join(guide, depth, strand)?;
+            come_in(strand, of, effect);
+        }
+        Fate::ApartAtJoin => {
+            go_to_join(guide, depth, strand)?;
+            let effect = run_apart(guide, depth, job)?;
+            come_in(strand, of, effect);
+        }
+    }
+    Ok(())
+}
+
+/// The effect of a job, run so on one thread. The strand that hands out the rest of this number, counted from 1, fails
+/// then; none does at 0.
+pub fn run_so(alloc: Global, job: Job, way: &Way, sound: u64) -> Result<Effect, Lost>
+    ensures { IfOk result (λ effect. IsMeaningOf job effect) }
+{
+    let mut guide = Guide {
+        alloc,
+        way: *way,
+        turn: 0,
+        sound,
+    };
+    run_apart(&mut guide, MOST_DEPTH, job)
+}

@@ -1,0 +1,106 @@
+//! Programs as code that is written by hand.
+
+use cw_code::code::{Code, Func, Instr, Site};
+use cw_model::syntax::{CallKind, Name};
+use cw_text::Fault;
+use cw_verify::verified::Verified;
+use cw_verify::verify::verify;
+use std::alloc::{AllocError, Global};
+use std::sync::Arc;
+
+/// A function of code: whether it gives a value, its integer parameters and slots, its array parameters and slots, and
+/// its instructions.
+#[derive(Clone, Copy, Debug)]
+pub struct Part<'a> {
+    pub gives_int: bool,
+    pub params: usize,
+    pub slots: usize,
+    pub array_params: usize,
+    pub arrays: usize,
+    pub body: &'a [Instr],
+}
+
+/// A program: its functions, main the last one; the kind and the function of its call statements, so many reducers and
+/// tags, and the lists of the array slots that its calls take.
+#[derive(Clone, Copy, Debug)]
+pub struct Program<'a> {
+    pub parts: &'a [Part<'a>],
+    pub sites: &'a [(CallKind, u32)],
+    pub reducers: &'a [&'a str],
+    pub tags: &'a [&'a str],
+    pub passed: &'a [&'a [u32]],
+}
+
+// These functions, one after another.
+fn place_parts(code: &mut Code, parts: &[Part]) -> Result<(), AllocError> {
+    for part in parts {
+        let start = code.instrs.len();
+        code.instrs.extend_from_slice(part.body)?;
+        code.funcs.push(Func {
+            start,
+            end: code.instrs.len(),
+            gives_int: part.gives_int,
+            params: part.params,
+            slots: part.slots,
+            array_params: part.array_params,
+            arrays: part.arrays,
+        })?;
+    }
+    Ok(())
+}
+
+// These call statements, numbered from 1 on.
+fn place_sites(
+    alloc: Global,
+    code: &mut Code,
+    sites: &[(CallKind, u32)],
+) -> Result<(), AllocError> {
+    let mut number: u32 = 1;
+    for (kind, function) in sites {
+        code.sites.push(Site {
+            number,
+            kind: *kind,
+            line: 1,
+            callee: Name::new(alloc, b"")?,
+            function: *function,
+        })?;
+        number = number.wrapping_add(1);
+    }
+    Ok(())
+}
+
+// These names.
+fn names_of(alloc: Global, texts: &[&str]) -> Result<Vec<Name>, AllocError> {
+    let mut names = Vec::new(alloc);
+    for text in texts {
+        names.push(Name::new(alloc, text.as_bytes())?)?;
+    }
+    Ok(names)
+}
+
+// These lists.
+fn lists_of(alloc: Global, lists: &[&[u32]]) -> Result<Vec<Vec<u32>>, AllocError> {
+    let mut all = Vec::new(alloc);
+    for list in lists {
+        all.push(Vec::from_slice(alloc, list)?)?;
+    }
+    Ok(all)
+}
+
+/// The code of a program, which the verifier must let through.
+pub fn code_of(alloc: Global, program: &Program) -> Result<Arc<Verified>, Fault> {
+    let mut code = Code {
+        instrs: Vec::new(alloc),
+        funcs: Vec::new(alloc),
+        main: u32::try_from(program.parts.len().saturating_sub(1)).unwrap_or(0),
+        main_line: 1,
+        sites: Vec::new(alloc),
+        reducers: names_of(alloc, program.reducers)?,
+        tags: names_of(alloc, program.tags)?,
+        passed: lists_of(alloc, program.passed)?,
+    };
+    place_parts(&mut code, program.parts)?;
+    place_sites(alloc, &mut code, program.sites)?;
+    let verified = verify(alloc, code)?;
+    Ok(Arc::new(alloc, verified)?)
+}

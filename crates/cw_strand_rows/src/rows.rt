@@ -1,0 +1,494 @@
+//! Small programs come to what was worked out by hand, whatever becomes of the rests: what a run with one worker comes to,
+//! within each limit.
+
+use crate::answers::{Told, is_same, is_told};
+use crate::arrays::{CUT, MADE, SQUARES};
+use crate::calls::{
+    DIVIDED, DIVIDED_BESIDE_FOREVER, DIVIDED_TWICE, FIB, NESTED, PRINTED, SUMMED, SUMMED_IN_TURNS,
+};
+use crate::driving::{Fate, Way, run_so};
+use crate::programs::{Program, code_of};
+use cw_jobs::effect::Effect;
+use cw_jobs::job::Job;
+use cw_machine::alone::{Ended, run_alone};
+use cw_text::Fault;
+use cw_verify::verified::Verified;
+use std::alloc::Global;
+use std::sync::Arc;
+use std::test::Fail;
+
+// A program on its arguments, with a burden, and what it comes to at this cost, having spawned so many calls.
+#[derive(Clone, Copy, Debug)]
+struct Row<'a> {
+    name: &'a str,
+    program: Program<'a>,
+    args: &'a [i64],
+    burden: u64,
+    cost: u64,
+    spawns: u64,
+    told: Told<'a>,
+}
+
+// What becomes of rests: all the same; or in turn; twice by one instruction at a time, where each strand is
+// asked for its end before each.
+const WAYS: [Way<'static>; 7] = [
+    Way {
+        fates: &[Fate::TakenBack],
+        asks_ends: false,
+        by_one: false,
+    },
+    Way {
+        fates: &[Fate::ApartAtOnce],
+        asks_ends: false,
+        by_one: false,
+    },
+    Way {
+        fates: &[Fate::ApartAtJoin],
+        asks_ends: false,
+        by_one: false,
+    },
+    Way {
+        fates: &[Fate::TakenBack, Fate::ApartAtOnce],
+        asks_ends: false,
+        by_one: false,
+    },
+    Way {
+        fates: &[Fate::ApartAtJoin, Fate::TakenBack],
+        asks_ends: false,
+        by_one: false,
+    },
+    Way {
+        fates: &[Fate::ApartAtOnce, Fate::ApartAtJoin, Fate::TakenBack],
+        asks_ends: true,
+        by_one: true,
+    },
+    Way {
+        fates: &[Fate::TakenBack],
+        asks_ends: true,
+        by_one: true,
+    },
+];
+
+// The tables by functions, so that a proof has each of them before it once.
+fn ways() -> [Way<'static>; 7] {
+    WAYS
+}
+
+fn ending() -> [Row<'static>; 11] {
+    ENDING
+}
+
+fn trapping() -> [Row<'static>; 6] {
+    TRAPPING
+}
+
+// A run with one worker. The error is want of memory.
+fn alone(
+    alloc: Global,
+    code: &Arc<Verified>,
+    row: &Row,
+    limit: u64,
+) -> Result<Result<Ended, Fault>, Fault> {
+    match run_alone(alloc, code.clone()?, row.args, limit, row.burden) {
+        Ok(ended) => Ok(Ok(ended)),
+        Err(fault) => match fault {
+            Fault::Memory => Err(Fault::Memory),
+            other => Ok(Err(other)),
+        },
+    }
+}
+
+// The effect of the same run by strands, one of which fails at the rest of this number.
+fn apart(
+    alloc: Global,
+    code: &Arc<Verified>,
+    row: &Row,
+    way: &Way,
+    limit: u64,
+    sound: u64,
+) -> Result<Effect, Fault> {
+    let job = Job::root(alloc, code.clone()?, row.args, limit, row.burden)?;
+    match run_so(alloc, job, way, sound) {
+        Ok(effect) => Ok(effect),
+        Err(_) => Err(Fault::Strands),
+    }
+}
+
+// Whether a row holds within a limit, one way. The error is want of memory.
+fn holds(
+    alloc: Global,
+    code: &Arc<Verified>,
+    row: &Row,
+    way: &Way,
+    limit: u64,
+) -> Result<bool, Fault> {
+    let effect = apart(alloc, code, row, way, limit, 0)?;
+    let alone = alone(alloc, code, row, limit)?;
+    is_same(alloc, &code.code, &alone, effect, row.cost)
+}
+
+// Whether a row holds at its cost all ways, and with one worker is what was worked out.
+fn holds_all_ways(alloc: Global, row: &Row) -> Result<bool, Fault> {
+    let code = code_of(alloc, &row.program)?;
+    let first = alone(alloc, &code, row, row.cost)?;
+    let mut all = is_told(&first, &row.told, row.cost);
+    for way in &ways() {
+        all = holds(alloc, &code, row, way, row.cost)? && all;
+    }
+    Ok(all)
+}
+
+// Whether a row holds within each limit up to one above its cost, all ways.
+fn holds_within_limits(alloc: Global, row: &Row) -> Result<bool, Fault> {
+    let code = code_of(alloc, &row.program)?;
+    let mut all = true;
+    for limit in 1..=row.cost.saturating_add(1) {
+        for way in &ways() {
+            all = holds(alloc, &code, row, way, limit)? && all;
+        }
+    }
+    Ok(all)
+}
+
+// Whether an effect says that memory was wanting.
+fn is_memory(effect: &Effect) -> bool {
+    match effect {
+        Effect::Memory { back: _ } => true,
+        _ => false,
+    }
+}
+
+// Whether one strand that fails, at whichever rest, takes the whole run with it, all ways.
+fn fails_whole(alloc: Global, row: &Row) -> Result<bool, Fault> {
+    let code = code_of(alloc, &row.program)?;
+    let mut all = true;
+    for sound in 1..=row.spawns {
+        for way in &ways() {
+            let effect = apart(alloc, &code, row, way, row.cost, sound)?;
+            all = is_memory(&effect) && all;
+        }
+    }
+    Ok(all)
+}
+
+// Programs that end.
+const ENDING: [Row<'static>; 11] = [
+    Row {
+        name: "fib of 4",
+        program: FIB,
+        args: &[4],
+        burden: 100,
+        cost: 120,
+        spawns: 4,
+        told: Told::Ends {
+            value: 3,
+            lines: &[],
+            sums: &[],
+            span: 67,
+            burdened: 254,
+            sites: &[
+                (1, 6, 6, 120, 67),
+                (4, 54, 38, 66, 50),
+                (4, 39, 6, 45, 39),
+                (1, 21, 17, 114, 61),
+            ],
+            regions: &[],
+        },
+    },
+    Row {
+        name: "fib of 0",
+        program: FIB,
+        args: &[0],
+        burden: 100,
+        cost: 12,
+        spawns: 0,
+        told: Told::Ends {
+            value: 0,
+            lines: &[],
+            sums: &[],
+            span: 12,
+            burdened: 12,
+            sites: &[],
+            regions: &[],
+        },
+    },
+    Row {
+        name: "a division beside a print",
+        program: DIVIDED,
+        args: &[1],
+        burden: 15000,
+        cost: 15,
+        spawns: 1,
+        told: Told::Ends {
+            value: 0,
+            lines: &[7],
+            sums: &[],
+            span: 13,
+            burdened: 15007,
+            sites: &[],
+            regions: &[],
+        },
+    },
+    Row {
+        name: "two divisions",
+        program: DIVIDED_TWICE,
+        args: &[2],
+        burden: 10,
+        cost: 17,
+        spawns: 1,
+        told: Told::Ends {
+            value: 0,
+            lines: &[4],
+            sums: &[],
+            span: 13,
+            burdened: 19,
+            sites: &[],
+            regions: &[],
+        },
+    },
+    Row {
+        name: "three prints",
+        program: PRINTED,
+        args: &[],
+        burden: 0,
+        cost: 15,
+        spawns: 2,
+        told: Told::Ends {
+            value: 0,
+            lines: &[1, 2, 3],
+            sums: &[],
+            span: 10,
+            burdened: 10,
+            sites: &[],
+            regions: &[],
+        },
+    },
+    Row {
+        name: "a great sum",
+        program: SUMMED,
+        args: &[],
+        burden: 0,
+        cost: 11,
+        spawns: 2,
+        told: Told::Ends {
+            value: 0,
+            lines: &[],
+            sums: &[18_446_744_073_709_551_614],
+            span: 8,
+            burdened: 8,
+            sites: &[],
+            regions: &[],
+        },
+    },
+    // a turn is 20 with a child of 9, and 8 are around them; the chain goes through each rest
+    Row {
+        name: "sums in turns",
+        program: SUMMED_IN_TURNS,
+        args: &[],
+        burden: 10,
+        cost: 88,
+        spawns: 4,
+        told: Told::Ends {
+            value: 9,
+            lines: &[0, 1, 2, 3],
+            sums: &[6, -6],
+            span: 52,
+            burdened: 92,
+            sites: &[],
+            regions: &[],
+        },
+    },
+    // q is 15 and two children of 5; it goes by its rest, and there by the second child
+    Row {
+        name: "regions",
+        program: NESTED,
+        args: &[1],
+        burden: 10,
+        cost: 35,
+        spawns: 3,
+        told: Told::Ends {
+            value: 0,
+            lines: &[1, 2, 3, 6, 4],
+            sums: &[],
+            span: 24,
+            burdened: 41,
+            sites: &[
+                (1, 10, 6, 35, 24),
+                (1, 5, 0, 5, 5),
+                (1, 5, 5, 5, 5),
+                (1, 15, 13, 25, 18),
+            ],
+            regions: &[(24, 17, 34), (31, 20, 37)],
+        },
+    },
+    // 6 up to the inner cut; 2, a child of 6, 2, a child of 6 and 3; 9 up to the end of the outer cut, and 23
+    Row {
+        name: "parts of parts",
+        program: CUT,
+        args: &[5],
+        burden: 10,
+        cost: 57,
+        spawns: 2,
+        told: Told::Ends {
+            value: 17034,
+            lines: &[],
+            sums: &[],
+            span: 48,
+            burdened: 65,
+            sites: &[],
+            regions: &[],
+        },
+    },
+    Row {
+        name: "an array made in a rest",
+        program: MADE,
+        args: &[2],
+        burden: 10,
+        cost: 25,
+        spawns: 1,
+        told: Told::Ends {
+            value: 57,
+            lines: &[],
+            sums: &[],
+            span: 21,
+            burdened: 31,
+            sites: &[],
+            regions: &[],
+        },
+    },
+    // leaves of 50, 32 and 50, nodes of 26, and 8 of main: each node goes by its rest
+    Row {
+        name: "a loop by halves",
+        program: SQUARES,
+        args: &[],
+        burden: 10,
+        cost: 192,
+        spawns: 2,
+        told: Told::Ends {
+            value: 16,
+            lines: &[],
+            sums: &[],
+            span: 110,
+            burdened: 130,
+            sites: &[],
+            regions: &[],
+        },
+    },
+];
+
+// Programs that trap: in a spawned call whose rest is out, or in a rest.
+const TRAPPING: [Row<'static>; 6] = [
+    Row {
+        name: "a division by 0 beside a print",
+        program: DIVIDED,
+        args: &[0],
+        burden: 0,
+        cost: 7,
+        spawns: 1,
+        told: Told::Traps {
+            number: 2,
+            line: 1,
+            lines: &[],
+        },
+    },
+    Row {
+        name: "two divisions by 0",
+        program: DIVIDED_TWICE,
+        args: &[0],
+        burden: 0,
+        cost: 7,
+        spawns: 1,
+        told: Told::Traps {
+            number: 2,
+            line: 1,
+            lines: &[],
+        },
+    },
+    Row {
+        name: "a division by 0 beside a loop without end",
+        program: DIVIDED_BESIDE_FOREVER,
+        args: &[0],
+        burden: 0,
+        cost: 7,
+        spawns: 1,
+        told: Told::Traps {
+            number: 2,
+            line: 1,
+            lines: &[],
+        },
+    },
+    Row {
+        name: "a division by 0 in a rest in regions",
+        program: NESTED,
+        args: &[0],
+        burden: 0,
+        cost: 25,
+        spawns: 3,
+        told: Told::Traps {
+            number: 2,
+            line: 6,
+            lines: &[1, 2, 3],
+        },
+    },
+    Row {
+        name: "past the end of a part",
+        program: CUT,
+        args: &[4],
+        burden: 0,
+        cost: 21,
+        spawns: 2,
+        told: Told::Traps {
+            number: 3,
+            line: 1,
+            lines: &[],
+        },
+    },
+    Row {
+        name: "past the end beside an array made in a rest",
+        program: MADE,
+        args: &[0],
+        burden: 0,
+        cost: 7,
+        spawns: 1,
+        told: Told::Traps {
+            number: 3,
+            line: 1,
+            lines: &[],
+        },
+    },
+];
+
+#[test]
+fn programs_end_as_with_one_worker(rt: HostRuntime) -> Result<(), Fail> {
+    for row in &ending() {
+        assert!(rt; holds_all_ways(rt.alloc(), row)?, "{}", row.name);
+    }
+    Ok(())
+}
+
+#[test]
+fn programs_trap_as_with_one_worker(rt: HostRuntime) -> Result<(), Fail> {
+    for row in &trapping() {
+        assert!(rt; holds_all_ways(rt.alloc(), row)?, "{}", row.name);
+    }
+    Ok(())
+}
+
+#[test]
+fn a_strand_without_memory_takes_all_with_it(rt: HostRuntime) -> Result<(), Fail> {
+    for row in &ending() {
+        assert!(rt; fails_whole(rt.alloc(), row)?, "{}", row.name);
+    }
+    Ok(())
+}
+
+#[test]
+fn limits_are_passed_as_with_one_worker(rt: HostRuntime) -> Result<(), Fail> {
+    for row in &ending() {
+        assert!(rt; holds_within_limits(rt.alloc(), row)?, "{}", row.name);
+    }
+    for row in &trapping() {
+        assert!(rt; holds_within_limits(rt.alloc(), row)?, "{}", row.name);
+    }
+    Ok(())
+}
