@@ -5,5 +5,6 @@ mod Nesting
 mod Passing
 mod Pieces
 mod Repeating
+mod Sets
 mod Telling
 mod Walking

@@ -1,3 +1,4 @@
+pub mod Held
 pub mod Limits
 pub mod Lines
 pub mod Names
