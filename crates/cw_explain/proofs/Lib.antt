@@ -2,6 +2,7 @@ mod Breaking
 mod Heading
 mod Misuse
 mod Nesting
+mod Owned
 mod Passing
 mod Pieces
 mod Repeating

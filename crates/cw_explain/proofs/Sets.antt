@@ -1,5 +1,5 @@
 -- What is taken, as a set: joined, thinned out, and after a statement.
-use Rattle.std.proofs.Common.{Bool, true, false, not, ◌&&◌, ◌||◌, ◌==◌, cond, if◌then◌else◌, ◌≡◌, ℕ, ◌+◌, List, [], ◌∷◌, ◌++◌, map, refl, sym, ap, ◌∙◌, bytes_eq, arith, Some, None, ◌<◌, length, drop, get_or, add-one, drop-cons}
+use Rattle.std.proofs.Common.{Bool, true, false, not, ◌&&◌, ◌||◌, ◌==◌, cond, if◌then◌else◌, ◌≡◌, ℕ, ◌+◌, List, [], ◌∷◌, ◌++◌, map, refl, sym, ap, ◌∙◌, bytes_eq, arith, Some, None, ◌<◌, zero, suc, length, drop, get_or, add-one, drop-cons}
 use Rattle.cw_model.specs.Meaning.{function_named}
 use Rattle.cw_explain.specs.declared.taken.Holder.TheVariants as code
 use Rattle.cw_explain.specs.declared.word.Word.{Word}
@@ -12,7 +12,7 @@ use Rattle.cw_model.specs.Ownership.{CutOf, Holder, SpawnIn, Taken, cut_ended, f
 use Rattle.cw_model.specs.Syntax.{Name, Stmt, Declare, DeclareArray, Assign, AssignElement, AddTo, Call, Start, Begin, Sync, If, IfElse, While, For, Scope, Cut, Region, Print, Return, Block, End, Then, Expr, Param, Function}
 use Rattle.cw_model.specs.Typing.{block_returns, called}
 use Rattle.cw_explain.specs.declared.taken.Held.{Held}
-use Rattle.cw_explain.specs.Held.{AreSame, has_taken, held_of, own_name, same_holder}
+use Rattle.cw_explain.specs.Held.{AreSame, has_taken, held_of, holder_of, own_name, same_holder}
 
 pub or_apart : (a b c : Bool) → ((a || b) || c) ≡ (a || (b || c))
 or_apart true b c = refl
@@ -363,3 +363,21 @@ none_given (p ∷ ps) = refl
 
 pub without_seen : (s : Stmt) (ts : Taken) → own_name s ≡ [] → ts ≡ without (own_name s) ts
 without_seen s ts h = sym (without_none ts) ∙ ap (λ (names : List Name). without names ts) (sym h)
+
+-- what stands at a place has its name
+pub has_at : (x : Name) (hs : List Held) (k : ℕ) (d : Held) → k < length hs → bytes_eq x (get_or hs k d).name.text.now ≡ true →
+    has_taken x (holder_of (get_or hs k d).holder) (map held_of hs) ≡ true
+has_at x [] k d h e = absurd (omega (arith, h))
+has_at x (held ∷ hs) zero d h e = found (same_name x held.name.text.now) (same_holder (holder_of held.holder) (holder_of held.holder)) e (same_holder_self (holder_of held.holder))
+  where
+    found : (n m : Bool) → n ≡ true → m ≡ true → ((n && m) || has_taken x (holder_of held.holder) (map held_of hs)) ≡ true
+    found true true n m = refl
+    found true false n m = cc
+    found false m n k = cc
+has_at x (held ∷ hs) (suc k) d h e =
+    later (same_name x held.name.text.now && same_holder (holder_of (get_or hs k d).holder) (holder_of held.holder)) (has_at x hs k d (omega (arith, h)) e)
+  where
+    later : (b : Bool) → has_taken x (holder_of (get_or hs k d).holder) (map held_of hs) ≡ true →
+        (b || has_taken x (holder_of (get_or hs k d).holder) (map held_of hs)) ≡ true
+    later true i = refl
+    later false i = i

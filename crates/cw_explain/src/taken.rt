@@ -7,10 +7,12 @@ ghost use Rattle.std.specs.Prelude.{
   ◌++◌,
   ◌+◌,
   IfOk,
+  IfSome,
   OnOk,
   [],
   is_some,
   map,
+  true,
 };
 ghost use Rattle.cw_explain.specs.Held.{
   AreSame,
@@ -117,6 +119,8 @@ impl<'a> Taken<'a> {
     /// What took the name, if something did.
     pub fn holder(&self, name: &[u8]) -> Option<Held<'a>>
         ensures decides { is_some result ≡ rule.is_taken (taken_of self.now) name.now }
+        ensures holds { IfSome result (λ held.
+            has_taken name.now (holder_of held.holder) (taken_of self.now) ≡ true) }
     {
         for held in self.held.as_slice() {
             if name == held.name.text {
