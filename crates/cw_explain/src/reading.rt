@@ -1,6 +1,6 @@
 //! Which rule of ownership a line breaks.
 
-ghost use Rattle.std.specs.Prelude.{◌≡◌, IfSome, Some, is_some, not};
+ghost use Rattle.std.specs.Prelude.{◌≡◌, ◌∷◌, ◌&&◌, [], IfSome, Some, is_some, not};
 ghost use Rattle.cw_explain.specs.Loops.{around_of};
 ghost use Rattle.cw_explain.specs.Names.{locals_of};
 ghost use Rattle.cw_model.specs.Names.{is_among};
@@ -13,7 +13,7 @@ use crate::known::Known;
 use crate::owning::{Disowned, Touch};
 use crate::taken::{Taken, after, array_given};
 use crate::word::Word;
-use cw_tree::syntax::{Ast, Call, Expr, Head, Line, Name, Stmt};
+use cw_tree::syntax::{Ast, Call, Cut, Expr, Head, Line, Name, Stmt};
 use std::alloc::{AllocError, Global};
 
 /// The innermost loop around: its head and the line of that, and how many of the known names are from outside its body.
@@ -220,18 +220,11 @@ fn of_stmt<'a>(
         | Stmt::While(e, _)
         | Stmt::Print(e)
         | Stmt::Return(Some(e)) => of_expr(around, known, taken, e),
-        Stmt::Assign(x, e) => of_expr(around, known, taken, e)
-            .or(of_touch(taken, x, Touch::Written))
-            .or(of_written(around, known, x)),
-        Stmt::AssignElement(a, i, e) => of_expr(around, known, taken, i)
-            .or(of_expr(around, known, taken, e))
-            .or(of_touch(taken, a, Touch::Written))
-            .or(of_element(around, known, a, i)),
+        Stmt::Assign(x, e) => of_assign(around, known, taken, x, e),
+        Stmt::AssignElement(a, i, e) => of_assign_element(around, known, taken, a, i, e),
         Stmt::Call(call) => of_call(place, known, taken, call),
         Stmt::For(head, _) => of_head(place.in_head(), known, taken, head),
-        Stmt::Cut(cut, _) => of_expr(around, known, taken, &cut.at)
-            .or(of_touch(taken, &cut.array, Touch::Cut))
-            .or(of_array(around, known, &cut.array)),
+        Stmt::Cut(cut, _) => of_cut(around, known, taken, cut),
         Stmt::Sync | Stmt::Scope(_) | Stmt::Region(_, _) | Stmt::Return(None) => None,
     }
 }
@@ -357,6 +350,79 @@ fn of_expr<'a>(
             Some(reason)
         }
     }
+}
+
+// An assignment breaks a rule.
+fn of_assign<'a>(
+    around: Option<Loop<'a>>,
+    known: &Known<'a>,
+    taken: &Taken<'a>,
+    x: &'a Name,
+    e: &'a Expr,
+) -> Option<Disowned<'a>>
+    ensures decides { is_some result
+        ≡ not (rule.may_read (around_of (locals_of known.now) around.entry) (taken_of taken.now) (expr_of e.now)
+        && rule.may_write (around_of (locals_of known.now) around.entry) (taken_of taken.now) (x.now ∷ [])) }
+{
+    if let Some(reason) = of_expr(around, known, taken, e) {
+        return Some(reason);
+    }
+    if let Some(reason) = of_touch(taken, x, Touch::Written) {
+        return Some(reason);
+    }
+    let reason = of_written(around, known, x)?;
+    Some(reason)
+}
+
+// An assignment to an element breaks a rule.
+fn of_assign_element<'a>(
+    around: Option<Loop<'a>>,
+    known: &Known<'a>,
+    taken: &Taken<'a>,
+    a: &'a Name,
+    i: &'a Expr,
+    e: &'a Expr,
+) -> Option<Disowned<'a>>
+    ensures decides { is_some result
+        ≡ not (rule.may_read (around_of (locals_of known.now) around.entry) (taken_of taken.now) (expr_of i.now)
+        && rule.may_read (around_of (locals_of known.now) around.entry) (taken_of taken.now) (expr_of e.now)
+        && rule.are_free (taken_of taken.now) (a.now ∷ [])
+        && rule.may_index (around_of (locals_of known.now) around.entry) a.now (expr_of i.now)) }
+{
+    if let Some(reason) = of_expr(around, known, taken, i) {
+        return Some(reason);
+    }
+    if let Some(reason) = of_expr(around, known, taken, e) {
+        return Some(reason);
+    }
+    if let Some(reason) = of_touch(taken, a, Touch::Written) {
+        return Some(reason);
+    }
+    let reason = of_element(around, known, a, i)?;
+    Some(reason)
+}
+
+// A cut breaks a rule.
+fn of_cut<'a>(
+    around: Option<Loop<'a>>,
+    known: &Known<'a>,
+    taken: &Taken<'a>,
+    cut: &'a Cut,
+) -> Option<Disowned<'a>>
+    ensures decides { is_some result
+        ≡ not (rule.may_read (around_of (locals_of known.now) around.entry) (taken_of taken.now)
+        (expr_of cut.now.at)
+        && rule.may_write (around_of (locals_of known.now) around.entry) (taken_of taken.now)
+        (cut.now.array ∷ [])) }
+{
+    if let Some(reason) = of_expr(around, known, taken, &cut.at) {
+        return Some(reason);
+    }
+    if let Some(reason) = of_touch(taken, &cut.array, Touch::Cut) {
+        return Some(reason);
+    }
+    let reason = of_array(around, known, &cut.array)?;
+    Some(reason)
 }
 
 // A call breaks a rule.
