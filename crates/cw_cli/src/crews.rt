@@ -1,6 +1,7 @@
 //! The crew of a run.
 
-ghost use Rattle.std.specs.Prelude.{◌≡◌, length, IfOk};
+ghost use Rattle.std.specs.Prelude.{◌≡◌, ◌≤◌, length, IfOk};
+ghost use Rattle.cw_pool.specs.declared.run.TheConstants.{MOST_BODIES};
 ghost use Rattle.cw_cli.specs.Crews as crews;
 
 use cw_pool::crew::Serving;
@@ -22,7 +23,8 @@ pub fn crew_of<R: Wait + Copy + Drop>(
     rt: R,
     workers: u64,
 ) -> Result<Vec<Serving<R>>, AllocError>
-    ensures { IfOk result (λ crew. length crew.items ≡ crews.bodies_for workers) }
+    ensures bodies { IfOk result (λ crew. length crew.items ≡ crews.bodies_for workers) }
+    ensures few { IfOk result (λ crew. length crew.items ≤ MOST_BODIES) }
 {
     let bodies = bodies_for(workers);
     let mut crew = Vec::with_capacity(alloc, bodies)?;
