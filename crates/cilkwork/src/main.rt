@@ -16,7 +16,8 @@ use std::fs::File;
 use std::io::ErrorKind;
 use std::process::ExitCode;
 use std::rt::Env;
-use std::sync::Arc;
+use std::sync::{Arc, Wait};
+use std::thread::Threads;
 use std::{env, io};
 
 fn main(rt: HostRuntime) -> ExitCode {
@@ -55,8 +56,8 @@ fn main(rt: HostRuntime) -> ExitCode {
 }
 
 // Answers on a source, with as many workers as are asked for; gives the exit status.
-fn answer<D: Input, W: Sink, E: Sink>(
-    rt: &HostRuntime,
+fn answer<R: Threads + Wait + Copy + Drop + Send + 'static, D: Input, W: Sink, E: Sink>(
+    rt: &R,
     alloc: Global,
     asked: &Request,
     source: &mut D,

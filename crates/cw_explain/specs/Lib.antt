@@ -1,7 +1,5 @@
-pub mod Held
 pub mod Limits
 pub mod Lines
-pub mod Loops
 pub mod Names
 pub mod Parts
 pub mod Places
@@ -10,6 +8,5 @@ pub mod Regions
 pub mod Rules
 pub mod Standing
 pub mod Told
-pub mod Touched
 pub mod Uses
 pub mod Unread

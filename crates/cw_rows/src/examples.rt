@@ -21,8 +21,11 @@ mod roots_mended;
 mod spawned;
 mod stencil;
 
-use crate::program::{answer, answer_by_all};
+use crate::program::answer;
+use std::process::Abort;
+use std::sync::Wait;
 use std::test::Fail;
+use std::thread::Threads;
 
 // A program, the words that name its file and its arguments, and its reports.
 pub struct Example {
@@ -60,15 +63,15 @@ const WITH_LOOPS: [Example; 7] = [
 ];
 
 // The exit status, standard output and standard error of the program in this mode, with its words before the file.
-fn answer_in(
-    rt: HostRuntime,
+fn answer_in<R: Abort + AllocGlobal + Threads + Wait + Copy + Drop + Send + 'static>(
+    rt: R,
     mode: &str,
     example: &Example,
 ) -> Result<(u8, Vec<u8>, Vec<u8>), Fail> {
     let mut words = String::from_str(rt.alloc(), mode)?;
     words.push_str(" ")?;
     words.push_str(example.words)?;
-    answer_by_all(rt, words.as_str(), example.source.as_bytes())
+    answer(rt, words.as_str(), example.source.as_bytes())
 }
 
 // What stands beside an example of its answer in this mode.
@@ -82,7 +85,11 @@ fn beside(example: &Example, mode: &str) -> &'static str {
 }
 
 // Each of these answers what stands beside it.
-fn all_answer(rt: HostRuntime, mode: &str, examples: &[Example]) -> Result<(), Fail> {
+fn all_answer<R: Abort + AllocGlobal + Threads + Wait + Copy + Drop + Send + 'static>(
+    rt: R,
+    mode: &str,
+    examples: &[Example],
+) -> Result<(), Fail> {
     for example in examples {
         let (status, out, err) = answer_in(rt, mode, example)?;
         assert_eq!(rt; (status, err.len()), (0, 0), "{mode} {}", example.words);
@@ -98,7 +105,10 @@ fn all_answer(rt: HostRuntime, mode: &str, examples: &[Example]) -> Result<(), F
 }
 
 // Each of these is accepted.
-fn all_are_accepted(rt: HostRuntime, examples: &[Example]) -> Result<(), Fail> {
+fn all_are_accepted<R: Abort + AllocGlobal + Threads + Wait + Copy + Drop + Send + 'static>(
+    rt: R,
+    examples: &[Example],
+) -> Result<(), Fail> {
     for example in examples {
         let source = example.source.as_bytes();
         let (status, out, err) = answer(rt, "check example.cilk", source)?;

@@ -1,6 +1,6 @@
 //! The schedule of a run, from the words to the exit status.
 
-use crate::program::{answer, answer_by_all};
+use crate::program::answer;
 use crate::tables::{DIVIDED, FIB, PRINTED};
 use std::test::Fail;
 
@@ -22,7 +22,7 @@ fn writes_schedules(rt: HostRuntime) -> Result<(), Fail> {
         ("greedy 2 f", PRINTED, "2,15,10,10\n"),
         ("greedy 1 f", PRINTED, "1,15,10,15\n"),
     ] {
-        let (status, out, err) = answer_by_all(rt, words, source)?;
+        let (status, out, err) = answer(rt, words, source)?;
         assert_eq!(rt; (status, err.len()), (0, 0), "{words}");
         let text = String::from_utf8(out).map_err(|_| Fail::from("no text"))?;
         let table = text.as_str().strip_prefix(HEADER);
@@ -50,7 +50,7 @@ fn writes_no_schedule(rt: HostRuntime) -> Result<(), Fail> {
             "refused 3 line 1\n",
         ),
     ] {
-        let (found, out, err) = answer_by_all(rt, words, source)?;
+        let (found, out, err) = answer(rt, words, source)?;
         assert_eq!(rt; (found, out.len()), (status, 0), "{words}");
         assert_eq!(rt; err.as_slice(), line.as_bytes(), "{words}");
     }

@@ -3,13 +3,19 @@
 
 use crate::program::{answer, answer_by_all};
 use std::alloc::{AllocError, Global};
+use std::process::Abort;
+use std::sync::Wait;
 use std::test::Fail;
+use std::thread::Threads;
 
 // The words, the source, the exit status, standard output and standard error.
 type Row<'a> = (&'a str, &'a str, u8, &'a str, &'a str);
 
 // Each of these rows holds.
-fn all_hold(rt: HostRuntime, rows: &[Row]) -> Result<(), Fail> {
+fn all_hold<R: Abort + AllocGlobal + Threads + Wait + Copy + Drop + Send + 'static>(
+    rt: R,
+    rows: &[Row],
+) -> Result<(), Fail> {
     for row in rows {
         let (status, out, err) = answer_by_all(rt, row.0, row.1.as_bytes())?;
         assert_eq!(rt; status, row.2, "{}: {}", row.0, row.1);

@@ -4,8 +4,10 @@ use cw_cli::{Request, crew_of, is_version, request, say, take_explain, tool, ver
 use cw_pool::gate::Quiet;
 use cw_report::Counted;
 use std::alloc::{AllocError, Global};
-use std::sync::Arc;
+use std::process::Abort;
+use std::sync::{Arc, Wait};
 use std::test::Fail;
+use std::thread::Threads;
 
 // The words of a line.
 fn words_of(alloc: Global, line: &str) -> Result<Vec<String>, AllocError> {
@@ -24,7 +26,11 @@ pub fn asked(alloc: Global, line: &str) -> Result<Request, Fail> {
 
 /// The exit status, standard output and standard error of the program on these words, where the file
 /// that they name is this source.
-pub fn answer(rt: HostRuntime, words: &str, source: &[u8]) -> Result<(u8, Vec<u8>, Vec<u8>), Fail> {
+pub fn answer<R: AllocGlobal + Threads + Wait + Copy + Drop + Send + 'static>(
+    rt: R,
+    words: &str,
+    source: &[u8],
+) -> Result<(u8, Vec<u8>, Vec<u8>), Fail> {
     let alloc = rt.alloc();
     let mut words = words_of(alloc, words)?;
     let explain = take_explain(&mut words);
@@ -58,8 +64,8 @@ pub fn answer(rt: HostRuntime, words: &str, source: &[u8]) -> Result<(u8, Vec<u8
 }
 
 /// The same of words that run a program, with two workers, where 1, 4 and 64 workers answer the same.
-pub fn answer_by_all(
-    rt: HostRuntime,
+pub fn answer_by_all<R: Abort + AllocGlobal + Threads + Wait + Copy + Drop + Send + 'static>(
+    rt: R,
     words: &str,
     source: &[u8],
 ) -> Result<(u8, Vec<u8>, Vec<u8>), Fail> {

@@ -8,8 +8,9 @@ use cw_pool::gate::Quiet;
 use cw_report::{Counted, Input, Sink};
 use std::io;
 use std::io::{Read, Write};
-use std::sync::Arc;
+use std::sync::{Arc, Wait};
 use std::test::Fail;
+use std::thread::Threads;
 
 // Takes `room` bytes, and then fails or takes none.
 #[derive(Drop)]
@@ -50,13 +51,12 @@ impl Read for Broken {
 }
 
 // What the program answers with no worker but the caller's thread.
-fn tool_alone<D: Input, W: Sink, E: Sink>(
-    rt: HostRuntime,
-    asked: &Request,
-    source: &mut D,
-    out: &mut W,
-    err: &mut E,
-) -> Result<u8, Fail>
+fn tool_alone<
+    R: AllocGlobal + Threads + Wait + Copy + Drop + Send + 'static,
+    D: Input,
+    W: Sink,
+    E: Sink,
+>(rt: R, asked: &Request, source: &mut D, out: &mut W, err: &mut E) -> Result<u8, Fail>
     requires out { (W.seen out.old).failures < 2 ^ 64 - 1 }
     requires err { (E.seen err.old).failures < 2 ^ 64 - 1 }
 {
@@ -76,7 +76,12 @@ struct Told {
 }
 
 // Reports the value 42, or a check, to a sink with this room.
-fn report(rt: HostRuntime, words: &str, room: usize, fails: bool) -> Result<Told, Fail> {
+fn report<R: AllocGlobal + Threads + Wait + Copy + Drop + Send + 'static>(
+    rt: R,
+    words: &str,
+    room: usize,
+    fails: bool,
+) -> Result<Told, Fail> {
     let alloc = rt.alloc();
     let asked = asked(alloc, words)?;
     let mut source = Counted::new(b"int main(int n) { return n; }".as_slice());
