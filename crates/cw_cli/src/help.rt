@@ -31,6 +31,8 @@ A number is one or more decimal digits; zeros in front are allowed:
             may take some seconds
   --burden  from 0 to 1000000000; what a path is charged at each spawn where it
             goes on behind it, as if another processor had stolen that
+  --workers from 1 to 64; how many threads share the run. No report depends on
+            it, and greedy runs with one
 
 Exit status and standard error (L is a line of the source):
   0                     the report is on standard output
