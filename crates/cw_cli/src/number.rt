@@ -49,7 +49,7 @@ pub const WORKERS: NumberOption = NumberOption {
     least: 1,
     most: MOST_WORKERS as u64,
     usual: "2",
-    help: "How many threads run the program; no report depends on it",
+    help: "How many threads share the run",
 };
 
 /// The processors of a schedule, a word of its own and no option.

@@ -151,7 +151,7 @@ fn checks(rt: HostRuntime) -> Result<(), Fail> {
         when("check f", b"", 2, "", "refused 2 line 1\n"),
         when("check f", b"\n\xff", 2, "", "refused 1 line 2\n"),
     ] {
-        let (status, out, err) = answer_by_all(rt, row.words, row.source)?;
+        let (status, out, err) = answer(rt, row.words, row.source)?;
         assert_eq!(rt; status, row.status, "{}", row.err);
         assert_eq!(rt; out.as_slice(), row.out.as_bytes(), "{}", row.err);
         assert_eq!(rt; err.as_slice(), row.err.as_bytes(), "{}", row.err);

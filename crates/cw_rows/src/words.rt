@@ -141,7 +141,7 @@ const REFUSED: &[(&str, &str)] = &[
         "error: a value is required for '--limit <N>'",
     ),
     (
-        "run f --workers 2",
+        "check f --workers 2",
         "error: unexpected argument '--workers' found\n",
     ),
     (
