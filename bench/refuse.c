@@ -9,7 +9,8 @@
 extern void *__libc_malloc(size_t);
 extern void *__libc_realloc(void *, size_t);
 
-static long refused = -1, calls = 0;
+static long refused = -1;
+static _Atomic long calls = 0;
 
 static int is_refused(void) {
     if (refused < 0) {

@@ -4,7 +4,9 @@ use Rattle.cw_jobs.specs.declared.effect.Effect.{Effect}
 use Rattle.cw_jobs.specs.declared.job.Job.{Job}
 use Rattle.cw_jobs.specs.Means.{IsMeaningOf}
 use Rattle.cw_strand.specs.declared.strand.Strand.{Strand}
+use Rattle.cw_strand.specs.declared.strand.End.{End}
 use Rattle.cw_strand.specs.Holds.{its_job, outs, IsRunning}
+use Rattle.cw_strand.specs.Moves.{EndsAt}
 use Rattle.cw_yard.specs.declared.seat.Yard.{Yard}
 use Rattle.cw_yard.specs.declared.ticket.Duty.{Duty}
 use Rattle.cw_yard.specs.Ledger.{Each}
@@ -13,8 +15,8 @@ use Rattle.cw_yard.specs.Seats.{IsTicketOf, IsDutyOf}
 use Rattle.cw_pool.specs.declared.post.Kept.{Kept}
 use Rattle.cw_pool.specs.declared.post.Kept.TheVariants as kept
 use Rattle.cw_pool.specs.declared.post.Post.{Post}
-use Rattle.cw_pool.specs.declared.post.Event.{Event}
-use Rattle.cw_pool.specs.declared.post.Event.TheVariants as event
+use Rattle.cw_pool.specs.declared.post.Turn.{Turn}
+use Rattle.cw_pool.specs.declared.post.Turn.TheVariants as turn
 
 -- this is the newest job that a strand has out
 abbrev pub IsNewest : Strand → Job → Type 0
@@ -49,11 +51,15 @@ Lacks y p newest =
 abbrev pub Begins : Job → Post → Type 0
 Begins job p = (its_job p.strand ≡ job) × ((y : Yard) → Works y p)
 
--- what a turn keeps: what it ends with means the strand's job, and then nothing is out
-abbrev pub EventFor : Yard → Post → Event → Type 0
-EventFor y p event.Went = Works y p
-EventFor y p event.Waits = Works y p
-EventFor y p (event.Ended e) = IsMeaningOf (its_job p.strand) e × (p.kept.items ≡ [])
+-- its strand has come to this end, with exactly the jobs out that are kept: there is none
+abbrev pub Ends : Post → End → Type 0
+Ends p e = EndsAt e p.strand × (kept_jobs p.kept.items ≡ map (λ j. Some j) (outs p.strand))
+
+-- what a turn keeps
+abbrev pub TurnsTo : Yard → Post → Turn → Type 0
+TurnsTo y p turn.Went = Works y p
+TurnsTo y p turn.Waits = Works y p
+TurnsTo y p (turn.Ends e) = Ends p e
 
 -- a stolen job with the duty to settle it
 abbrev pub IsFound : Yard → Job × Duty → Type 0

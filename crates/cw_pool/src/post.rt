@@ -1,14 +1,16 @@
 //! A strand beside the jobs that it has out.
 
-ghost use Rattle.std.specs.Prelude.{◌≡◌, ◌≢◌, ◌∷◌, [], Some, MatchResult};
-ghost use Rattle.cw_strand.specs.Holds.{outs, IsAtSync, IsRunning};
-ghost use Rattle.cw_yard.specs.Seats.{IsSeatOf};
-ghost use Rattle.cw_pool.specs.Posts.{Begins, EventFor, IsNewest, Lacks, Works};
+ghost use Rattle.std.specs.Prelude.{◌≡◌, ◌≢◌, ◌≤◌, ◌+◌, ◌∷◌, [], length, Some, vec_capacity, MatchResult};
+ghost use Rattle.cw_strand.specs.Holds.{its_job, outs, IsAtSync, IsRunning};
+ghost use Rattle.cw_yard.specs.Seats.{IsSeatOf, IsTicketOf};
+ghost use Rattle.cw_yard.specs.Tickets.{ticket_job};
+ghost use Rattle.cw_jobs.specs.Means.{IsMeaningOf};
+ghost use Rattle.cw_pool.specs.Posts.{Begins, Ends, IsNewest, Lacks, TurnsTo, Works};
 
 use crate::gate::{Gate, Moment};
 use cw_jobs::effect::Effect;
 use cw_jobs::job::Job;
-use cw_strand::strand::{Step, Strand};
+use cw_strand::strand::{End, Event, Strand};
 use cw_yard::seat::{Seat, Yard};
 use cw_yard::ticket::Ticket;
 use cw_yard::yard::{Collected, Retaken};
@@ -29,14 +31,14 @@ pub struct Post {
 }
 
 /// What a turn came to.
-#[derive(Drop)]
-pub enum Event {
+#[derive(Clone, Copy, Debug)]
+pub enum Turn {
     /// The strand may go on.
     Went,
     /// It waits for its newest job, which another worker has.
     Waits,
-    /// It has ended, with the effect of its job, and nothing is out.
-    Ended(Effect),
+    /// It has come to this end, of which its effect is to be made.
+    Ends(End),
 }
 
 // The newest job out is back unrun.
@@ -94,6 +96,30 @@ impl Post {
         self.kept.push_reserved(next);
     }
 
+    // The newest job out was stolen: its effect is given, if it has come. An effect is wide, so this stands by itself.
+    #[inline(never)]
+    fn collect(&mut self, yard: &Yard, seat: &mut Seat, ticket: Ticket) -> bool
+        requires seat { IsSeatOf yard.now seat.old }
+        requires ticket { IsTicketOf yard.now ticket }
+        requires lacks { Lacks yard.now self.old (ticket_job ticket) }
+        requires out { IsAtSync self.old.strand × (outs self.old.strand ≢ []) }
+        requires room { length self.old.kept.items + 1 ≤ vec_capacity self.old.kept }
+        ensures seat { IsSeatOf yard.now seat.new }
+        ensures of { self.new.strand.of ≡ self.old.strand.of }
+        ensures works { Works yard.now self.new }
+    {
+        match yard.collect(seat, ticket) {
+            Collected::Done(effect) => {
+                self.strand.give(effect);
+                true
+            }
+            Collected::Later(ticket) => {
+                self.kept.push_reserved(Kept::Out(ticket));
+                false
+            }
+        }
+    }
+
     // The newest job out is taken back, or its effect given, if it has come.
     fn join(&mut self, yard: &Yard, seat: &mut Seat) -> bool
         requires seat { IsSeatOf yard.now seat.old }
@@ -113,16 +139,7 @@ impl Post {
                     take_in(&mut self.strand, rest);
                     true
                 }
-                Retaken::Later(ticket) => match yard.collect(seat, ticket) {
-                    Collected::Done(effect) => {
-                        self.strand.give(effect);
-                        true
-                    }
-                    Collected::Later(ticket) => {
-                        self.kept.push_reserved(Kept::Out(ticket));
-                        false
-                    }
-                },
+                Retaken::Later(ticket) => self.collect(yard, seat, ticket),
             },
             None => unreachable!(),
         }
@@ -135,28 +152,38 @@ impl Post {
         seat: &mut Seat,
         gate: &G,
         me: usize,
-    ) -> Event
+    ) -> Turn
         requires seat { IsSeatOf yard.now seat.old }
         requires works { Works yard.now self.old }
         ensures seat { IsSeatOf yard.now seat.new }
         ensures of { self.new.strand.of ≡ self.old.strand.of }
-        ensures event { EventFor yard.now self.new result }
+        ensures turn { TurnsTo yard.now self.new result }
     {
-        match self.strand.go() {
-            Step::Spawned(rest) => {
+        match self.strand.next_event() {
+            Event::Spawned(rest) => {
                 self.keep(yard, seat, gate, me, rest);
-                Event::Went
+                Turn::Went
             }
-            Step::AtSync => {
+            Event::AtSync => {
                 gate.turn(me, Moment::AtJoin);
                 if self.join(yard, seat) {
-                    Event::Went
+                    Turn::Went
                 } else {
-                    Event::Waits
+                    Turn::Waits
                 }
             }
-            Step::Ended(effect) => Event::Ended(effect),
+            Event::AtEnd(end) => Turn::Ends(end),
         }
+    }
+
+    /// The effect of a post that has come to this end: it means its job, and nothing is out.
+    pub(crate) fn effect(&mut self, end: End) -> Effect
+        requires { Ends self.old end }
+        ensures of { self.new.strand.of ≡ self.old.strand.of }
+        ensures means { IsMeaningOf (its_job self.old.strand) result }
+        ensures none { self.new.kept.items ≡ [] }
+    {
+        self.strand.effect_at(end)
     }
 
     /// A post with nothing out is let go.

@@ -7,7 +7,7 @@ ghost use Rattle.cw_pool.specs.Chains.{KeepsStanding};
 ghost use Rattle.cw_pool.specs.Posts.{IsFound, Settles};
 
 use crate::gate::{Gate, Moment};
-use crate::post::{Event, Post};
+use crate::post::{Post, Turn};
 use cw_jobs::effect::Effect;
 use cw_jobs::job::Job;
 use cw_yard::seat::{Seat, Yard};
@@ -199,8 +199,8 @@ pub(crate) fn work<G: Gate, R: Wait>(
     let mut search = Search::new(me);
     for _ in rt.forever() {
         match post.turn(yard, seat, gate, me) {
-            Event::Went => {}
-            Event::Waits => run_above(
+            Turn::Went => {}
+            Turn::Waits => run_above(
                 alloc,
                 yard,
                 seat,
@@ -210,18 +210,20 @@ pub(crate) fn work<G: Gate, R: Wait>(
                 &mut below,
                 &mut search,
             ),
-            Event::Ended(effect) => match below.pop() {
+            Turn::Ends(end) => match below.pop() {
                 Some(
                     Below {
                         post: waiting,
                         duty,
                     },
                 ) => {
-                    let ended = mem::replace(&mut post, waiting);
+                    let mut ended = mem::replace(&mut post, waiting);
+                    let effect = ended.effect(end);
                     ended.finish();
                     settle(yard, seat, gate, me, duty, effect);
                 }
                 None => {
+                    let effect = post.effect(end);
                     post.finish();
                     below.destroy_empty();
                     return effect;

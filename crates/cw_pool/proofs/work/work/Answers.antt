@@ -1,4 +1,4 @@
-use Rattle.std.proofs.Common.{◌≡◌, refl, sym, ap, subst}
+use Rattle.std.proofs.Common.{◌≡◌, ◌∙◌, refl, sym, ap, subst}
 use Rattle.cw_jobs.specs.Means.{IsMeaningOf}
 use Rattle.cw_strand.specs.Holds.{its_job}
 use Rattle.cw_pool.specs.declared.post.Post.{Post}
@@ -19,7 +19,7 @@ settle-requires-clause-settles g c =
       (
         its_job c.loop.post.strand,
         l.0,
-        subst (λ j. IsMeaningOf j c.in-Ended.effect) (same_of c.turn.new.self.strand c.loop.post.strand c.in-Ended.ensures.of) c.in-Ended.ensures.event.0,
+        subst (λ j. IsMeaningOf j c.effect-effect.result) (ap (λ (q : Post). its_job q.strand) c.replace-ended.ensures.value ∙ same_of c.turn.new.self.strand c.loop.post.strand c.in-Ends.ensures.of) c.effect-effect.ensures.means,
       ),
     )
 

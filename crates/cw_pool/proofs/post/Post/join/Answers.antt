@@ -1,7 +1,7 @@
-use Rattle.std.proofs.Common.{◌∙◌, Some, refl, ap, subst}
+use Rattle.std.proofs.Common.{◌∙◌, Some, refl, sym, ap, subst}
 use Rattle.cw_yard.specs.Tickets.{ticket_job}
 use Rattle.cw_pool.specs.Posts.{Lacks, kept_job}
-use Rattle.cw_pool.proofs.Joins.{after, after_back, lacks_newest, newest, popped, post}
+use Rattle.cw_pool.proofs.Joins.{after_back, lacks_newest, popped, post}
 use Rattle.cw_pool.proofs.post.Post.join.Goals as goal
 
 pub take_in-requires-clause-newest : goal.take_in-requires-clause-newest
@@ -36,19 +36,10 @@ returns-in-Mine-clause-works c =
     after_back y p (ticket_job c.in-Some-Out.ticket) c.take_in-in-Mine.new.strand c.pop.new.self c.in-Mine.rest t refl
     c.take_in-in-Mine.ensures.running c.take_in-in-Mine.ensures.outs
 
-pub give-requires-clause-given : goal.give-requires-clause-given
-give-requires-clause-given c =
+pub collect-requires-clause-lacks : goal.collect-requires-clause-lacks
+collect-requires-clause-lacks c =
     let y = c.args.yard.now in
     let p = post c.args.self.now.strand c.pop.new.self in
     let l = popped y c.args.self.now c.pop.new.self c.in-Some-Out.field-0 c.requires.works c.in-Some-Out.ensures.items in
     let t : Lacks y p (ticket_job c.in-Some-Out.ticket) = subst (λ k. Lacks y p (kept_job k)) c.in-Some-Out.field-0-is l.0 in
-    let n = newest _ _ _ t.1 in
-    record { out = n.job; others = n.others; are = n.is; means = c.in-Done.ensures.ticket n.job (ap ticket_job c.in-Later.ensures.ticket ∙ n.named_is) }
-
-pub returns-in-Done-clause-works : goal.returns-in-Done-clause-works
-returns-in-Done-clause-works c =
-    let y = c.args.yard.now in
-    let p = post c.args.self.now.strand c.pop.new.self in
-    let l = popped y c.args.self.now c.pop.new.self c.in-Some-Out.field-0 c.requires.works c.in-Some-Out.ensures.items in
-    let t : Lacks y p (ticket_job c.in-Some-Out.ticket) = subst (λ k. Lacks y p (kept_job k)) c.in-Some-Out.field-0-is l.0 in
-    after y p (ticket_job c.in-Some-Out.ticket) c.give.new.self c.pop.new.self t refl (λ j others is o. (c.give.ensures.running, c.give.ensures.outs j others is))
+    subst (λ o. Lacks y p o) (ap ticket_job (sym c.in-Later.ensures.ticket)) t

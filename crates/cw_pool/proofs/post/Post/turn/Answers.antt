@@ -1,11 +1,10 @@
-use Rattle.std.proofs.Common.{sym, subst}
-use Rattle.cw_jobs.specs.Means.{IsMeaningOf}
-use Rattle.cw_strand.specs.Holds.{outs}
-use Rattle.cw_pool.proofs.Joins.{nothing}
+use Rattle.std.proofs.Common.{◌∙◌, List, Some, sym, ap}
+use Rattle.std.specs.Prelude.{map}
+use Rattle.cw_jobs.specs.declared.job.Job.{Job}
 use Rattle.cw_pool.proofs.post.Post.turn.Goals as goal
 
-pub returns-in-Ended-clause-event : goal.returns-in-Ended-clause-event
-returns-in-Ended-clause-event g c = (
-  subst (λ o. IsMeaningOf o.value c.in-Ended.effect) (sym c.go.ensures.of) c.in-Ended.ensures.keeps.0,
-  nothing c.args.self.now.kept.items (outs c.args.self.now.strand) c.requires.works.1 c.in-Ended.ensures.keeps.1,
+pub returns-in-AtEnd-clause-turn : goal.returns-in-AtEnd-clause-turn
+returns-in-AtEnd-clause-turn g c = (
+  c.in-AtEnd.ensures.keeps.0,
+  c.requires.works.1 ∙ ap (λ (l : List Job). map (λ j. Some j) l) (sym c.in-AtEnd.ensures.keeps.1),
 )

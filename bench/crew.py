@@ -1,0 +1,185 @@
+#!/usr/bin/env python3
+"""Runs by workers beside the run with one, on the built program.
+
+    crew.py PROGRAM same [COUNT [TIMES]]   the programs of examples/ and so many random ones (200), each so many times (50) in the
+                                           modes run, scale and sites with 2, 3, 4 and 64 workers: the bytes, both streams and
+                                           the status of one worker
+    crew.py PROGRAM limits                 each limit from 1 to the cost of a run and one more, on six programs: the same
+    crew.py PROGRAM deep                   rests out at each depth, past the cells of a worker and down to the greatest depth
+    crew.py PROGRAM refusals               each single allocation refused in turn with 1, 2 and 4 workers: the answer, or
+                                           `memory` with nothing written; wants gcc, which compiles bench/refuse.c
+    crew.py PROGRAM speed [ROUNDS]         seconds with 1, 2, 4 and 64 workers, the least of so many interleaved rounds (5),
+                                           and one worker's as multiples of the others'
+
+Random programs are those of bench/reference. Each run has a minute; one that takes longer is told as wrong.
+"""
+import concurrent.futures
+import pathlib
+import re
+import subprocess
+import sys
+import tempfile
+import time
+
+HERE = pathlib.Path(__file__).resolve().parent
+EXAMPLES = HERE.parent / "examples"
+sys.path.insert(0, str(HERE / "reference"))
+CREWS = (2, 3, 4, 64)
+MEMORY = (6, "", "memory\n")
+
+FIB = """int fib(int n) { if (n < 2) { return n; } int x = 0; int y = 0; x = cilk_spawn fib(n - 1); y = fib(n - 2); cilk_sync; return x + y; }
+int main(int n) { int r = 0; r = fib(n); return r; }"""
+CHAIN = """int f(int n) { if (n < 1) { return 0; } int x = 0; x = cilk_spawn f(n - 1); cilk_sync; return x + 1; }
+int main(int n) { int r = 0; r = f(n); return r; }"""
+ARRAYS = """reducer sum s;
+void fill(int a[], int v) { int i = 0; while (i < len(a)) { a[i] = v; s += v; i = i + 1; } }
+int main() { int a[9]; region cuts { cut a at 4 as l, r { cilk_spawn fill(l, 3); cut r at 2 as m, t { cilk_spawn fill(m, 5); fill(t, 7); } } }
+print(a[0] + a[4] * 10 + a[8] * 100); return a[5]; }"""
+LOOP = "int main() { int a[12]; cilk_for (int i = 0; i < 12; i++) grain 2 over (a) { a[i] = i * i; print(i); } return a[11]; }"
+TRAP = """int bad(int z) { int q = 0; q = 1 / z; return q; }
+int main(int z) { print(1); cilk_spawn bad(z); print(7); cilk_sync; return 0; }"""
+LINES = "void p(int v) { print(v); } int main() { cilk_spawn p(1); cilk_spawn p(2); print(3); cilk_sync; return 0; }"
+SMALL = [("fib", FIB, ["7"]), ("chain", CHAIN, ["20"]), ("arrays", ARRAYS, []), ("loop", LOOP, []), ("trap", TRAP, ["0"]), ("lines", LINES, [])]
+
+# programs whose speed is asked, with their arguments, and what one worker's time by four workers' is to be at least
+SPEED = [("mergesort_parallel", ["400000"], 3.3), ("matrix_large", ["160"], 3.3), ("fib_cutoff", ["32"], 3.3), ("fib", ["29"], 1.8)]
+MATRIX = """// rows of a product, each by itself
+void row(int a[], int b[], int c[], int n) { int j = 0; int k = 0; int t = 0; while (j < n) { t = 0; k = 0; while (k < n) { t = t + a[k] * b[k * n + j]; k = k + 1; } c[j] = t; j = j + 1; } }
+void rows(int n, int seed, int c[]) { int a[n]; int b[n * n]; int i = 0; while (i < n) { a[i] = i + seed; i = i + 1; } i = 0; while (i < n * n) { b[i] = i - seed; i = i + 1; } row(a, b, c, n); }
+void product(int n, int from, int to, int c[]) { int m = 0; if (to - from == 1) { rows(n, from, c); return; } m = (from + to) / 2; cut c at (m - from) * n as l, r { cilk_spawn product(n, from, m, l); product(n, m, to, r); } }
+int main(int n) { int c[n * n]; product(n, 0, n, c); return c[n * n - 1]; }
+"""
+
+
+def asked(program, words, environment=None):
+    """Status and both streams of one run."""
+    try:
+        done = subprocess.run([program, *words], capture_output=True, text=True, timeout=60, env=environment)
+    except subprocess.TimeoutExpired:
+        return None, "", "no answer within a minute"
+    return done.returncode, done.stdout, done.stderr
+
+
+def differs(program, words, workers, wanted):
+    """Whether a run by so many workers is told otherwise."""
+    found = asked(program, [*words, "--workers", str(workers)])
+    if found != wanted:
+        print("BAD", *words[:2], "with", workers, "workers: wanted", wanted, "answered", found)
+    return found != wanted
+
+
+def random_programs(folder, count):
+    from gen import Generator
+
+    for seed in range(count):
+        source = Generator(seed, True).program()
+        path = folder / f"{seed}.cilk"
+        path.write_text(source)
+        params = re.search(r"int main\(([^)]*)\)", source).group(1)
+        yield path, [str((seed * 7 + place * 3) % 11) for place in range(params.count("int"))]
+
+
+def examples():
+    for path in sorted(EXAMPLES.glob("*.cilk")):
+        words = path.with_suffix(".args")
+        yield path, words.read_text().split() if words.exists() else []
+
+
+def same(program, count="200", times="50"):
+    wrong = runs = 0
+    with tempfile.TemporaryDirectory() as folder, concurrent.futures.ThreadPoolExecutor(3) as pool:
+        for path, arguments in [*examples(), *random_programs(pathlib.Path(folder), int(count))]:
+            for mode in ("run", "scale", "sites"):
+                words = [mode, str(path), *arguments, "--limit", "100000000"]
+                wanted = asked(program, [*words, "--workers", "1"])
+                tries = [pool.submit(differs, program, words, workers, wanted) for workers in CREWS for _ in range(int(times))]
+                wrong += sum(it.result() for it in tries)
+                runs += len(tries)
+    print(runs, "runs by workers beside those with one:", wrong, "wrong")
+    return wrong
+
+
+def limits(program):
+    wrong = runs = 0
+    with tempfile.TemporaryDirectory() as folder:
+        for name, source, arguments in SMALL:
+            path = pathlib.Path(folder) / f"{name}.cilk"
+            path.write_text(source)
+            limit = 0
+            while True:
+                limit += 1
+                words = ["scale", str(path), *arguments, "--limit", str(limit)]
+                wanted = asked(program, [*words, "--workers", "1"])
+                wrong += sum(differs(program, words, workers, wanted) for workers in CREWS)
+                runs += len(CREWS)
+                if wanted[0] != 4:
+                    break
+    print(runs, "runs within each limit:", wrong, "wrong")
+    return wrong
+
+
+def deep(program):
+    wrong = 0
+    rows = [("300", (0, "return 300\n", "")), ("9998", (0, "return 9998\n", "")), ("9999", (3, "", "trap 6 line 1\n"))]
+    with tempfile.TemporaryDirectory() as folder:
+        path = pathlib.Path(folder) / "chain.cilk"
+        path.write_text(CHAIN)
+        for depth, wanted in rows:
+            for workers in (1, *CREWS):
+                for _ in range(10):
+                    wrong += differs(program, ["run", str(path), depth], workers, wanted)
+    print("spawns inside one another, 300 and 9,998 deep, and one too deep:", wrong, "wrong")
+    return wrong
+
+
+def refusals(program):
+    wrong = 0
+    with tempfile.TemporaryDirectory() as folder:
+        library, count = f"{folder}/refuse.so", f"{folder}/count"
+        subprocess.run(["gcc", "-O2", "-shared", "-fPIC", "-o", library, str(HERE / "refuse.c")], check=True)
+        for name, source, arguments in SMALL:
+            path = pathlib.Path(folder) / f"{name}.cilk"
+            path.write_text(source)
+            for workers in (1, 2, 4):
+                words = ["scale" if name in ("fib", "loop") else "run", str(path), *arguments, "--workers", str(workers)]
+
+                def run(refused):
+                    return asked(program, words, {"LD_PRELOAD": library, "REFUSE": str(refused), "REFUSE_COUNT": count})
+
+                whole, calls = run(0), int(pathlib.Path(count).read_text())
+                # runs by workers do not all allocate as often: a few more are asked for
+                found = [run(refused) for refused in range(1, calls + 1 + 8 * (workers - 1))]
+                bad = [got for got in found if got not in (whole, MEMORY)]
+                wrong += len(bad)
+                print(f"{name}, {workers} workers: {len(found)} allocations refused in turn: {found.count(MEMORY)} times `memory`, {found.count(whole)} the answer", *(["BAD", bad[:3]] if bad else []))
+    return wrong
+
+
+def speed(program, rounds="5"):
+    crews = (1, 2, 4, 64)
+    short = 0
+    with tempfile.TemporaryDirectory() as folder:
+        for name, arguments, wanted in SPEED:
+            path = EXAMPLES / f"{name}.cilk"
+            if not path.exists():
+                path = pathlib.Path(folder) / f"{name}.cilk"
+                path.write_text(MATRIX)
+            least = dict.fromkeys(crews, 1e9)
+            for _ in range(int(rounds)):
+                for workers in crews:
+                    began = time.perf_counter()
+                    asked(program, ["scale", str(path), *arguments, "--limit", "100000000000", "--workers", str(workers)])
+                    least[workers] = min(least[workers], time.perf_counter() - began)
+            ratios = "  ".join(f"1 by {workers}: {least[1] / least[workers]:.2f}" for workers in crews[1:])
+            short += least[1] / least[4] < wanted
+            print(f"{name} {' '.join(arguments)}: " + "  ".join(f"{workers}: {least[workers]:.3f} s" for workers in crews) + f"  {ratios}  (1 by 4 wanted: {wanted})", flush=True)
+    return short
+
+
+if __name__ == "__main__":
+    parts = {"same": same, "limits": limits, "deep": deep, "refusals": refusals, "speed": speed}
+    if len(sys.argv) < 3 or sys.argv[2] not in parts:
+        sys.exit(__doc__)
+    bad = parts[sys.argv[2]](str(pathlib.Path(sys.argv[1]).resolve()), *sys.argv[3:])
+    print("all as expected" if not bad else f"{bad} not as expected")
+    sys.exit(bad != 0)
