@@ -2,8 +2,10 @@ mod Breaking
 mod Heading
 mod Misuse
 mod Nesting
+mod Owned
 mod Passing
 mod Pieces
 mod Repeating
+mod Sets
 mod Telling
 mod Walking

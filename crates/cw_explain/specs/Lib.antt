@@ -1,5 +1,7 @@
+pub mod Held
 pub mod Limits
 pub mod Lines
+pub mod Loops
 pub mod Names
 pub mod Parts
 pub mod Places
@@ -8,5 +10,6 @@ pub mod Regions
 pub mod Rules
 pub mod Standing
 pub mod Told
+pub mod Touched
 pub mod Uses
 pub mod Unread

@@ -136,14 +136,13 @@ impl<'a> Known<'a> {
     }
 
     /// Whether one of the oldest names, this many, is spelled so.
-    pub fn is_among_first(&self, count: usize, name: &[u8]) -> bool {
+    pub fn is_among_first(&self, count: usize, name: &[u8]) -> bool
+        ensures { result
+            ≡ is_among name.now (known_names (kinds (oldest count (locals_of self.now)))) }
+    {
         let newer = self.locals.len().saturating_sub(count);
-        for i in newer..self.locals.len() {
-            if self.locals[i].name.is(name) {
-                return true;
-            }
-        }
-        false
+        let first = &self.locals[newer..];
+        newest_of(first, name).is_some()
     }
 }
 

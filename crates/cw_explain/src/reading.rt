@@ -1,10 +1,19 @@
 //! Which rule of ownership a line breaks.
 
+ghost use Rattle.std.specs.Prelude.{◌≡◌, ◌∷◌, ◌&&◌, [], IfSome, Some, is_some, not};
+ghost use Rattle.cw_explain.specs.Loops.{around_of};
+ghost use Rattle.cw_explain.specs.Names.{locals_of};
+ghost use Rattle.cw_model.specs.Names.{is_among};
+ghost use Rattle.cw_tree.specs.SyntaxView.{expr_of};
+ghost use Rattle.cw_explain.specs.Held.{taken_of};
+ghost use Rattle.cw_explain.specs.Touched.{IsStillTaken, IsTakenBy};
+ghost use Rattle.cw_model.specs.Ownership as rule;
+
 use crate::known::Known;
 use crate::owning::{Disowned, Touch};
 use crate::taken::{Taken, after, array_given};
 use crate::word::Word;
-use cw_tree::syntax::{Ast, Call, Expr, Head, Line, Name, Stmt};
+use cw_tree::syntax::{Ast, Call, Cut, Expr, Head, Line, Name, Stmt};
 use std::alloc::{AllocError, Global};
 
 /// The innermost loop around: its head and the line of that, and how many of the known names are from outside its body.
@@ -97,17 +106,37 @@ fn in_block<'a>(
 }
 
 // A name that this line declares in a block is still taken as the block ends.
-fn still_taken<'a>(line: u32, taken: &Taken<'a>, lines: &'a [Line]) -> Option<Disowned<'a>> {
+fn still_taken<'a>(line: u32, taken: &Taken<'a>, lines: &'a [Line]) -> Option<Disowned<'a>>
+    ensures holds { IfSome result (IsStillTaken (taken_of taken.now)) }
+{
     for declaring in lines {
         if declaring.line == line {
-            if let Stmt::Declare(name, _) | Stmt::DeclareArray(name, _) = &declaring.stmt {
-                if let Some(held) = taken.holder(name.as_bytes()) {
-                    return Some(Disowned::EndsTaken(Word::of(name), held.holder, held.line));
-                }
+            if let Some(reason) = ends_taken(taken, &declaring.stmt) {
+                return Some(reason);
             }
         }
     }
     None
+}
+
+// The name that a statement declares is still taken.
+fn ends_taken<'a>(taken: &Taken<'a>, stmt: &'a Stmt) -> Option<Disowned<'a>>
+    ensures holds { IfSome result (IsStillTaken (taken_of taken.now)) }
+{
+    match stmt {
+        Stmt::Declare(x, _) => Some(of_ending(taken, x)?),
+        Stmt::DeclareArray(a, _) => Some(of_ending(taken, a)?),
+        _ => None,
+    }
+}
+
+// A name that ends is still taken.
+fn of_ending<'a>(taken: &Taken<'a>, name: &'a Name) -> Option<Disowned<'a>>
+    ensures decides { is_some result ≡ rule.is_taken (taken_of taken.now) name.now }
+    ensures holds { IfSome result (IsStillTaken (taken_of taken.now)) }
+{
+    let held = taken.holder(name.as_bytes())?;
+    Some(Disowned::EndsTaken(Word::of(name), held.holder, held.line))
 }
 
 // A rule that this line breaks in a statement, where so much is taken before it.
@@ -191,36 +220,35 @@ fn of_stmt<'a>(
         | Stmt::While(e, _)
         | Stmt::Print(e)
         | Stmt::Return(Some(e)) => of_expr(around, known, taken, e),
-        Stmt::Assign(x, e) => of_expr(around, known, taken, e)
-            .or(of_touch(taken, x, Touch::Written))
-            .or(of_written(around, known, x)),
-        Stmt::AssignElement(a, i, e) => of_expr(around, known, taken, i)
-            .or(of_expr(around, known, taken, e))
-            .or(of_touch(taken, a, Touch::Written))
-            .or(of_element(around, known, a, i)),
+        Stmt::Assign(x, e) => of_assign(around, known, taken, x, e),
+        Stmt::AssignElement(a, i, e) => of_assign_element(around, known, taken, a, i, e),
         Stmt::Call(call) => of_call(place, known, taken, call),
         Stmt::For(head, _) => of_head(place.in_head(), known, taken, head),
-        Stmt::Cut(cut, _) => of_expr(around, known, taken, &cut.at)
-            .or(of_touch(taken, &cut.array, Touch::Cut))
-            .or(of_array(around, known, &cut.array)),
+        Stmt::Cut(cut, _) => of_cut(around, known, taken, cut),
         Stmt::Sync | Stmt::Scope(_) | Stmt::Region(_, _) | Stmt::Return(None) => None,
     }
 }
 
 // A name is taken.
-fn of_touch<'a>(taken: &Taken<'a>, name: &'a Name, touch: Touch) -> Option<Disowned<'a>> {
+fn of_touch<'a>(taken: &Taken<'a>, name: &'a Name, touch: Touch) -> Option<Disowned<'a>>
+    ensures decides { is_some result ≡ rule.is_taken (taken_of taken.now) name.now }
+    ensures holds { IfSome result (IsTakenBy (taken_of taken.now) name.now touch) }
+{
     let held = taken.holder(name.as_bytes())?;
     Some(Disowned::Taken(Word::of(name), touch, held.holder, held.line))
 }
 
 // The loop around, where the name is from outside its body.
-fn outside<'a>(around: Option<Loop<'a>>, known: &Known<'a>, name: &Name) -> Option<Loop<'a>> {
+fn outside<'a>(around: Option<Loop<'a>>, known: &Known<'a>, name: &Name) -> Option<Loop<'a>>
+    ensures decides { is_some result
+        ≡ rule.is_outer (around_of (locals_of known.now) around.entry) name.now }
+    ensures same { IfSome result (λ loop. around.entry ≡ Some loop) }
+{
     let around = around?;
     if known.is_among_first(around.outer, name.as_bytes()) {
-        Some(around)
-    } else {
-        None
+        return Some(around);
     }
+    None
 }
 
 // An integer from outside the loop around is written.
@@ -228,17 +256,19 @@ fn of_written<'a>(
     around: Option<Loop<'a>>,
     known: &Known<'a>,
     name: &'a Name,
-) -> Option<Disowned<'a>> {
+) -> Option<Disowned<'a>>
+    ensures decides { is_some result
+        ≡ rule.is_outer (around_of (locals_of known.now) around.entry) name.now }
+{
     let around = outside(around, known, name)?;
     Some(Disowned::OuterWritten(Word::of(name), around.line))
 }
 
 // An array from outside the loop around is named otherwise than by an element of it.
-fn of_array<'a>(
-    around: Option<Loop<'a>>,
-    known: &Known<'a>,
-    name: &'a Name,
-) -> Option<Disowned<'a>> {
+fn of_array<'a>(around: Option<Loop<'a>>, known: &Known<'a>, name: &'a Name) -> Option<Disowned<'a>>
+    ensures decides { is_some result
+        ≡ rule.is_outer (around_of (locals_of known.now) around.entry) name.now }
+{
     let around = outside(around, known, name)?;
     let word = Word::of(name);
     if is_over(around, name) {
@@ -249,9 +279,11 @@ fn of_array<'a>(
 }
 
 // Whether a loop is over an array.
-fn is_over(around: Loop<'_>, name: &Name) -> bool {
+fn is_over(around: Loop<'_>, name: &Name) -> bool
+    ensures { result ≡ is_among name.now around.entry.head.now.over.items }
+{
     for a in around.head.over.as_slice() {
-        if a.as_bytes() == name.as_bytes() {
+        if name.as_bytes() == a.as_bytes() {
             return true;
         }
     }
@@ -264,14 +296,18 @@ fn of_element<'a>(
     known: &Known<'a>,
     name: &'a Name,
     index: &Expr,
-) -> Option<Disowned<'a>> {
+) -> Option<Disowned<'a>>
+    ensures decides { is_some result
+        ≡ not (rule.may_index (around_of (locals_of known.now) around.entry) name.now (expr_of index.now)) }
+{
     if let (Some(around), Expr::Variable(i)) = (around, index) {
-        let own = i.as_bytes() == around.head.variable.as_bytes();
+        let own = around.head.variable.as_bytes() == i.as_bytes();
         if own && !around.in_head && is_over(around, name) {
             return None;
         }
     }
-    of_array(around, known, name)
+    let reason = of_array(around, known, name)?;
+    Some(reason)
 }
 
 // An expression names what is taken, or an array that the loop around may not touch.
@@ -280,19 +316,113 @@ fn of_expr<'a>(
     known: &Known<'a>,
     taken: &Taken<'a>,
     e: &'a Expr,
-) -> Option<Disowned<'a>> {
+) -> Option<Disowned<'a>>
+    ensures decides { is_some result
+        ≡ not (rule.may_read (around_of (locals_of known.now) around.entry) (taken_of taken.now) (expr_of e.now)) }
+{
     match e {
         Expr::Number(_) => None,
-        Expr::Variable(x) => of_touch(taken, x, Touch::Read),
-        Expr::Element(a, e) => of_touch(taken, a, Touch::Read)
-            .or(of_expr(around, known, taken, e))
-            .or(of_element(around, known, a, e)),
-        Expr::Length(a) => of_touch(taken, a, Touch::Read).or(of_array(around, known, a)),
-        Expr::Negative(e) | Expr::Not(e) => of_expr(around, known, taken, e),
+        Expr::Variable(x) => Some(of_touch(taken, x, Touch::Read)?),
+        Expr::Element(a, e) => {
+            if let Some(reason) = of_touch(taken, a, Touch::Read) {
+                return Some(reason);
+            }
+            if let Some(reason) = of_expr(around, known, taken, e) {
+                return Some(reason);
+            }
+            let reason = of_element(around, known, a, e)?;
+            Some(reason)
+        }
+        Expr::Length(a) => {
+            if let Some(reason) = of_touch(taken, a, Touch::Read) {
+                return Some(reason);
+            }
+            let reason = of_array(around, known, a)?;
+            Some(reason)
+        }
+        Expr::Negative(e) => Some(of_expr(around, known, taken, e)?),
+        Expr::Not(e) => Some(of_expr(around, known, taken, e)?),
         Expr::Binary(_, d, e) => {
-            of_expr(around, known, taken, d).or(of_expr(around, known, taken, e))
+            if let Some(reason) = of_expr(around, known, taken, d) {
+                return Some(reason);
+            }
+            let reason = of_expr(around, known, taken, e)?;
+            Some(reason)
         }
     }
+}
+
+// An assignment breaks a rule.
+fn of_assign<'a>(
+    around: Option<Loop<'a>>,
+    known: &Known<'a>,
+    taken: &Taken<'a>,
+    x: &'a Name,
+    e: &'a Expr,
+) -> Option<Disowned<'a>>
+    ensures decides { is_some result
+        ≡ not (rule.may_read (around_of (locals_of known.now) around.entry) (taken_of taken.now) (expr_of e.now)
+        && rule.may_write (around_of (locals_of known.now) around.entry) (taken_of taken.now) (x.now ∷ [])) }
+{
+    if let Some(reason) = of_expr(around, known, taken, e) {
+        return Some(reason);
+    }
+    if let Some(reason) = of_touch(taken, x, Touch::Written) {
+        return Some(reason);
+    }
+    let reason = of_written(around, known, x)?;
+    Some(reason)
+}
+
+// An assignment to an element breaks a rule.
+fn of_assign_element<'a>(
+    around: Option<Loop<'a>>,
+    known: &Known<'a>,
+    taken: &Taken<'a>,
+    a: &'a Name,
+    i: &'a Expr,
+    e: &'a Expr,
+) -> Option<Disowned<'a>>
+    ensures decides { is_some result
+        ≡ not (rule.may_read (around_of (locals_of known.now) around.entry) (taken_of taken.now) (expr_of i.now)
+        && rule.may_read (around_of (locals_of known.now) around.entry) (taken_of taken.now) (expr_of e.now)
+        && rule.are_free (taken_of taken.now) (a.now ∷ [])
+        && rule.may_index (around_of (locals_of known.now) around.entry) a.now (expr_of i.now)) }
+{
+    if let Some(reason) = of_expr(around, known, taken, i) {
+        return Some(reason);
+    }
+    if let Some(reason) = of_expr(around, known, taken, e) {
+        return Some(reason);
+    }
+    if let Some(reason) = of_touch(taken, a, Touch::Written) {
+        return Some(reason);
+    }
+    let reason = of_element(around, known, a, i)?;
+    Some(reason)
+}
+
+// A cut breaks a rule.
+fn of_cut<'a>(
+    around: Option<Loop<'a>>,
+    known: &Known<'a>,
+    taken: &Taken<'a>,
+    cut: &'a Cut,
+) -> Option<Disowned<'a>>
+    ensures decides { is_some result
+        ≡ not (rule.may_read (around_of (locals_of known.now) around.entry) (taken_of taken.now)
+        (expr_of cut.now.at)
+        && rule.may_write (around_of (locals_of known.now) around.entry) (taken_of taken.now)
+        (cut.now.array ∷ [])) }
+{
+    if let Some(reason) = of_expr(around, known, taken, &cut.at) {
+        return Some(reason);
+    }
+    if let Some(reason) = of_touch(taken, &cut.array, Touch::Cut) {
+        return Some(reason);
+    }
+    let reason = of_array(around, known, &cut.array)?;
+    Some(reason)
 }
 
 // A call breaks a rule.

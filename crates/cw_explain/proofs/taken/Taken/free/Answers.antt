@@ -1,0 +1,14 @@
+use Rattle.std.proofs.Common.{◌≡◌, ap, map, not, rules, ◌∙◌}
+use Rattle.std.proofs.lemmas.Fn.{filter_same}
+use Rattle.std.specs.List.{filter}
+use Rattle.cw_model.specs.Ownership.{is_spawn_in}
+use Rattle.cw_explain.specs.declared.taken.Held.{Held}
+use Rattle.cw_explain.specs.Held.{held_of, holder_of}
+use Rattle.cw_explain.proofs.Sets.{seen_thinned}
+use Rattle.cw_explain.proofs.taken.Taken.free.Goals as goal
+
+pub returns : goal.returns
+returns c =
+    let kept : c.retain.new.self.items ≡ filter (λ (held : Held). not (is_spawn_in c.args.depth (holder_of held.holder))) c.args.self.now.held.items =
+    filter_same _ _ _ (λ x b f' k. search rules) _ _ c.retain.ensures.filtered in
+    ap (map held_of) kept ∙ seen_thinned (λ t. not (is_spawn_in c.args.depth t.1)) c.args.self.now.held.items
