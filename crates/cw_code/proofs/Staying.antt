@@ -255,7 +255,7 @@ module _ (code : Code) (fits : Fits code) where
       acts_keep (instr.Open kind) l = opens_keeps (leads _ _ l.0) kind
       acts_keep instr.Close l = closed_keeps (leads _ _ l.0) s.around here
       acts_keep instr.Print l = top_keeps s _ (λ v rest. goes_on (leads _ _ l.0))
-      acts_keep (instr.AddTo n) l = top_keeps s _ (λ v rest. adds_keeps (leads _ _ l.0) (slice_get code.reducers n) v rest)
+      acts_keep (instr.Reduce n) l = top_keeps s _ (λ v rest. adds_keeps (leads _ _ l.0) (slice_get code.reducers n) v rest)
       acts_keep instr.ReturnValue l = top_keeps (put_in s) _ (λ v rest. back_keeps s.place s.around (Some v) (put_in s).arrays _ here)
       acts_keep instr.Return l = back_keeps s.place s.around None (put_in s).arrays _ here
 

@@ -628,7 +628,7 @@ module _ (code : Code) (fits : Fits code) where
     acts_well (instr.Open (Region k)) n r l = region_well (slice_get code.tags k) (there code.tags k (lt_of k (length code.tags) n)) l.0
     acts_well instr.Close n r l = closes_well shape.outer s.around (second_true (nat_eq 0 shape.operands) (can_close shape.outer) r) joined_here good.others l.0
     acts_well instr.Print n r l = top_well _ r (λ v rest e. more (shape.operands - 1) _ refl (omega (arith, e)) l.0)
-    acts_well (instr.AddTo k) n r l = top_well _ r (λ v rest e. adds_well (slice_get code.reducers k) v rest (there code.reducers k (lt_of k (length code.reducers) n)) e l.0)
+    acts_well (instr.Reduce k) n r l = top_well _ r (λ v rest e. adds_well (slice_get code.reducers k) v rest (there code.reducers k (lt_of k (length code.reducers) n)) e l.0)
     acts_well instr.ReturnValue n r l = top_well _ (first_true (nat_le 1 shape.operands) (none_open shape.outer) r) (λ v rest e.
         ends_well (Some v) (subst (λ b. IsGiven b (Some v)) (sym n) tt) (second_true (nat_le 1 shape.operands) (none_open shape.outer) r))
     acts_well instr.Return n r l = ends_well None (nothing seat.func.gives_int n) r

@@ -106,7 +106,7 @@ pub enum Instr {
     /// The last operand is printed.
     Print,
     /// The last operand is added to the reducer of this index.
-    AddTo(u32),
+    Reduce(u32),
     /// A join, and the end of the call with the last operand as its value.
     ReturnValue,
     /// A join, and the end of a call that gives no value.

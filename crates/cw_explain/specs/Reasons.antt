@@ -4,7 +4,7 @@ use Rattle.std.specs.List.{slice_get}
 use Rattle.cw_model.specs.declared.limits.TheConstants.{MOST_GRAIN}
 use Rattle.cw_model.specs.Answers.{main_name}
 use Rattle.cw_model.specs.Names.{same_name}
-use Rattle.cw_model.specs.Syntax.{Name, Expr, Variable, Stmt, Declare, DeclareArray, AddTo, Call, For, Cut, Return, Param, Function, Program}
+use Rattle.cw_model.specs.Syntax.{Name, Expr, Variable, Stmt, Declare, DeclareArray, Reduce, Call, For, Cut, Return, Param, Function, Program}
 use Rattle.cw_model.specs.Typing.{Returns, Nowhere, WithInt, Alone, called, is_array, is_int, is_reducer}
 use Rattle.cw_explain.specs.Names.{IsUnknown}
 use Rattle.cw_explain.specs.Places.{Declared, kind_and_line, kinds, name_and_line, newest}
@@ -140,7 +140,7 @@ names_declared _ = []
 
 -- the rules of a kind of statement
 abbrev pub IsWrongStmt : Program → Returns → Stmt → IllTyped → Type 0
-IsWrongStmt program returns (AddTo s e) r = IsNoReducer program s r
+IsWrongStmt program returns (Reduce how s e) r = IsNoReducer program s r
 IsWrongStmt program returns (Call kind site target f es) r = IsWrongCall program target f es r
 IsWrongStmt program returns (For x y z from to grain over b) r = IsWrongHead x y z grain r
 IsWrongStmt program returns (Cut a e x y b) r = IsWrongParts x y r

@@ -86,7 +86,7 @@ pub fn of_stmt<'a>(
         Stmt::DeclareArray(a, e) => Some(of_declare(ast, known, a, e)?),
         Stmt::Assign(x, e) => Some(of_name_and(ast, known, x, false, e)?),
         Stmt::AssignElement(a, i, e) => Some(of_assign_element(ast, known, a, i, e)?),
-        Stmt::AddTo(s, e) => Some(of_add(ast, known, s, e)?),
+        Stmt::Reduce(how, s, e) => Some(of_add(ast, known, s, e)?),
         Stmt::If(e, _) => Some(of_expr(ast, known, e)?),
         Stmt::IfElse(e, _, _) => Some(of_expr(ast, known, e)?),
         Stmt::While(e, _) => Some(of_expr(ast, known, e)?),

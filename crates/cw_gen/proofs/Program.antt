@@ -179,13 +179,13 @@ main_place program h =
     sym (slot_stays main_name (function_names program.functions) (function_names (made_of 0 program.functions)) (main_there program h)) ∙ sym (ap (slot_of main_name) (names_are program))
 
 -- reducers are known by their names alone
-same_sums : (rs : List Reducer) (additions : List (Name × ℤ)) → map (λ (r : Reducer). sum_to r.name additions) (map (λ name. record { name = name; line = 0 }) (reducer_names rs)) ≡ map (λ (r : Reducer). sum_to r.name additions) rs
-same_sums [] additions = refl
-same_sums (r ∷ rs) additions = ap (λ l. sum_to r.name additions ∷ l) (same_sums rs additions)
+same_sums : (rs : List Reducer) (updates : List (Name × ℤ)) → map (λ (r : Reducer). sum_to r.name updates) (map (λ name. record { name = name; line = 0 }) (reducer_names rs)) ≡ map (λ (r : Reducer). sum_to r.name updates) rs
+same_sums [] updates = refl
+same_sums (r ∷ rs) updates = ap (λ l. sum_to r.name updates ∷ l) (same_sums rs updates)
 
 -- the answer of the code is that of the program
 same_answer : (program : Program) (o : Outcome Returned) → option_map (λ o'. answer_of (reducers_of (code_of program)) o') (resume quiet o (λ r l u. Some (Done (r.0, no_frame) l u))) ≡ Some (answer_of program.reducers o)
-same_answer program (Done r l u) = ap (λ sums. Some (Ended (int_given r.0) u.lines sums (normal (Marked (Invocation 0) (tree_of u.events))))) (same_sums program.reducers u.additions)
+same_answer program (Done r l u) = ap (λ sums. Some (Ended (int_given r.0) u.lines sums (normal (Marked (Invocation 0) (tree_of u.events))))) (same_sums program.reducers u.updates)
 same_answer program (Trapped trap line lines) = refl
 same_answer program Over = refl
 

@@ -5,7 +5,7 @@ use Rattle.cw_model.specs.declared.syntax.CallKind.TheVariants.{Plain, Spawned}
 use Rattle.cw_model.specs.Sites.{Of}
 use Rattle.cw_tree.specs.Resolved.{Listed, Resolved, reducer_names}
 use Rattle.cw_tree.specs.Resolved as source
-use Rattle.cw_loops.specs.Slotted.{Expr, Number, Variable, Element, Length, Negative, Not, Binary, Argument, Int, Array, Stmt, Declare, DeclareArray, Assign, AssignElement, AddTo, Call, Start, Begin, Sync, If, IfElse, While, Scope, Cut, Region, Print, Return, Block, End, Then, Function}
+use Rattle.cw_loops.specs.Slotted.{Expr, Number, Variable, Element, Length, Negative, Not, Binary, Argument, Int, Array, Stmt, Declare, DeclareArray, Assign, AssignElement, Reduce, Call, Start, Begin, Sync, If, IfElse, While, Scope, Cut, Region, Print, Return, Block, End, Then, Function}
 use Rattle.cw_code.specs.declared.code.UnaryOperator.TheVariants as unary
 use Rattle.cw_code.specs.declared.code.BlockKind.{BlockKind}
 use Rattle.cw_code.specs.declared.code.BlockKind.TheVariants as block
@@ -121,7 +121,7 @@ emitted_alone first line (DeclareArray u e) = emitted_expr line e ++ instr.NewAr
 emitted_alone first line (AssignElement u i e) =
     emitted_expr line i ++ (emitted_expr line e ++ instr.SetElement u line ∷ [])
 emitted_alone first line (Assign u e) = emitted_expr line e ++ instr.Store u ∷ []
-emitted_alone first line (AddTo s e) = emitted_expr line e ++ instr.AddTo s ∷ []
+emitted_alone first line (Reduce how s e) = emitted_expr line e ++ instr.Reduce s ∷ []
 emitted_alone first line (Print e) = emitted_expr line e ++ instr.Print ∷ []
 emitted_alone first line (Call kind site target f es) =
     emitted_args line es ++ instr.Call kind (callee_of line site target f) ∷ []

@@ -21,7 +21,7 @@ use Rattle.cw_jobs.specs.Jobs.{Ok, code_of, IsJob, KeepsHomes, KeepsEmpty, Keeps
 pub record HasShown (code : Code) (shown : Shown) (t : Trace) (count : ℕ) : Type 0 where
   pub cost : shown.cost ≡ count
   pub lines : shown.lines.items ≡ t.lines
-  pub sums : HoldsSums code shown.sums.items t.additions
+  pub sums : HoldsSums code shown.sums.items t.updates
 
 -- an effect tells one of the definitions
 abbrev pub Tells : (code : Code) → jobs.Job → Rest → Effect → jobs.Effect → Type 0

@@ -3,7 +3,7 @@ use Rattle.std.proofs.Common.{◌≡◌, ℕ, ◌+◌, ◌-◌, ◌≤◌, ◌<�
 use Rattle.std.specs.Prelude.{not, ◌&&◌, ◌==◌, nat_lt, nat_le, map, Some, None}
 use Rattle.std.proofs.lemmas.Bool.{leb-true, eqb-true}
 use Rattle.cw_model.specs.declared.limits.TheConstants.{MOST_DEPTH}
-use Rattle.cw_model.specs.Syntax.{Name, Expr, Stmt, Declare, DeclareArray, Assign, AssignElement, AddTo, Call, Start, Begin, Sync, If, IfElse, While, For, Scope, Cut, Region, Print, Return, Block, End, Then, Function}
+use Rattle.cw_model.specs.Syntax.{Name, Expr, Stmt, Declare, DeclareArray, Assign, AssignElement, Reduce, Call, Start, Begin, Sync, If, IfElse, While, For, Scope, Cut, Region, Print, Return, Block, End, Then, Function}
 use Rattle.cw_model.specs.Names.{same_name, is_among}
 use Rattle.cw_model.specs.Captured.{captured}
 use Rattle.cw_model.specs.Frames.{Frame, array_of, int_of}
@@ -87,7 +87,7 @@ module _ (fs fs' : List Function) (calls : Calls) (depth : ℕ) (shallow : nat_l
         no_more (assign_alike c fo go Slot w ints arrays loc fa ga la slot ki ka good x e p.0 p.1 line left fs fs' calls (call bound depth fs'))
     stmt_alike (AssignElement a i e) c fo go Slot w fine ints arrays can k line found f g (related loc fa ga la slot ki ka good) left bound h1 h2 =
         no_more (write_alike c fo go Slot w ints arrays loc fa ga la slot ki ka good a i e can line left fs fs' calls (call bound depth fs'))
-    stmt_alike (AddTo s e) c fo go Slot w fine ints arrays can k line found f g (related loc fa ga la slot ki ka good) left bound h1 h2 =
+    stmt_alike (Reduce how s e) c fo go Slot w fine ints arrays can k line found f g (related loc fa ga la slot ki ka good) left bound h1 h2 =
         no_more (add_alike c fo go Slot w ints arrays loc fa ga la slot ki ka good s e can line left fs fs' calls (call bound depth fs'))
     stmt_alike (Call kind site target' callee es) c fo go Slot w fine ints arrays can k line found f g (related loc fa ga la slot ki ka good) left bound h1 h2 =
         let n = both_true (is_plain callee) _ can in

@@ -6,7 +6,7 @@ use Rattle.cw_model.specs.Loops.{loop_cost}
 use Rattle.cw_model.specs.Answers.{Answer, Ended, TrappedAt, OverLimit}
 use Rattle.cw_model.specs.declared.syntax.Operator.TheVariants.{Plus, Times}
 use Rattle.cw_model.specs.declared.syntax.CallKind.TheVariants.{Spawned}
-use Rattle.cw_model.specs.Syntax.{Number, Variable, Element, Length, Binary, Declare, DeclareArray, AssignElement, AddTo, Call, For, Print, Return, Sync, End, Then, Program}
+use Rattle.cw_model.specs.Syntax.{Number, Variable, Element, Length, Binary, Declare, DeclareArray, AssignElement, Reduce, Call, For, Print, Return, Sync, End, Then, Program}
 use Rattle.cw_model.specs.ExamplePrograms as example
 use Rattle.cw_model.specs.Examples.{serial}
 use Rattle.cw_loops.specs.Lowered.{lowered}
@@ -40,7 +40,7 @@ nested trap_at = record {
             (Then 7 (DeclareArray example.b (Binary Plus (Variable example.i) (Number (pos 2))))
             (Then 8 (For example.p example.p example.p (Number (pos 0)) (Length example.b) 1 (example.b ∷ [])
             (Then 9 (AssignElement example.b (Variable example.p) (Binary Plus (Variable example.t) (Binary Times (Variable example.p) (Variable example.i))))
-            (Then 10 (AddTo example.s (Element example.b (Variable example.p))) End)))
+            (Then 10 (Reduce Sum example.s (Element example.b (Variable example.p))) End)))
             (Then 11 (Declare example.x (Number (pos 0)))
             (Then 12 (Call Spawned 1 (Some example.x) example.f (Variable example.i ∷ []))
             (Then 13 (Print (Element example.b (Number (pos trap_at))))
@@ -58,7 +58,7 @@ turns_program turns grain =
     example.with_sum (
     example.main_of (
     For example.i example.i example.i (Number (pos 0)) (Number (pos turns)) grain []
-    (example.block (AddTo example.s (Variable example.i) ∷ []))
+    (example.block (Reduce Sum example.s (Variable example.i) ∷ []))
     ∷ Return (Some (Number (pos 0))) ∷ [])
     ∷ [])
 

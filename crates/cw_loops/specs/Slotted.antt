@@ -37,7 +37,7 @@ mutual
     DeclareArray : ℕ → Expr → Stmt
     Assign : ℕ → Expr → Stmt
     AssignElement : ℕ → Expr → Expr → Stmt
-    AddTo : (reducer : ℕ) → Expr → Stmt
+    Reduce : (how : Reduction) (reducer : ℕ) → Expr → Stmt
     Call : (kind : CallKind) (site : ℕ) (target : Option ℕ) (callee : ℕ) → List Argument → Stmt
     Start : (kind : CallKind) (callee : ℕ) → List Argument → Stmt
     Begin : (callee : ℕ) (from to : Expr) (captured over : List ℕ) → Stmt
@@ -90,7 +90,7 @@ abbrev mutual
   slotted_stmt lists locals (model.Assign x e) = Assign (slot_of x locals.ints) (slotted_expr locals e)
   slotted_stmt lists locals (model.AssignElement a i e) =
       AssignElement (slot_of a locals.arrays) (slotted_expr locals i) (slotted_expr locals e)
-  slotted_stmt lists locals (model.AddTo s e) = AddTo (slot_of s lists.reducers) (slotted_expr locals e)
+  slotted_stmt lists locals (model.Reduce how s e) = Reduce how (slot_of s lists.reducers) (slotted_expr locals e)
   slotted_stmt lists locals (model.Call kind site target f es) =
       Call kind site (option_map (λ x. slot_of x locals.ints) target) (slot_of f lists.functions)
       (map (slotted_argument locals) es)

@@ -98,7 +98,7 @@ pub enum Stmt {
     /// An array, an index, and the new value of the element there.
     AssignElement(u32, Expr, Expr),
     /// A reducer and what is added to it.
-    AddTo(u32, Expr),
+    Reduce(Reduction, u32, Expr),
     /// A call, plain or spawned.
     Call(Call),
     /// The beginning of a loop.

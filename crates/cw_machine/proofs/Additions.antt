@@ -31,8 +31,8 @@ use Rattle.cw_machine.proofs.Going as going
 
 -- after a move no more values were added than these
 abbrev pub Within : ℕ → Transition → Type 0
-Within k (On s) = length s.trace.additions ≤ k
-Within k (Ends v arrays t) = length t.additions ≤ k
+Within k (On s) = length s.trace.updates ≤ k
+Within k (Ends v arrays t) = length t.updates ≤ k
 Within k (Stops trap line lines) = Unit {0}
 Within k Stuck = Unit {0}
 
@@ -40,23 +40,23 @@ module _ (k : ℕ) where
   nothing_more : (ts : List (Name × ℤ)) → length ts ≤ k → length (ts ++ []) ≤ k
   nothing_more ts h = subst (λ l. length l ≤ k) (sym (append-nil ts)) h
 
-  module _ (s : State) (h : length s.trace.additions ≤ k) where
+  module _ (s : State) (h : length s.trace.updates ≤ k) where
     goes : (place : ℕ) → Within k (jumped s place)
-    goes place = nothing_more s.trace.additions h
+    goes place = nothing_more s.trace.updates h
 
     stores : (a : ℕ) (v : ℤ) (rest : List ℤ) → Within k (stored s a v rest)
-    stores a v rest = going.either (Within k) tt (is_full (slice_get s.slots a)) (onto (record s { operands = rest; slots = slice_set s.slots a (Some v) })) Stuck (nothing_more s.trace.additions h) tt
+    stores a v rest = going.either (Within k) tt (is_full (slice_get s.slots a)) (onto (record s { operands = rest; slots = slice_set s.slots a (Some v) })) Stuck (nothing_more s.trace.updates h) tt
 
     operates : (line : ℕ) (rest : List ℤ) (r : Result) → Within k (operated s line rest r)
-    operates line rest (Value v) = nothing_more s.trace.additions h
+    operates line rest (Value v) = nothing_more s.trace.updates h
     operates line rest (Fails trap) = tt
 
     sets : (a line : ℕ) (rest : List ℤ) (make : ℤ → List ℤ) (r : Result) → Within k (set_array s a line rest make r)
-    sets a line rest make (Value v) = nothing_more s.trace.additions h
+    sets a line rest make (Value v) = nothing_more s.trace.updates h
     sets a line rest make (Fails trap) = tt
 
     enters : (e : Entering) → Within k (begins s e)
-    enters e = going.either (Within k) tt (may_begin s e) (On (begun s e)) Stuck (nothing_more s.trace.additions h) tt
+    enters e = going.either (Within k) tt (may_begin s e) (On (begun s e)) Stuck (nothing_more s.trace.updates h) tt
 
     calls : (kind : CallKind) (c : Callee) (passed : List ℕ) (o : Option Func) → Within k (enter s kind c passed o)
     calls kind c passed None = tt
@@ -80,7 +80,7 @@ module _ (k : ℕ) where
     starts line passed (Some f) = going.arrays_go (Within k) tt (arrays_in passed s.arrays) _ (λ xs. going.range_goes (Within k) tt (arguments_of f s.operands) _ (λ low high captured. loops line passed f xs low captured (loop_turns low high xs)))
 
     opens_block : (tag : Option Name) (cut : Option Halves) → Within k (opened s tag cut)
-    opens_block tag cut = nothing_more s.trace.additions h
+    opens_block tag cut = nothing_more s.trace.updates h
 
     opens_region : (tag : Option Name) → Within k (opened_region s tag)
     opens_region None = tt
@@ -91,17 +91,17 @@ module _ (k : ℕ) where
     opens_kind code (Region j) = opens_region (slice_get code.tags j)
 
     cuts_array : (c : Halves) (line : ℕ) (xs rest : List ℤ) (r : Result) → Within k (cuts s c line xs rest r)
-    cuts_array c line xs rest (Value v) = going.either (Within k) tt (may_cut c s.arrays) (opened (record s { operands = rest; arrays = cut_arrays c xs (natural v) s.arrays }) None (Some c)) Stuck (nothing_more s.trace.additions h) tt
+    cuts_array c line xs rest (Value v) = going.either (Within k) tt (may_cut c s.arrays) (opened (record s { operands = rest; arrays = cut_arrays c xs (natural v) s.arrays }) None (Some c)) Stuck (nothing_more s.trace.updates h) tt
     cuts_array c line xs rest (Fails trap) = tt
 
     closes : (around : List Around) → Within k (closed s around)
     closes [] = tt
     closes (Caller w ∷ around) = tt
-    closes (Block o ∷ around) = going.either (Within k) tt (is_none o.cut) (resumes s o around) Stuck (nothing_more s.trace.additions h) tt
+    closes (Block o ∷ around) = going.either (Within k) tt (is_none o.cut) (resumes s o around) Stuck (nothing_more s.trace.updates h) tt
 
     uncuts : (o : Opened) (around : List Around) (cut : Option Halves) → Within k (resumes_uncut s o around cut)
     uncuts o around None = tt
-    uncuts o around (Some c) = going.slot_goes (Within k) tt (slice_get s.arrays c.left) _ (λ left. going.slot_goes (Within k) tt (slice_get s.arrays c.right) (λ right. resumes (record s { arrays = uncut_arrays c left right s.arrays }) o around) (λ right. nothing_more s.trace.additions h))
+    uncuts o around (Some c) = going.slot_goes (Within k) tt (slice_get s.arrays c.left) _ (λ left. going.slot_goes (Within k) tt (slice_get s.arrays c.right) (λ right. resumes (record s { arrays = uncut_arrays c left right s.arrays }) o around) (λ right. nothing_more s.trace.updates h))
 
     ends_cut : (around : List Around) → Within k (cut_ends s around)
     ends_cut [] = tt
@@ -109,18 +109,18 @@ module _ (k : ℕ) where
     ends_cut (Block o ∷ around) = uncuts o around o.cut
 
   -- a call that ended
-  module _ (t : Trace) (h : length t.additions ≤ k) where
-    takes : (target : Option ℕ) (v : Option ℤ) (s : State) → s.trace.additions ≡ t.additions → Within k (given target v s)
+  module _ (t : Trace) (h : length t.updates ≤ k) where
+    takes : (target : Option ℕ) (v : Option ℤ) (s : State) → s.trace.updates ≡ t.updates → Within k (given target v s)
     takes None v s e = subst (λ l. length l ≤ k) (sym e) h
     takes (Some a) None s e = tt
     takes (Some a) (Some v) s e = going.either (Within k) tt (is_full (slice_get s.slots a)) (On (record s { slots = slice_set s.slots a (Some v) })) Stuck (subst (λ l. length l ≤ k) (sym e) h) tt
 
-    waits : (target : Option ℕ) (v : Option ℤ) (s : State) → s.trace.additions ≡ t.additions → Within k (awaited target v s)
+    waits : (target : Option ℕ) (v : Option ℤ) (s : State) → s.trace.updates ≡ t.updates → Within k (awaited target v s)
     waits None v s e = subst (λ l. length l ≤ k) (sym e) h
     waits (Some a) None s e = tt
     waits (Some a) (Some v) s e = subst (λ l. length l ≤ k) (sym e) h
 
-    results : (kind : CallKind) (target : Option ℕ) (v : Option ℤ) (xs : Results (List ℤ)) (s : State) → s.trace.additions ≡ t.additions → Within k (result_of kind target v xs s)
+    results : (kind : CallKind) (target : Option ℕ) (v : Option ℤ) (xs : Results (List ℤ)) (s : State) → s.trace.updates ≡ t.updates → Within k (result_of kind target v xs s)
     results Plain target v xs s e = takes target v (record s { arrays = settled xs s.arrays }) e
     results Spawned target v xs s e = waits target v (record s { arrived = xs ++ s.arrived }) e
 
@@ -134,20 +134,20 @@ module _ (k : ℕ) where
     goes_back (Block o ∷ around) v arrays = tt
 
 -- an instruction adds one value at most
-pub adds_one : (code : Code) (s : State) (o : Option Instr) → Within (suc (length s.trace.additions)) (act code s o)
+pub adds_one : (code : Code) (s : State) (o : Option Instr) → Within (suc (length s.trace.updates)) (act code s o)
 adds_one code s o = cases o
   where
     most : ℕ
-    most = suc (length s.trace.additions)
+    most = suc (length s.trace.updates)
 
-    h : length s.trace.additions ≤ suc (length s.trace.additions)
+    h : length s.trace.updates ≤ suc (length s.trace.updates)
     h = omega arith
 
-    adds_to : (name : Option Name) (v : ℤ) (rest : List ℤ) → Within (suc (length s.trace.additions)) (adds s name v rest)
+    adds_to : (name : Option Name) (v : ℤ) (rest : List ℤ) → Within (suc (length s.trace.updates)) (adds s name v rest)
     adds_to None v rest = tt
-    adds_to (Some name) v rest = let n = length-append s.trace.additions ((name, v) ∷ []) in omega (arith, n)
+    adds_to (Some name) v rest = let n = length-append s.trace.updates ((name, v) ∷ []) in omega (arith, n)
 
-    cases : (o : Option Instr) → Within (suc (length s.trace.additions)) (act code s o)
+    cases : (o : Option Instr) → Within (suc (length s.trace.updates)) (act code s o)
     cases None = tt
     cases (Some (instr.Push v)) = goes most (record s { operands = v ∷ s.operands }) h (s.place + 1)
     cases (Some (instr.Load a)) = going.slot_goes (Within most) tt (slice_get s.slots a) (λ v. onto (record s { operands = v ∷ s.operands })) (λ v. goes most (record s { operands = v ∷ s.operands }) h (s.place + 1))
@@ -166,36 +166,36 @@ adds_one code s o = cases o
     cases (Some (instr.SetElement a line)) = going.slot_goes (Within most) tt (slice_get s.arrays a) (λ xs. on_two s (λ i v rest. set_array s a line rest (λ w. slice_set xs (natural i) w) (written xs i v))) (λ xs. going.two_go (Within most) tt s (λ i v rest. set_array s a line rest (λ w. slice_set xs (natural i) w) (written xs i v)) (λ i v rest. sets most s h a line rest (λ w. slice_set xs (natural i) w) (written xs i v)))
     cases (Some (instr.Cut c line)) = going.slot_goes (Within most) tt (slice_get s.arrays c.array) (λ xs. on_top s (λ v rest. cuts s c line xs rest (cut_place xs v))) (λ xs. going.top_goes (Within most) tt s (λ v rest. cuts s c line xs rest (cut_place xs v)) (λ v rest. cuts_array most s h c line xs rest (cut_place xs v)))
     cases (Some instr.EndCut) = ends_cut most (put_in s) h s.around
-    cases (Some instr.Sync) = nothing_more most s.trace.additions h
+    cases (Some instr.Sync) = nothing_more most s.trace.updates h
     cases (Some (instr.Open kind)) = opens_kind most s h code kind
     cases (Some instr.Close) = closes most (put_in s) h s.around
-    cases (Some instr.Print) = going.top_goes (Within most) tt s (λ v rest. prints s v rest) (λ v rest. nothing_more most s.trace.additions h)
-    cases (Some (instr.AddTo j)) = going.top_goes (Within most) tt s (λ v rest. adds s (slice_get code.reducers j) v rest) (λ v rest. adds_to (slice_get code.reducers j) v rest)
-    cases (Some instr.ReturnValue) = going.top_goes (Within most) tt (put_in s) (λ v rest. back s.around (Some v) (settled s.arrived s.arrays) (synced s.trace)) (λ v rest. goes_back most (synced s.trace) (nothing_more most s.trace.additions h) s.around (Some v) (settled s.arrived s.arrays))
-    cases (Some instr.Return) = goes_back most (synced s.trace) (nothing_more most s.trace.additions h) s.around None (settled s.arrived s.arrays)
+    cases (Some instr.Print) = going.top_goes (Within most) tt s (λ v rest. prints s v rest) (λ v rest. nothing_more most s.trace.updates h)
+    cases (Some (instr.Reduce j)) = going.top_goes (Within most) tt s (λ v rest. adds s (slice_get code.reducers j) v rest) (λ v rest. adds_to (slice_get code.reducers j) v rest)
+    cases (Some instr.ReturnValue) = going.top_goes (Within most) tt (put_in s) (λ v rest. back s.around (Some v) (settled s.arrived s.arrays) (synced s.trace)) (λ v rest. goes_back most (synced s.trace) (nothing_more most s.trace.updates h) s.around (Some v) (settled s.arrived s.arrays))
+    cases (Some instr.Return) = goes_back most (synced s.trace) (nothing_more most s.trace.updates h) s.around None (settled s.arrived s.arrays)
 
 -- a run that ends has added no more values than it was given instructions
-pub counted : (code : Code) (n : ℕ) (s : State) (r : Returned) (left : ℕ) (t : Trace) → steps code n s ≡ Some (Done r left t) → length t.additions ≤ length s.trace.additions + n
+pub counted : (code : Code) (n : ℕ) (s : State) (r : Returned) (left : ℕ) (t : Trace) → steps code n s ≡ Some (Done r left t) → length t.updates ≤ length s.trace.updates + n
 counted code zero s r left t e = cc
 counted code (suc n) s r left t e = cases (step code s) (adds_one code s (slice_get code.instrs s.place)) (λ s'. counted code n s' r left t) e
   where
-    cases : (w : Transition) → Within (suc (length s.trace.additions)) w → ((s' : State) → steps code n s' ≡ Some (Done r left t) → length t.additions ≤ length s'.trace.additions + n) →
-        go_on w n (λ s'. steps code n s') ≡ Some (Done r left t) → length t.additions ≤ length s.trace.additions + suc n
+    cases : (w : Transition) → Within (suc (length s.trace.updates)) w → ((s' : State) → steps code n s' ≡ Some (Done r left t) → length t.updates ≤ length s'.trace.updates + n) →
+        go_on w n (λ s'. steps code n s') ≡ Some (Done r left t) → length t.updates ≤ length s.trace.updates + suc n
     cases (On s') h from e = let le = from s' e in omega (arith, h, le)
-    cases (Ends v arrays u) h from e = let same : u ≡ t = cc in let is = ap (λ x. length x.additions) same in omega (arith, h, is)
+    cases (Ends v arrays u) h from e = let same : u ≡ t = cc in let is = ap (λ x. length x.updates) same in omega (arith, h, is)
     cases (Stops trap line lines) h from e = cc
     cases Stuck h from e = cc
 
 -- the end of a whole call has no more values than these
 abbrev pub ReturnsWithin : ℕ → Came → Type 0
 ReturnsWithin k (Arrives frame t left) = ⊥
-ReturnsWithin k (Returns v arrays t left) = length t.additions ≤ k
+ReturnsWithin k (Returns v arrays t left) = length t.updates ≤ k
 ReturnsWithin k (Falls trap line lines left) = Unit {0}
 ReturnsWithin k Beyond = Unit {0}
 ReturnsWithin k Lost = Unit {0}
 
 -- a whole call comes to no join, and where it ends it has added no more values than it was given instructions
-pub travelled : (code : Code) (n : ℕ) (s : State) → ReturnsWithin (length s.trace.additions + n) (travel WholeCall code n s)
+pub travelled : (code : Code) (n : ℕ) (s : State) → ReturnsWithin (length s.trace.updates + n) (travel WholeCall code n s)
 travelled code zero s = tt
 travelled code (suc n) s = cases (step code s) (adds_one code s (slice_get code.instrs s.place)) (λ s'. travelled code n s')
   where
@@ -206,9 +206,9 @@ travelled code (suc n) s = cases (step code s) (adds_one code s (slice_get code.
     wider j k Beyond le h = tt
     wider j k Lost le h = tt
 
-    cases : (w : Transition) → Within (suc (length s.trace.additions)) w → ((s' : State) → ReturnsWithin (length s'.trace.additions + n) (travel WholeCall code n s')) →
-        ReturnsWithin (length s.trace.additions + suc n) (moved w n (λ s'. travel WholeCall code n s'))
-    cases (On s') h more = wider (length s'.trace.additions + n) (length s.trace.additions + suc n) (travel WholeCall code n s') (omega (arith, h)) (more s')
+    cases : (w : Transition) → Within (suc (length s.trace.updates)) w → ((s' : State) → ReturnsWithin (length s'.trace.updates + n) (travel WholeCall code n s')) →
+        ReturnsWithin (length s.trace.updates + suc n) (moved w n (λ s'. travel WholeCall code n s'))
+    cases (On s') h more = wider (length s'.trace.updates + n) (length s.trace.updates + suc n) (travel WholeCall code n s') (omega (arith, h)) (more s')
     cases (Ends v arrays u) h more = omega (arith, h)
     cases (Stops trap line lines) h more = tt
     cases Stuck h more = tt

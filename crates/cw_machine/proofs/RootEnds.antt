@@ -47,7 +47,7 @@ means_root v args n burden root e r means ok f found =
 
 -- the definition of the run of a whole call ends with a value only within the limit, and comes to no join
 abbrev Few : ℕ → jobs.Effect → Type 0
-Few n (jobs.Ended x arrays t cost) = (length t.additions ≤ n) × (cost ≤ n)
+Few n (jobs.Ended x arrays t cost) = (length t.updates ≤ n) × (cost ≤ n)
 Few n (jobs.Joined frame t cost) = ⊥
 Few n (jobs.TrapIn trap line lines cost) = Unit {0}
 Few n jobs.OverLimit = Unit {0}
@@ -66,8 +66,8 @@ few code f args n e (Passed h k) = subst (Few n) (sym h) tt
 few code f args n e (Short h) = subst (Few n) (sym h) tt
 
 -- the sums of a run, by the machine's own words
-sums_as : (code : Code) (sums : List ℤ) (t : Trace) → calls.HoldsSums code sums t.additions → shows.HoldsSums code sums t.additions
-sums_as code sums t h = record { fit = fits t.additions h.fit; as_many = h.as_many; are = h.are }
+sums_as : (code : Code) (sums : List ℤ) (t : Trace) → calls.HoldsSums code sums t.updates → shows.HoldsSums code sums t.updates
+sums_as code sums t h = record { fit = fits t.updates h.fit; as_many = h.as_many; are = h.are }
   where
     fits : (ts : _) → calls.AllFit ts → shows.AllFit ts
     fits [] h = tt
@@ -139,7 +139,7 @@ module _ (laws : RootsAreSerial) (v : Verified) (ok : IsFit v) (f : Func) (args 
             subst (λ o. IsEnded (code_view v.code) burden e end.all o) s (
               ap int_given (sym h.1) ∙ sym end.value,
               same_as t.lines e.lines.items (sym has.lines ∙ sym end.lines),
-              same_as _ e.sums.items (sums_are (code_view v.code) shown.sums.items t.additions (sums_as (code_view v.code) shown.sums.items t has.sums) (let le = w.0 in omega (arith, le, most)) ∙ sym end.sums),
+              same_as _ e.sums.items (sums_are (code_view v.code) shown.sums.items t.updates (sums_as (code_view v.code) shown.sums.items t has.sums) (let le = w.0 in omega (arith, le, most)) ∙ sym end.sums),
               subst (λ k. AreMeasures burden (k + 1) (code_view v.code).tags (normal (Marked (Invocation 0) (tree_of t.events))) end.all) (sym sites) (end.reads burden g.tags (code_view v.code).tags t.events (omega (arith, within, most)) light g.named refl meters),
             ),
           )

@@ -56,7 +56,7 @@ DoesRecording v r count to r' =
 -- a run came to its end after so many instructions, with what the code has shown
 pub record CameTo (v : Verified) (count : ℕ) (r : Recording) (t : Trace) : Type 0 where
   pub lines : r.machine.lines.items ≡ t.lines
-  pub sums : HoldsSums (code_view v.code) r.machine.sums.items t.additions
+  pub sums : HoldsSums (code_view v.code) r.machine.sums.items t.updates
   pub records : RecordsIn count [] (whole t) r.recorder
 
 -- all of so many instructions are done, and the machine holds the state that they lead to; or the run ended before

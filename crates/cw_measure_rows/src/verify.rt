@@ -221,8 +221,8 @@ fn operands(rt: HostRuntime) -> Result<(), AllocError> {
         (&[one, one, plus, end], 0),
         (&[Instr::Unary(UnaryOperator::Not, 1), end], 6),
         (&[Instr::Print, one, end], 6),
-        (&[Instr::AddTo(0), one, end], 6),
-        (&[one, Instr::Print, one, Instr::AddTo(0), one, end], 0),
+        (&[Instr::Reduce(0), one, end], 6),
+        (&[one, Instr::Print, one, Instr::Reduce(0), one, end], 0),
         // an argument missing
         (&[called(1, 1, None), one, end], 6),
         (&[one, called(1, 1, None), one, end], 0),
@@ -258,8 +258,8 @@ fn names(rt: HostRuntime) -> Result<(), AllocError> {
         (&[called(2, 3, None), one, end], 0),
         (&[called(2, 3, Some(1)), one, end], 6),
         // a reducer and a tag that are not there, never reached too
-        (&[one, Instr::AddTo(1), one, end], 6),
-        (&[one, end, Instr::AddTo(1)], 6),
+        (&[one, Instr::Reduce(1), one, end], 6),
+        (&[one, end, Instr::Reduce(1)], 6),
         (
             &[Instr::Open(BlockKind::Region(0)), Instr::Close, one, end],
             0,

@@ -2,6 +2,7 @@
 use Rattle.std.specs.Prelude.{◌≡◌, [], ◌∷◌, ◌++◌, codes}
 use Rattle.cw_model.specs.declared.limits.TheConstants.{USUAL_LIMIT, USUAL_BURDEN}
 use Rattle.cw_model.specs.declared.syntax.Operator.TheVariants.{Less}
+use Rattle.cw_model.specs.Burdens.{no_burden}
 use Rattle.cw_model.specs.Syntax.{Variable, Binary, Declare, If, Region, Print, For, Sync, End, Program}
 use Rattle.cw_model.specs.Answers.{OverLimit}
 use Rattle.cw_model.specs.Report.{Check, Run, Scale, Sites, report_text, csv_field, csv_line, tags_of, parallelism}
@@ -103,12 +104,12 @@ pub record RowExamples : Type 0 where
 
 -- whole texts
 pub record TextExamples : Type 0 where
-  pub check : report_text Check first_program 0 OverLimit ≡ codes "ok" ++ 10 ∷ []
-  pub run : report_text Run first_program 0 (serial first_program [] USUAL_LIMIT) ≡ codes "return 1" ++ 10 ∷ []
-  pub scale : report_text Scale first_program 0 (serial first_program [] USUAL_LIMIT)
+  pub check : report_text Check first_program no_burden OverLimit ≡ codes "ok" ++ 10 ∷ []
+  pub run : report_text Run first_program no_burden (serial first_program [] USUAL_LIMIT) ≡ codes "return 1" ++ 10 ∷ []
+  pub scale : report_text Scale first_program no_burden (serial first_program [] USUAL_LIMIT)
       ≡ codes "tag,work,span,parallelism,burdened_span,burdened_parallelism"
       ++ 10 ∷ (codes ",9,9,1.000,9,1.000" ++ 10 ∷ [])
-  pub sites : report_text Sites first_program 0 (serial first_program [] USUAL_LIMIT)
+  pub sites : report_text Sites first_program no_burden (serial first_program [] USUAL_LIMIT)
       ≡ codes "site,kind,line,callee,calls,own_work,own_span,work,span"
       ++ 10 ∷ (codes "0,root,1,main,1,7,7,9,9" ++ 10 ∷ (codes "1,spawn,1,f,1,2,2,2,2" ++ 10 ∷ []))
   pub plain_fields : csv_line (codes "a" ∷ [] ∷ codes "b_1" ∷ []) ≡ codes "a,,b_1" ++ 10 ∷ []

@@ -101,7 +101,7 @@ module _ (text : List ℕ) where
   abbrev NamedBy : (site : ℕ) (t u : Token) → Kind → List Token → Stmt × ℕ → List Token → Type 0
   NamedBy site t u kind.Assign = (assigned_piece {U = Unit {0}} {n = 0} site (name_of text t)).rel
   NamedBy site t u kind.LeftBracket = (element_piece {U = Unit {0}} {n = 0} site (name_of text t)).rel
-  NamedBy site t u kind.AddAssign = (ended_piece {U = Unit {0}} {n = 0} site (λ e. tree.AddTo (name_of text t) e)).rel
+  NamedBy site t u kind.AddAssign = (ended_piece {U = Unit {0}} {n = 0} site (λ e. tree.Reduce how (name_of text t) e)).rel
   NamedBy site t u kind.LeftParen = (called_piece {U = Unit {0}} {n = 0} Plain site None t).rel
   NamedBy site t u _ = λ ts y rest. ⊥
 
@@ -109,7 +109,7 @@ module _ (text : List ℕ) where
   unfolding named_stmt assigned element_assigned
   named_branch U n site t u kind.Assign = inl (assigned_piece {U = U} {n = n} site (name_of text t)).exact
   named_branch U n site t u kind.LeftBracket = inl (element_piece {U = U} {n = n} site (name_of text t)).exact
-  named_branch U n site t u kind.AddAssign = inl (ended_piece {U = U} {n = n} site (λ e. tree.AddTo (name_of text t) e)).exact
+  named_branch U n site t u kind.AddAssign = inl (ended_piece {U = U} {n = n} site (λ e. tree.Reduce how (name_of text t) e)).exact
   named_branch U n site t u kind.LeftParen = inl (called_exact U n Plain site None t)
   named_branch U n site t u _ = inr (record { stops = λ ts. refl; never = λ ts a rest d. d })
 
@@ -119,7 +119,7 @@ module _ (text : List ℕ) where
 
   some_named : (site : ℕ) (t : Token) → SomeText (First (NamedBy site t))
   some_named site t =
-      let x = some_ended site (λ e. tree.AddTo (name_of text t) e) in
+      let x = some_ended site (λ e. tree.Reduce how (name_of text t) e) in
       record { text = token_of kind.AddAssign ∷ x.text; value = x.value; reads = λ after. at_first (NamedBy site t) (token_of kind.AddAssign) kind.AddAssign refl (x.text ++ after) x.value after (x.reads after) }
 
   pub named_exact : (U : Type 0) (n : ℕ) (site : ℕ) (t : Token) → Exact U n (First (NamedBy site t)) any (by_first (named_stmt text n site t))

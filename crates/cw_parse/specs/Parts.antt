@@ -193,7 +193,7 @@ element_assigned text n site x ts =
 unfoldable pub named_stmt : List ℕ → ℕ → ℕ → Token → Token → Kind → Reader (Stmt × ℕ)
 named_stmt text n site t u kind.Assign ts = assigned text n site (name_of text t) ts
 named_stmt text n site t u kind.LeftBracket ts = element_assigned text n site (name_of text t) ts
-named_stmt text n site t u kind.AddAssign ts = ended text n site (λ e. tree.AddTo (name_of text t) e) ts
+named_stmt text n site t u kind.AddAssign ts = ended text n site (λ e. tree.Reduce how (name_of text t) e) ts
 named_stmt text n site t u kind.LeftParen ts = called text n Plain site None t ts
 named_stmt text n site t u _ ts = Err (length (u ∷ ts))
 

@@ -72,7 +72,7 @@ module _ (law : MeasuresReadTrees) (same : NormalsReadTheSame) (burden : ℕ) (n
 
   ended_so : (returned : Returned) (left : ℕ) {t : Trace} {c : Came Read} → piece limit ≡ Done returned left t → TellsCame burden number (Completed t) c → Tells (Done returned left t) c
   ended_so returned left e (RanAlike t a h) =
-      EndedSo (int_given returned.0) t.lines (map (λ r. sum_to r.name t.additions) program.reducers) (normal (Marked (Invocation 0) (tree_of t.events))) a
+      EndedSo (int_given returned.0) t.lines (map (λ r. sum_to r.name t.updates) program.reducers) (normal (Marked (Invocation 0) (tree_of t.events))) a
       (record { returned = returned; left = left; trace = t; ends = e; printed = h.lines; summed = refl; kept = h.sums; measured = reads_events law same burden number t a h })
 
   over_so : {c : Came Read} → TellsCame burden number Over c → Tells model.Over c

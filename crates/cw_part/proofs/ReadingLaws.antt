@@ -65,10 +65,10 @@ sums_read number q (x ∷ xs) =
 
 -- what is read of a trace
 abbrev read_of : (burden : ℕ) (number : Name → ℕ) → Trace → Read
-read_of burden number t = record { views = record { sums = sums_of number t.additions; lines = t.lines }; measure = measure_of burden t.events }
+read_of burden number t = record { views = record { sums = sums_of number t.updates; lines = t.lines }; measure = measure_of burden t.events }
 
 reads_all : (burden : ℕ) (number : Name → ℕ) (t : Trace) → TellsTrace burden number t (read_of burden number t)
-reads_all burden number t = record { lines = refl; sums = λ q. sums_read number q t.additions; measure = refl }
+reads_all burden number t = record { lines = refl; sums = λ q. sums_read number q t.updates; measure = refl }
 
 reads_trap : (burden : ℕ) (number : Name → ℕ) (t : Trace) → TellsTrap t (read_of burden number t)
 reads_trap burden number t = record { lines = refl; work = refl }

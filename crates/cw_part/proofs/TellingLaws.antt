@@ -49,7 +49,7 @@ trace_both law burden number t u a b h k = record {
   lines = ap (λ (l : List ℤ). l ++ b.views.lines) h.lines ∙ ap (λ (l : List ℤ). t.lines ++ l) k.lines;
   sums = λ q.
       sum_both a.views.sums b.views.sums q ∙ ap (λ (w : Word). plus w (sum_of b.views.sums q)) (h.sums q)
-      ∙ ap (plus (added number q t.additions)) (k.sums q) ∙ sym (added_both number q t.additions u.additions);
+      ∙ ap (plus (added number q t.updates)) (k.sums q) ∙ sym (added_both number q t.updates u.updates);
   measure =
       ap (λ (m : Measured). measured.joined m b.measure) h.measure ∙ ap (measured.joined (measure_of burden t.events)) k.measure
       ∙ sym (law.pieces burden t.events u.events);

@@ -34,8 +34,8 @@ pub record TellsEnd (burden : ℕ) (number : Name → ℕ) (program : Program) (
   pub trace : Trace
   pub ends : elision program args limit limit ≡ Done returned left trace
   pub printed : a.views.lines ≡ lines
-  pub summed : sums ≡ map (λ r. sum_to r.name trace.additions) program.reducers
-  pub kept : (reducer : ℕ) → sum_of a.views.sums reducer ≡ added number reducer trace.additions
+  pub summed : sums ≡ map (λ r. sum_to r.name trace.updates) program.reducers
+  pub kept : (reducer : ℕ) → sum_of a.views.sums reducer ≡ added number reducer trace.updates
   pub measured : ReadsTree burden a.measure tree
 
 -- and a trap: the lines printed before it, and its cost, which is the least limit that it comes within
@@ -88,6 +88,6 @@ AllFit (addition ∷ more) = FitsSigned w128 addition.1 × AllFit more
 -- where the number of a reducer is that of no other name, what is added to it is its sum, as far as that fits 128 bits
 abbrev pub AdditionsAreSums : Type 0
 AdditionsAreSums =
-    (number : Name → ℕ) (reducer : Name) (additions : List (Name × ℤ))
-    → ((x : Name) → (number x == number reducer) ≡ same_name reducer x) → AllFit additions
-    → added number (number reducer) additions ≡ word_of (int_wrap w128 (sum_to reducer additions))
+    (number : Name → ℕ) (reducer : Name) (updates : List (Name × ℤ))
+    → ((x : Name) → (number x == number reducer) ≡ same_name reducer x) → AllFit updates
+    → added number (number reducer) updates ≡ word_of (int_wrap w128 (sum_to reducer updates))

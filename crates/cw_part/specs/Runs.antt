@@ -38,7 +38,7 @@ then_run (Inside spawned mark inner rest) later = Inside spawned mark inner (the
 -- the events of a part inside stand as one event, made of their tree
 abbrev pub as_event : (spawned : Bool) → Option Mark → Trace → Trace
 as_event spawned mark t =
-    record { lines = t.lines; additions = t.additions; events = part_of spawned (marked mark (tree_of t.events)) ∷ [] }
+    record { lines = t.lines; updates = t.updates; events = part_of spawned (marked mark (tree_of t.events)) ∷ [] }
 
 -- what goes on where a part inside ran to its end
 abbrev pub goes_on : Came Trace → (Trace → Came Trace) → Came Trace
@@ -66,7 +66,7 @@ added number reducer (addition ∷ more) =
 -- what is read tells of a trace: its lines, the sum of each reducer, and the measure of its events
 pub record TellsTrace (burden : ℕ) (number : Name → ℕ) (t : Trace) (a : Read) : Type 0 where
   pub lines : a.views.lines ≡ t.lines
-  pub sums : (reducer : ℕ) → sum_of a.views.sums reducer ≡ added number reducer t.additions
+  pub sums : (reducer : ℕ) → sum_of a.views.sums reducer ≡ added number reducer t.updates
   pub measure : Measures burden a.measure t.events
 
 -- what is read of a trap tells the lines before it, and the work

@@ -145,7 +145,7 @@ const KINDS: [Instr; 30] = [
     Instr::Open(BlockKind::Region(0)),
     Instr::Close,
     Instr::Print,
-    Instr::AddTo(0),
+    Instr::Reduce(0),
     Instr::ReturnValue,
     Instr::Return,
     Instr::Skip(u32::MAX),

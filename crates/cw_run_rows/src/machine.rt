@@ -375,7 +375,7 @@ fn refusals(alloc: Global, args: &[i64], limit: u64, burden: u64) -> Result<(u8,
     let main = [
         Instr::Load(0),
         Instr::Push(3),
-        Instr::AddTo(0),
+        Instr::Reduce(0),
         Instr::ReturnValue,
     ];
     let code = Arc::new(alloc, verify(alloc, code_of(alloc, &main)?)?)?;

@@ -48,18 +48,18 @@ use Rattle.cw_strand.proofs.Ends.{is_nil, no_lent, no_levels}
 use Rattle.cw_strand.proofs.RunsOn.{sound_of}
 
 -- the sums of a run are those that an effect tells
-all_fit : (additions : List (Name × ℤ)) → shows.AllFit additions → calls.AllFit additions
+all_fit : (updates : List (Name × ℤ)) → shows.AllFit updates → calls.AllFit updates
 all_fit [] h = tt
-all_fit (a ∷ additions) h = (h.0, all_fit additions h.1)
+all_fit (a ∷ updates) h = (h.0, all_fit updates h.1)
 
-sums_as : (code : Code) (sums : List ℤ) (additions : List (Name × ℤ)) → shows.HoldsSums code sums additions → calls.HoldsSums code sums additions
-sums_as code sums additions h = record { fit = all_fit additions h.fit; as_many = h.as_many; are = h.are }
+sums_as : (code : Code) (sums : List ℤ) (updates : List (Name × ℤ)) → shows.HoldsSums code sums updates → calls.HoldsSums code sums updates
+sums_as code sums updates h = record { fit = all_fit updates h.fit; as_many = h.as_many; are = h.are }
 
-shown_as : (code : Code) (r : Run) (cost count : ℕ) (x : Shown) (t : Trace) → IsShown r cost x → cost ≡ count → r.machine.lines.items ≡ t.lines → shows.HoldsSums code r.machine.sums.items t.additions → HasShown code x t count
+shown_as : (code : Code) (r : Run) (cost count : ℕ) (x : Shown) (t : Trace) → IsShown r cost x → cost ≡ count → r.machine.lines.items ≡ t.lines → shows.HoldsSums code r.machine.sums.items t.updates → HasShown code x t count
 shown_as code r cost count x t is e lines sums = record {
   cost = is.counted ∙ e;
   lines = ap (λ l. l.items) is.lines ∙ lines;
-  sums = subst (λ l. calls.HoldsSums code l t.additions) (sym (ap (λ l. l.items) is.sums)) (sums_as code r.machine.sums.items t.additions sums);
+  sums = subst (λ l. calls.HoldsSums code l t.updates) (sym (ap (λ l. l.items) is.sums)) (sums_as code r.machine.sums.items t.updates sums);
 }
 
 -- with nothing round its state a strand has nothing out
@@ -232,7 +232,7 @@ module _ (keep : (code : Code) → CallsKeep code) (self : Strand) (limit : ℕ)
           record {
             effect = jobs.Joined (standing c.state) c.state.trace c.later;
             means = meaning stay seats is j c;
-            tells = (ends.holds, ends.empty, shown_as code r self.count c.later shown c.state.trace t.1 c.at.0 (l ∙ at.lines) (subst (λ z. shows.HoldsSums code z c.state.trace.additions) (sym u) at.sums));
+            tells = (ends.holds, ends.empty, shown_as code r self.count c.later shown c.state.trace t.1 c.at.0 (l ∙ at.lines) (subst (λ z. shows.HoldsSums code z c.state.trace.updates) (sym u) at.sums));
             counts = λ g b. subst (λ z. Meters g.burden g.tags (Rest p.site) c.later [] c.state.trace.events z) (sym (t.1.meter ∙ m)) (measured.counts g b);
             homes = (ends.homes, ends.fixed);
           }

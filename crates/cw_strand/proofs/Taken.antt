@@ -60,7 +60,7 @@ good_with code fits s t g = record {
 }
 
 module _ (v : Verified) (ok : Ok v) (m m' : Machine) (lines sums : List ℤ) (taken : HasTaken m lines sums m') (s : State) (t : Trace) (more : List (Name × ℤ)) where
-  pub shows_taken : Shows v ok m s → calls.HoldsSums (code_view v.code) sums more → t.lines ≡ s.trace.lines ++ lines → t.additions ≡ s.trace.additions ++ more → Shows v ok m' (record s { trace = t })
+  pub shows_taken : Shows v ok m s → calls.HoldsSums (code_view v.code) sums more → t.lines ≡ s.trace.lines ++ lines → t.updates ≡ s.trace.updates ++ more → Shows v ok m' (record s { trace = t })
   shows_taken h summed l a = subst (λ x. Shows v ok x (record s { trace = t })) (sym taken.rest) (record {
     good = good_with (code_view v.code) ok.verified.fits s t h.good;
     holds = record {
@@ -74,7 +74,7 @@ module _ (v : Verified) (ok : Ok v) (m m' : Machine) (lines sums : List ℤ) (ta
     };
     deep = h.deep;
     arrays = h.arrays;
-    sums = subst (shows.HoldsSums (code_view v.code) m'.sums.items) (sym a) (sums_both (code_view v.code) m.sums.items sums m'.sums.items s.trace.additions more taken.sums_are h.sums summed);
+    sums = subst (shows.HoldsSums (code_view v.code) m'.sums.items) (sym a) (sums_both (code_view v.code) m.sums.items sums m'.sums.items s.trace.updates more taken.sums_are h.sums summed);
     cuts = h.cuts;
   })
 
@@ -83,7 +83,7 @@ lines_under : (b : State) (around : List Around) (t : Trace) → (trace_under b 
 lines_under b [] t = refl
 lines_under b (a ∷ around) t = refl
 
-additions_under : (b : State) (around : List Around) (t : Trace) → (trace_under b around t).additions ≡ b.trace.additions ++ t.additions
+additions_under : (b : State) (around : List Around) (t : Trace) → (trace_under b around t).updates ≡ b.trace.updates ++ t.updates
 additions_under b [] t = refl
 additions_under b (a ∷ around) t = refl
 
@@ -91,12 +91,12 @@ appended : {A : Type 0} (b s t : List A) → b ++ (s ++ t) ≡ (b ++ (s ++ [])) 
 appended b s t = sym (append_assoc b s t) ∙ ap (λ z. (b ++ z) ++ t) (sym (append-nil s))
 
 -- a block that goes on from its join, with what the rest has shown
-pub shows_joined : (v : Verified) (ok : Ok v) (m m' : Machine) (sums : List ℤ) (b s : State) (frame : Standing) (t : Trace) → HasTaken m t.lines sums m' → Shows v ok m (under b (resumed s frame quiet)) → calls.HoldsSums (code_view v.code) sums t.additions
+pub shows_joined : (v : Verified) (ok : Ok v) (m m' : Machine) (sums : List ℤ) (b s : State) (frame : Standing) (t : Trace) → HasTaken m t.lines sums m' → Shows v ok m (under b (resumed s frame quiet)) → calls.HoldsSums (code_view v.code) sums t.updates
     → Shows v ok m' (under b (resumed s frame t))
 shows_joined v ok m m' sums b s frame t taken h summed =
-    shows_taken v ok m m' t.lines sums taken (under b (resumed s frame quiet)) (trace_under b s.around (joined s.trace t)) t.additions h summed
+    shows_taken v ok m m' t.lines sums taken (under b (resumed s frame quiet)) (trace_under b s.around (joined s.trace t)) t.updates h summed
     (lines_under b s.around (joined s.trace t) ∙ appended b.trace.lines s.trace.lines t.lines ∙ ap (λ z. z ++ t.lines) (sym (lines_under b s.around (joined s.trace quiet))))
-    (additions_under b s.around (joined s.trace t) ∙ appended b.trace.additions s.trace.additions t.additions ∙ ap (λ z. z ++ t.additions) (sym (additions_under b s.around (joined s.trace quiet))))
+    (additions_under b s.around (joined s.trace t) ∙ appended b.trace.updates s.trace.updates t.updates ∙ ap (λ z. z ++ t.updates) (sym (additions_under b s.around (joined s.trace quiet))))
 
 -- what stands round a run has shown nothing
 base_quiet : (x : Extent) (b : State) → StandsRound x b → b.trace ≡ quiet

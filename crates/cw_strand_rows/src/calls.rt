@@ -290,7 +290,7 @@ pub const SUMMED: Program<'static> = Program {
             slots: 0,
             array_params: 0,
             arrays: 0,
-            body: &[Instr::Push(i64::MAX), Instr::AddTo(0), Instr::Return],
+            body: &[Instr::Push(i64::MAX), Instr::Reduce(0), Instr::Return],
         },
         Part {
             gives_int: true,
@@ -315,11 +315,11 @@ pub const SUMMED: Program<'static> = Program {
 
 const ADD_BODY: [Instr; 9] = [
     Instr::Load(0),
-    Instr::AddTo(0),
+    Instr::Reduce(0),
     Instr::Push(0),
     Instr::Load(0),
     Instr::Binary(MINUS, 2),
-    Instr::AddTo(1),
+    Instr::Reduce(1),
     Instr::Load(0),
     Instr::Print,
     Instr::Return,

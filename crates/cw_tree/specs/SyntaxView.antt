@@ -36,7 +36,7 @@ stmt_step (Stmt-F.Declare x e) = model.Declare x (expr_of e)
 stmt_step (Stmt-F.DeclareArray x e) = model.DeclareArray x (expr_of e)
 stmt_step (Stmt-F.Assign x e) = model.Assign x (expr_of e)
 stmt_step (Stmt-F.AssignElement x i e) = model.AssignElement x (expr_of i) (expr_of e)
-stmt_step (Stmt-F.AddTo x e) = model.AddTo x (expr_of e)
+stmt_step (Stmt-F.Reduce how x e) = model.Reduce how x (expr_of e)
 stmt_step (Stmt-F.Call c) =
     model.Call c.value.kind c.value.site c.value.target c.value.callee (exprs_of c.value.arguments.items)
 stmt_step Stmt-F.Sync = model.Sync

@@ -117,7 +117,7 @@ pub enum Stmt {
     /// An array, an index, and the new value of the element there.
     AssignElement(Use, Expr, Expr),
     /// A reducer and what is added to it.
-    AddTo(Listed, Expr),
+    Reduce(Reduction, Listed, Expr),
     /// A call, plain or spawned.
     Call(Call),
     /// A join of all that the innermost sync block has spawned.

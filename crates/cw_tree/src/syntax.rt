@@ -91,7 +91,7 @@ pub enum Stmt {
     /// An element of an array by the array's name and the index, and its new value.
     AssignElement(Name, Expr, Expr),
     /// A reducer by its name, and what is added to it.
-    AddTo(Name, Expr),
+    Reduce(Reduction, Name, Expr),
     /// A call, plain or spawned.
     Call(Box<Call>),
     /// A join of all that the innermost sync block has spawned.

@@ -4,7 +4,7 @@ use Rattle.std.proofs.lemmas.List.{append-nil}
 use Rattle.std.proofs.lemmas.Bool.Decides.{nat_tests}
 use Rattle.cw_model.specs.Lines.{unless, lowest}
 use Rattle.cw_model.specs.Names.{same_name, is_among}
-use Rattle.cw_model.specs.Syntax.{Name, Expr, Param, Function, Program, Stmt, Declare, DeclareArray, Assign, AssignElement, AddTo, Call, Start, Begin, Sync, If, IfElse, While, For, Scope, Cut, Region, Print, Return}
+use Rattle.cw_model.specs.Syntax.{Name, Expr, Param, Function, Program, Stmt, Declare, DeclareArray, Assign, AssignElement, Reduce, Call, Start, Begin, Sync, If, IfElse, While, For, Scope, Cut, Region, Print, Return}
 use Rattle.cw_model.specs.Typing.{Known, Returns, ends_block, faults_in, declares, called, is_argument, are_arguments, block_returns, surely_returns}
 use Rattle.cw_model.specs.lemmas.Lowest.{lowest-append}
 use Rattle.cw_tree.specs.declared.syntax.Function.{Function as CodeFunction}
@@ -20,7 +20,7 @@ by_parts program returns known line (Declare x e) = sym (append-nil (unless (kee
 by_parts program returns known line (DeclareArray a e) = sym (append-nil (unless (keeps_rules program returns known (DeclareArray a e)) line))
 by_parts program returns known line (Assign x e) = sym (append-nil (unless (keeps_rules program returns known (Assign x e)) line))
 by_parts program returns known line (AssignElement a i e) = sym (append-nil (unless (keeps_rules program returns known (AssignElement a i e)) line))
-by_parts program returns known line (AddTo s e) = sym (append-nil (unless (keeps_rules program returns known (AddTo s e)) line))
+by_parts program returns known line (Reduce how s e) = sym (append-nil (unless (keeps_rules program returns known (Reduce how s e)) line))
 by_parts program returns known line (Call kind site target f es) = sym (append-nil (unless (keeps_rules program returns known (Call kind site target f es)) line))
 by_parts program returns known line (Start kind f es) = refl
 by_parts program returns known line (Begin f from to captured over) = refl
@@ -46,7 +46,7 @@ oldest_declares (Declare x e) ks n h = oldest_more (x, false) ks n h
 oldest_declares (DeclareArray a e) ks n h = oldest_more (a, true) ks n h
 oldest_declares (Assign x e) ks n h = refl
 oldest_declares (AssignElement a i e) ks n h = refl
-oldest_declares (AddTo s e) ks n h = refl
+oldest_declares (Reduce how s e) ks n h = refl
 oldest_declares (Call kind site target f es) ks n h = refl
 oldest_declares (Start kind f es) ks n h = refl
 oldest_declares (Begin f from to captured over) ks n h = refl
@@ -66,7 +66,7 @@ longer_declares (Declare x e) ks n h = omega arith
 longer_declares (DeclareArray a e) ks n h = omega arith
 longer_declares (Assign x e) ks n h = h
 longer_declares (AssignElement a i e) ks n h = h
-longer_declares (AddTo s e) ks n h = h
+longer_declares (Reduce how s e) ks n h = h
 longer_declares (Call kind site target f es) ks n h = h
 longer_declares (Start kind f es) ks n h = h
 longer_declares (Begin f from to captured over) ks n h = h

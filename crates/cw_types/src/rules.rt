@@ -191,7 +191,7 @@ pub fn keeps_rules(globals: &Globals, returns: Returns, known: &Known, stmt: &St
         Stmt::AssignElement(a, i, e) => is_array(known, a)
             && is_fine(known, i)
             && is_fine(known, e),
-        Stmt::AddTo(s, e) => globals.reducers.has(s.as_bytes()) && is_fine(known, e),
+        Stmt::Reduce(how, s, e) => globals.reducers.has(s.as_bytes()) && is_fine(known, e),
         Stmt::Call(call) => is_call(globals, known, call),
         Stmt::If(e, _) | Stmt::IfElse(e, _, _) | Stmt::While(e, _) | Stmt::Print(e) => {
             is_fine(known, e)
@@ -219,7 +219,7 @@ pub fn surely_returns(stmt: &Stmt) -> bool
         | Stmt::DeclareArray(_, _)
         | Stmt::Assign(_, _)
         | Stmt::AssignElement(_, _, _)
-        | Stmt::AddTo(_, _)
+        | Stmt::Reduce(_, _, _)
         | Stmt::Call(_)
         | Stmt::Sync
         | Stmt::If(_, _)

@@ -219,7 +219,7 @@ pub fn names_well(
         Instr::Open(kind) => Ok(names_tag(code, kind)),
         Instr::Close => Ok(true),
         Instr::Print => Ok(true),
-        Instr::AddTo(k) => Ok((*k as usize) < code.reducers.len()),
+        Instr::Reduce(k) => Ok((*k as usize) < code.reducers.len()),
         Instr::ReturnValue => Ok(f.gives_int),
         Instr::Return => Ok(!f.gives_int),
     }

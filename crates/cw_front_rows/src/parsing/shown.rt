@@ -196,7 +196,7 @@ fn parts_of_stmt<'t>(todo: &mut Vec<Part<'t>>, stmt: &'t Stmt) -> Result<(), All
                 Part::Expr(value),
             ],
         ),
-        Stmt::AddTo(name, value) => next(
+        Stmt::Reduce(how, name, value) => next(
             todo,
             &[Part::Name(name), Part::Word(" += "), Part::Expr(value)],
         ),

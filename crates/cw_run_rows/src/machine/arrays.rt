@@ -261,11 +261,11 @@ fn sums(rt: HostRuntime) -> Result<(), AllocError> {
     // the least number, twice to one reducer; and 5 to the other
     let body = [
         Instr::Push(i64::MIN),
-        Instr::AddTo(1),
+        Instr::Reduce(1),
         Instr::Push(5),
-        Instr::AddTo(0),
+        Instr::Reduce(0),
         Instr::Push(i64::MIN),
-        Instr::AddTo(1),
+        Instr::Reduce(1),
         Instr::Push(1),
         Instr::ReturnValue,
     ];

@@ -248,7 +248,7 @@ module _ (f : Func) where
     act_stays (Some (instr.Open (Region k))) n = regions n.0 (slice_get code.tags k)
     act_stays (Some instr.Close) n = closes n.0 s.around refl
     act_stays (Some instr.Print) n = top _ (λ v rest. n.0)
-    act_stays (Some (instr.AddTo k)) n = top _ (λ v rest. names n.0 (slice_get code.reducers k) v rest)
+    act_stays (Some (instr.Reduce k)) n = top _ (λ v rest. names n.0 (slice_get code.reducers k) v rest)
     act_stays (Some instr.ReturnValue) n = top _ (λ v rest. returns s.around refl (Some v) _ _)
     act_stays (Some instr.Return) n = returns s.around refl None _ _
 
