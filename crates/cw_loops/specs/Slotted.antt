@@ -9,6 +9,7 @@
 use Rattle.std.specs.Prelude.{ℕ, suc, ℤ, Bool, List, length, map, Option, option_map, if◌then◌else◌}
 use Rattle.cw_model.specs.declared.syntax.CallKind.{CallKind}
 use Rattle.cw_model.specs.declared.syntax.Operator.{Operator}
+use Rattle.cw_model.specs.declared.syntax.Reduction.{Reduction}
 use Rattle.cw_model.specs.Syntax.{Name, Program}
 use Rattle.cw_model.specs.Syntax as model
 use Rattle.cw_model.specs.Names.{is_among}

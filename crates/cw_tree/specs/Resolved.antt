@@ -11,6 +11,7 @@ use Rattle.std.specs.Prelude.{ℕ, suc, ℤ, ◌==◌, max, nat_lt, Bool, not, �
 use Rattle.std.specs.List.{list_any}
 use Rattle.cw_model.specs.declared.syntax.CallKind.{CallKind}
 use Rattle.cw_model.specs.declared.syntax.Operator.{Operator}
+use Rattle.cw_model.specs.declared.syntax.Reduction.{Reduction}
 use Rattle.cw_model.specs.Syntax.{Name, Param, Reducer}
 use Rattle.cw_model.specs.Syntax as model
 use Rattle.cw_model.specs.Names.{same_name, is_among}

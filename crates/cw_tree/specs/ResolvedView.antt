@@ -115,7 +115,7 @@ function_of f = record {
 
 -- a reducer of the code as one of the definitions
 abbrev pub reducer_of : Reducer → model.Reducer
-reducer_of r = record { name = r.name; line = r.line }
+reducer_of r = record { name = r.name; how = r.how; line = r.line }
 
 -- the resolved tree that a tree of the code stands for
 abbrev pub resolved_of : Tree → spec.Resolved

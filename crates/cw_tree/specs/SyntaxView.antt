@@ -90,7 +90,7 @@ function_of f =
 
 -- a reducer of the code as one of the definitions
 abbrev pub reducer_of : Reducer → model.Reducer
-reducer_of r = record { name = r.name; line = r.line }
+reducer_of r = record { name = r.name; how = r.how; line = r.line }
 
 -- the program that a tree of the code stands for
 abbrev pub program_of : Ast → model.Program
