@@ -28,7 +28,7 @@ fn shown(run: &mut Run, cost: u64) -> Shown
     let alloc = *run.machine.lines.allocator();
     Shown {
         lines: mem::replace(&mut run.machine.lines, Vec::new(alloc)),
-        sums: mem::replace(&mut run.machine.sums, Vec::new(alloc)),
+        totals: mem::replace(&mut run.machine.totals, Vec::new(alloc)),
         meter: mem::replace(&mut run.meter, Meter::apart(alloc, 0, 0)),
         cost,
     }

@@ -70,7 +70,7 @@ impl Strand {
             extent: Extent::ToJoin,
             rest: empty_rest(alloc),
             site: 0,
-            burden: 0,
+            burden: self.parts.burden,
             limit: 0,
             before: 0,
         };
