@@ -291,6 +291,7 @@ taken given h =
               file_is = source.1;
               args_are = refl;
               numbers_are = refl;
+              edges_are = refl;
             },
           )
     ]
