@@ -2,6 +2,7 @@
 use Rattle.std.proofs.Common.{◌≡◌, ℕ, zero, suc, ◌+◌, ◌≤◌, ◌<◌, ℤ, Bool, true, false, nat_lt, if◌then◌else◌, Option, Some, List, [], ◌∷◌, length, refl, sym, ap, ◌∙◌, subst, inl, inr, arith}
 use Rattle.std.specs.Prelude.{◌&&◌, slice_get}
 use Rattle.std.proofs.lemmas.Bool.Decides.{nat_tests}
+use Rattle.cw_model.specs.declared.burden.Burden.{Burden}
 use Rattle.cw_model.specs.declared.limits.TheConstants.{MOST_LIMIT}
 use Rattle.cw_model.specs.Frames.{no_frame}
 use Rattle.cw_model.specs.Trees.{Event}
@@ -120,7 +121,7 @@ module _ (quiet : InstructionsNeedNoCall) (code : Code) (keep : CallsKeep code) 
   out_here : (job out : Job) (s : State) (count : ℕ) (outs : List Job) → IsStrandOf code job (Waits s count (out ∷ outs)) → out.extent ≡ ToJoin
   out_here job out s count outs h = ap (λ (j : Job). j.extent) h.2.0.same
 
-  module _ (burden : ℕ) where
+  module _ (burden : Burden) where
     pub starting : (from : Origin) (job : Job) (m : Meter) → StartsFrom from burden m → TellsAll code burden from (Going (job_start job) 0 []) m
     starting from job m starts = λ g e. let P : ℕ → Type 0 = λ x. Meters x g.tags from 0 (first_open from) [] m in subst P (sym e) (starts g.tags)
 

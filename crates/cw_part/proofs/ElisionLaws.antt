@@ -4,6 +4,7 @@ use Rattle.std.proofs.Common.{sym, ◌∙◌, ap, subst, inl, inr, ⊎_elim, ari
 use Rattle.std.specs.Int.{int_wrap, w128}
 use Rattle.std.specs.Int.RustNames.{FitsSigned}
 use Rattle.std.proofs.lemmas.Int.{int_wrap_fits, int_wrap-add_right, SFits-int_wrap}
+use Rattle.cw_model.specs.declared.burden.Burden.{Burden}
 use Rattle.cw_model.specs.declared.trap.Trap.{Trap}
 use Rattle.cw_model.specs.Syntax.{Name, Reducer, Program}
 use Rattle.cw_model.specs.Trees.{Tree, Invocation, Marked, tree_of, normal}
@@ -35,7 +36,7 @@ elision_is_a_run program args limit = calls_are_runs _ _ _ _ _ _ _ limit
 abbrev NormalsReadTheSame : Type 0
 NormalsReadTheSame = (t : Tree) → ReadSame (normal t) t
 
-reads_normal : NormalsReadTheSame → (burden : ℕ) (m : Measured) (site : ℕ) (t : Tree) → ReadsTree burden m t → ReadsTree burden m (normal (Marked (Invocation site) t))
+reads_normal : NormalsReadTheSame → (burden : Burden) (m : Measured) (site : ℕ) (t : Tree) → ReadsTree burden m t → ReadsTree burden m (normal (Marked (Invocation site) t))
 reads_normal same burden m site t r =
     let s = same (Marked (Invocation site) t) in
     record {
@@ -44,7 +45,7 @@ reads_normal same burden m site t r =
       burdened_is = r.burdened_is ∙ ap (min most_burdened) (sym (s.same_span burden));
     }
 
-reads_events : MeasuresReadTrees → NormalsReadTheSame → (burden : ℕ) (number : Name → ℕ) (t : Trace) (a : Read) → TellsTrace burden number t a → ReadsTree burden a.measure (normal (Marked (Invocation 0) (tree_of t.events)))
+reads_events : MeasuresReadTrees → NormalsReadTheSame → (burden : Burden) (number : Name → ℕ) (t : Trace) (a : Read) → TellsTrace burden number t a → ReadsTree burden a.measure (normal (Marked (Invocation 0) (tree_of t.events)))
 reads_events law same burden number t a h =
     let P : Measured → Type 0 = λ m. ReadsTree burden m (tree_of t.events) in
     reads_normal same burden a.measure 0 (tree_of t.events) (subst P (sym h.measure) (law.reads burden t.events))
@@ -63,7 +64,7 @@ trap_answered : (reducers : List Reducer) (b : Bool) (trap : Trap) (line : ℕ) 
 trap_answered reducers true trap line lines = refl
 trap_answered reducers false trap line lines = refl
 
-module _ (law : MeasuresReadTrees) (same : NormalsReadTheSame) (burden : ℕ) (number : Name → ℕ) (program : Program) (args : List ℤ) (limit : ℕ) where
+module _ (law : MeasuresReadTrees) (same : NormalsReadTheSame) (burden : Burden) (number : Name → ℕ) (program : Program) (args : List ℤ) (limit : ℕ) where
   abbrev Tells : Outcome Returned → Came Read → Type 0
   Tells o c = TellsAnswer burden number program args limit (answer_of program.reducers o) c
 

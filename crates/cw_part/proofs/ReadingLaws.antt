@@ -2,6 +2,7 @@
 use Rattle.std.specs.Prelude.{◌≡◌, ℕ, zero, suc, ℤ, ◌-◌, ◌≤◌, ◌==◌, min, Bool, true, false, if◌then◌else◌, List, [], ◌∷◌, refl}
 use Rattle.std.proofs.Common.{sym, ◌∙◌, ap, arith}
 use Rattle.std.proofs.lemmas.Bool.Decides.{nat_tests}
+use Rattle.cw_model.specs.declared.burden.Burden.{Burden}
 use Rattle.cw_model.specs.Syntax.{Name}
 use Rattle.cw_model.specs.declared.limits.TheConstants.{MOST_LIMIT}
 use Rattle.cw_model.specs.Outcome.{Trace}
@@ -64,29 +65,29 @@ sums_read number q (x ∷ xs) =
     by_test false = plus-first (added number q xs)
 
 -- what is read of a trace
-abbrev read_of : (burden : ℕ) (number : Name → ℕ) → Trace → Read
+abbrev read_of : (burden : Burden) (number : Name → ℕ) → Trace → Read
 read_of burden number t = record { views = record { sums = sums_of number t.updates; lines = t.lines }; measure = measure_of burden t.events }
 
-reads_all : (burden : ℕ) (number : Name → ℕ) (t : Trace) → TellsTrace burden number t (read_of burden number t)
+reads_all : (burden : Burden) (number : Name → ℕ) (t : Trace) → TellsTrace burden number t (read_of burden number t)
 reads_all burden number t = record { lines = refl; sums = λ q. sums_read number q t.updates; measure = refl }
 
-reads_trap : (burden : ℕ) (number : Name → ℕ) (t : Trace) → TellsTrap t (read_of burden number t)
+reads_trap : (burden : Burden) (number : Name → ℕ) (t : Trace) → TellsTrap t (read_of burden number t)
 reads_trap burden number t = record { lines = refl; work = refl }
 
-all_told : (burden : ℕ) (number : Name → ℕ) (x : Came Trace) → IsNoMemory x → TellsCame burden number x (seen (read_of burden number) x)
+all_told : (burden : Burden) (number : Name → ℕ) (x : Came Trace) → IsNoMemory x → TellsCame burden number x (seen (read_of burden number) x)
 all_told burden number (Completed t) h = RanAlike t (read_of burden number t) (reads_all burden number t)
 all_told burden number (Trapped trap line t) h = TrappedAlike trap line t (read_of burden number t) (reads_trap burden number t)
 all_told burden number Over h = OverAlike
 all_told burden number Memory h = absurd h
 
 -- it is within the limit where the run is
-all_tested : (burden : ℕ) (number : Name → ℕ) (n left : ℕ) (x : Came Trace) → left ≤ n → is_above traces left x ≡ false → is_above readings n (seen (read_of burden number) x) ≡ false
+all_tested : (burden : Burden) (number : Name → ℕ) (n left : ℕ) (x : Came Trace) → left ≤ n → is_above traces left x ≡ false → is_above readings n (seen (read_of burden number) x) ≡ false
 all_tested burden number n left (Completed t) l e = let c = not_above left (cost t) e in not_below n (min most (cost t)) (omega arith)
 all_tested burden number n left (Trapped trap line t) l e = let c = not_above left (cost t) e in not_below n (min most (cost t)) (omega arith)
 all_tested burden number n left Over l e = refl
 all_tested burden number n left Memory l e = refl
 
-abbrev part_of_run : (burden : ℕ) (number : Name → ℕ) (limit left : ℕ) (run : Run) → limit ≤ MOST_LIMIT → left ≤ limit → RunPart
+abbrev part_of_run : (burden : Burden) (number : Name → ℕ) (limit left : ℕ) (run : Run) → limit ≤ MOST_LIMIT → left ≤ limit → RunPart
 part_of_run burden number limit left run g l = record {
   limit = limit;
   came = seen (read_of burden number) (serial left run);

@@ -1,6 +1,7 @@
 -- A part stands for a run, wherever its pieces stopped, and so joined pieces tell of the serial run.
 use Rattle.std.specs.Prelude.{◌≡◌, ℕ, ◌+◌, ◌<◌, ◌≤◌, ◌^◌, nat_lt, min, Bool, true, false, Option, ◌⊎◌, refl}
 use Rattle.std.proofs.Common.{sym, ◌∙◌, ap, subst, inl, inr, arith}
+use Rattle.cw_model.specs.declared.burden.Burden.{Burden}
 use Rattle.cw_model.specs.Syntax.{Name}
 use Rattle.cw_model.specs.Trees.{Mark}
 use Rattle.cw_model.specs.declared.limits.TheConstants.{MOST_LIMIT}
@@ -25,7 +26,7 @@ IsBeyond n d Over = Unit {0}
 IsBeyond n d Memory = ⊥
 
 -- memory was refused to a part, or it tells of the run, or it is over and the run passes the limit
-data Stands (burden : ℕ) (number : Name → ℕ) (limit before : ℕ) (x : Came Trace) (a : Came Read) : Type 0 where
+data Stands (burden : Burden) (number : Name → ℕ) (limit before : ℕ) (x : Came Trace) (a : Came Read) : Type 0 where
   Short : a ≡ Memory → Stands burden number limit before x a
   Same : TellsCame burden number x a → Stands burden number limit before x a
   Passed : a ≡ Over → IsBeyond limit before x → Stands burden number limit before x a
@@ -78,7 +79,7 @@ counted_inside d e spawned mark Over h = tt
 counted_inside d e spawned mark Memory h = tt
 
 -- what is over stays so, unless memory was refused behind it
-over_then : (burden : ℕ) (number : Name → ℕ) {y : Came Trace} {b : Came Read} → TellsCame burden number y b → followed readings Over b ≡ Over
+over_then : (burden : Burden) (number : Name → ℕ) {y : Came Trace} {b : Came Read} → TellsCame burden number y b → followed readings Over b ≡ Over
 over_then burden number (RanAlike t a h) = refl
 over_then burden number (TrappedAlike trap line t a h) = refl
 over_then burden number OverAlike = refl
@@ -90,7 +91,7 @@ refused_later Over = refl
 refused_later Memory = refl
 
 -- a part that tells of a run, and one that is over because what follows passes the limit
-passed_later : (burden : ℕ) (number : Name → ℕ) (n d e : ℕ) (x y : Came Trace) (a b : Came Read) → n ≤ MOST_LIMIT → IsNoMemory y → IsCountedAfter d x e → TellsCame burden number x a → b ≡ Over → IsBeyond n e y → Stands burden number n d (within traces n (followed traces x y)) (within readings n (followed readings a b))
+passed_later : (burden : Burden) (number : Name → ℕ) (n d e : ℕ) (x y : Came Trace) (a b : Came Read) → n ≤ MOST_LIMIT → IsNoMemory y → IsCountedAfter d x e → TellsCame burden number x a → b ≡ Over → IsBeyond n e y → Stands burden number n d (within traces n (followed traces x y)) (within readings n (followed readings a b))
 passed_later burden number n d e x y a b l m c h f q =
     let P : Came Read → Type 0 = λ z. Stands burden number n d (within traces n (followed traces x y)) (within readings n (followed readings a z)) in
     subst P (sym f) (by_case x a c h)
@@ -105,7 +106,7 @@ passed_later burden number n d e x y a b l m c h f q =
         subst Q (sym (over_stays y m)) (Same OverAlike)
 
 -- two parts that stand for runs stand for both, joined
-stands_both : MeasuresReadTrees → (burden : ℕ) (number : Name → ℕ) (n d e : ℕ) (x y : Came Trace) (a b : Came Read) → n ≤ MOST_LIMIT → IsNoMemory y → IsCountedAfter d x e → Stands burden number n d x a → Stands burden number n e y b → Stands burden number n d (within traces n (followed traces x y)) (within readings n (followed readings a b))
+stands_both : MeasuresReadTrees → (burden : Burden) (number : Name → ℕ) (n d e : ℕ) (x y : Came Trace) (a b : Came Read) → n ≤ MOST_LIMIT → IsNoMemory y → IsCountedAfter d x e → Stands burden number n d x a → Stands burden number n e y b → Stands burden number n d (within traces n (followed traces x y)) (within readings n (followed readings a b))
 stands_both law burden number n d e x y a b l m c (Short f) k = Short (ap (λ (z : Came Read). within readings n (followed readings z b)) f)
 stands_both law burden number n d e x y a b l m c (Same h) (Short g) = Short (ap (λ (z : Came Read). within readings n (followed readings a z)) g ∙ ap (within readings n) (refused_later a))
 stands_both law burden number n d e x y a b l m c (Same h) (Same k) = Same (came_tested burden number n l (came_both law burden number h k))
@@ -119,27 +120,27 @@ stands_both law burden number n d e x y a b l m c (Passed f p) (Passed g q) =
     (beyond_within n d (followed traces x y) (beyond_first n d x y m p))
 
 -- a child or a call that stands for its run stands for it as a piece of the block round it
-stands_inside : MeasuresReadTrees → (burden : ℕ) (number : Name → ℕ) (n d : ℕ) (spawned : Bool) (mark : Option Mark) (x : Came Trace) (a : Came Read) → burden < 2 ^ 64 → Stands burden number n d x a → Stands burden number n d (seen (as_event spawned mark) x) (seen (part_read spawned burden) a)
+stands_inside : MeasuresReadTrees → (burden : Burden) (number : Name → ℕ) (n d : ℕ) (spawned : Bool) (mark : Option Mark) (x : Came Trace) (a : Came Read) → burden.charge < 2 ^ 64 → Stands burden number n d x a → Stands burden number n d (seen (as_event spawned mark) x) (seen (part_read spawned burden) a)
 stands_inside law burden number n d spawned mark x a b (Short f) = Short (ap (seen (part_read spawned burden)) f)
 stands_inside law burden number n d spawned mark x a b (Same h) = Same (came_inside law burden number spawned mark b h)
 stands_inside law burden number n d spawned mark x a b (Passed f p) = Passed (ap (seen (part_read spawned burden)) f) (beyond_inside n d spawned mark x p)
 
 -- a strand that stops no earlier than the limit with this cost before it
-over_told : (burden : ℕ) (number : Name → ℕ) (a : Came Read) → TellsCame burden number Over a → a ≡ Over
+over_told : (burden : Burden) (number : Name → ℕ) (a : Came Read) → TellsCame burden number Over a → a ≡ Over
 over_told burden number _ OverAlike = refl
 
-stopped : (burden : ℕ) (number : Name → ℕ) (n d left : ℕ) (m : Came Trace) (a : Came Read) → is_above traces left m ≡ true → IsBeyond n d m → TellsCame burden number (within traces left m) a → Stands burden number n d (within traces n m) a
+stopped : (burden : Burden) (number : Name → ℕ) (n d left : ℕ) (m : Came Trace) (a : Came Read) → is_above traces left m ≡ true → IsBeyond n d m → TellsCame burden number (within traces left m) a → Stands burden number n d (within traces n m) a
 stopped burden number n d left m a e p h =
     let P : Bool → Type 0 = λ b. TellsCame burden number (over_if b m) a in
     Passed (over_told burden number a (subst P e h)) (beyond_within n d m p)
 
-unstopped : (burden : ℕ) (number : Name → ℕ) (n d left : ℕ) (m : Came Trace) (a : Came Read) → is_above traces left m ≡ false → is_above traces n m ≡ false → TellsCame burden number (within traces left m) a → Stands burden number n d (within traces n m) a
+unstopped : (burden : Burden) (number : Name → ℕ) (n d left : ℕ) (m : Came Trace) (a : Came Read) → is_above traces left m ≡ false → is_above traces n m ≡ false → TellsCame burden number (within traces left m) a → Stands burden number n d (within traces n m) a
 unstopped burden number n d left m a e f h =
     let P : Bool → Type 0 = λ b. TellsCame burden number (over_if b m) a in
     let Q : Bool → Type 0 = λ b. Stands burden number n d (over_if b m) a in
     subst Q (sym f) (Same (subst P e h))
 
-stands_alone : (burden : ℕ) (number : Name → ℕ) (n d left : ℕ) (m : Came Trace) (a : Came Read) → IsNoMemory m → left ≤ n → n ≤ d + left → TellsCame burden number (within traces left m) a → Stands burden number n d (within traces n m) a
+stands_alone : (burden : Burden) (number : Name → ℕ) (n d left : ℕ) (m : Came Trace) (a : Came Read) → IsNoMemory m → left ≤ n → n ≤ d + left → TellsCame burden number (within traces left m) a → Stands burden number n d (within traces n m) a
 stands_alone burden number n d left (Completed t) a k l g h = by_test (nat_lt left (cost t)) refl
   where
     by_test : (b : Bool) → nat_lt left (cost t) ≡ b → Stands burden number n d (within traces n (Completed t)) a
@@ -171,14 +172,14 @@ none_within n Memory h = absurd h
 pub none_met : (n : ℕ) (run : Run) → IsNoMemory (serial n run)
 none_met n run = subst IsNoMemory (sym (serial_is run n)) (none_within n (meaning run) (none_meant run))
 
-alone_stands : (burden : ℕ) (number : Name → ℕ) (n d left : ℕ) (run : Run) (a : Came Read) → left ≤ n → n ≤ d + left → TellsCame burden number (serial left run) a → Stands burden number n d (serial n run) a
+alone_stands : (burden : Burden) (number : Name → ℕ) (n d left : ℕ) (run : Run) (a : Came Read) → left ≤ n → n ≤ d + left → TellsCame burden number (serial left run) a → Stands burden number n d (serial n run) a
 alone_stands burden number n d left run a l g h =
     let P : Came Trace → Type 0 = λ z. TellsCame burden number z a in
     let Q : Came Trace → Type 0 = λ z. Stands burden number n d z a in
     subst Q (sym (serial_is run n)) (stands_alone burden number n d left (meaning run) a (none_meant run) l g (subst P (serial_is run left) h))
 
 -- the joined part of two pieces
-parts_stand : MeasuresReadTrees → (burden : ℕ) (number : Name → ℕ) (limit d e : ℕ) (x y whole : Came Trace) (p q : RunPart) → within traces limit (followed traces x y) ≡ whole → IsNoMemory y → IsCountedAfter d x e → p.limit ≡ limit → q.limit ≡ limit → Stands burden number limit d x p.came → Stands burden number limit e y q.came → (min p.limit q.limit ≡ limit) × Stands burden number limit d whole (within readings (min p.limit q.limit) (followed readings p.came q.came))
+parts_stand : MeasuresReadTrees → (burden : Burden) (number : Name → ℕ) (limit d e : ℕ) (x y whole : Came Trace) (p q : RunPart) → within traces limit (followed traces x y) ≡ whole → IsNoMemory y → IsCountedAfter d x e → p.limit ≡ limit → q.limit ≡ limit → Stands burden number limit d x p.came → Stands burden number limit e y q.came → (min p.limit q.limit ≡ limit) × Stands burden number limit d whole (within readings (min p.limit q.limit) (followed readings p.came q.came))
 parts_stand law burden number limit d e x y whole p q w m c f g h k =
     let n = min p.limit q.limit in
     let same : n ≡ limit = omega arith in
@@ -187,7 +188,7 @@ parts_stand law burden number limit d e x y whole p q w m c f g h k =
     let Q : ℕ → Type 0 = λ j. Stands burden number limit d (within traces limit (followed traces x y)) (within readings j (followed readings p.came q.came)) in
     (same, subst P w (subst Q (sym same) (stands_both law burden number limit d e x y p.came q.came (omega arith) m c h k)))
 
-pieces_stand : MeasuresReadTrees → (burden : ℕ) (number : Name → ℕ) (limit : ℕ) → burden < 2 ^ 64 → {before : ℕ} {run : Run} {p : RunPart} → IsJoinedOf burden number limit before run p → (p.limit ≡ limit) × Stands burden number limit before (serial limit run) p.came
+pieces_stand : MeasuresReadTrees → (burden : Burden) (number : Name → ℕ) (limit : ℕ) → burden.charge < 2 ^ 64 → {before : ℕ} {run : Run} {p : RunPart} → IsJoinedOf burden number limit before run p → (p.limit ≡ limit) × Stands burden number limit before (serial limit run) p.came
 pieces_stand law burden number limit b (Alone before left run p e l g h) = (e, alone_stands burden number limit before left run p.came l g h)
 pieces_stand law burden number limit b (Refused before run p e h) = (e, Short h)
 pieces_stand law burden number limit b (Cut before between first rest p q c h k) =
@@ -218,7 +219,7 @@ over_at_once n Memory e p = absurd p
 pub serial_tested : (n : ℕ) (run : Run) → is_above traces n (serial n run) ≡ false
 serial_tested n run = ap (is_above traces n) (serial_is run n) ∙ is_tested traces n (meaning run)
 
-told_at_once : (burden : ℕ) (number : Name → ℕ) (n : ℕ) (run : Run) (a : Came Read) → Stands burden number n 0 (serial n run) a → (a ≡ Memory) ⊎ TellsCame burden number (serial n run) a
+told_at_once : (burden : Burden) (number : Name → ℕ) (n : ℕ) (run : Run) (a : Came Read) → Stands burden number n 0 (serial n run) a → (a ≡ Memory) ⊎ TellsCame burden number (serial n run) a
 told_at_once burden number n run a (Short f) = inl f
 told_at_once burden number n run a (Same h) = inr h
 told_at_once burden number n run a (Passed f p) =

@@ -1,6 +1,7 @@
 -- What is read of pieces tells of the run that they are joined to.
 use Rattle.std.specs.Prelude.{◌≡◌, ℕ, zero, suc, ℤ, ◌+◌, ◌<◌, ◌≤◌, ◌^◌, ◌==◌, nat_lt, max, min, Bool, true, false, if◌then◌else◌, List, [], ◌∷◌, ◌++◌, Option, Some, None, refl}
 use Rattle.std.proofs.Common.{sym, ◌∙◌, ap, subst, arith}
+use Rattle.cw_model.specs.declared.burden.Burden.{Burden}
 use Rattle.cw_model.specs.Syntax.{Name}
 use Rattle.cw_model.specs.Trees.{Mark, Tree, Fork, tree_of, work, span, burdened_span, Series}
 use Rattle.cw_model.specs.declared.limits.TheConstants.{MOST_LIMIT}
@@ -37,14 +38,14 @@ added_both number q (x ∷ xs) ys = by_test (number x.0 == q) (added_both number
     by_test false e = e
 
 -- the work that is read of a trace, and of a child
-work_told : {burden : ℕ} {number : Name → ℕ} (t : Trace) (a : Read) → TellsTrace burden number t a → a.measure.work ≡ min most (cost t)
+work_told : {burden : Burden} {number : Name → ℕ} (t : Trace) (a : Read) → TellsTrace burden number t a → a.measure.work ≡ min most (cost t)
 work_told t a h = ap (λ (m : Measured). m.work) h.measure
 
-trap_told : {burden : ℕ} {number : Name → ℕ} (t : Trace) (a : Read) → TellsTrace burden number t a → TellsTrap t a
+trap_told : {burden : Burden} {number : Name → ℕ} (t : Trace) (a : Read) → TellsTrace burden number t a → TellsTrap t a
 trap_told t a h = record { lines = h.lines; work = work_told t a h }
 
 -- of both
-trace_both : MeasuresReadTrees → (burden : ℕ) (number : Name → ℕ) (t u : Trace) (a b : Read) → TellsTrace burden number t a → TellsTrace burden number u b → TellsTrace burden number (joined t u) (read_joined a b)
+trace_both : MeasuresReadTrees → (burden : Burden) (number : Name → ℕ) (t u : Trace) (a b : Read) → TellsTrace burden number t a → TellsTrace burden number u b → TellsTrace burden number (joined t u) (read_joined a b)
 trace_both law burden number t u a b h k = record {
   lines = ap (λ (l : List ℤ). l ++ b.views.lines) h.lines ∙ ap (λ (l : List ℤ). t.lines ++ l) k.lines;
   sums = λ q.
@@ -61,7 +62,7 @@ trap_both t u a b h k = record {
   work = let e = h.work in let f = k.work in let c = cost_both t u in omega arith;
 }
 
-pub came_both : MeasuresReadTrees → (burden : ℕ) (number : Name → ℕ) {x y : Came Trace} {a b : Came Read} → TellsCame burden number x a → TellsCame burden number y b → TellsCame burden number (followed traces x y) (followed readings a b)
+pub came_both : MeasuresReadTrees → (burden : Burden) (number : Name → ℕ) {x y : Came Trace} {a b : Came Read} → TellsCame burden number x a → TellsCame burden number y b → TellsCame burden number (followed traces x y) (followed readings a b)
 came_both law burden number (RanAlike t a h) (RanAlike u b k) = RanAlike (joined t u) (read_joined a b) (trace_both law burden number t u a b h k)
 came_both law burden number (RanAlike t a h) (TrappedAlike trap line u b k) = TrappedAlike trap line (joined t u) (read_joined a b) (trap_both t u a b (trap_told t a h) k)
 came_both law burden number (RanAlike t a h) OverAlike = OverAlike
@@ -84,22 +85,22 @@ same_test n c w l e = by_test (nat_lt n c) refl
         by_other true k = let x = is_below n w k in sym h ∙ below n c (omega arith)
         by_other false k = refl
 
-over_alike : (burden : ℕ) (number : Name → ℕ) (x : Came Trace) (a : Came Read) (b : Bool) → TellsCame burden number x a → TellsCame burden number (over_if b x) (over_if b a)
+over_alike : (burden : Burden) (number : Name → ℕ) (x : Came Trace) (a : Came Read) (b : Bool) → TellsCame burden number x a → TellsCame burden number (over_if b x) (over_if b a)
 over_alike burden number x a true h = OverAlike
 over_alike burden number x a false h = h
 
-alike_if : (burden : ℕ) (number : Name → ℕ) (x : Came Trace) (a : Came Read) (b c : Bool) → b ≡ c → TellsCame burden number x a → TellsCame burden number (over_if b x) (over_if c a)
+alike_if : (burden : Burden) (number : Name → ℕ) (x : Came Trace) (a : Came Read) (b c : Bool) → b ≡ c → TellsCame burden number x a → TellsCame burden number (over_if b x) (over_if c a)
 alike_if burden number x a b c e h =
     let P : Bool → Type 0 = λ d. TellsCame burden number (over_if b x) (over_if d a) in
     subst P e (over_alike burden number x a b h)
 
-pub came_tested : (burden : ℕ) (number : Name → ℕ) (n : ℕ) {x : Came Trace} {a : Came Read} → n ≤ MOST_LIMIT → TellsCame burden number x a → TellsCame burden number (within traces n x) (within readings n a)
+pub came_tested : (burden : Burden) (number : Name → ℕ) (n : ℕ) {x : Came Trace} {a : Came Read} → n ≤ MOST_LIMIT → TellsCame burden number x a → TellsCame burden number (within traces n x) (within readings n a)
 came_tested burden number n l (RanAlike t a h) = alike_if burden number (Completed t) (Completed a) (nat_lt n (cost t)) (nat_lt n a.measure.work) (same_test n (cost t) a.measure.work l (work_told t a h)) (RanAlike t a h)
 came_tested burden number n l (TrappedAlike trap line t a h) = alike_if burden number (Trapped trap line t) (Trapped trap line a) (nat_lt n (cost t)) (nat_lt n a.measure.work) (same_test n (cost t) a.measure.work l h.work) (TrappedAlike trap line t a h)
 came_tested burden number n l OverAlike = OverAlike
 
 -- a child's measure, as a piece of the block round it, is that of the child as an event
-span_marked : (burden : ℕ) (mark : Option Mark) (t : Tree) → burdened_span burden (marked mark t) ≡ burdened_span burden t
+span_marked : (burden : Burden) (mark : Option Mark) (t : Tree) → burdened_span burden (marked mark t) ≡ burdened_span burden t
 span_marked burden None t = refl
 span_marked burden (Some mark) t = refl
 
@@ -114,7 +115,7 @@ after_none g (suc c) h = omega arith
 same_unsynced : (l l' k k' : ℕ) → l ≡ l' → k ≡ k' → Unsynced l k ≡ Unsynced l' k'
 same_unsynced l l' k k' e f = ap (λ (x : ℕ). Unsynced x k) e ∙ ap (Unsynced l') f
 
-one_child : (g burden c s : ℕ) → burden ≤ g → c ≡ min g s → forked (up_to g) burden c fresh ≡ held g (onward exactly (Unsynced s burden) fresh)
+one_child : (g : ℕ) (burden : Burden) (c s : ℕ) → burden ≤ g → c ≡ min g s → forked (up_to g) burden c fresh ≡ held g (onward exactly (Unsynced s burden) fresh)
 one_child g burden c s h e =
     let x = after_none g c (omega arith) in
     same_unsynced (max 0 (later (up_to g) 0 c)) (min g (max s 0)) (up_to g 0 burden) (min g (burden + 0)) (omega arith) (omega arith)
@@ -125,7 +126,7 @@ measured_with w p b = record { work = w; plain = p; burdened = b }
 same_measured : {w w' : ℕ} {p p' b b' : Counters} → w ≡ w' → p ≡ p' → b ≡ b' → measured_with w p b ≡ measured_with w' p' b'
 same_measured e f g = cc
 
-measure_child : MeasuresReadTrees → (burden : ℕ) (mark : Option Mark) (m : Measured) (t : Trace) → burden < 2 ^ 64 → m ≡ measure_of burden t.events → after_child burden m nothing ≡ measure_of burden (Fork (marked mark (tree_of t.events)) ∷ [])
+measure_child : MeasuresReadTrees → (burden : Burden) (mark : Option Mark) (m : Measured) (t : Trace) → burden.charge < 2 ^ 64 → m ≡ measure_of burden t.events → after_child burden m nothing ≡ measure_of burden (Fork (marked mark (tree_of t.events)) ∷ [])
 measure_child law burden mark m t h e =
     let tree = tree_of t.events in
     let P : Measured → Type 0 = λ x. ReadsTree burden x tree in
@@ -140,7 +141,7 @@ measure_child law burden mark m t h e =
 one_call : (g c s : ℕ) → c ≡ min g s → ticked (up_to g) c fresh ≡ held g (onward exactly (Unsynced 0 s) fresh)
 one_call g c s e = same_unsynced 0 (min g (max 0 0)) (up_to g 0 c) (min g (s + 0)) (omega arith) (omega arith)
 
-measure_call : MeasuresReadTrees → (burden : ℕ) (mark : Option Mark) (m : Measured) (t : Trace) → m ≡ measure_of burden t.events → after_part m nothing ≡ measure_of burden (Series (marked mark (tree_of t.events)) ∷ [])
+measure_call : MeasuresReadTrees → (burden : Burden) (mark : Option Mark) (m : Measured) (t : Trace) → m ≡ measure_of burden t.events → after_part m nothing ≡ measure_of burden (Series (marked mark (tree_of t.events)) ∷ [])
 measure_call law burden mark m t e =
     let tree = tree_of t.events in
     let P : Measured → Type 0 = λ x. ReadsTree burden x tree in
@@ -153,19 +154,19 @@ measure_call law burden mark m t e =
     (one_call most_burdened (burdened_read m) (burdened_span burden (marked mark tree)) (r.burdened_is ∙ ap (min most_burdened) (sym (span_marked burden mark tree))))
 
 -- what is read of a spawned child or of a call, as a piece of the block round it
-abbrev pub part_read : (spawned : Bool) → (burden : ℕ) → Read → Read
+abbrev pub part_read : (spawned : Bool) → (burden : Burden) → Read → Read
 part_read true burden a = child_read burden a
 part_read false burden a = call_read a
 
-measure_inside : MeasuresReadTrees → (burden : ℕ) (number : Name → ℕ) (spawned : Bool) (mark : Option Mark) (t : Trace) (a : Read) → burden < 2 ^ 64 → TellsTrace burden number t a → TellsTrace burden number (as_event spawned mark t) (part_read spawned burden a)
+measure_inside : MeasuresReadTrees → (burden : Burden) (number : Name → ℕ) (spawned : Bool) (mark : Option Mark) (t : Trace) (a : Read) → burden.charge < 2 ^ 64 → TellsTrace burden number t a → TellsTrace burden number (as_event spawned mark t) (part_read spawned burden a)
 measure_inside law burden number true mark t a b h = record { lines = h.lines; sums = h.sums; measure = measure_child law burden mark a.measure t b h.measure }
 measure_inside law burden number false mark t a b h = record { lines = h.lines; sums = h.sums; measure = measure_call law burden mark a.measure t h.measure }
 
-trap_inside : (burden : ℕ) (spawned : Bool) (mark : Option Mark) (t : Trace) (a : Read) → TellsTrap t a → TellsTrap (as_event spawned mark t) (part_read spawned burden a)
+trap_inside : (burden : Burden) (spawned : Bool) (mark : Option Mark) (t : Trace) (a : Read) → TellsTrap t a → TellsTrap (as_event spawned mark t) (part_read spawned burden a)
 trap_inside burden true mark t a h = record { lines = h.lines; work = let w = h.work in let c = cost_inside true mark t in omega arith }
 trap_inside burden false mark t a h = record { lines = h.lines; work = let w = h.work in let c = cost_inside false mark t in omega arith }
 
-pub came_inside : MeasuresReadTrees → (burden : ℕ) (number : Name → ℕ) (spawned : Bool) (mark : Option Mark) {x : Came Trace} {a : Came Read} → burden < 2 ^ 64 → TellsCame burden number x a → TellsCame burden number (seen (as_event spawned mark) x) (seen (part_read spawned burden) a)
+pub came_inside : MeasuresReadTrees → (burden : Burden) (number : Name → ℕ) (spawned : Bool) (mark : Option Mark) {x : Came Trace} {a : Came Read} → burden.charge < 2 ^ 64 → TellsCame burden number x a → TellsCame burden number (seen (as_event spawned mark) x) (seen (part_read spawned burden) a)
 came_inside law burden number spawned mark b (RanAlike t a h) =
     RanAlike (as_event spawned mark t) (part_read spawned burden a) (measure_inside law burden number spawned mark t a b h)
 came_inside law burden number spawned mark b (TrappedAlike trap line t a h) =

@@ -2,6 +2,7 @@
 use Rattle.std.specs.Prelude.{◌≡◌, ℕ, suc, ℤ, ◌<◌, ◌≤◌, ◌^◌, ◌==◌, nat_lt, min, if◌then◌else◌, List, [], ◌∷◌, map, ◌⊎◌}
 use Rattle.std.specs.Int.{int_wrap, w128}
 use Rattle.std.specs.Int.RustNames.{FitsSigned}
+use Rattle.cw_model.specs.declared.burden.Burden.{Burden}
 use Rattle.cw_model.specs.declared.trap.Trap.{Trap}
 use Rattle.cw_model.specs.Syntax.{Name, Program}
 use Rattle.cw_model.specs.Names.{same_name}
@@ -27,7 +28,7 @@ elision program args limit =
 
 -- what is read of a part tells an end: the printed lines, the sums of what was added to each reducer, and the readings
 -- of the tree
-pub record TellsEnd (burden : ℕ) (number : Name → ℕ) (program : Program) (args : List ℤ) (limit : ℕ)
+pub record TellsEnd (burden : Burden) (number : Name → ℕ) (program : Program) (args : List ℤ) (limit : ℕ)
     (lines sums : List ℤ) (tree : Tree) (a : Read) : Type 0 where
   pub returned : Returned
   pub left : ℕ
@@ -48,7 +49,7 @@ pub record TellsStop (program : Program) (args : List ℤ) (limit : ℕ) (trap :
       → serial_answer program args left ≡ (if nat_lt left cost then OverLimit else TrappedAt trap line lines)
 
 -- how a part came out tells an answer of a program within a limit
-pub data TellsAnswer (burden : ℕ) (number : Name → ℕ) (program : Program) (args : List ℤ) (limit : ℕ) : Answer
+pub data TellsAnswer (burden : Burden) (number : Name → ℕ) (program : Program) (args : List ℤ) (limit : ℕ) : Answer
     → Came Read → Type 0 where
   EndedSo : (value : ℤ) (lines sums : List ℤ) (tree : Tree) (a : Read)
       → TellsEnd burden number program args limit lines sums tree a
@@ -73,9 +74,9 @@ RunGivesTheAnswers =
 -- memory was refused
 abbrev pub PiecesAreTheElision : Type 0
 PiecesAreTheElision =
-    (burden : ℕ) (number : Name → ℕ) (program : Program) (args : List ℤ) (limit : ℕ) (run : Run) (exit : Exit OfCall)
+    (burden : Burden) (number : Name → ℕ) (program : Program) (args : List ℤ) (limit : ℕ) (run : Run) (exit : Exit OfCall)
     (p : RunPart)
-    → burden < 2 ^ 64 → IsRunOf OfCall limit (elision program args limit) run exit
+    → burden.charge < 2 ^ 64 → IsRunOf OfCall limit (elision program args limit) run exit
     → IsJoinedOf burden number limit 0 run p
     → (p.limit ≡ limit)
     × ((p.came ≡ Memory) ⊎ TellsAnswer burden number program args limit (serial_answer program args limit) p.came)

@@ -1,5 +1,6 @@
 -- The run of a frame, step by step, and the parts of pieces that it may be cut into.
 use Rattle.std.specs.Prelude.{◌≡◌, ℕ, ℤ, ◌+◌, ◌-◌, ◌<◌, ◌≤◌, ◌==◌, ◌^◌, nat_lt, min, Bool, true, false, if◌then◌else◌, List, [], ◌∷◌, Option, ◌⊎◌}
+use Rattle.cw_model.specs.declared.burden.Burden.{Burden}
 use Rattle.cw_model.specs.declared.trap.Trap.{Trap}
 use Rattle.cw_model.specs.Syntax.{Name}
 use Rattle.cw_model.specs.Trees.{Mark, tree_of, work}
@@ -64,7 +65,7 @@ added number reducer (addition ∷ more) =
     if number addition.0 == reducer then plus (word_of addition.1) rest else rest
 
 -- what is read tells of a trace: its lines, the sum of each reducer, and the measure of its events
-pub record TellsTrace (burden : ℕ) (number : Name → ℕ) (t : Trace) (a : Read) : Type 0 where
+pub record TellsTrace (burden : Burden) (number : Name → ℕ) (t : Trace) (a : Read) : Type 0 where
   pub lines : a.views.lines ≡ t.lines
   pub sums : (reducer : ℕ) → sum_of a.views.sums reducer ≡ added number reducer t.updates
   pub measure : Measures burden a.measure t.events
@@ -75,7 +76,7 @@ pub record TellsTrap (t : Trace) (a : Read) : Type 0 where
   pub work : a.measure.work ≡ min most (cost t)
 
 -- how a part came out tells how a run did
-pub data TellsCame (burden : ℕ) (number : Name → ℕ) : Came Trace → Came Read → Type 0 where
+pub data TellsCame (burden : Burden) (number : Name → ℕ) : Came Trace → Came Read → Type 0 where
   RanAlike : (t : Trace) (a : Read) → TellsTrace burden number t a → TellsCame burden number (Completed t) (Completed a)
   TrappedAlike : (trap : Trap) (line : ℕ) (t : Trace) (a : Read) → TellsTrap t a
       → TellsCame burden number (Trapped trap line t) (Trapped trap line a)
@@ -94,7 +95,7 @@ IsCountedAfter before Memory between = Unit {0}
 -- limit with that cost before it, or memory was refused to it; it was cut, and the pieces of what came first and of
 -- what came later
 -- were joined; or a part at its beginning, a spawned child or a call, was joined of pieces of its own
-pub data IsJoinedOf (burden : ℕ) (number : Name → ℕ) (limit : ℕ) : (before : ℕ) → Run → RunPart → Type 0 where
+pub data IsJoinedOf (burden : Burden) (number : Name → ℕ) (limit : ℕ) : (before : ℕ) → Run → RunPart → Type 0 where
   Alone : (before left : ℕ) (run : Run) (p : RunPart) → p.limit ≡ limit → left ≤ limit → limit ≤ before + left
       → TellsCame burden number (serial left run) p.came → IsJoinedOf burden number limit before run p
   Refused : (before : ℕ) (run : Run) (p : RunPart) → p.limit ≡ limit → p.came ≡ Memory
@@ -116,6 +117,6 @@ pub data IsJoinedOf (burden : ℕ) (number : Name → ℕ) (limit : ℕ) : (befo
 -- memory was refused
 abbrev pub PiecesAreTheRun : Type 0
 PiecesAreTheRun =
-    (burden : ℕ) (number : Name → ℕ) (limit : ℕ) (run : Run) (p : RunPart) → burden < 2 ^ 64
+    (burden : Burden) (number : Name → ℕ) (limit : ℕ) (run : Run) (p : RunPart) → burden.charge < 2 ^ 64
     → IsJoinedOf burden number limit 0 run p
     → (p.limit ≡ limit) × ((p.came ≡ Memory) ⊎ TellsCame burden number (serial limit run) p.came)

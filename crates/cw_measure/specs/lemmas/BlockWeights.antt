@@ -1,6 +1,7 @@
 -- Lemmas of blocks: what a strand keeps of one adds the burdened span of the tree of its events.
 use Rattle.std.specs.Prelude.{◌≡◌, ℕ, zero, suc, ◌+◌, max, List, [], ◌∷◌}
 use Rattle.std.proofs.Common.{sym, ◌∙◌, ap, subst, arith}
+use Rattle.cw_model.specs.declared.burden.Burden.{Burden}
 use Rattle.cw_model.specs.Trees.{Event, Work, Series, Fork, Join, burdened_span, tree_of}
 use Rattle.cw_measure.specs.Counters.{exactly, Counters, Unsynced, Synced, later, onward, fresh, heaviest, of_event, of_events}
 use Rattle.cw_measure.specs.BlockWeights.{BlockWeight, Straight, Split, now_of, gone_on, child_ended, top_of, after, after_all, BlocksWeighTheirSpans}
@@ -19,14 +20,14 @@ stands_gone_on : (f l k w : ℕ) (L : BlockWeight) → StandsAt f l k L → Stan
 stands_gone_on f l k w (Straight n) h = let a = h.0 in let b = h.1 in (omega arith, omega arith)
 stands_gone_on f l k w (Split m n) h = let a = h.0 in let b = h.1 in (omega arith, omega arith)
 
-stands_forked : (f l k burden c : ℕ) (L : BlockWeight) → StandsAt f l k L
+stands_forked : (f l k : ℕ) (burden : Burden) (c : ℕ) (L : BlockWeight) → StandsAt f l k L
     → StandsAt f (max l (later exactly k c)) (k + burden) (child_ended burden c L)
 stands_forked f l k burden zero (Straight n) h = let a = h.0 in let b = h.1 in (omega arith, omega arith)
 stands_forked f l k burden (suc c) (Straight n) h = let a = h.0 in let b = h.1 in (omega arith, omega arith)
 stands_forked f l k burden zero (Split m n) h = let a = h.0 in let b = h.1 in (omega arith, omega arith)
 stands_forked f l k burden (suc c) (Split m n) h = let a = h.0 in let b = h.1 in (omega arith, omega arith)
 
-one_more : (burden before : ℕ) (w : Counters) (L : BlockWeight) (e : Event) → StandsFor before w L
+one_more : (burden : Burden) (before : ℕ) (w : Counters) (L : BlockWeight) (e : Event) → StandsFor before w L
     → StandsFor before (onward exactly w (of_event burden e)) (after burden L e)
 one_more burden before (Unsynced l k) L (Work n) h = stands_gone_on before l k n L h
 one_more burden before (Synced p l k) L (Work n) h = stands_gone_on (before + p) l k n L h
@@ -37,7 +38,7 @@ one_more burden before (Synced p l k) L (Fork t) h = stands_forked (before + p) 
 one_more burden before (Unsynced l k) L Join h = let a = h.1 in (omega arith, omega arith)
 one_more burden before (Synced p l k) L Join h = let a = h.1 in (omega arith, omega arith)
 
-all_more : (burden before : ℕ) (w : Counters) (L : BlockWeight) (es : List Event) → StandsFor before w L
+all_more : (burden : Burden) (before : ℕ) (w : Counters) (L : BlockWeight) (es : List Event) → StandsFor before w L
     → StandsFor before (onward exactly w (of_events burden es)) (after_all burden L es)
 all_more burden before w L [] h =
     let P : Counters → Type 0 = λ x. StandsFor before x L in subst P (sym (onward-fresh_last exactly exactly_is w)) h
@@ -53,7 +54,7 @@ stands_top before (Unsynced l k) L h = let a = h.1 in omega arith
 stands_top before (Synced p l k) L h = let a = h.1 in omega arith
 
 -- THE LAW OF A BLOCK
-pub top-after_all : (burden before : ℕ) (es : List Event)
+pub top-after_all : (burden : Burden) (before : ℕ) (es : List Event)
     → top_of (after_all burden (Straight before) es) ≡ before + burdened_span burden (tree_of es)
 top-after_all burden before es =
     let begun : StandsFor before fresh (Straight before) = (omega arith, omega arith) in
