@@ -3,6 +3,8 @@
 use crate::gates::{Hand, Holder, idle, serving};
 use crate::programs::{FIB, HALVES, STEPS, TRAPS, code_of};
 use cw_machine::alone::{Ended, run_alone};
+use cw_model::burden::{Burden, Edges};
+use cw_model::total::Total;
 use cw_pool::gate::{Gate, Quiet};
 use cw_pool::run::run;
 use cw_text::Fault;
@@ -13,13 +15,19 @@ use std::thread::Threads;
 
 const MOST: u64 = 1_000_000;
 
+// Both edges of a spawn cost 3.
+const BURDEN: Burden = Burden {
+    charge: 3,
+    edges: Edges::Both,
+};
+
 // Whether two runs ended alike, with the same counts everywhere, or failed alike.
 fn is_same(one: &Result<Ended, Fault>, other: &Result<Ended, Fault>) -> bool {
     match (one, other) {
         (Ok(a), Ok(b)) => {
             a.value == b.value
                 && a.lines == b.lines
-                && a.sums == b.sums
+                && a.totals == b.totals
                 && a.measure == b.measure
                 && a.sites == b.sites
                 && a.regions == b.regions
@@ -48,7 +56,7 @@ fn fault_of(run: &Result<Ended, Fault>) -> Option<u8> {
 // What one worker answers.
 fn alone(alloc: Global, source: &[u8], arg: i64, n: u64) -> Result<Result<Ended, Fault>, Fault> {
     let code = code_of(alloc, source)?;
-    Ok(run_alone(alloc, code, &[arg], n, 3))
+    Ok(run_alone(alloc, code, &[arg], n, BURDEN))
 }
 
 // What a crew answers.
@@ -65,7 +73,7 @@ fn together<
     gate: Arc<G>,
 ) -> Result<Result<Ended, Fault>, Fault> {
     let code = code_of(alloc, source)?;
-    Ok(run(&rt, alloc, code, &[arg], n, 3, crew, gate))
+    Ok(run(&rt, alloc, code, &[arg], n, BURDEN, crew, gate))
 }
 
 // Whether 1, 2, 4 and 64 workers answer this.
@@ -93,6 +101,9 @@ fn spawns_and_regions(rt: HostRuntime) -> Result<(), Fail> {
     let wanted = alone(rt.alloc(), FIB, 10, MOST)?;
     assert!(rt; all_answer(rt, rt.alloc(), FIB, 10, MOST, &wanted)?);
     assert_eq!(rt; value_of(&wanted), Some(55));
+    // of 89 leaves each gives 0 or 1, and of the others the root gives most
+    let totals = [Total::Sum(89), Total::Max(Some(55))];
+    assert!(rt; wanted.is_ok_and(|ended| ended.totals.as_slice() == totals));
     Ok(())
 }
 

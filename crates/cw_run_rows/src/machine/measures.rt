@@ -5,6 +5,7 @@ use crate::machine::{arrays, code_of, spawned};
 use cw_code::code::{BlockKind, Code, Instr};
 use cw_machine::alone::{Ended, run_alone};
 use cw_meter::Readings;
+use cw_model::burden::{Burden, Edges};
 use cw_model::syntax::{CallKind, Operator};
 use cw_regions::RegionRow;
 use cw_sites::table::SiteRow;
@@ -13,10 +14,15 @@ use cw_verify::verify::verify;
 use std::alloc::Global;
 use std::sync::Arc;
 
-// How a run of code ends on these arguments, with a burden of 10.
+const BURDEN: Burden = Burden {
+    charge: 10,
+    edges: Edges::Spawn,
+};
+
+// How a run of code ends on these arguments, with a burden of 10 on continuation edges.
 fn ended(alloc: Global, code: Code, args: &[i64]) -> Result<Ended, Fault> {
     let verified = verify(alloc, code)?;
-    let ended = run_alone(alloc, Arc::new(alloc, verified)?, args, 1_000_000, 10)?;
+    let ended = run_alone(alloc, Arc::new(alloc, verified)?, args, 1_000_000, BURDEN)?;
     Ok(ended)
 }
 
