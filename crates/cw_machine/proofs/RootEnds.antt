@@ -34,7 +34,7 @@ use Rattle.cw_machine.specs.declared.alone.Ended as alone
 use Rattle.cw_machine.specs.Arrays.{IsFit}
 use Rattle.cw_machine.specs.Runs.{is_asked, is_request, IsEndOf, Runs}
 use Rattle.cw_machine.specs.Shows as shows
-use Rattle.cw_machine.proofs.Additions.{ReturnsWithin, travelled, sums_are}
+use Rattle.cw_machine.proofs.Updates.{ReturnsWithin, travelled, totals_are}
 use Rattle.cw_machine.proofs.Metering.{gauge_of}
 use Rattle.cw_machine.proofs.FromMain.{Main, main_of, asked_of, told, IsEnded, IsEnded-prop, IsTrapped, IsTrapped-prop, was_trapped, is_over, was_over, same_as, first_is, asked_count, asked_limit, asked_burden, main_room, main_arrays}
 
@@ -65,9 +65,9 @@ few code f args n e (Same h) = cases (course code (root_job f args n) n) (travel
 few code f args n e (Passed h k) = subst (Few n) (sym h) tt
 few code f args n e (Short h) = subst (Few n) (sym h) tt
 
--- the sums of a run, by the machine's own words
-sums_as : (code : Code) (sums : List ℤ) (t : Trace) → calls.HoldsSums code sums t.updates → shows.HoldsSums code sums t.updates
-sums_as code sums t h = record { fit = fits t.updates h.fit; as_many = h.as_many; are = h.are }
+-- the totals of a run, by the machine's own words
+totals_as : (code : Code) (totals : List ℤ) (t : Trace) → calls.HoldsTotals code totals t.updates → shows.HoldsTotals code totals t.updates
+totals_as code totals t h = record { fit = fits t.updates h.fit; as_many = h.as_many; are = h.are }
   where
     fits : (ts : _) → calls.AllFit ts → shows.AllFit ts
     fits [] h = tt
@@ -139,7 +139,7 @@ module _ (laws : RootsAreSerial) (v : Verified) (ok : IsFit v) (f : Func) (args 
             subst (λ o. IsEnded (code_view v.code) burden e end.all o) s (
               ap int_given (sym h.1) ∙ sym end.value,
               same_as t.lines e.lines.items (sym has.lines ∙ sym end.lines),
-              same_as _ e.sums.items (sums_are (code_view v.code) shown.sums.items t.updates (sums_as (code_view v.code) shown.sums.items t has.sums) (let le = w.0 in omega (arith, le, most)) ∙ sym end.sums),
+              same_as _ e.totals.items (totals_are (code_view v.code) shown.totals.items t.updates (totals_as (code_view v.code) shown.totals.items t has.totals) (let le = w.0 in omega (arith, le, most)) ∙ sym end.totals),
               subst (λ k. AreMeasures burden (k + 1) (code_view v.code).tags (normal (Marked (Invocation 0) (tree_of t.events))) end.all) (sym sites) (end.reads burden g.tags (code_view v.code).tags t.events (omega (arith, within, most)) light g.named refl meters),
             ),
           )

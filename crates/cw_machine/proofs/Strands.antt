@@ -107,13 +107,13 @@ IsRecorded-prop kept None = hlevel le_prop
 pub record WasRecorded (kept : Recorded) (o : Option Answer) : Type 0 where
   pub value : ℤ
   pub lines : List ℤ
-  pub sums : List ℤ
+  pub totals : List ℤ
   pub tree : Tree
-  pub answer : o ≡ Some (Ended value lines sums tree)
+  pub answer : o ≡ Some (Ended value lines totals tree)
   pub is_kept : IsKept tree kept
 
 pub was_recorded : (kept : Recorded) (o : Option Answer) → IsRecorded kept o → WasRecorded kept o
-was_recorded kept (Some (Ended w shown totals tree)) h = record { value = w; lines = shown; sums = totals; tree = tree; answer = refl; is_kept = kept_is kept tree h }
+was_recorded kept (Some (Ended w shown totals tree)) h = record { value = w; lines = shown; totals = totals; tree = tree; answer = refl; is_kept = kept_is kept tree h }
 was_recorded kept (Some (TrappedAt trap line shown)) h = absurd h
 was_recorded kept (Some OverLimit) h = absurd h
 was_recorded kept None h = absurd h

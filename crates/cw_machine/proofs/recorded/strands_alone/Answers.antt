@@ -56,7 +56,7 @@ returns-in-Gave c =
     let main = main_of v ok in
     recorded v main.func args n c.go-stop.result.1 r main.found (asked_of v main args n 0 asked) ok c.in-Gave.field-0 kept c.in_ok-kept-in-Gave.ensures (came v ok main args n c.go-stop.result.1 _ r _ _ c.in_ok-machine.ensures c.new.ensures c.go-stop.ensures c.in-Gave.is))) in
     subst (λ (w : Verified). Records (code_view w.code) args n kept) c.deref-verified.ensures
-    (record { asked = asked; value = is.value; lines = is.lines; sums = is.sums; tree = is.tree; answer = is.answer; is_kept = is.is_kept })
+    (record { asked = asked; value = is.value; lines = is.lines; totals = is.totals; tree = is.tree; answer = is.answer; is_kept = is.is_kept })
 
 pub returns-in-On : goal.returns-in-On
 returns-in-On c =

@@ -47,7 +47,7 @@ returns-in-Gave c =
     let asked = asked_as v args c.main_takes.result n burden c.main_takes.ensures (sym c.is_asked.ensures ∙ c.if-not-is_asked.false) in
     let serial = code_serial code args n in
     let same : to_z w64 (of_z w64 c.int_given.result) ≡ c.int_given.result = search (rules, to_z-of_z) in
-    let e : Values = record { value = to_z w64 (of_z w64 c.int_given.result); lines = m.lines; sums = m.sums } in
+    let e : Values = record { value = to_z w64 (of_z w64 c.int_given.result); lines = m.lines; totals = m.totals } in
     let is = is_given e serial (∥∥₁_elim v.ok (IsGiven-prop e serial) (λ ok.
     let main = main_of v ok in
     gave v main.func args n burden m main.found (asked_of v main args n burden asked) ok c.in-Gave.value e (same ∙ c.int_given.ensures) refl refl (came v ok main args n c.in_ok-machine.machine m _ _ c.in_ok-machine.ensures c.run.ensures c.in-Gave.is))) in

@@ -1,4 +1,4 @@
--- How many values a run can add to its reducers, and what their sums can come to.
+-- How many values a run can add to its reducers, and what their totals can come to.
 use Rattle.std.proofs.Common.{◌≡◌, ℕ, zero, suc, ◌+◌, ◌-◌, ◌*◌, ◌≤◌, ℤ, pos, negsuc, ◌+ℤ◌, Bool, true, false, if◌then◌else◌, Option, Some, None, List, [], ◌∷◌, ◌++◌, length, refl, sym, ap, ◌∙◌, subst, arith, nat_lt, length-append, unsigned_abs, FitsSigned, w64}
 use Rattle.std.specs.Prelude.{map, is_none, take, drop, replicate, slice_get, slice_set}
 use Rattle.std.specs.Int.{w128}
@@ -26,7 +26,7 @@ use Rattle.cw_code.specs.declared.code.Instr.TheVariants as instr
 use Rattle.cw_code.specs.Code.{Code}
 use Rattle.cw_code.specs.Run.{Slots, Results, Around, Caller, Block, Opened, State, Transition, On, Ends, Stops, Stuck, synced, is_full, on_top, on_two, stored, operated, set_array, apply_unary, jumped, onto, prints, adds, settled, put_in, Entering, Whole, arguments_of, may_begin, begun, begins, call_of, on_arrays, arrays_in, enter, recur, parts_of, looped, start, given, awaited, result_of, event_of, rejoined, going_on, returns_to, given_back, back, opened, opened_region, opens, cut_arrays, may_cut, cuts, resumes, closed, uncut_arrays, resumes_uncut, cut_ends, passed_by, act, step, go_on, steps, reducers_of}
 use Rattle.cw_strands.specs.Jobs.{WholeCall, Came, Arrives, Returns, Falls, Beyond, Lost, moved, travel}
-use Rattle.cw_machine.specs.Shows.{wrapped, AllFit, HoldsSums}
+use Rattle.cw_jobs.specs.Totals.{wrapped, AllFit, HoldsTotals}
 use Rattle.cw_machine.proofs.Going as going
 
 -- after a move no more values were added than these
@@ -233,19 +233,19 @@ bounded name (a ∷ ts) h = cases (same_name name a.0) (bounded name ts h.1)
     cases true le = let more = abs_more a.1 (sum_to name ts) most_abs (length ts * most_abs) (abs_fits a.1 h.0) le in omega (arith, more)
     cases false le = omega (arith, le)
 
--- the sums of so many values are within 128 bits
+-- the totals of so many values are within 128 bits
 pub unwrapped : (name : Name) (ts : List (Name × ℤ)) → AllFit ts → length ts ≤ MOST_LIMIT → wrapped (sum_to name ts) ≡ sum_to name ts
 unwrapped name ts h le = int_wrap_fits w128 (sum_to name ts) (fits_signed_from_abs w128 (sum_to name ts) (let b = bounded name ts h in omega (arith, b, le)))
 
--- the sums that a machine has are those of its run
-pub sums_are : (code : Code) (sums : List ℤ) (ts : List (Name × ℤ)) → HoldsSums code sums ts → length ts ≤ MOST_LIMIT → map (λ (r : Reducer). sum_to r.name ts) (reducers_of code) ≡ sums
-sums_are code sums ts h le = each code.reducers sums h.as_many h.are
+-- the totals that a machine has are those of its run
+pub totals_are : (code : Code) (totals : List ℤ) (ts : List (Name × ℤ)) → HoldsTotals code totals ts → length ts ≤ MOST_LIMIT → map (λ (r : Reducer). sum_to r.name ts) (reducers_of code) ≡ totals
+totals_are code totals ts h le = each code.reducers totals h.as_many h.are
   where
-    each : (names : List Name) (sums : List ℤ) → length sums ≡ length names → ((k : ℕ) (name : Name) → slice_get names k ≡ Some name → slice_get sums k ≡ Some (wrapped (sum_to name ts))) →
-        map (λ (r : Reducer). sum_to r.name ts) (map (λ name. record { name = name; line = 0 }) names) ≡ sums
+    each : (names : List Name) (totals : List ℤ) → length totals ≡ length names → ((k : ℕ) (name : Name) → slice_get names k ≡ Some name → slice_get totals k ≡ Some (wrapped (sum_to name ts))) →
+        map (λ (r : Reducer). sum_to r.name ts) (map (λ name. record { name = name; line = 0 }) names) ≡ totals
     each [] [] n are = refl
-    each [] (x ∷ sums) n are = absurd (omega (arith, n))
+    each [] (x ∷ totals) n are = absurd (omega (arith, n))
     each (name ∷ names) [] n are = absurd (omega (arith, n))
-    each (name ∷ names) (x ∷ sums) n are =
+    each (name ∷ names) (x ∷ totals) n are =
         let same : x ≡ wrapped (sum_to name ts) = let at = are 0 name refl in cc in
-        ap (λ z. z ∷ map (λ (r : Reducer). sum_to r.name ts) (map (λ name. record { name = name; line = 0 }) names)) (sym (unwrapped name ts h.fit le) ∙ sym same) ∙ ap (λ l. x ∷ l) (each names sums (omega (arith, n)) (λ k other e. are (suc k) other e))
+        ap (λ z. z ∷ map (λ (r : Reducer). sum_to r.name ts) (map (λ name. record { name = name; line = 0 }) names)) (sym (unwrapped name ts h.fit le) ∙ sym same) ∙ ap (λ l. x ∷ l) (each names totals (omega (arith, n)) (λ k other e. are (suc k) other e))
