@@ -56,7 +56,7 @@ fn writes_tables(rt: HostRuntime) -> Result<(), Fail> {
             SCALE,
             ",120,67,1.791,254,0.472\n",
         ),
-        // with the returns: 67 and 100 for each of three spawns, and not two where the path goes by a child
+        // each of the three spawns that the longest path runs through is charged, on whichever side
         (
             "scale f 4 --burden 100 --edges both",
             FIB,
