@@ -2,10 +2,12 @@
 use Rattle.std.specs.Prelude.{◌≡◌, ℕ, ◌+◌, ◌^◌, ◌<◌, min, List, [], ◌∷◌, ◌++◌, refl}
 use Rattle.std.proofs.Common.{sym, ◌∙◌, ap, subst, arith}
 use Rattle.cw_model.specs.declared.burden.Burden.{Burden}
-use Rattle.cw_model.specs.Trees.{Tree, Event, Work, Series, Fork, Join, tree_of, work}
+use Rattle.cw_model.specs.Burdens.{at_child, no_burden}
+use Rattle.cw_model.specs.Trees.{Tree, Event, Work, Series, Fork, Join, tree_of, work, span, burdened_span}
 use Rattle.cw_measure.specs.Counters.{exactly, up_to, onward, held, of_event, of_events, CountersReadSpans}
 use Rattle.cw_measure.specs.Measured.{Measured, most, most_burdened, measure_of, joined, span_read, burdened_read, after_work, after_part, after_child, after_join, ReadsTree, Measures, MeasuresReadTrees}
 use Rattle.cw_measure.specs.SumLaws.{up_to_is, exactly_is}
+use Rattle.cw_measure.specs.lemmas.BlockWeights.{child_charge}
 use Rattle.cw_measure.specs.CounterLaws.{ticked_onward, forked_onward, onward-fresh_last, synced_onward, of_events-append, heaviest-of_events}
 use Rattle.cw_measure.proofs.Holding.{held-sum, held-onward, held-heaviest}
 
@@ -53,8 +55,8 @@ one_event burden e =
     let q = onward_first no_burden e in
     let c = onward_first burden e in cc
   where
-    onward_first : (n : ℕ) (e : Event) → of_events n (e ∷ []) ≡ of_event n e
-    onward_first n e = onward-fresh_last exactly exactly_is (of_event n e)
+    onward_first : (b : Burden) (e : Event) → of_events b (e ∷ []) ≡ of_event b e
+    onward_first b e = onward-fresh_last exactly exactly_is (of_event b e)
 
 one_more : (burden : Burden) (m : Measured) (es : List Event) (e : Event) → Measures burden m es → measure_of burden (es ++ e ∷ []) ≡ joined m (event_measure burden e)
 one_more burden m es e h = measure_of-append burden es (e ∷ []) ∙ ap (joined (measure_of burden es)) (one_event burden e) ∙ ap (λ (x : Measured). joined x (event_measure burden e)) (sym h)
@@ -83,10 +85,12 @@ part_more burden m part es t h r =
 pub child_more : (burden : Burden) (m child : Measured) (es : List Event) (t : Tree) → burden.charge < 2 ^ 64 → Measures burden m es → ReadsTree burden child t → Measures burden (after_child burden child m) (es ++ Fork t ∷ [])
 child_more burden m child es t small h r =
     let z : min most 0 ≡ 0 = omega arith in
-    let y : min most_burdened burden ≡ burden = omega arith in
-    let p = forked_onward (up_to most) 0 (span_read child) m.plain in
+    let y : min most_burdened burden.charge ≡ burden.charge = omega arith in
+    let p = forked_onward (up_to most) no_burden (span_read child) m.plain in
     let q = forked_onward (up_to most_burdened) burden (burdened_read child) m.burdened in
-    let w = r.work_is in let s = r.span_is in let b = r.burdened_is in
+    let w = r.work_is in let s = r.span_is in let b = r.burdened_is in let g = child_charge burden in
+    let c : up_to most 0 (span_read child) ≡ min most (0 + span t) = omega arith in
+    let d : up_to most_burdened (at_child burden) (burdened_read child) ≡ min most_burdened (at_child burden + burdened_span burden t) = omega arith in
     let all : after_child burden child m ≡ joined m (event_measure burden (Fork t)) = cc in
     all ∙ sym (one_more burden m es (Fork t) h)
 

@@ -3,6 +3,7 @@ use Rattle.std.specs.Prelude.{◌≡◌, ℕ, ◌+◌, ◌<◌, ◌≤◌, ◌^�
 use Rattle.std.proofs.Common.{sym, ◌∙◌, ap, subst, arith}
 use Rattle.std.specs.Global.{Vec}
 use Rattle.cw_model.specs.declared.burden.Burden.{Burden}
+use Rattle.cw_model.specs.Burdens.{at_child, at_rest}
 use Rattle.cw_model.specs.Trees.{Event, Work, Series, Fork, Join, burdened_span}
 use Rattle.cw_measure.specs.declared.burdened_path.BurdenedBlock.{BurdenedBlock}
 use Rattle.cw_measure.specs.declared.burdened_path.BurdenedPath.{BurdenedPath}
@@ -25,10 +26,10 @@ joined_more k (Straight n) (Split l m) = ap (Split (n + l)) (omega arith)
 joined_more k (Split j n) (Split l m) = ap (Split (max j (n + l))) (omega arith)
 
 joined_forked : (burden : Burden) (c : ℕ) (L M : BlockWeight) → joined_on L (child_ended burden c M) ≡ child_ended burden c (joined_on L M)
-joined_forked burden c (Straight n) (Straight m) = same_split (n + (m + c)) ((n + m) + c) (n + (m + burden)) ((n + m) + burden) (omega arith) (omega arith)
-joined_forked burden c (Split j n) (Straight m) = same_split (max j (n + (m + c))) (max j ((n + m) + c)) (n + (m + burden)) ((n + m) + burden) (omega arith) (omega arith)
-joined_forked burden c (Straight n) (Split l m) = same_split (n + max l (m + c)) (max (n + l) ((n + m) + c)) (n + (m + burden)) ((n + m) + burden) (omega arith) (omega arith)
-joined_forked burden c (Split j n) (Split l m) = same_split (max j (n + max l (m + c))) (max (max j (n + l)) ((n + m) + c)) (n + (m + burden)) ((n + m) + burden) (omega arith) (omega arith)
+joined_forked burden c (Straight n) (Straight m) = same_split (n + (m + (at_child burden + c))) ((n + m) + (at_child burden + c)) (n + (m + at_rest burden)) ((n + m) + at_rest burden) (omega arith) (omega arith)
+joined_forked burden c (Split j n) (Straight m) = same_split (max j (n + (m + (at_child burden + c)))) (max j ((n + m) + (at_child burden + c))) (n + (m + at_rest burden)) ((n + m) + at_rest burden) (omega arith) (omega arith)
+joined_forked burden c (Straight n) (Split l m) = same_split (n + max l (m + (at_child burden + c))) (max (n + l) ((n + m) + (at_child burden + c))) (n + (m + at_rest burden)) ((n + m) + at_rest burden) (omega arith) (omega arith)
+joined_forked burden c (Split j n) (Split l m) = same_split (max j (n + max l (m + (at_child burden + c)))) (max (max j (n + l)) ((n + m) + (at_child burden + c))) (n + (m + at_rest burden)) ((n + m) + at_rest burden) (omega arith) (omega arith)
 
 joined_nothing : (L : BlockWeight) → joined_on L (Straight 0) ≡ L
 joined_nothing (Straight n) = ap Straight (omega arith)

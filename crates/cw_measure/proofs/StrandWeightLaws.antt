@@ -2,13 +2,14 @@
 use Rattle.std.specs.Prelude.{◌≡◌, ℕ, zero, suc, ◌+◌, ◌-◌, ◌<◌, ◌≤◌, ◌^◌, max, Bool, true, false, not, List, [], ◌∷◌, ◌++◌, Option, length, take, refl}
 use Rattle.std.proofs.Common.{sym, ◌∙◌, ap, subst, set, get_or, arith}
 use Rattle.cw_model.specs.declared.burden.Burden.{Burden}
+use Rattle.cw_model.specs.Burdens.{at_child, at_rest}
 use Rattle.cw_model.specs.Trees.{Mark, Event, Work, Series, Fork, Join, tree_of, work, burdened_span}
 use Rattle.cw_measure.specs.declared.burdened_path.BurdenedBlock.{BurdenedBlock}
 use Rattle.cw_measure.specs.declared.burdened_path.BurdenedPath.{BurdenedPath}
 use Rattle.cw_measure.specs.OpenParts.{Open, in_fork, marked, closed, has_spawned, Since}
 use Rattle.cw_measure.specs.BlockWeights.{BlockWeight, Straight, Split, now_of, gone_on, child_ended, top_of, after, after_all, enters, block_weight, weight_in, burdened_work_in, WorkAndWeightAreMetered}
 use Rattle.cw_measure.specs.StrandWeights.{StrandWeight, reversed, strand_weight, goes_on, begins, begins_again, spawns, ends, joins, saved_of, Fits, StandsOn, RestsOn, Under, ShowsWeight, TellsWeight, FitsRun}
-use Rattle.cw_measure.specs.lemmas.BlockWeights.{top-after_all}
+use Rattle.cw_measure.specs.lemmas.BlockWeights.{top-after_all, child_charge}
 use Rattle.cw_measure.specs.lemmas.OpenParts.{KeptBy, kept_since, has_spawned_since, work_since, work_adds, work_more, sum_begun, left_work}
 use Rattle.cw_measure.specs.lemmas.StrandWeights.{block_more, is_split, split-block, straight, span_marked, ended_weight, weight_meters, work_meters, ShowsBlock, by_block, stands_gone_on, now_gone_on, stands_straight, span_within, event_work, sum_of_works, works_is}
 
@@ -21,8 +22,8 @@ block_of l s = record { longest = l; saved = s }
 pub same_top : (n n' l l' s : ℕ) (bs : List BurdenedBlock) → n ≡ n' → l ≡ l' → weighs n (block_of l s ∷ bs) ≡ weighs n' (block_of l' s ∷ bs)
 same_top n n' l l' s bs e f = ap (λ (x : ℕ). weighs x (block_of l s ∷ bs)) e ∙ ap (λ (x : ℕ). weighs n' (block_of x s ∷ bs)) f
 
-pub fits_top : (w : ℕ) (burden : Burden) (all : List BurdenedBlock) (b : BurdenedBlock) (bs : List BurdenedBlock) → all ≡ b ∷ bs → Fits (weighs w all) burden → (b.saved + w < 2 ^ 128) × (b.saved + burden < 2 ^ 128)
-fits_top w burden all b bs e h = let P : List BurdenedBlock → Type 0 = λ x. Fits (weighs w x) burden in subst P e h
+pub fits_top : (w : ℕ) (burden : Burden) (all : List BurdenedBlock) (b : BurdenedBlock) (bs : List BurdenedBlock) → all ≡ b ∷ bs → Fits burden (weighs w all) → (b.saved + (at_child burden + w) < 2 ^ 128) × (b.saved + at_rest burden < 2 ^ 128)
+fits_top w burden all b bs e h = let P : List BurdenedBlock → Type 0 = λ x. Fits burden (weighs w x) in subst P e h
 
 pub work_and_weight_are_metered : WorkAndWeightAreMetered
 work_and_weight_are_metered = record { work_is = work_meters; weight_is = weight_meters }
@@ -76,8 +77,8 @@ shows_unjoined burden os es v e h =
 
 ends_blocks : (burden : Burden) (below : List BurdenedBlock → Type 0) (L : BlockWeight) (c : ℕ) (bs : List BurdenedBlock) → RestsOn below L bs → ShowsBlock below (child_ended burden c L) (ends burden (record { now = c; blocks = bs }))
 ends_blocks burden below L c [] h = absurd h
-ends_blocks burden below (Straight n) c (b ∷ bs) h = let l = h.0 in let s = h.1 in record { now_is = ap (λ (x : ℕ). x + burden) s; blocks_are = (omega arith, h.2) }
-ends_blocks burden below (Split m n) c (b ∷ bs) h = let l = h.0 in let s = h.1 in record { now_is = ap (λ (x : ℕ). x + burden) s; blocks_are = (omega arith, h.2) }
+ends_blocks burden below (Straight n) c (b ∷ bs) h = let l = h.0 in let s = h.1 in record { now_is = ap (λ (x : ℕ). x + at_rest burden) s; blocks_are = (omega arith, h.2) }
+ends_blocks burden below (Split m n) c (b ∷ bs) h = let l = h.0 in let s = h.1 in record { now_is = ap (λ (x : ℕ). x + at_rest burden) s; blocks_are = (omega arith, h.2) }
 
 in_fork_ends : (burden : Burden) (mark : Option Mark) (outer : List Event) (os : List Open) (es : List Event) (v : StrandWeight) → has_spawned es ≡ false → ShowsWeight burden (in_fork mark outer os) es v → ShowsWeight burden os (closed (record { spawned = true; mark = mark; outer = outer }) es) (ends burden v)
 in_fork_ends burden mark outer os es v e h =
@@ -103,8 +104,8 @@ top_within burden (Straight n) (Work k) = omega arith
 top_within burden (Split l n) (Work k) = omega arith
 top_within burden (Straight n) (Series t) = let s = span_within burden t in omega arith
 top_within burden (Split l n) (Series t) = let s = span_within burden t in omega arith
-top_within burden (Straight n) (Fork t) = let s = span_within burden t in omega arith
-top_within burden (Split l n) (Fork t) = let s = span_within burden t in omega arith
+top_within burden (Straight n) (Fork t) = let s = span_within burden t in let d = child_charge burden in omega arith
+top_within burden (Split l n) (Fork t) = let s = span_within burden t in let d = child_charge burden in omega arith
 top_within burden (Straight n) Join = omega arith
 top_within burden (Split l n) Join = omega arith
 
@@ -136,8 +137,8 @@ saved_rests below L [] h = absurd h
 saved_rests below (Straight n) (b ∷ bs) h = h.1
 saved_rests below (Split l n) (b ∷ bs) h = h.1
 
--- a spawned part whose block has joined: with the path up to its spawn and the burden its path fits
-pub child_fits : (burden : Burden) (mark : Option Mark) (outer : List Event) (os : List Open) (es : List Event) (v : StrandWeight) → has_spawned es ≡ false → FitsRun burden (in_fork mark outer os) es → ShowsWeight burden (in_fork mark outer os) es v → Fits v burden
+-- a spawned part whose block has joined: with the path up to its spawn and what it is charged its path fits
+pub child_fits : (burden : Burden) (mark : Option Mark) (outer : List Event) (os : List Open) (es : List Event) (v : StrandWeight) → has_spawned es ≡ false → FitsRun burden (in_fork mark outer os) es → ShowsWeight burden (in_fork mark outer os) es v → Fits burden v
 child_fits burden mark outer os es v e fits h =
     let o : Open = record { spawned = true; mark = mark; outer = outer } in
     let L = block_weight burden os outer in
@@ -146,7 +147,7 @@ child_fits burden mark outer os es v e fits h =
     let a = weight_within burden os outer in
     let c = top_all burden (Straight 0) es in let w = works_is burden es in
     let d = now_top (after_all burden (Straight 0) es) in
-    let n = h.now_is in (omega arith, omega arith)
+    let g = child_charge burden in let n = h.now_is in (omega arith, omega arith)
 
 -- THE CALLS
 
@@ -180,7 +181,7 @@ spawned_weight burden mark os es fs old mid new count first since e h f m =
       noted_is = m ∙ h.noted_is ∙ sym (sum_begun work work_adds (record { spawned = true; mark = mark; outer = es ++ fs }) os);
     }
 
-pub child_ended_weight : (burden : Burden) (o : Open) (os : List Open) (es fs : List Event) (old mid new : BurdenedPath) (count : ℕ) → Since old.noted count es fs → FitsRun burden (o ∷ os) (es ++ fs) → o.spawned ≡ true → has_spawned es ≡ false → TellsWeight burden (o ∷ os) (es ++ fs) mid → (Fits (strand_weight mid) burden → strand_weight new ≡ ends burden (strand_weight mid)) → new.noted ≡ mid.noted → TellsWeight burden os (closed o (es ++ fs)) new
+pub child_ended_weight : (burden : Burden) (o : Open) (os : List Open) (es fs : List Event) (old mid new : BurdenedPath) (count : ℕ) → Since old.noted count es fs → FitsRun burden (o ∷ os) (es ++ fs) → o.spawned ≡ true → has_spawned es ≡ false → TellsWeight burden (o ∷ os) (es ++ fs) mid → (Fits burden (strand_weight mid) → strand_weight new ≡ ends burden (strand_weight mid)) → new.noted ≡ mid.noted → TellsWeight burden os (closed o (es ++ fs)) new
 child_ended_weight burden o os es fs old mid new count since fits b e h f m =
     let n = has_spawned_since es fs (count - old.noted) since.instructions ∙ e in
     let D : StrandWeight → Type 0 = λ x. ShowsWeight burden os (closed o (es ++ fs)) x in
@@ -189,7 +190,7 @@ child_ended_weight burden o os es fs old mid new count since fits b e h f m =
       noted_is = m ∙ h.noted_is ∙ sym (left_work o os (es ++ fs));
     }
   where
-    fits_by : (s : Bool) → s ≡ true → FitsRun burden (record { spawned = s; mark = o.mark; outer = o.outer } ∷ os) (es ++ fs) → ShowsWeight burden (record { spawned = s; mark = o.mark; outer = o.outer } ∷ os) (es ++ fs) (strand_weight mid) → has_spawned (es ++ fs) ≡ false → Fits (strand_weight mid) burden
+    fits_by : (s : Bool) → s ≡ true → FitsRun burden (record { spawned = s; mark = o.mark; outer = o.outer } ∷ os) (es ++ fs) → ShowsWeight burden (record { spawned = s; mark = o.mark; outer = o.outer } ∷ os) (es ++ fs) (strand_weight mid) → has_spawned (es ++ fs) ≡ false → Fits burden (strand_weight mid)
     fits_by true b fits h n = child_fits burden o.mark o.outer os (es ++ fs) (strand_weight mid) n fits h
     fits_by false b fits h n = cc
 

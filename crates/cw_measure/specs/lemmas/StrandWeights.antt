@@ -7,9 +7,9 @@ use Rattle.cw_measure.specs.declared.burdened_path.BurdenedBlock.{BurdenedBlock}
 use Rattle.cw_measure.specs.declared.burdened_path.BurdenedPath.{BurdenedPath}
 use Rattle.cw_measure.specs.OpenParts.{Open, in_series, marked, part_of, event_of, closed, spawned_after, has_spawned_from, has_spawned, work_in}
 use Rattle.cw_measure.specs.Outermost.{Meters}
-use Rattle.cw_measure.specs.BlockWeights.{BlockWeight, Straight, Split, now_of, gone_on, top_of, after, after_all, enters, block_weight, weight_in, burdened_work, burden_if, burdened_work_in}
+use Rattle.cw_measure.specs.BlockWeights.{BlockWeight, Straight, Split, now_of, gone_on, top_of, after, after_all, enters, block_weight, weight_in, burdened_work, charge_if, burdened_work_in}
 use Rattle.cw_measure.specs.StrandWeights.{StrandWeight, strand_weight, StandsOn, Under, ShowsWeight, SeriesNeedNoCall}
-use Rattle.cw_measure.specs.lemmas.BlockWeights.{top-after_all}
+use Rattle.cw_measure.specs.lemmas.BlockWeights.{top-after_all, child_charge}
 use Rattle.cw_measure.specs.lemmas.OpenParts.{work_adds, sum_begun, left_work}
 
 -- one event more in the block that runs
@@ -146,20 +146,21 @@ shows_left burden o os es v b e h = by_kind o.spawned b h
     by_kind false b h = in_series_ends burden o.mark o.outer os es v e h
     by_kind true b h = cc
 
--- what is kept of a run is within its work with a burden for each spawn
+-- what is kept of a run is within its work with a charge for each spawn
 pub span_within : (burden : Burden) (t : Tree) → burdened_span burden t ≤ burdened_work burden t
 span_within burden (Leaf k) = omega arith
 span_within burden (Seq a b) = let g = span_within burden a in let h = span_within burden b in omega arith
-span_within burden (Par a b) = let g = span_within burden a in let h = span_within burden b in omega arith
+span_within burden (Par a b) =
+    let g = span_within burden a in let h = span_within burden b in let c = child_charge burden in omega arith
 span_within burden (Marked mark t) = span_within burden t
 
-abbrev pub event_work : (burden : Burden) → Event → ℕ
+abbrev pub event_work : Burden → Event → ℕ
 event_work burden (Work k) = k
 event_work burden (Series t) = burdened_work burden t
-event_work burden (Fork t) = burdened_work burden t + burden
+event_work burden (Fork t) = burdened_work burden t + burden.charge
 event_work burden Join = 0
 
-abbrev pub sum_of_works : (burden : Burden) → List Event → ℕ
+abbrev pub sum_of_works : Burden → List Event → ℕ
 sum_of_works burden [] = 0
 sum_of_works burden (e ∷ es) = event_work burden e + sum_of_works burden es
 
@@ -203,7 +204,7 @@ burdened_append burden [] es fs = burdened_works_all burden es fs
 burdened_append burden (o ∷ os) es fs = let a = burdened_works_all burden es fs in omega arith
 
 event_work_is : (burden : Burden) (spawned : Bool) (mark : Option Mark) (t : Tree)
-    → event_work burden (part_of spawned (marked mark t)) ≡ burdened_work burden t + burden_if spawned burden
+    → event_work burden (part_of spawned (marked mark t)) ≡ burdened_work burden t + charge_if spawned burden
 event_work_is burden true None t = refl
 event_work_is burden true (Some m) t = refl
 event_work_is burden false None t = omega arith
