@@ -20,6 +20,7 @@ use Rattle.cw_tree.proofs.Plain.{function_faults}
 use Rattle.cw_tree.proofs.Right.{both, same}
 use Rattle.cw_tree.specs.lemmas.Slotted.{one_more, few_ints_in, few_arrays_in, params_count}
 use Rattle.cw_tree.specs.lemmas.Few.{heads_small, small_head}
+use Rattle.cw_tree.specs.lemmas.Reducers.{is_named}
 
 less : (a b : ℕ) → a < b → nat_lt a b ≡ true
 less a b h = grind (arith, nat_tests)
@@ -523,8 +524,9 @@ module _ (program : Program) (n : Counts) (tables : Tables program n) where
         (fit_expr n known l a r e (both_right (is_array known x && is_fine known d) (is_fine known e) k))
     fit_stmt returns known l i j a stands line (model.Reduce how s e) needs tagged h =
         let r = has_room n l i j (spec.resolved_stmt (spec.lists_of program) l (model.Reduce how s e)) stands needs in
-        let k = kept (is_reducer program s && is_fine known e) line h in
-        both (below s (spec.reducer_names program.reducers) n.reducers (both_left (is_reducer program s) (is_fine known e) k) tables.reducers) (fit_expr n known l a r e (both_right (is_reducer program s) (is_fine known e) k))
+        let k = kept (is_reducer program how s && is_fine known e) line h in
+        let named = is_named how s program.reducers (both_left (is_reducer program how s) (is_fine known e) k) in
+        both (below s (spec.reducer_names program.reducers) n.reducers named tables.reducers) (fit_expr n known l a r e (both_right (is_reducer program how s) (is_fine known e) k))
     fit_stmt returns known l i j a stands line (model.Call kind site target f es) needs tagged h =
         let r = has_room n l i j (spec.resolved_stmt (spec.lists_of program) l (model.Call kind site target f es)) stands needs in
         let c = is_called known target f es program.functions (kept (is_call known target (called f program.functions) es) line h) in
