@@ -84,18 +84,18 @@ abbrev pub begun : (spawned : Bool) → Option Mark → List Event → List Open
 begun spawned mark es os = record { spawned = spawned; mark = mark; outer = ticked es } ∷ os
 
 -- what a meter tells goes from one run so far to another, where an instruction more is within the greatest limit
-abbrev pub Tells : (old new : Meter) → (count : ℕ) → (burden : Burden) → Tags → (from : Origin) → (os os' : List Open)
+abbrev pub Tells : (old new : Meter) → (count : ℕ) → Burden → Tags → (from : Origin) → (os os' : List Open)
     → (es es' : List Event) → Type 0
 Tells old new count burden tags from os os' es es' =
     count < MOST_LIMIT → burden.charge ≤ MOST_BURDEN → Meters burden tags from count os es old
     → Meters burden tags from (count + 1) os' es' new
 
 -- the meter of a rest that begins in an invocation of this site, whatever else is open round it
-abbrev pub StartsRest : (burden : Burden) (site : ℕ) → Meter → Type 0
+abbrev pub StartsRest : Burden → (site : ℕ) → Meter → Type 0
 StartsRest burden site m = (tags : Tags) → Meters burden tags (Rest site) 0 [] [] m
 
 -- the meter of a run that begins
-abbrev pub Starts : (burden : Burden) → Meter → Type 0
+abbrev pub Starts : Burden → Meter → Type 0
 Starts burden m = (tags : Tags) → Meters burden tags Main 0 main_open [] m
 
 -- a call, a scope, a cut, or half of a loop begins

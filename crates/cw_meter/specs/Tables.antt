@@ -13,14 +13,14 @@ use Rattle.cw_meter.specs.Meters.{AreTold, IsCounted, TablesTell}
 use Rattle.cw_meter.specs.Parts.{IsPart}
 
 -- what tables tell goes from one run so far to another, within the greatest limit
-abbrev pub TellOf : (old new : Tables) → (count : ℕ) (burden : Burden) → Tags → (from : Origin) → (os os' : List Open)
+abbrev pub TellOf : (old new : Tables) → (count : ℕ) → Burden → Tags → (from : Origin) → (os os' : List Open)
     → (es es' : List Event) → Type 0
 TellOf old new count burden tags from os os' es es' =
     count ≤ MOST_LIMIT → burden.charge ≤ MOST_BURDEN → TablesTell burden tags from count os es old
     → TablesTell burden tags from count os' es' new
 
 -- the tables of a run that begins
-abbrev pub StartsTables : (burden : Burden) → Tables → Type 0
+abbrev pub StartsTables : Burden → Tables → Type 0
 StartsTables burden t = (tags : Tags) → TablesTell burden tags Main 0 main_open [] t
 
 -- all of a run so far is told
@@ -62,7 +62,7 @@ Closes old new count part =
     → TellOf old new count burden tags from (o ∷ os) os es (closed o es)
 
 -- the tables of a rest that begins in an invocation of this site
-abbrev pub StartsTablesOfRest : (burden : Burden) (site : ℕ) → Tables → Type 0
+abbrev pub StartsTablesOfRest : Burden → (site : ℕ) → Tables → Type 0
 StartsTablesOfRest burden site t = (tags : Tags) → TablesTell burden tags (Rest site) 0 [] [] t
 
 -- the tables of the rest of the block that runs are taken in, which ran apart up to its join: all is told to both

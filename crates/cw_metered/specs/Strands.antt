@@ -30,7 +30,7 @@ IsFrom (Rest site) WholeCall = ⊥
 IsFrom (Rest site) ToJoin = Unit {0}
 
 -- a meter begins
-abbrev pub StartsFrom : Origin → (burden : Burden) → Meter → Type 0
+abbrev pub StartsFrom : Origin → Burden → Meter → Type 0
 StartsFrom from burden m = (tags : Tags) → Meters burden tags from 0 (first_open from) [] m
 
 -- the site of the innermost invocation at a state
@@ -46,11 +46,11 @@ TellsStrand code g from (Waits s count outs) m =
 TellsStrand code g from (Halted e outs) m = Unit {0}
 
 -- by whichever numbers of the code's tags
-abbrev pub TellsAll : (code : Code) → (burden : Burden) → Origin → Strand → Meter → Type 0
+abbrev pub TellsAll : (code : Code) → Burden → Origin → Strand → Meter → Type 0
 TellsAll code burden from strand m = (g : Gauge code) → g.burden ≡ burden → TellsStrand code g from strand m
 
 -- what the effect of a rest carries of its measures: a meter that tells of what the effect shows
-abbrev pub CountsEffect : (code : Code) → (burden : Burden) (site : ℕ) → Effect → Meter → Type 0
+abbrev pub CountsEffect : (code : Code) → Burden → (site : ℕ) → Effect → Meter → Type 0
 CountsEffect code burden site (Joined frame t cost) m =
     (g : Gauge code) → g.burden ≡ burden → Meters g.burden g.tags (Rest site) cost [] t.events m
 CountsEffect code burden site (Ended v arrays t cost) m = Unit {0}

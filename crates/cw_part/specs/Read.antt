@@ -16,7 +16,7 @@ read_joined a b = record { views = shown_joined a.views b.views; measure = joine
 
 -- what is read of a spawned child, as a piece of the block that spawned it: its views as they are, its measure as that
 -- of one child
-abbrev pub child_read : (burden : Burden) → Read → Read
+abbrev pub child_read : Burden → Read → Read
 child_read burden a = record { views = a.views; measure = after_child burden a.measure nothing }
 
 -- and of a call, as a piece of the block that made it

@@ -35,7 +35,7 @@ run_joined p q = record {
 }
 
 -- a spawned child's part, as a piece of the block that spawned it
-abbrev pub as_child : (burden : Burden) → RunPart → RunPart
+abbrev pub as_child : Burden → RunPart → RunPart
 as_child burden p = record {
   limit = p.limit;
   came = seen (child_read burden) p.came;
