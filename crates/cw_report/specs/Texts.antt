@@ -2,11 +2,14 @@
 use Rattle.std.specs.Prelude.{◌≡◌, ℕ, ℤ, List, [], ◌∷◌, ◌++◌, codes, decimal, map, flat_map, Result, Ok, Err, IfOk, OnOk}
 use Rattle.std.specs.Global.{Vec}
 use Rattle.indexmap.specs.IndexMap.{values}
+use Rattle.cw_model.specs.declared.total.Total.{Total}
+use Rattle.cw_model.specs.Syntax as Syntax
 use Rattle.cw_model.specs.Syntax.{Name}
 use Rattle.cw_model.specs.Answers.{main_name}
 use Rattle.cw_model.specs.Sites.{Root, CallSite}
 use Rattle.cw_model.specs.Report.{value_line, reduction_word, total_line, total_lines, csv_line, end_of_line, scale_header, scale_line, sites_header, site_kind_text}
 use Rattle.cw_code.specs.Code.{Code, code_view, site_view, told_sites}
+use Rattle.cw_code.specs.declared.code.Reducer.{Reducer}
 use Rattle.cw_code.specs.declared.code.Site.{Site}
 use Rattle.cw_sites.specs.declared.table.SiteRow.{SiteRow}
 use Rattle.cw_regions.specs.declared.table.RegionRow.{RegionRow}
@@ -36,6 +39,10 @@ trap_line number line = (codes "trap " ++ decimal number) ++ line_after (codes "
 -- the line of a reducer
 abbrev pub reducer_line : Reducer → Total → List ℕ
 reducer_line r total = reduction_word r.how ++ (r.name ++ (codes " = " ++ total_line total))
+
+-- reducers of code, as reports tell them
+abbrev pub told_reducers : List Reducer → List Syntax.Reducer
+told_reducers reducers = map (λ r. record { name = r.name; how = r.how; line = 0 }) reducers
 
 -- the lines of reducers
 abbrev pub totals_text : List Reducer → List Total → List ℕ

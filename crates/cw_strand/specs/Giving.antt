@@ -1,8 +1,6 @@
 -- The effect of the newest job out is given.
-use Rattle.std.specs.Prelude.{◌≡◌, ◌≢◌, ℕ, ◌+◌, ◌-◌, ℤ, ◌+ℤ◌, Bool, nat_lt, List, [], ◌∷◌, ◌++◌, length, Option, Some, None, slice_get}
+use Rattle.std.specs.Prelude.{◌≡◌, ◌≢◌, ℕ, ◌+◌, ◌-◌, ℤ, Bool, nat_lt, List, [], ◌∷◌, ◌++◌, length, Option, Some, None, slice_get}
 use Rattle.cw_model.specs.declared.total.Total.{Total}
-use Rattle.cw_model.specs.declared.total.Total.TheVariants as total
-use Rattle.cw_model.specs.Answers.{or_greater}
 use Rattle.cw_slices.specs.Placed.{Placed}
 use Rattle.cw_meter.specs.Meters.{Rests}
 use Rattle.cw_jobs.specs.declared.call.Rest.{Rest}
@@ -11,9 +9,9 @@ use Rattle.cw_jobs.specs.declared.effect.Effect.TheVariants as effect
 use Rattle.cw_jobs.specs.declared.effect.Shown.{Shown}
 use Rattle.cw_jobs.specs.declared.job.Job.{Job}
 use Rattle.cw_jobs.specs.Means.{IsMeaningOf}
+use Rattle.cw_jobs.specs.Totals.{joined_total}
 use Rattle.cw_machine.specs.declared.machine.Machine.{Machine}
 use Rattle.cw_machine.specs.declared.run.Run.{Run}
-use Rattle.cw_machine.specs.Shows.{wrapped}
 use Rattle.cw_machine.specs.Gives.{Gives}
 use Rattle.cw_strand.specs.declared.strand.Lent.{Lent}
 use Rattle.cw_strand.specs.declared.strand.Strand.{Strand}
@@ -55,17 +53,6 @@ IsMemory _ = ⊥
 abbrev pub target_of : Option Lent → Option ℕ
 target_of (Some h) = h.target
 target_of None = None
-
--- the greater of two values, where there are any
-abbrev pub greater : Option ℤ → Option ℤ → Option ℤ
-greater None more = more
-greater (Some v) more = Some (or_greater v more)
-
--- two totals of one reducer as one; the sum of two sums is kept within 128 bits
-abbrev pub joined_total : Total → Total → Total
-joined_total (total.Sum x) (total.Sum y) = total.Sum (wrapped (x +ℤ y))
-joined_total (total.Max v) (total.Max w) = total.Max (greater v w)
-joined_total t _ = t
 
 -- each total has another one joined to it
 pub record AreJoined (old more new : List Total) : Type 0 where

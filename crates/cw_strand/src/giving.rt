@@ -1,17 +1,17 @@
 //! The effect of the newest job out, which ran elsewhere, is given.
 
-ghost use Rattle.std.specs.Prelude.{◌≡◌, ◌<◌, ◌+ℤ◌, length, MatchOption, OnOk};
+ghost use Rattle.std.specs.Prelude.{◌≡◌, ◌<◌, length, MatchOption, OnOk};
 ghost use Rattle.cw_jobs.specs.declared.effect.Effect.TheVariants as effect;
-ghost use Rattle.cw_machine.specs.Shows.{wrapped};
 ghost use Rattle.cw_machine.specs.Gives.{MayGive};
 ghost use Rattle.cw_strand.specs.Holds.{HasStopped, IsAtSync, IsRunning, IsWaiting};
-ghost use Rattle.cw_strand.specs.Giving.{joined_total, passes_limit, AreJoined, GivesBack, HasJoined, HasTaken, IsGiven, IsJoinedAt, IsMemory, IsOfRest, LeavesOthers};
+ghost use Rattle.cw_strand.specs.Giving.{passes_limit, AreJoined, GivesBack, HasJoined, HasTaken, IsGiven, IsJoinedAt, IsMemory, IsOfRest, LeavesOthers};
 ghost use Rattle.cw_strand.specs.Giving as giving;
 
 use crate::strand::{Lent, Mode, Strand};
 use cw_code::laws::{results_may_go_back, runs_stay_in_their_functions};
 use cw_jobs::call::Rest;
 use cw_jobs::effect::{Effect, Shown};
+use cw_jobs::totals::joined;
 use cw_machine::laws::machines_that_stop_remain;
 use cw_machine::machine::Machine;
 use cw_machine::run::Run;
@@ -32,42 +32,13 @@ fn target_of(lent: Option<Lent>) -> Option<u32>
     }
 }
 
-// Two sums as one, within 128 bits.
-fn add_up(sum: i128, more: i128) -> i128
-    ensures { result ≡ wrapped (sum +ℤ more) }
-{
-    sum.wrapping_add(more)
-}
-
-// The greater of two values, where there are any.
-fn greater(value: Option<i64>, more: Option<i64>) -> Option<i64>
-    ensures { result ≡ giving.greater value more }
-{
-    match (value, more) {
-        (Some(value), Some(more)) => Some(value.max(more)),
-        (Some(value), None) => Some(value),
-        (None, more) => more,
-    }
-}
-
-// Two totals of one reducer as one.
-fn join_up(total: Total, more: Total) -> Total
-    ensures { result ≡ joined_total total more }
-{
-    match (total, more) {
-        (Total::Sum(sum), Total::Sum(more)) => Total::Sum(add_up(sum, more)),
-        (Total::Max(value), Total::Max(more)) => Total::Max(greater(value, more)),
-        _ => total,
-    }
-}
-
 // A total, with another one joined to it, where there is one.
 fn join_at(totals: &mut Vec<Total>, more: &[Total], k: usize)
     requires { k < length totals.old.items }
     ensures { IsJoinedAt totals.old.items more.now k totals.new.items }
 {
     if k < more.len() {
-        totals[k] = join_up(totals[k], more[k]);
+        totals[k] = joined(totals[k], more[k]);
     }
 }
 

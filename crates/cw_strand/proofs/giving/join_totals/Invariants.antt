@@ -1,5 +1,5 @@
-use Rattle.cw_strand.proofs.Adding.{AddedTo}
-use Rattle.cw_strand.proofs.giving.add_sums.Given as goal
+use Rattle.cw_strand.proofs.Joining.{JoinedTo}
+use Rattle.cw_strand.proofs.giving.join_totals.Given as goal
 
 abbrev pub invariant-loop-k : goal.invariant-loop-k
-invariant-loop-k l = AddedTo l.initial.sums.items l.more l.k l.sums.items
+invariant-loop-k l = JoinedTo l.initial.totals.items l.more l.k l.totals.items
