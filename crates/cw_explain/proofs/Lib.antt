@@ -1,5 +1,6 @@
 mod Breaking
 mod Heading
+mod Lending
 mod Misuse
 mod Nesting
 mod Owned
@@ -9,3 +10,4 @@ mod Repeating
 mod Sets
 mod Telling
 mod Walking
+mod Wrongs
