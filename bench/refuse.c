@@ -5,6 +5,8 @@
 #include <stddef.h>
 #include <stdio.h>
 #include <stdlib.h>
+#include <sys/syscall.h>
+#include <unistd.h>
 
 extern void *__libc_malloc(size_t);
 extern void *__libc_realloc(void *, size_t);
@@ -36,4 +38,11 @@ __attribute__((destructor)) static void tell(void) {
         fprintf(file, "%ld\n", told);
         fclose(file);
     }
+}
+
+/* A program that may start threads ends by this call, and no destructor runs. */
+void _exit(int status) {
+    tell();
+    syscall(SYS_exit_group, status);
+    __builtin_unreachable();
 }
