@@ -42,8 +42,9 @@ class Parser:
         reducers, functions = [], []
         while self.peek():
             if self.peek() == "reducer":
-                self.at += 2
-                reducers.append(self.next())
+                self.next()
+                kind = self.next()
+                reducers.append((self.next(), kind))
                 self.next()
             else:
                 self.next()
@@ -143,7 +144,10 @@ class Parser:
             return self.call(None)
         name, mark = self.next(), self.next()
         if mark == "+=":
-            return "add", name, self.until()
+            return "reduce", "SUM", name, self.until()
+        if mark == "max":
+            self.next()
+            return "reduce", "MAX", name, self.until()
         if mark == "[":
             index = self.until("]=")
             return "set", name, index, self.until()
@@ -285,9 +289,9 @@ class Compiler:
         self.expr(e)
         self.emit("SET", self.array(name))
 
-    def do_add(self, name, e):
+    def do_reduce(self, op, name, e):
         self.expr(e)
-        self.emit("SUM", self.reducers.index(name))
+        self.emit(op, [reducer for reducer, _ in self.reducers].index(name))
 
     def do_print(self, e):
         self.expr(e)
@@ -433,6 +437,7 @@ def main():
     reducers, functions = Parser(open(sys.argv[1]).read()).program()
     made = Compiler(reducers, functions)
     print(len(made.rows), made.indices["main"], len(reducers), len(made.code))
+    print(*[int(kind == "max") for _, kind in reducers])
     for row in made.rows:
         print(*row)
     for op, a, b, c, passed in made.code:

@@ -5,6 +5,7 @@ import sys
 import ref
 from ref import Program, Run, report
 from rules import broken
+from trees import Burden
 
 FIB = """int fib(int n) {
   if (n < 2) { return n; }
@@ -26,6 +27,7 @@ int main(int z) { cilk_spawn bad(z); %s cilk_sync; return 0; }
 """
 LINES = "void p(int v) { print(v); } int main() { cilk_spawn p(1); cilk_spawn p(2); print(3); cilk_sync; return 0; }"
 SUM = "reducer sum s; int main() { cilk_for (int i = %s; i < %s; i++) grain 2 { s += i; } return 0; }"
+MAX = "reducer max m; int main() { cilk_for (int i = %s; i < %s; i++) grain 2 { m max= i * (3 - i); } return 0; }"
 WIDE = ("reducer sum s; void add() { s += 9223372036854775807; } "
         "int main() { cilk_spawn add(); cilk_spawn add(); cilk_sync; return 0; }")
 RESULT = ("int f(int v) { return v; } int main() { int x = 0; x = cilk_spawn f(1); cilk_sync; print(x); cilk_sync; "
@@ -51,19 +53,22 @@ CALLS = "int f(){return 0;}int main(){" + 65535 * "f();" + "return 0;}"
 SCALE = "tag,work,span,parallelism,burdened_span,burdened_parallelism\n"
 SITES = "site,kind,line,callee,calls,own_work,own_span,work,span\n"
 BILLION = 1000000000
+BOTH_10, BOTH_100, BOTH_15000 = (Burden(charge, "both") for charge in (10, 100, 15000))
 
-# source, arguments, mode, limit, burden, and the answer
+# source, arguments, mode, limit, burden (a number is charged on continuation edges alone), and the answer
 CASES = [
     (FIB, [0], "run", BILLION, 0, "return 0\n"),
     (FIB, [0], "scale", BILLION, 15000, SCALE + ",12,12,1.000,12,1.000\n"),
     (FIB, [4], "run", BILLION, 100, "return 3\n"),
     (FIB, [4], "scale", BILLION, 100, SCALE + ",120,67,1.791,254,0.472\n"),
+    (FIB, [4], "scale", BILLION, BOTH_100, SCALE + ",120,67,1.791,367,0.326\n"),
     (FIB, [4], "sites", BILLION, 0, SITES + "0,root,10,main,1,6,6,120,67\n1,spawn,5,fib,4,54,38,66,50\n"
      "2,call,6,fib,4,39,6,45,39\n3,call,12,fib,1,21,17,114,61\n"),
     (FIB, [4], "run", 120, 0, "return 3\n"),
     (FIB, [4], "run", 119, 0, (4, "", "over limit\n")),
     (BAD % "print(7);", [1], "run", BILLION, 0, "7\nreturn 0\n"),
     (BAD % "print(7);", [1], "scale", BILLION, 15000, SCALE + ",15,13,1.153,15007,0.000\n"),
+    (BAD % "print(7);", [1], "scale", BILLION, BOTH_15000, SCALE + ",15,13,1.153,15013,0.000\n"),
     (BAD % "print(7);", [0], "run", BILLION, 0, (3, "", "trap 2 line 1\n")),
     (BAD % "print(7);", [0], "run", 7, 0, (3, "", "trap 2 line 1\n")),
     (BAD % "print(7);", [0], "run", 6, 0, (4, "", "over limit\n")),
@@ -74,6 +79,10 @@ CASES = [
     (SUM % (0, 4), [], "scale", BILLION, 15000, SCALE + ",106,66,1.606,15066,0.007\n"),
     (SUM % (5, 3), [], "run", BILLION, 0, "sum s = 0\nreturn 0\n"),
     (SUM % (5, 3), [], "scale", BILLION, 15000, SCALE + ",19,19,1.000,19,1.000\n"),
+    (MAX % (0, 4), [], "run", 122, 0, "max m = 2\nreturn 0\n"),
+    (MAX % (0, 4), [], "run", 121, 0, (4, "", "over limit\n")),
+    (MAX % (0, 4), [], "scale", BILLION, 0, SCALE + ",122,74,1.648,74,1.648\n"),
+    (MAX % (5, 3), [], "run", BILLION, 0, "max m = none\nreturn 0\n"),
     (WIDE, [], "run", BILLION, 0, "sum s = 18446744073709551614\nreturn 0\n"),
     (WIDE, [], "scale", BILLION, 0, SCALE + ",11,8,1.375,8,1.375\n"),
     (RESULT, [], "run", BILLION, 0, "1\nreturn 0\n"),
@@ -88,6 +97,7 @@ CASES = [
     (SQUARES % 5, [], "run", BILLION, 0, (3, "", "trap 3 line 1\n")),
     (REGION, [], "run", BILLION, 10, "1\n2\nreturn 0\n"),
     (REGION, [], "scale", BILLION, 10, SCALE + ",11,9,1.222,18,0.611\nr,7,5,1.400,14,0.500\n"),
+    (REGION, [], "scale", BILLION, BOTH_10, SCALE + ",11,9,1.222,19,0.578\nr,7,5,1.400,15,0.466\n"),
     (GREATEST, [], "run", 3, 0, (3, "", "trap 1 line 1\n")),
     (GREATEST, [], "run", 2, 0, (4, "", "over limit\n")),
     (TURNS % 2147483648, [], "run", 3, 0, (3, "", "trap 5 line 1\n")),
@@ -123,7 +133,10 @@ SPAWN = "int f(int v) { return v; } int main() { int x = 0; %s return x; }"
 LOOPS = "int main() { int a[4]; int b[4]; int t = 0; cilk_for (int i = 0; i < 4; i++) over (a) { %s } return t; }"
 TWO = "void g(int a[], int b[]) { } int main() { int a[4]; int b[4]; %s return 0; }"
 
+TOLD = "reducer sum s; reducer max m; int main() { %s return 0; }"
+
 KEPT = [
+    TOLD % "s += 1; m max= 2;",
     SPAWN % "x = cilk_spawn f(x); cilk_sync;",
     SPAWN % "while (x < 1) { x = cilk_spawn f(1); cilk_sync; }",
     SPAWN % "if (x) { x = cilk_spawn f(1); return 1; } x = 2;",
@@ -134,6 +147,10 @@ KEPT = [
 ]
 
 BROKEN = [
+    TOLD % "s max= 1;",
+    TOLD % "m += 1;",
+    TOLD % "n max= 1;",
+    TOLD % "int m = 1;",
     SPAWN % "x = cilk_spawn f(1); int y = x; cilk_sync;",
     SPAWN % "x = g(1);",
     SPAWN % "x = f(1, 2);",
@@ -177,11 +194,12 @@ def check_rules():
 def check():
     held = 0
     for source, arguments, mode, limit, burden, wanted in CASES:
-        answer = report(mode, Run(Program(source), arguments, limit), burden)
+        charged = burden if isinstance(burden, Burden) else Burden(burden)
+        answer = report(mode, Run(Program(source), arguments, limit), charged)
         wanted = wanted if isinstance(wanted, tuple) else (0, wanted, "")
         held += answer == wanted
         if answer != wanted:
-            print("wanted", wanted, "answered", answer, "by", mode, arguments, limit, burden, source)
+            print("wanted", wanted, "answered", answer, "by", mode, arguments, limit, charged.charge, charged.edges, source)
     rules = len(KEPT) + len(BROKEN)
     held += rules - check_rules()
     print("%d of %d hold" % (held, len(CASES) + rules))

@@ -25,7 +25,7 @@ def wanted(run):
         return 4, None, "over limit\n"
     if run.trap:
         return 3, run_text(run), "trap %d, %d instructions\n" % (run.trap.code, run.cost)
-    return 0, re.sub(r"sum s(\d)", r"sum \1", run_text(run)), "%d instructions\n" % run.cost
+    return 0, re.sub(r"(sum|max) s(\d)", r"\1 \2", run_text(run)), "%d instructions\n" % run.cost
 
 
 def compare(switch, source, folder):

@@ -13,6 +13,7 @@ import sys
 import ref
 from ref import Program, Run, report
 from rules import broken
+from trees import Burden
 
 TOP = os.path.normpath(os.path.join(os.path.dirname(os.path.abspath(__file__)), "..", ".."))
 MODES = [("run", ".out"), ("scale", ".scale.csv"), ("sites", ".sites.csv"), ("greedy", ".greedy.csv")]
@@ -41,7 +42,7 @@ def texts_of(name, path):
     if why:
         raise SystemExit("%s.cilk: refused %d line %d: %s" % ((path,) + why))
     run = Run(Program(source), [int(word) for word in arguments], 1000000000)
-    texts = {path + ending: report(mode, run, 15000, PROCESSORS)[1] for mode, ending in MODES}
+    texts = {path + ending: report(mode, run, Burden(15000), PROCESSORS)[1] for mode, ending in MODES}
     fields = [("words", " ".join([name + ".cilk"] + arguments)), ("source", source)]
     fields += [(mode, texts[path + ending]) for mode, ending in MODES]
     texts[os.path.join(TOP, "crates", "cw_rows", "src", "examples", name + ".rt")] = constant(name, fields)

@@ -19,6 +19,7 @@ import ref
 from gen import Generator, mutant
 from ref import Program, Run, report
 from rules import broken
+from trees import Burden
 
 WIDE = 200000
 OVER = (4, "", "over limit\n")
@@ -48,7 +49,7 @@ def asked(exe, path, words, arguments, burden, processors):
     command = [exe, mode] + ([str(processors)] if mode == "greedy" else []) + [path]
     if limit:
         command += [str(value) for value in arguments] + ["--limit", str(limit[0])]
-        command += [] if mode == "greedy" else ["--burden", str(burden)]
+        command += [] if mode == "greedy" else ["--burden", str(burden.charge), "--edges", burden.edges]
     done = subprocess.run(command, capture_output=True, text=True)
     return done.returncode, done.stdout, done.stderr
 
@@ -57,14 +58,15 @@ def compare(exe, seed, with_loops, path, seen):
     """Counts the answers of one program by mode and exit status; gives how many of them are wrong."""
     source, bad = Generator(seed, with_loops).program(), 0
     write(path, source)
-    arguments, burden = arguments_of(source, seed), [0, 1, 10, 100, 15000, 1000000000][seed % 6]
+    arguments = arguments_of(source, seed)
+    burden = Burden([0, 1, 10, 100, 15000, 1000000000][seed % 6], ["spawn", "both"][seed // 6 % 2])
     processors = [1, 2, 3, 8, 64, 1000000, 5][seed % 7]
     for words, wanted in answers(source, arguments, burden, processors):
         found = asked(exe, path, words, arguments, burden, processors)
         seen["%s %d" % (words[0], wanted[0])] += 1
         if found != wanted:
             bad += 1
-            print("seed", seed, words, arguments, "burden", burden, "processors", processors)
+            print("seed", seed, words, arguments, "burden", burden.charge, burden.edges, "processors", processors)
             print("wanted", wanted, "answered", found)
     return bad + sum(compare_mutant(exe, mutant(source, 3 * seed + k), path, seen) for k in range(3))
 
@@ -74,7 +76,7 @@ def compare_mutant(exe, source, path, seen):
     write(path, source)
     breaks = broken(Program(source))
     wanted = (2, "", "refused %d line %d\n" % breaks[:2]) if breaks else (0, "ok\n", "")
-    found = asked(exe, path, ["check"], [], 0, 1)
+    found = asked(exe, path, ["check"], [], Burden(0), 1)
     seen["mutant refused %d" % breaks[0] if breaks else "mutant accepted"] += 1
     if found != wanted:
         print("wanted", wanted, breaks, "answered", found, "of", source)

@@ -12,7 +12,9 @@ SMALL = "0 1 2 3 4 5 6 7 10 100".split()
 GREAT = ["9223372036854775807", "-9223372036854775807"]
 USUAL = "+ - * < <= > >= == != + - + - *".split()
 TAGS = ["red", "green", "blue"]
+SIGNS = {"sum": "+=", "max": "max="}
 DEEPEST = 3  # blocks inside one another
+TOLD = re.compile(r"( *s\d )(\+=|max=)( .*;)")
 CALL = re.compile(r"( *)(\w+ = )?(f\d+\(.*\);)")
 
 
@@ -111,7 +113,7 @@ class Generator:
     # Statements: each gives its lines, and none where nothing is there that it could be about.
 
     def statement(self, depth):
-        kinds = ["declare"] * 14 + ["array"] * 6 + ["assign"] * 14 + ["put"] * 12 + ["show"] * 4 + ["add"] * 4
+        kinds = ["declare"] * 14 + ["array"] * 6 + ["assign"] * 14 + ["put"] * 12 + ["show"] * 4 + ["reduce"] * 4
         kinds += ["sync"] * 4 + ["call"] * 20
         if depth < DEEPEST:
             kinds += ["branch"] * 6 + ["turns"] * 6 + ["scope"] * 3 + ["region"] * 4 + ["cut"] * 7 + ["again"] * 6
@@ -159,8 +161,11 @@ class Generator:
     def a_show(self, depth):
         return ["print(%s);" % self.expr()]
 
-    def a_add(self, depth):
-        return ["%s += %s;" % (self.pick(self.reducers), self.expr())] if self.reducers else []
+    def a_reduce(self, depth):
+        if not self.reducers:
+            return []
+        name, kind = self.pick(self.reducers)
+        return ["%s %s %s;" % (name, SIGNS[kind], self.expr())]
 
     def a_sync(self, depth):
         self.names.taken[-1].clear()
@@ -273,8 +278,8 @@ class Generator:
         return function
 
     def program(self):
-        self.reducers = ["s%d" % number for number in range(self.random.randint(0, 2))]
-        self.lines = ["reducer sum %s;" % name for name in self.reducers]
+        self.reducers = [("s%d" % number, self.pick(["sum", "max"])) for number in range(self.random.randint(0, 3))]
+        self.lines = ["reducer %s %s;" % (kind, name) for name, kind in self.reducers]
         for number in range(self.random.randint(1, 4)):
             params = ["d"] * self.chance(0.5) + [self.pick("iia") for _ in range(self.random.randint(0, 3))]
             self.functions.append(self.function("f%d" % number, self.chance(0.5), params))
@@ -283,18 +288,24 @@ class Generator:
 
 
 def mutant(source, seed):
-    """The source with a sync dropped, a call made a spawn, or a statement doubled or exchanged: it may break a rule."""
+    """The source with a sync dropped, a call made a spawn, a reducer told by the other sign, or a statement doubled or
+    exchanged: it may break a rule."""
     lines, chosen = source.splitlines(), random.Random(seed)
     places = [place for place, line in enumerate(lines) if line.startswith("  ") and line.endswith(";")]
     syncs = [place for place in places if lines[place].strip() == "cilk_sync;"]
     calls = [place for place in places if CALL.fullmatch(lines[place])]
-    one, other, kind = chosen.choice(places), chosen.choice(places), chosen.randrange(6)
+    told = [place for place in places if TOLD.fullmatch(lines[place])]
+    one, other, kind = chosen.choice(places), chosen.choice(places), chosen.randrange(7)
     if kind < 2 and syncs:
         del lines[chosen.choice(syncs)]
     elif kind < 4 and calls:
         one = chosen.choice(calls)
         lines[one] = CALL.sub(r"\1\2cilk_spawn \3", lines[one])
-    elif kind == 4:
+    elif kind == 4 and told:
+        one = chosen.choice(told)
+        before, sign, behind = TOLD.fullmatch(lines[one]).groups()
+        lines[one] = before + ("+=" if sign == "max=" else "max=") + behind
+    elif kind == 5:
         lines.insert(one, lines[one])
     else:
         lines[one], lines[other] = lines[other], lines[one]

@@ -13,6 +13,7 @@ import sys
 import ref
 from gen import Generator
 from ref import Program, Run, report
+from trees import Burden
 
 
 def make():
@@ -22,7 +23,7 @@ def make():
         run = None if re.search(r"int main\(int", source) else Run(Program(source), [], 300000)
         if run and not run.is_over:
             name = os.path.join(folder, "program%05d" % seed)
-            texts = {mode: report(mode, run, 15000)[1] for mode in ("run", "scale", "sites")}
+            texts = {mode: report(mode, run, Burden(15000))[1] for mode in ("run", "scale", "sites")}
             for ending, text in [("cilk", source)] + list(texts.items()):
                 with open("%s.%s" % (name, ending), "w") as file:
                     file.write(text)

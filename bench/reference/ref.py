@@ -1,7 +1,7 @@
 #!/usr/bin/env python3
 """Another implementation of the profile: meaning, costs, strand tree and reports, for expected values.
 
-    ref.py run|scale|sites FILE [ARGS..] [--limit N] [--burden B]
+    ref.py run|scale|sites FILE [ARGS..] [--limit N] [--burden B] [--edges spawn|both]
     ref.py greedy P FILE [ARGS..] [--limit N]
 
 It takes programs that `cilkwork check` accepts, and writes and answers what `cilkwork` should.
@@ -13,7 +13,7 @@ import threading
 sys.path.insert(0, os.path.dirname(os.path.abspath(__file__)))
 from syntax import Program
 from greedy import greedy_length
-from trees import Block, Mark, Rows, Tree, burdened_span
+from trees import Block, Burden, Mark, Rows, Tree, burdened_span
 
 LEAST, GREATEST = -2**63, 2**63 - 1
 OVERFLOW, ZERO_DIVISOR, OUT_OF_BOUNDS, BAD_LENGTH, TOO_MANY_TURNS, TOO_DEEP = range(1, 7)
@@ -51,7 +51,8 @@ class Run:
     def __init__(self, program, arguments, limit):
         self.program, self.limit = program, limit
         self.cost, self.told = 0, 0  # instructions so far, and those of them that stand in a block
-        self.lines, self.sums = [], {name: 0 for name in program.reducers}
+        self.lines = []
+        self.totals = {name: 0 if kind == "sum" else None for name, kind in program.kinds.items()}
         self.block, self.shifted, self.counts = Block(), frozenset(), {}
         self.trap = self.value = self.tree = None
         self.is_over = False
@@ -185,10 +186,11 @@ class Run:
         array = frame[name]
         array.elements[array.place(index, line)] = value
 
-    def do_add(self, line, frame, depth, name, e):
+    def do_reduce(self, line, frame, depth, kind, name, e):
         value = self.evaluate(e, frame, line)
         self.tick()
-        self.sums[name] += value
+        total = self.totals[name]
+        self.totals[name] = total + value if kind == "sum" else value if total is None else max(total, value)
 
     def do_print(self, line, frame, depth, e):
         value = self.evaluate(e, frame, line)
@@ -357,8 +359,8 @@ def captured_by(name, body):
 
 def parts_of(kind, rest):
     """The expressions of a statement."""
-    return {"declare": rest[1:], "assign": rest[1:], "array": rest[1:], "put": rest[1:], "add": rest[1:],
-            "print": rest, "return": rest, "if": rest[:1], "while": rest[:1], "cut": rest[1:2], "loop": rest[1:3],
+    return {"declare": rest[1:], "assign": rest[1:], "array": rest[1:], "put": rest[1:],
+            "reduce": rest[2:], "print": rest, "return": rest, "if": rest[:1], "while": rest[:1], "cut": rest[1:2], "loop": rest[1:3],
             "call": rest[-1] if kind == "call" else []}.get(kind, [])
 
 
@@ -375,10 +377,14 @@ def parallelism(work, span):
     return "%d.%03d" % (thousandths // 1000, thousandths % 1000)
 
 
+def total_line(kind, name, total):
+    return "%s %s = %s" % (kind, name, "none" if total is None else "%d" % total)
+
+
 def run_text(run):
     lines = ["%d" % value for value in run.lines]
     if run.trap is None:
-        lines += ["sum %s = %d" % (name, run.sums[name]) for name in run.program.reducers]
+        lines += [total_line(run.program.kinds[name], name, run.totals[name]) for name in run.program.reducers]
         lines.append("return %d" % run.value)
     return "".join(line + "\n" for line in lines)
 
@@ -400,7 +406,7 @@ def sites_text(run):
     heads = [("root", main.line, "main")]
     heads += [("spawn" if site.spawns else "call", site.line, site.callee) for site in run.program.sites]
     text = "site,kind,line,callee,calls,own_work,own_span,work,span\n"
-    rows = Rows(0, run.tree, len(heads), run.program.tags).sites
+    rows = Rows(Burden(0), run.tree, len(heads), run.program.tags).sites
     for number, (head, row) in enumerate(zip(heads, rows)):
         counts = (row.calls, row.own_work, row.own_span, row.work, row.span)
         text += "%d,%s,%d,%s,%d,%d,%d,%d,%d\n" % ((number,) + head + counts)
@@ -431,13 +437,15 @@ def report(mode, run, burden, processors=1):
 
 
 def main():
-    words, limit, burden, positions = sys.argv[1:], 1000000000, 15000, []
+    words, limit, charge, edges, positions = sys.argv[1:], 1000000000, 15000, "spawn", []
     while words:
         word = words.pop(0)
         if word == "--limit":
             limit = int(words.pop(0))
         elif word == "--burden":
-            burden = int(words.pop(0))
+            charge = int(words.pop(0))
+        elif word == "--edges":
+            edges = words.pop(0)
         else:
             positions.append(word)
     mode = positions.pop(0)
@@ -445,7 +453,7 @@ def main():
     path, *arguments = positions
     with open(path) as file:
         run = Run(Program(file.read()), [int(word) for word in arguments], limit)
-    status, out, err = report(mode, run, burden, processors)
+    status, out, err = report(mode, run, Burden(charge, edges), processors)
     sys.stdout.write(out)
     sys.stderr.write(err)
     return status

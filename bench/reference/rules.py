@@ -93,8 +93,8 @@ class Types(Faults):
         self.expr(index)
         self.expr(e)
 
-    def of_add(self, may_return, name, e):
-        self.want(name in self.program.reducers, "no reducer")
+    def of_reduce(self, may_return, kind, name, e):
+        self.want(self.program.kinds.get(name) == kind, "no such reducer")
         self.expr(e)
 
     def of_print(self, may_return, e):
@@ -227,7 +227,7 @@ class Ownership(Faults):
         self.expr(taken, e)
         return taken
 
-    def of_add(self, taken, name, e):
+    def of_reduce(self, taken, kind, name, e):
         self.expr(taken, e)
         return taken
 

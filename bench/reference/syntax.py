@@ -19,16 +19,19 @@ class Site:
 
 
 class Program:
-    """Items with their lines, reducers, functions as written and by name, sites, tags by their first place."""
+    """Items with their lines, reducers with how each first of a name reduces, functions as written and by name, sites,
+    tags by their first place."""
 
     def __init__(self, text):
-        self.items, self.reducers, self.written, self.functions, self.sites, self.tags = [], [], [], {}, [], []
+        self.items, self.reducers, self.kinds, self.written = [], [], {}, []
+        self.functions, self.sites, self.tags = {}, [], []
         reader = Reader(text, self)
         while reader.peek():
             line = reader.lines[reader.at]
             if reader.take("reducer"):
-                reader.want("sum")
+                kind = "max" if reader.take("max") else reader.want("sum")
                 self.reducers.append(reader.next())
+                self.kinds.setdefault(self.reducers[-1], kind)
                 self.items.append((self.reducers[-1], line))
                 reader.want(";")
             else:
@@ -67,6 +70,7 @@ class Reader:
     def want(self, token):
         if not self.take(token):
             raise SyntaxError("%s wanted in line %d" % (token, self.lines[self.at]))
+        return token
 
     def list(self, one):
         self.want("(")
@@ -185,7 +189,10 @@ class Reader:
     def named(self):
         name = self.next()
         if self.take("+="):
-            return self.ended(("add", name, self.expr()))
+            return self.ended(("reduce", "sum", name, self.expr()))
+        if self.take("max"):
+            self.want("=")
+            return self.ended(("reduce", "max", name, self.expr()))
         if self.take("["):
             index = self.expr()
             self.want("]")

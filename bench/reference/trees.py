@@ -60,14 +60,23 @@ class Block:
         return Tree(self.parts)
 
 
+class Burden:
+    """What a path is charged at a fork: where it goes by the rest, and with both edges where it goes by the child, too."""
+
+    def __init__(self, charge, edges="spawn"):
+        self.charge, self.edges = charge, edges
+        self.at_rest, self.at_child = charge, charge if edges == "both" else 0
+
+
 def burdened_span(burden, tree):
-    """The weight of a heaviest path, with a burden for each rest that it goes into."""
+    """The weight of a heaviest path, with what it is charged at each fork."""
     total = 0
     for part in tree.parts:
         if isinstance(part, int):
             total += part
         elif isinstance(part, Fork):
-            total += max(burdened_span(burden, part.child), burden + burdened_span(burden, part.rest))
+            by_child = burden.at_child + burdened_span(burden, part.child)
+            total += max(by_child, burden.at_rest + burdened_span(burden, part.rest))
         else:
             total += burdened_span(burden, part.inner)
     return total

@@ -34,7 +34,7 @@ MOST_MEMORY = 16 << 30
 LIKELY = {
     "Typing": "names_and_types", "Names": "names_and_types", "Ownership": "ownership", "Lines": "refusals",
     "Sizes": "sizes", "Sites": "sizes", "Limits": "limits", "Rows": "rows_and_texts", "Report": "rows_and_texts",
-    "Expressions": "values", "Ints": "values", "Trees": "strand_trees",
+    "Burdens": "rows_and_texts", "Expressions": "values", "Ints": "values", "Trees": "strand_trees",
 }
 
 

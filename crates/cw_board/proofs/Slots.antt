@@ -1,5 +1,7 @@
 -- Lists of what is left, lowered, counted and run in two halves.
-use Rattle.std.proofs.Common.{◌≡◌, ℕ, zero, suc, ◌+◌, ◌-◌, ◌≤◌, [], ◌∷◌, ◌++◌, Option, Some, None, length, arith, refl, ap, sym, ◌∙◌, subst}
+use Rattle.std.proofs.Common.{◌≡◌, ℕ, zero, suc, ◌+◌, ◌-◌, ◌≤◌, ◌<◌, [], ◌∷◌, ◌++◌, Option, Some, None, length, take, drop, arith, refl, ap, sym, ◌∙◌, subst}
+use Rattle.std.proofs.Math.ListN.{replicate}
+use Rattle.std.proofs.Math.Seq.{take-append_seam}
 use Rattle.std.specs.Prelude.{min}
 use Rattle.cw_greedy.specs.Greedy.{if_done}
 use Rattle.cw_greedy.specs.Slots.{Slots, nones, ready_slots, run_slots, RoomFor}
@@ -47,6 +49,10 @@ first-lowered (suc p) by (Some k ∷ xs) =
     let q = suc p - 1 in
     ap (lesser (Some (k - by))) (first-lowered q by xs) ∙ sym (minus-lesser (Some k) (least_first q xs) by)
 
+pub lesser-none : (a : Option ℕ) → lesser a None ≡ a
+lesser-none None = refl
+lesser-none (Some a) = refl
+
 lesser-regroup : (a b c : Option ℕ) → lesser (lesser a b) c ≡ lesser a (lesser b c)
 lesser-regroup None b c = refl
 lesser-regroup (Some a) None c = refl
@@ -93,7 +99,7 @@ run-all p n (None ∷ xs) h = ap (λ (zs : Slots). None ∷ zs) (run-all p n xs 
 run-all zero n (Some k ∷ xs) h = absurd (omega (arith, h))
 run-all (suc p) n (Some k ∷ xs) h = ap (λ (zs : Slots). Some (k - n) ∷ zs) (run-all (suc p - 1) n xs (omega (arith, h)))
 
-run-none : (n : ℕ) (xs : Slots) → run_slots 0 n xs ≡ xs
+pub run-none : (n : ℕ) (xs : Slots) → run_slots 0 n xs ≡ xs
 run-none n [] = refl
 run-none n (None ∷ xs) = ap (λ (zs : Slots). None ∷ zs) (run-none n xs)
 run-none n (Some k ∷ xs) =
@@ -116,11 +122,8 @@ run_first p n xs ys h =
 pub first_first : (p : ℕ) (xs ys : Slots) → p ≤ ready_slots xs → least_first p (xs ++ ys) ≡ least_first p xs
 first_first p xs ys h =
     let e : p - ready_slots xs ≡ 0 = omega (arith, h) in
-    first-append p xs ys ∙ ap (λ q. lesser (least_first p xs) (least_first q ys)) e ∙ ap (lesser (least_first p xs)) (first-none ys) ∙ last_none (least_first p xs)
-  where
-    last_none : (a : Option ℕ) → lesser a None ≡ a
-    last_none None = refl
-    last_none (Some a) = refl
+    first-append p xs ys ∙ ap (λ q. lesser (least_first p xs) (least_first q ys)) e ∙ ap (lesser (least_first p xs)) (first-none ys)
+    ∙ lesser-none (least_first p xs)
 
 -- what runs in both halves has room in each
 pub room_first : (p n : ℕ) (xs ys : Slots) → RoomFor p n (xs ++ ys) → RoomFor p n xs
@@ -184,6 +187,21 @@ ready_in (Some k ∷ xs) = omega (arith, ready_in xs)
 pub nones-append : (m n : ℕ) → nones m ++ nones n ≡ nones (m + n)
 nones-append zero n = let e : n ≡ 0 + n = omega arith in ap nones e
 nones-append (suc m) n = let e : suc (m + n) ≡ suc m + n = omega arith in ap (λ (zs : Slots). None ∷ zs) (nones-append m n) ∙ ap nones e
+
+pub replicated : (n : ℕ) → replicate n None ≡ nones n
+replicated zero = refl
+replicated (suc n) = ap (λ (zs : Slots). None ∷ zs) (replicated n)
+
+-- where something is left of one behind a place, that is a place of the list
+pub place_within : (xs : Slots) (i k : ℕ) → least_slot (drop i xs) ≡ Some k → i < length xs
+place_within [] zero k e = cc
+place_within [] (suc i) k e = cc
+place_within (x ∷ xs) zero k e = omega arith
+place_within (x ∷ xs) (suc i) k e = omega (arith, place_within xs i k e)
+
+-- a vector whose elements were all written
+pub written : (n : ℕ) (xs ys : Slots) → n ≡ length xs → take n (xs ++ drop (length xs) ys) ≡ xs
+written n xs ys e = ap (λ m. take m (xs ++ drop (length xs) ys)) e ∙ take-append_seam xs (drop (length xs) ys)
 
 pub length-nones : (n : ℕ) → length (nones n) ≡ n
 length-nones zero = refl

@@ -3,7 +3,7 @@ use Rattle.std.specs.Prelude.{◌≡◌, ℕ, ◌+◌, ◌-◌, ◌^◌, ◌<◌
 use Rattle.cw_greedy.specs.Greedy.{if_done}
 use Rattle.cw_greedy.specs.Slots.{Slots, ready_slots, run_slots, EachLeft, RoomFor}
 use Rattle.cw_board.specs.declared.board.Node.{Node}
-use Rattle.cw_board.specs.declared.board.Node.TheVariants.{Free, Ready, Halves}
+use Rattle.cw_board.specs.declared.board.Node.TheVariants.{Block, Halves}
 use Rattle.cw_board.specs.declared.board.Told.{Told}
 
 -- each ready strand with so many instructions less
@@ -54,8 +54,7 @@ owing told by =
     record { places = told.places; count = told.count; least = told.least; owed = owed_more told.least told.owed by }
 
 abbrev pub slots_of : Node → Slots
-slots_of Free = None ∷ []
-slots_of (Ready k) = Some k ∷ []
+slots_of (Block places) = places.items
 slots_of (Halves l r told) = lowered told.owed (l.value ++ r.value)
 
 -- what is told of two halves
@@ -69,8 +68,7 @@ pub record Tells (l r : Slots) (told : Told) : Type 0 where
   pub owed : IsOwed told.owed told.least
 
 abbrev pub IsBoard : Node → Type 0
-IsBoard Free = Unit {0}
-IsBoard (Ready k) = Unit {0}
+IsBoard (Block places) = Unit {0}
 IsBoard (Halves l r told) = Tells l.value r.value told
 
 -- steps until of a ready strand nothing is left

@@ -3,7 +3,7 @@ use Rattle.std.specs.Prelude.{ℕ, ◌≡◌, ◌≤◌, max, [], ◌∷◌, ◌
 use Rattle.std.proofs.Common.{arith, length-append}
 use Rattle.cw_greedy.specs.Slots.{Slots}
 use Rattle.cw_board.specs.declared.board.Node.{Node}
-use Rattle.cw_board.specs.declared.board.Node.TheVariants.{Free, Ready, Halves}
+use Rattle.cw_board.specs.declared.board.Node.TheVariants.{Block, Halves}
 use Rattle.cw_board.specs.declared.board.Board.TheDeep.{deep-Node}
 use Rattle.cw_board.specs.Boards.{lowered, slots_of, IsBoard}
 
@@ -13,7 +13,6 @@ length-lowered by (None ∷ xs) = omega (arith, length-lowered by xs)
 length-lowered by (Some k ∷ xs) = omega (arith, length-lowered by xs)
 
 pub depth_le-length-slots : (n : Node) → IsBoard n → max (deep-Node n) 0 ≤ length (slots_of n)
-depth_le-length-slots Free h = omega arith
-depth_le-length-slots (Ready k) h = omega arith
+depth_le-length-slots (Block places) h = omega arith
 depth_le-length-slots (Halves l r told) h =
     omega (arith, length-lowered told.owed (l.value ++ r.value), length-append l.value r.value, h.first, h.second)

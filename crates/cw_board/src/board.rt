@@ -2,10 +2,15 @@
 
 ghost use Rattle.std.specs.Prelude.{◌≡◌, ◌↔◌, ◌+◌, ◌<◌, ◌≤◌, ◌^◌, ◌++◌, length, Some, None, IfOk, IsTrue, slice_set, slice_get};
 ghost use Rattle.cw_greedy.specs.Slots.{nones, ready_slots, run_slots, RoomFor};
-ghost use Rattle.cw_board.specs.Boards.{least_first, least_slot, lesser, lowered, minus, owing, Advances, HasRoom, IsOwed, Tells};
+ghost use Rattle.cw_board.specs.Boards.{least_first, least_slot, lowered, minus, owing, Advances, HasRoom, IsOwed, Tells};
 
+use crate::block::{self, is_zero, lesser_of};
 use std::alloc::{AllocError, Global};
 use std::marker::Model;
+
+// So many places at most stand in one block: few enough to be looked through in a few steps, and enough that a board
+// takes little more memory than its places.
+const BLOCK: usize = 16;
 
 /// A place for each of so many strands: none is ready, or this many instructions are left of it.
 #[cycle(board)]
@@ -17,10 +22,8 @@ pub struct Board {
 #[cycle(board)]
 #[derive(Drop)]
 enum Node {
-    // One place, whose strand is not ready.
-    Free,
-    // One place, with what is left of its strand.
-    Ready(u64),
+    // A few places, each with what is left of its strand where that is ready.
+    Block(Vec<Option<u64>>),
     // The places of the first half, and those behind them.
     Halves(Box<Board>, Box<Board>, Told),
 }
@@ -120,23 +123,13 @@ fn recount(first: &Board, second: &Board, places: usize) -> Told
     }
 }
 
-fn is_zero(left: Option<u64>) -> bool
-    ensures { IsTrue result ↔ left ≡ Some 0 }
+// A block of places at which no strand is ready.
+fn free_block(alloc: Global, places: usize) -> Result<Vec<Option<u64>>, AllocError>
+    ensures { IfOk result (λ v. v.items ≡ nones places) }
 {
-    match left {
-        Some(left) => left == 0,
-        None => false,
-    }
-}
-
-fn lesser_of(one: Option<u64>, other: Option<u64>) -> Option<u64>
-    ensures { result ≡ lesser one other }
-{
-    match (one, other) {
-        (Some(a), Some(b)) => Some(a.min(b)),
-        (Some(a), None) => Some(a),
-        (None, b) => b,
-    }
+    let mut block = Vec::with_capacity(alloc, places)?;
+    block.resize(places, None)?;
+    Ok(block)
 }
 
 impl Board {
@@ -145,8 +138,9 @@ impl Board {
         requires { 1 ≤ places }
         ensures { IfOk result (λ b. b ≡ nones places) }
     {
-        if places == 1 {
-            return Ok(Board { node: Node::Free });
+        if places <= BLOCK {
+            let node = Node::Block(free_block(alloc, places)?);
+            return Ok(Board { node });
         }
         let first = places / 2;
         let left = Box::new(alloc, Board::new(alloc, first)?)?;
@@ -162,8 +156,7 @@ impl Board {
         ensures { result ≡ ready_slots self.now }
     {
         match &self.node {
-            Node::Free => 0,
-            Node::Ready(_) => 1,
+            Node::Block(places) => block::count_ready(places),
             Node::Halves(_, _, told) => told.count,
         }
     }
@@ -173,8 +166,7 @@ impl Board {
         ensures { result ≡ least_slot self.now }
     {
         match &self.node {
-            Node::Free => None,
-            Node::Ready(left) => Some(*left),
+            Node::Block(places) => block::least_of_all(places),
             Node::Halves(_, _, told) => told.left(),
         }
     }
@@ -185,8 +177,7 @@ impl Board {
         ensures { self.new ≡ lowered by self.old }
     {
         match &mut self.node {
-            Node::Free => {}
-            Node::Ready(left) => *left -= by,
+            Node::Block(places) => block::lower_all(places, by),
             Node::Halves(_, _, told) => told.owe(by),
         }
     }
@@ -198,8 +189,7 @@ impl Board {
         ensures { self.new ≡ slice_set self.old place (Some left) }
     {
         match &mut self.node {
-            Node::Free => self.node = Node::Ready(left),
-            Node::Ready(was) => *was = left,
+            Node::Block(places) => places[place] = Some(left),
             Node::Halves(first, second, told) => put_in_halves(first, second, told, place, left),
         }
     }
@@ -212,11 +202,8 @@ impl Board {
         ensures taken { self.new ≡ slice_set self.old result None }
     {
         match &mut self.node {
+            Node::Block(places) => block::take_done(places),
             Node::Halves(first, second, told) => take_of_halves(first, second, told),
-            _ => {
-                self.node = Node::Free;
-                0
-            }
         }
     }
 
@@ -226,13 +213,7 @@ impl Board {
         ensures { result ≡ least_first processors self.now }
     {
         match &self.node {
-            Node::Free => None,
-            Node::Ready(left) => {
-                if processors == 0 {
-                    return None;
-                }
-                Some(*left)
-            }
+            Node::Block(places) => block::least_of_first(places, processors),
             Node::Halves(first, second, told) => least_of_halves(first, second, *told, processors),
         }
     }
@@ -248,8 +229,8 @@ impl Board {
             return;
         }
         match &mut self.node {
+            Node::Block(places) => block::run_first(places, processors, steps),
             Node::Halves(first, second, told) => run_halves(first, second, told, processors, steps),
-            _ => {}
         }
     }
 

@@ -13,8 +13,8 @@ use Rattle.clap.specs.Walk.{first_of, long_or_other, short_or_plain, trailing, H
 use Rattle.clap.specs.Simple.{App, Shape, built, names_of, entered, new_shape, subcommand_of}
 use Rattle.clap.specs.Faults.{flag_word_fault, bundle_fault, other_fault, turn_fault, walk_fault, step_fault, settle_fault, defaults_fault, check_fault, entered_fault}
 use Rattle.clap.proofs.OnLiterals.{clap_on_literals}
-use Rattle.cw_cli.specs.Command.{burden_row, command_line, command_name, limit_row, processors_row, workers_row}
-use Rattle.cw_cli.specs.Requests.{AreRead, HaveCommand, Words, faults, numbers_of, texts_of}
+use Rattle.cw_cli.specs.Command.{burden_row, command_line, command_name, limit_row, processors_row, usual_edges, usual_numbers, workers_row}
+use Rattle.cw_cli.specs.Requests.{AreRead, HaveCommand, Words, edges_text, faults, numbers_of, texts_of}
 use Rattle.cw_cli.specs.WordLaws.{IsPlain, TakesBurden, checking}
 use Rattle.cw_cli.specs.declared.verb.Verb.{Verb}
 use Rattle.cw_cli.specs.declared.verb.Verb.TheVariants as verb
@@ -106,11 +106,12 @@ held rows pending = record { rows = rows; pending = pending; skip = 0 }
 
 -- ---- the words after a command that takes a burden
 
--- what is given before the source: no number, a limit, a burden or workers
+-- what is given before the source: no number, a limit, a burden, a word for edges or workers
 pub data Given : Type 0 where
   nothing : Given
   limited : Text → Given
   burdened : Text → Given
+  edged : Text → Given
   worked : Text → Given
 
 -- what is held before the source
@@ -118,6 +119,7 @@ abbrev before : Given → Held
 before nothing = held [] None
 before (limited n) = held [] (Some (codes "limit", n ∷ []))
 before (burdened n) = held [] (Some (codes "burden", n ∷ []))
+before (edged n) = held [] (Some (codes "edges", n ∷ []))
 before (worked n) = held [] (Some (codes "workers", n ∷ []))
 
 abbrev rows_before : Given → List Row
@@ -136,12 +138,14 @@ source_step : (g : Given) (file : Text) → IsPlain file → walked run.rules []
 source_step nothing file plain = step run.rules idle 1 file (before nothing) refl plain
 source_step (limited n) file plain = step run.rules idle 1 file (before (limited n)) refl plain
 source_step (burdened n) file plain = step run.rules idle 1 file (before (burdened n)) refl plain
+source_step (edged n) file plain = step run.rules idle 1 file (before (edged n)) refl plain
 source_step (worked n) file plain = step run.rules idle 1 file (before (worked n)) refl plain
 
 source_turn : (name : Text) (g : Given) (file : Text) → IsPlain file → turn_fault (running name) [] (at idle 1 (before g)) file ≡ []
 source_turn name nothing file plain = turn (running name) idle 1 file (before nothing) refl plain
 source_turn name (limited n) file plain = turn (running name) idle 1 file (before (limited n)) refl plain
 source_turn name (burdened n) file plain = turn (running name) idle 1 file (before (burdened n)) refl plain
+source_turn name (edged n) file plain = turn (running name) idle 1 file (before (edged n)) refl plain
 source_turn name (worked n) file plain = turn (running name) idle 1 file (before (worked n)) refl plain
 
 first_step : (g : Given) (file v : Text) → IsPlain v → walked run.rules [] (source_met g file) v ≡ args_met g file v []
@@ -151,6 +155,7 @@ first_turn : (name : Text) (g : Given) (file v : Text) → IsPlain v → turn_fa
 first_turn name nothing file v plain = turn (running name) idle 2 v (source_met nothing file).held refl plain
 first_turn name (limited n) file v plain = turn (running name) idle 2 v (source_met (limited n) file).held refl plain
 first_turn name (burdened n) file v plain = turn (running name) idle 2 v (source_met (burdened n) file).held refl plain
+first_turn name (edged n) file v plain = turn (running name) idle 2 v (source_met (edged n) file).held refl plain
 first_turn name (worked n) file v plain = turn (running name) idle 2 v (source_met (worked n) file).held refl plain
 
 next_step : (g : Given) (file v : Text) (vs : List Text) (word : Text) → IsPlain word → walked run.rules [] (args_met g file v vs) word ≡ args_met g file v (vs ++ word ∷ [])
@@ -205,12 +210,14 @@ abbrev number_words : Given → List Text
 number_words nothing = []
 number_words (limited n) = codes "--limit" ∷ n ∷ []
 number_words (burdened n) = codes "--burden" ∷ n ∷ []
+number_words (edged n) = codes "--edges" ∷ n ∷ []
 number_words (worked n) = codes "--workers" ∷ n ∷ []
 
 abbrev IsGiven : Given → Type 0
 IsGiven nothing = Unit {0}
 IsGiven (limited n) = IsPlain n
 IsGiven (burdened n) = IsPlain n
+IsGiven (edged n) = IsPlain n
 IsGiven (worked n) = IsPlain n
 
 -- between the name of an option and its value
@@ -229,9 +236,17 @@ burden_step : walked run.rules [] (walk_from nothing_held) (codes "--burden") �
 unfolding clap_on_literals
 burden_step = refl
 
+edges_step : walked run.rules [] (walk_from nothing_held) (codes "--edges") ≡ waiting (codes "edges")
+unfolding clap_on_literals
+edges_step = refl
+
 burden_turn : (name : Text) → turn_fault (running name) [] (walk_from nothing_held) (codes "--burden") ≡ []
 unfolding clap_on_literals
 burden_turn name = refl
+
+edges_turn : (name : Text) → turn_fault (running name) [] (walk_from nothing_held) (codes "--edges") ≡ []
+unfolding clap_on_literals
+edges_turn name = refl
 
 workers_step : walked run.rules [] (walk_from nothing_held) (codes "--workers") ≡ waiting (codes "workers")
 unfolding clap_on_literals
@@ -250,8 +265,14 @@ limit_value_turn name n plain = turn (running name) (option (codes "limit")) 1 n
 burden_value_step : (n : Text) → IsPlain n → walked run.rules [] (waiting (codes "burden")) n ≡ at idle 1 (before (burdened n))
 burden_value_step n plain = step run.rules (option (codes "burden")) 1 n (waiting (codes "burden")).held refl plain
 
+edges_value_step : (n : Text) → IsPlain n → walked run.rules [] (waiting (codes "edges")) n ≡ at idle 1 (before (edged n))
+edges_value_step n plain = step run.rules (option (codes "edges")) 1 n (waiting (codes "edges")).held refl plain
+
 burden_value_turn : (name : Text) (n : Text) → IsPlain n → turn_fault (running name) [] (waiting (codes "burden")) n ≡ []
 burden_value_turn name n plain = turn (running name) (option (codes "burden")) 1 n (waiting (codes "burden")).held refl plain
+
+edges_value_turn : (name : Text) (n : Text) → IsPlain n → turn_fault (running name) [] (waiting (codes "edges")) n ≡ []
+edges_value_turn name n plain = turn (running name) (option (codes "edges")) 1 n (waiting (codes "edges")).held refl plain
 
 workers_value_step : (n : Text) → IsPlain n → walked run.rules [] (waiting (codes "workers")) n ≡ at idle 1 (before (worked n))
 workers_value_step n plain = step run.rules (option (codes "workers")) 1 n (waiting (codes "workers")).held refl plain
@@ -268,6 +289,9 @@ words_walk (limited n) file args given plain plains =
 words_walk (burdened n) file args given plain plains =
     ap (λ w. fold (walked run.rules []) w (n ∷ file ∷ args)) burden_step ∙ ap (λ w. fold (walked run.rules []) w (file ∷ args)) (burden_value_step n given)
     ∙ source_walk (burdened n) file args plain plains
+words_walk (edged n) file args given plain plains =
+    ap (λ w. fold (walked run.rules []) w (n ∷ file ∷ args)) edges_step ∙ ap (λ w. fold (walked run.rules []) w (file ∷ args)) (edges_value_step n given)
+    ∙ source_walk (edged n) file args plain plains
 words_walk (worked n) file args given plain plains =
     ap (λ w. fold (walked run.rules []) w (n ∷ file ∷ args)) workers_step ∙ ap (λ w. fold (walked run.rules []) w (file ∷ args)) (workers_value_step n given)
     ∙ source_walk (worked n) file args plain plains
@@ -282,6 +306,9 @@ words_fault name (limited n) file args given plain plains =
 words_fault name (burdened n) file args given plain plains =
     ap₂ (λ k w. or_else k (walk_fault (running name) [] w (n ∷ file ∷ args))) (burden_turn name) burden_step
     ∙ ap₂ (λ k w. or_else k (walk_fault (running name) [] w (file ∷ args))) (burden_value_turn name n given) (burden_value_step n given) ∙ source_fault name (burdened n) file args plain plains
+words_fault name (edged n) file args given plain plains =
+    ap₂ (λ k w. or_else k (walk_fault (running name) [] w (n ∷ file ∷ args))) (edges_turn name) edges_step
+    ∙ ap₂ (λ k w. or_else k (walk_fault (running name) [] w (file ∷ args))) (edges_value_turn name n given) (edges_value_step n given) ∙ source_fault name (edged n) file args plain plains
 words_fault name (worked n) file args given plain plains =
     ap₂ (λ k w. or_else k (walk_fault (running name) [] w (n ∷ file ∷ args))) (workers_turn name) workers_step
     ∙ ap₂ (λ k w. or_else k (walk_fault (running name) [] w (file ∷ args))) (workers_value_turn name n given) (workers_value_step n given) ∙ source_fault name (worked n) file args plain plains
@@ -323,10 +350,12 @@ unfolding defaults_fault
 end_level name nothing file [] lt = refl
 end_level name (limited n) file [] lt = refl
 end_level name (burdened n) file [] lt = refl
+end_level name (edged n) file [] lt = refl
 end_level name (worked n) file [] lt = refl
 end_level name nothing file (v ∷ vs) lt = ap (level (running name) (end nothing file (v ∷ vs)) false [] []) (ap₂ or_else (range_fits (length (v ∷ vs)) lt) (values_accepted false (v ∷ vs)))
 end_level name (limited n) file (v ∷ vs) lt = ap (level (running name) (end (limited n) file (v ∷ vs)) false [] []) (ap₂ or_else (range_fits (length (v ∷ vs)) lt) (values_accepted false (v ∷ vs)))
 end_level name (burdened n) file (v ∷ vs) lt = ap (level (running name) (end (burdened n) file (v ∷ vs)) false [] []) (ap₂ or_else (range_fits (length (v ∷ vs)) lt) (values_accepted false (v ∷ vs)))
+end_level name (edged n) file (v ∷ vs) lt = ap (level (running name) (end (edged n) file (v ∷ vs)) false [] []) (ap₂ or_else (range_fits (length (v ∷ vs)) lt) (values_accepted false (v ∷ vs)))
 end_level name (worked n) file (v ∷ vs) lt = ap (level (running name) (end (worked n) file (v ∷ vs)) false [] []) (ap₂ or_else (range_fits (length (v ∷ vs)) lt) (values_accepted false (v ∷ vs)))
 
 check_level : (file : Text) → command_level check (check_met file) [] ≡ []
@@ -397,20 +426,27 @@ abbrev numbers_given : Given → List Text
 numbers_given nothing = limit_row.usual ∷ burden_row.usual ∷ processors_row.usual ∷ workers_row.usual ∷ []
 numbers_given (limited n) = n ∷ burden_row.usual ∷ processors_row.usual ∷ workers_row.usual ∷ []
 numbers_given (burdened n) = limit_row.usual ∷ n ∷ processors_row.usual ∷ workers_row.usual ∷ []
+numbers_given (edged n) = usual_numbers
 numbers_given (worked n) = limit_row.usual ∷ burden_row.usual ∷ processors_row.usual ∷ n ∷ []
 
+abbrev edges_given : Given → Text
+edges_given (edged n) = n
+edges_given _ = usual_edges
+
 abbrev ran : Verb → Given → Text → List Text → Words
-ran m g file args = record { verb = m; file = file; args = args; numbers = numbers_given g }
+ran m g file args = record { verb = m; file = file; args = args; numbers = numbers_given g; edges = edges_given g }
 
 end_rows : (words : List Text) (m : Verb) (g : Given) (file : Text) (args : List Text) → HaveCommand words m (finished run.rules (end g file args).held) → AreRead words (ran m g file args)
-end_rows words m nothing file [] h = record { rows = _; command = h; file_is = refl; args_are = refl; numbers_are = refl }
-end_rows words m nothing file (v ∷ vs) h = record { rows = _; command = h; file_is = refl; args_are = refl; numbers_are = refl }
-end_rows words m (limited n) file [] h = record { rows = _; command = h; file_is = refl; args_are = refl; numbers_are = refl }
-end_rows words m (limited n) file (v ∷ vs) h = record { rows = _; command = h; file_is = refl; args_are = refl; numbers_are = refl }
-end_rows words m (burdened n) file [] h = record { rows = _; command = h; file_is = refl; args_are = refl; numbers_are = refl }
-end_rows words m (worked n) file [] h = record { rows = _; command = h; file_is = refl; args_are = refl; numbers_are = refl }
-end_rows words m (burdened n) file (v ∷ vs) h = record { rows = _; command = h; file_is = refl; args_are = refl; numbers_are = refl }
-end_rows words m (worked n) file (v ∷ vs) h = record { rows = _; command = h; file_is = refl; args_are = refl; numbers_are = refl }
+end_rows words m nothing file [] h = record { rows = _; command = h; file_is = refl; args_are = refl; numbers_are = refl; edges_are = refl }
+end_rows words m nothing file (v ∷ vs) h = record { rows = _; command = h; file_is = refl; args_are = refl; numbers_are = refl; edges_are = refl }
+end_rows words m (limited n) file [] h = record { rows = _; command = h; file_is = refl; args_are = refl; numbers_are = refl; edges_are = refl }
+end_rows words m (limited n) file (v ∷ vs) h = record { rows = _; command = h; file_is = refl; args_are = refl; numbers_are = refl; edges_are = refl }
+end_rows words m (burdened n) file [] h = record { rows = _; command = h; file_is = refl; args_are = refl; numbers_are = refl; edges_are = refl }
+end_rows words m (edged n) file [] h = record { rows = _; command = h; file_is = refl; args_are = refl; numbers_are = refl; edges_are = refl }
+end_rows words m (worked n) file [] h = record { rows = _; command = h; file_is = refl; args_are = refl; numbers_are = refl; edges_are = refl }
+end_rows words m (burdened n) file (v ∷ vs) h = record { rows = _; command = h; file_is = refl; args_are = refl; numbers_are = refl; edges_are = refl }
+end_rows words m (edged n) file (v ∷ vs) h = record { rows = _; command = h; file_is = refl; args_are = refl; numbers_are = refl; edges_are = refl }
+end_rows words m (worked n) file (v ∷ vs) h = record { rows = _; command = h; file_is = refl; args_are = refl; numbers_are = refl; edges_are = refl }
 
 -- what a level says of the words, and the rows that it ends with
 abbrev pub level_of : Shape → List Text → Kinds
@@ -445,6 +481,7 @@ check_is_read file plain =
       file_is = refl;
       args_are = refl;
       numbers_are = refl;
+      edges_are = refl;
     }
 
 -- ---- what a request of the words is
@@ -478,10 +515,11 @@ named_by verb.Greedy = refl
 same_verb : (m m' : Verb) → command_name m ≡ command_name m' → m ≡ m'
 same_verb m m' e = sym (named_by m) ∙ ap named e ∙ named_by m'
 
-words_are : (a b : Words) → a.verb ≡ b.verb → a.file ≡ b.file → a.args ≡ b.args → a.numbers ≡ b.numbers → a ≡ b
-words_are a b m f xs ns =
+words_are : (a b : Words) → a.verb ≡ b.verb → a.file ≡ b.file → a.args ≡ b.args → a.numbers ≡ b.numbers → a.edges ≡ b.edges → a ≡ b
+words_are a b m f xs ns es =
     ap (λ x. record a { verb = x }) m ∙ ap (λ x. record a { verb = b.verb; file = x }) f
-    ∙ ap (λ x. record a { verb = b.verb; file = b.file; args = x }) xs ∙ ap (λ x. record b { numbers = x }) ns
+    ∙ ap (λ x. record a { verb = b.verb; file = b.file; args = x }) xs
+    ∙ ap (λ x. record b { numbers = x; edges = a.edges }) ns ∙ ap (λ x. record b { edges = x }) es
 
 pub read_once : (given : List Text) (words words' : Words) → AreRead given words → AreRead given words' → words ≡ words'
 read_once given words words' h k =
@@ -491,3 +529,4 @@ read_once given words words' h k =
     (ap (λ o. unwrap_or o []) (sym h.file_is ∙ ap (first_of (codes "FILE")) same ∙ k.file_is))
     (sym h.args_are ∙ ap (λ rows. texts_of rows (codes "ARGS")) same ∙ k.args_are)
     (sym h.numbers_are ∙ ap numbers_of same ∙ k.numbers_are)
+    (sym h.edges_are ∙ ap edges_text same ∙ k.edges_are)

@@ -6,6 +6,7 @@ use Rattle.std.proofs.lemmas.List.{length-map}
 use Rattle.std.specs.Global.{Vec}
 use Rattle.std.specs.Map.{keys_of, values_of}
 use Rattle.indexmap.specs.IndexMap.{values}
+use Rattle.cw_model.specs.declared.burden.Burden.{Burden}
 use Rattle.cw_model.specs.Syntax.{Program, Name}
 use Rattle.cw_model.specs.Trees.{Tree}
 use Rattle.cw_model.specs.Answers.{Ended}
@@ -28,7 +29,7 @@ line_is : (tag : Name) (work work' span span' burdened burdened' : ℕ) → work
 line_is tag work work' span span' burdened burdened' w s b =
     ap (λ x. scale_line tag x span burdened) w ∙ ap (λ x. scale_line tag work' x burdened) s ∙ ap (scale_line tag work' span') b
 
-tags_are : (entries : List (Vec ℕ × RegionRow)) (burden : ℕ) (t : Tree)
+tags_are : (entries : List (Vec ℕ × RegionRow)) (burden : Burden) (t : Tree)
     → AreRegionRows burden (map (λ tag. tag.items) (keys_of entries)) t (values_of entries)
     → tag_lines entries ≡ flat_map (region_line burden t) (map (λ tag. tag.items) (keys_of entries))
 tags_are [] burden t h = refl
@@ -38,9 +39,9 @@ tags_are (entry ∷ entries) burden t h =
     ap₂ (λ a b. a ++ b) (line_is entry.0.items _ _ _ _ _ _ is.work is.span is.burdened)
     (tags_are entries burden t (record { as_many = omega (arith, e); are = λ k r g there named. h.are (suc k) r g there named }))
 
-pub scale_is : (program : Program) (code : Code) (burden : ℕ) (e : run.Ended) (t : Tree) → code.tags ≡ tags_of program
+pub scale_is : (program : Program) (code : Code) (burden : Burden) (e : run.Ended) (t : Tree) → code.tags ≡ tags_of program
     → tags_in e.regions ≡ code.tags → AreReadings burden t e.measure → AreRegionRows burden code.tags t (values e.regions)
-    → scale_report (Ok e) ≡ scale_text program burden (Ended e.value e.lines.items e.sums.items t)
+    → scale_report (Ok e) ≡ scale_text program burden (Ended e.value e.lines.items e.totals.items t)
 scale_is program code burden e t tags keys whole rows =
     ap₂ (λ a b. scale_header ++ (a ++ b)) (line_is [] _ _ _ _ _ _ whole.work whole.span whole.burdened)
     (tags_are e.regions.entries burden t (subst (λ names. AreRegionRows burden names t (values e.regions)) (sym keys) rows)
@@ -95,7 +96,7 @@ all_rows_are root all (row ∷ rows) t first numbered h =
 
 pub sites_are : (program : Program) (code : Code) (e : run.Ended) (t : Tree) → told_sites code ≡ call_sites program → code.main_line ≡ (root_site program).line
     → are_numbered 0 (call_sites program) ≡ true → AreSiteRows (length code.sites + 1) t (values e.sites)
-    → sites_of code (Ok e) ≡ sites_text program (Ended e.value e.lines.items e.sums.items t)
+    → sites_of code (Ok e) ≡ sites_text program (Ended e.value e.lines.items e.totals.items t)
 sites_are program code e t told line numbered rows =
     let count : length code.sites ≡ length (call_sites program) = sym (length-map code.sites (λ s. s.told)) ∙ ap length told in
     ap₂ (λ l all. sites_header ++ row_lines (root_at l ∷ all) (values e.sites)) line told

@@ -5,13 +5,16 @@ use Rattle.std.specs.Global.{Vec}
 use Rattle.std.specs.List.{list_all}
 use Rattle.cw_model.specs.Ints.{fits}
 use Rattle.std.proofs.lemmas.Bool.Decides.{nat_tests}
+use Rattle.cw_model.specs.declared.burden.Burden.{Burden}
+use Rattle.cw_model.specs.declared.total.Total.{Total}
+use Rattle.cw_model.specs.Burdens.{no_burden}
 use Rattle.cw_model.specs.Syntax.{Program, Reducer}
 use Rattle.cw_model.specs.declared.limits.TheConstants.{MOST_LIMIT, MOST_BURDEN}
 use Rattle.cw_model.specs.Trees.{Tree}
 use Rattle.cw_model.specs.Answers.{Answer, Ended, TrappedAt, OverLimit}
 use Rattle.cw_model.specs.declared.trap.Trap.{Trap}
 use Rattle.cw_model.specs.Report as report
-use Rattle.cw_model.specs.Report.{check_text, csv_line, value_line, sum_lines, report_text}
+use Rattle.cw_model.specs.Report.{check_text, csv_line, value_line, reduction_word, total_line, total_lines, report_text}
 use Rattle.cw_greedy.specs.Greedy.{greedy_length}
 use Rattle.cw_schedule.specs.State.{IsWithin}
 use Rattle.cw_scheduled.specs.declared.schedules.TheConstants.{MOST_PROCESSORS}
@@ -27,9 +30,9 @@ use Rattle.cw_text.specs.declared.fault.Fault.TheVariants as fault
 use Rattle.cw_report.specs.Seen.{Seen}
 use Rattle.cw_report.specs.Sinks.{Writes, WritesAll, WritesPart}
 use Rattle.cw_report.specs.Answers.{AnswersLess}
-use Rattle.cw_report.specs.Texts.{sums_text, handed_text, schedule_header, schedule_report}
+use Rattle.cw_report.specs.Texts.{told_reducers, totals_text, handed_text, schedule_header, schedule_report}
+use Rattle.cw_gen.specs.Emit.{coded_reducers}
 use Rattle.cw_gen.specs.Generates.{Generates}
-use Rattle.cw_tree.specs.Resolved.{reducer_names}
 use Rattle.cw_cli.specs.Compiled.{IsCompiled}
 use Rattle.cw_cli.specs.Sources.{IsRefused}
 use Rattle.cw_cli.specs.Analyses as analyses
@@ -64,11 +67,11 @@ true_both true true p q = refl
 true_both true false p q = q
 true_both false b p q = p
 
--- reducers by their names alone have the same lines
-named_lines : (reducers : List Reducer) (sums : List ℤ) → sums_text (reducer_names reducers) sums ≡ sum_lines reducers sums
-named_lines [] sums = refl
-named_lines (r ∷ rs) [] = refl
-named_lines (r ∷ rs) (v ∷ vs) = ap (λ lines. codes "sum " ++ (r.name ++ (codes " = " ++ (value_line v ++ lines)))) (named_lines rs vs)
+-- reducers as code keeps them, which has no line of theirs, have the same lines
+coded_lines : (reducers : List Reducer) (totals : List Total) → totals_text (coded_reducers reducers) totals ≡ total_lines reducers totals
+coded_lines [] totals = refl
+coded_lines (r ∷ rs) [] = refl
+coded_lines (r ∷ rs) (v ∷ vs) = ap (λ lines. reduction_word r.how ++ (r.name ++ (codes " = " ++ (total_line v ++ lines)))) (coded_lines rs vs)
 
 -- whether a run ended, as an analysis answers it
 abbrev result_of : {V : Type 0} → Result V Fault → Result (Unit {0}) Fault
@@ -88,21 +91,21 @@ trap_not_over : {trap : Trap} {line : ℕ} {lines : List ℤ} → TrappedAt trap
 trap_not_over e = cc
 
 -- the report of values, of code that carries what reports tell of the program
-values_are : (program : Program) (code : Code) (burden : ℕ) (e : Values) (tree : Tree) → Generates program code
-    → handed_text code (Ok e) ≡ report_text report.Run program burden (Ended e.value e.lines.items e.sums.items tree)
+values_are : (program : Program) (code : Code) (burden : Burden) (e : Values) (tree : Tree) → Generates program code
+    → handed_text code (Ok e) ≡ report_text report.Run program burden (Ended e.value e.lines.items e.totals.items tree)
 values_are program code burden e tree g =
-    ap (λ sum_part. flat_map value_line e.lines.items ++ (sum_part ++ (codes "return " ++ value_line e.value)))
-    (ap (λ names. sums_text names e.sums.items) g.reducers ∙ named_lines program.reducers e.sums.items)
+    ap (λ part. flat_map value_line e.lines.items ++ (part ++ (codes "return " ++ value_line e.value)))
+    (ap (λ reducers. totals_text reducers e.totals.items) g.reducers ∙ coded_lines program.reducers e.totals.items)
 
 -- the report that is asked for of what is counted
-report_is : (m : Mode) (program : Program) (code : Code) (args : List ℤ) (n burden : ℕ) (e : run.Ended) (r : Runs code args n burden e) → HasTables m
+report_is : (m : Mode) (program : Program) (code : Code) (args : List ℤ) (n : ℕ) (burden : Burden) (e : run.Ended) (r : Runs code args n burden e) → HasTables m
     → Generates program code → are_numbered 0 (call_sites program) ≡ true
-    → told_of m code (Ok e) ≡ analyses.text_in m program burden (Ended e.value e.lines.items e.sums.items r.tree)
+    → told_of m code (Ok e) ≡ analyses.text_in m program burden (Ended e.value e.lines.items e.totals.items r.tree)
 report_is mode.Scale program code args n burden e r has g numbered = scale_is program code burden e r.tree g.tags r.tags r.measure r.regions
 report_is mode.Sites program code args n burden e r has g numbered = sites_are program code e r.tree g.sites g.main_line numbered r.sites
 report_is _ program code args n burden e r has g numbered = absurd has
 
-printed_is : (m : Mode) (program : Program) (code : Code) (burden : ℕ) (trap : Trap) (line : ℕ) (lines : Vec ℤ) → HasTables m
+printed_is : (m : Mode) (program : Program) (code : Code) (burden : Burden) (trap : Trap) (line : ℕ) (lines : Vec ℤ) → HasTables m
     → told_of m code (Err (fault.Trap trap line lines)) ≡ analyses.text_in m program burden (TrappedAt trap line lines.items)
 printed_is mode.Scale program code burden trap line lines has = refl
 printed_is mode.Sites program code burden trap line lines has = refl
@@ -177,31 +180,31 @@ module _ (bytes : List ℕ) (args : List ℤ) (words : list_all fits args ≡ tr
   answer = analyses.answer_to compiled.program args options
 
   -- a run asks for what is in range
-  may : (burden : ℕ) → IsModeInRange options.mode → options.burden ≤ MOST_BURDEN → is_request code args options.limit burden ≡ true → May
+  may : (burden : Burden) → IsModeInRange options.mode → options.burden.charge ≤ MOST_BURDEN → is_request code args options.limit burden ≡ true → May
   may burden of_mode low h =
-      let n = both (nat_eq (length args) (main_params code)) (nat_le 1 options.limit && (nat_le options.limit MOST_LIMIT && nat_le burden MOST_BURDEN)) h in
-      let l = both (nat_le 1 options.limit) (nat_le options.limit MOST_LIMIT && nat_le burden MOST_BURDEN) n.1 in
-      let b = both (nat_le options.limit MOST_LIMIT) (nat_le burden MOST_BURDEN) l.1 in
+      let n = both (nat_eq (length args) (main_params code)) (nat_le 1 options.limit && (nat_le options.limit MOST_LIMIT && nat_le burden.charge MOST_BURDEN)) h in
+      let l = both (nat_le 1 options.limit) (nat_le options.limit MOST_LIMIT && nat_le burden.charge MOST_BURDEN) n.1 in
+      let b = both (nat_le options.limit MOST_LIMIT) (nat_le burden.charge MOST_BURDEN) l.1 in
       record {
         count = is_same (length args) (main_params code) n.0 ∙ compiled.generates.params;
         in_range = record { mode = of_mode; some_limit = is_most 1 options.limit l.0; limit = is_most options.limit MOST_LIMIT b.0; burden = low };
       }
 
   -- with the burden of the options
-  burden_of : is_request code args options.limit options.burden ≡ true → options.burden ≤ MOST_BURDEN
+  burden_of : is_request code args options.limit options.burden ≡ true → options.burden.charge ≤ MOST_BURDEN
   burden_of h =
-      let n = both (nat_eq (length args) (main_params code)) (nat_le 1 options.limit && (nat_le options.limit MOST_LIMIT && nat_le options.burden MOST_BURDEN)) h in
-      let l = both (nat_le 1 options.limit) (nat_le options.limit MOST_LIMIT && nat_le options.burden MOST_BURDEN) n.1 in
-      is_most options.burden MOST_BURDEN (both (nat_le options.limit MOST_LIMIT) (nat_le options.burden MOST_BURDEN) l.1).1
+      let n = both (nat_eq (length args) (main_params code)) (nat_le 1 options.limit && (nat_le options.limit MOST_LIMIT && nat_le options.burden.charge MOST_BURDEN)) h in
+      let l = both (nat_le 1 options.limit) (nat_le options.limit MOST_LIMIT && nat_le options.burden.charge MOST_BURDEN) n.1 in
+      is_most options.burden.charge MOST_BURDEN (both (nat_le options.limit MOST_LIMIT) (nat_le options.burden.charge MOST_BURDEN) l.1).1
 
   may_run_so : IsModeInRange options.mode → is_request code args options.limit options.burden ≡ true → May
   may_run_so of_mode h = may options.burden of_mode (burden_of h) h
 
-  must : (burden : ℕ) → burden ≤ MOST_BURDEN → May → is_request code args options.limit burden ≡ true
+  must : (burden : Burden) → burden.charge ≤ MOST_BURDEN → May → is_request code args options.limit burden ≡ true
   must burden low m =
       true_both (nat_eq (length args) (main_params code)) _ (same_is (length args) (main_params code) (m.count ∙ sym compiled.generates.params))
       (true_both (nat_le 1 options.limit) _ (most_is 1 options.limit m.in_range.some_limit)
-      (true_both (nat_le options.limit MOST_LIMIT) _ (most_is options.limit MOST_LIMIT m.in_range.limit) (most_is burden MOST_BURDEN low)))
+      (true_both (nat_le options.limit MOST_LIMIT) _ (most_is options.limit MOST_LIMIT m.in_range.limit) (most_is burden.charge MOST_BURDEN low)))
 
   run_of : May → analyses.IsRunOf bytes args options compiled.program
   run_of m = record { compiles = compiled.compiles; may = m }
@@ -256,7 +259,7 @@ module _ (bytes : List ℕ) (args : List ℤ) (words : list_all fits args ≡ tr
       record {
         ended = λ e r.
             let m = may_run_so of_mode r.asked in
-            let end = Ended e.value e.lines.items e.sums.items r.tree in
+            let end = Ended e.value e.lines.items e.totals.items r.tree in
             record {
               may_run = m;
               end = end;
@@ -283,7 +286,7 @@ module _ (bytes : List ℕ) (args : List ℤ) (words : list_all fits args ≡ tr
       record {
         ended = λ e r.
             let m = may_run_so of_mode r.asked in
-            let end = Ended e.value e.lines.items e.sums.items r.tree in
+            let end = Ended e.value e.lines.items e.totals.items r.tree in
             record {
               may_run = m;
               end = end;
@@ -301,25 +304,25 @@ module _ (bytes : List ℕ) (args : List ℤ) (words : list_all fits args ≡ tr
       }
 
   -- the schedule of a run on so many processors, where the burden is in range
-  module _ (p : ℕ) (is : options.mode ≡ mode.Greedy p) (low : options.burden ≤ MOST_BURDEN) where
+  module _ (p : ℕ) (is : options.mode ≡ mode.Greedy p) (low : options.burden.charge ≤ MOST_BURDEN) where
     asked_may : is_asked code args options.limit p ≡ true → May
     asked_may h =
-        let counted = both (is_counted p) (is_request code args options.limit 0) h in
+        let counted = both (is_counted p) (is_request code args options.limit no_burden) h in
         let range = both (nat_le 1 p) (nat_le p MOST_PROCESSORS) counted.0 in
         let of_mode : IsModeInRange options.mode = subst IsModeInRange (sym is) (is_most 1 p range.0, is_most p MOST_PROCESSORS range.1) in
-        may 0 of_mode low counted.1
+        may no_burden of_mode low counted.1
 
     must_ask : May → is_asked code args options.limit p ≡ true
     must_ask m =
         let range : IsModeInRange (mode.Greedy p) = subst IsModeInRange is m.in_range.mode in
-        true_both (is_counted p) _ (true_both (nat_le 1 p) _ (most_is 1 p range.0) (most_is p MOST_PROCESSORS range.1)) (must 0 (omega arith) m)
+        true_both (is_counted p) _ (true_both (nat_le 1 p) _ (most_is 1 p range.0) (most_is p MOST_PROCESSORS range.1)) (must no_burden (omega arith) m)
 
     unscheduled : (f : Fault) → IsNotScheduled code args options.limit p f → IsUnrun f
     unscheduled fault.OverLimit h = let m = asked_may h.0 in (m, answer_is m OverLimit h.1)
     unscheduled (fault.Trap trap line lines) h = let m = asked_may h.0 in (m, answer_is m (TrappedAt trap line lines.items) h.1)
     unscheduled fault.Strands h =
         let m = asked_may h.asked in
-        let end = Ended h.ends.value h.ends.lines h.ends.sums h.tree in
+        let end = Ended h.ends.value h.ends.lines h.ends.totals h.tree in
         let many : HasTooManyStrands (mode.Greedy p) end = h.many in
         (m, subst (λ a. HasTooManyStrands options.mode a) (sym (answer_is m end h.ends.answer)) (subst (λ k. HasTooManyStrands k end) (sym is) many))
     unscheduled fault.Arguments h = λ m. false_true (sym h ∙ must_ask m)
@@ -330,7 +333,7 @@ module _ (bytes : List ℕ) (args : List ℤ) (words : list_all fits args ≡ tr
     schedule_tells = record {
       ended = λ s r.
           let m = asked_may r.asked in
-          let end = Ended r.ends.value r.ends.lines r.ends.sums r.tree in
+          let end = Ended r.ends.value r.ends.lines r.ends.totals r.tree in
           let scheduled : IsScheduled p r.tree = record { few = r.fits; bounds = subst (λ n. IsWithin p n r.tree) r.greedy r.bounds } in
           record {
             may_run = m;

@@ -172,12 +172,13 @@ stops (word ∷ words) h = let parts = both_none (turn_by (subcommand_met names 
 
 -- ---- the words after the command
 
-number_or_help : (a b c d : Bool) → NotSource (cond a (Some (first (drop 2 run.rules))) (cond b (Some (first (drop 3 run.rules))) (cond c (Some (first (drop 4 run.rules))) (cond d (Some (first (drop 5 run.rules))) None))))
-number_or_help true b c d = λ is. cc
-number_or_help false true c d = λ is. cc
-number_or_help false false true d = λ is. cc
-number_or_help false false false true = λ is. cc
-number_or_help false false false false = tt
+number_or_help : (a b c d e : Bool) → NotSource (cond a (Some (first (drop 2 run.rules))) (cond b (Some (first (drop 3 run.rules))) (cond c (Some (first (drop 4 run.rules))) (cond d (Some (first (drop 5 run.rules))) (cond e (Some (first (drop 6 run.rules))) None)))))
+number_or_help true b c d e = λ is. cc
+number_or_help false true c d e = λ is. cc
+number_or_help false false true d e = λ is. cc
+number_or_help false false false true e = λ is. cc
+number_or_help false false false false true = λ is. cc
+number_or_help false false false false false = tt
 
 help_or_none : (a : Bool) → NotSource (cond a (Some (first (drop 1 check.rules))) None)
 help_or_none true = λ is. cc
@@ -185,8 +186,8 @@ help_or_none false = tt
 
 no_number_of_source : NamesNoSource run.rules
 no_number_of_source = (
-  (λ name. number_or_help (has_long (first (drop 2 run.rules)) name) (has_long (first (drop 3 run.rules)) name) (has_long (first (drop 4 run.rules)) name) (has_long (first (drop 5 run.rules)) name)),
-  (λ x. number_or_help false false false (has_short (first (drop 5 run.rules)) x)),
+  (λ name. number_or_help (has_long (first (drop 2 run.rules)) name) (has_long (first (drop 3 run.rules)) name) (has_long (first (drop 4 run.rules)) name) (has_long (first (drop 5 run.rules)) name) (has_long (first (drop 6 run.rules)) name)),
+  (λ x. number_or_help false false false false (has_short (first (drop 6 run.rules)) x)),
 )
 
 limit_or_help : (a b c : Bool) → NotSource (cond a (Some (first (drop 3 greedy.rules))) (cond b (Some (first (drop 4 greedy.rules))) (cond c (Some (first (drop 5 greedy.rules))) None)))
@@ -291,6 +292,7 @@ taken given h =
               file_is = source.1;
               args_are = refl;
               numbers_are = refl;
+              edges_are = refl;
             },
           )
     ]

@@ -2,15 +2,15 @@
 use Rattle.std.proofs.Common.{◌≡◌, ℕ, ℤ, List, [], ◌∷◌, map, pos, zero, suc, arith, refl, ap, sym, ◌∙◌, subst, Option, Some, None, option_map, unwrap_or, Bor}
 use Rattle.std.specs.List.{All}
 use Rattle.std.proofs.lemmas.List.Elements.{All-map}
-use Rattle.clap.specs.Words.{first_of, first_value, matched_of, raw_values, rows_of}
+use Rattle.clap.specs.Words.{Text, first_of, first_value, matched_of, raw_values, rows_of}
 use Rattle.clap.proofs.WalkLemmas.{first_value-rows, raw_values-rows}
 use Rattle.clap.specs.declared.parser.matches.Found.{Found}
 use Rattle.cw_model.specs.Pieces.{decimal_value}
-use Rattle.cw_cli.specs.Command.{NumberRow}
+use Rattle.cw_model.specs.declared.burden.Edges.{Edges}
+use Rattle.cw_cli.specs.Command.{NumberRow, edges_name}
 use Rattle.cw_cli.specs.Requests.{AreOptionsOf, texts_of, values_of, number_text, mode_with, IsArgument, IsFaultUnless}
 use Rattle.cw_cli.specs.declared.verb.Verb.{Verb}
 use Rattle.cw_cli.specs.declared.asked.Mode.{Mode}
-use Rattle.cw_cli.specs.declared.asked.Options.{Options}
 use Rattle.cw_text.specs.declared.fault.Fault.{Fault}
 use Rattle.cw_text.specs.declared.fault.Fault.TheVariants as fault
 
@@ -44,13 +44,17 @@ texts_proper ts texts e a = let P : List (List ℕ) → Type 0 = λ xs. All IsAr
     all_lent (t ∷ ts) a zero d lt = a 0 t.now (omega arith)
     all_lent (t ∷ ts) a (suc k) d lt = all_lent ts (λ j e less. a (suc j) e (omega (arith, less))) k d (omega (arith, lt))
 
--- the text for a number, or the usual one
-pub number_given : (found : Found) (row : NumberRow) (r : Option (Bor (List ℕ))) (usual given : Bor (List ℕ)) → option_map (λ s. s.now) r ≡ first_value found row.name → usual.now ≡ row.usual → given ≡ unwrap_or r usual → given.now ≡ number_text (rows_of found) row
-number_given found row r usual given e u g = ap (λ s. s.now) g ∙ or_usual r usual u ∙ ap (λ o. unwrap_or o row.usual) (e ∙ first_value-rows found row.name)
+-- the text for an option, or the usual one
+pub word_given : (found : Found) (name text : Text) (r : Option (Bor (List ℕ))) (usual given : Bor (List ℕ)) → option_map (λ s. s.now) r ≡ first_value found name → usual.now ≡ text → given ≡ unwrap_or r usual → given.now ≡ unwrap_or (first_of name (rows_of found)) text
+word_given found name text r usual given e u g = ap (λ s. s.now) g ∙ or_usual r usual u ∙ ap (λ o. unwrap_or o text) (e ∙ first_value-rows found name)
   where
-    or_usual : (r : Option (Bor (List ℕ))) (usual : Bor (List ℕ)) → usual.now ≡ row.usual → (unwrap_or r usual).now ≡ unwrap_or (option_map (λ s. s.now) r) row.usual
+    or_usual : (r : Option (Bor (List ℕ))) (usual : Bor (List ℕ)) → usual.now ≡ text → (unwrap_or r usual).now ≡ unwrap_or (option_map (λ s. s.now) r) text
     or_usual None usual u = u
     or_usual (Some s) usual u = refl
+
+-- that for a number
+pub number_given : (found : Found) (row : NumberRow) (r : Option (Bor (List ℕ))) (usual given : Bor (List ℕ)) → option_map (λ s. s.now) r ≡ first_value found row.name → usual.now ≡ row.usual → given ≡ unwrap_or r usual → given.now ≡ number_text (rows_of found) row
+number_given found row = word_given found row.name row.usual
 
 -- the first text of an argument
 pub first_given : (found : Found) (id : List ℕ) (r : Option (Bor (List ℕ))) → option_map (λ s. s.now) r ≡ first_value found id → first_of id (rows_of found) ≡ option_map (λ s. s.now) r
@@ -72,13 +76,7 @@ unless_weaker P Q fault.Write w h = h
 unless_weaker P Q fault.Strands w h = h
 
 -- the options of numbers that the words write
-pub options_given : (v : Verb) (m : Mode) (limit burden processors workers l b p w : ℕ) → m ≡ mode_with v processors → limit ≡ l → burden ≡ b → processors ≡ p → workers ≡ w
-    → AreOptionsOf v (l ∷ b ∷ p ∷ w ∷ []) (record { mode = m; limit = limit; burden = burden }) workers
-options_given v m limit burden processors workers l b p w is limit_is burden_is processors_is workers_is = (
-  ap (λ x. with_numbers x limit burden) (is ∙ ap (mode_with v) processors_is)
-      ∙ ap (λ n. with_numbers (mode_with v p) n burden) limit_is ∙ ap (with_numbers (mode_with v p) l) burden_is,
-  workers_is,
-)
-  where
-    with_numbers : Mode → (limit burden : ℕ) → Options
-    with_numbers m limit burden = record { mode = m; limit = limit; burden = burden }
+pub options_given : (v : Verb) (m : Mode) (limit charge processors workers l b p w : ℕ) (edges : Edges) (word : Text) → m ≡ mode_with v processors → limit ≡ l → charge ≡ b → edges_name edges ≡ word → processors ≡ p → workers ≡ w
+    → AreOptionsOf v (l ∷ b ∷ p ∷ w ∷ []) word (record { mode = m; limit = limit; burden = record { charge = charge; edges = edges } }) workers
+options_given v m limit charge processors workers l b p w edges word is limit_is charge_is edges_are processors_is workers_is =
+    (is ∙ ap (mode_with v) processors_is, limit_is, charge_is, edges_are, workers_is)

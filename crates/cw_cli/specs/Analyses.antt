@@ -1,5 +1,6 @@
 -- What an analysis of bytes answers, and what it writes.
 use Rattle.std.specs.Prelude.{◌≡◌, ◌≢◌, ℕ, ℤ, List, length, Result, MatchResult}
+use Rattle.cw_model.specs.declared.burden.Burden.{Burden}
 use Rattle.cw_model.specs.declared.trap.Trap.{Trap}
 use Rattle.cw_model.specs.Syntax.{Program}
 use Rattle.cw_model.specs.Meaning.{function_named}
@@ -18,7 +19,7 @@ use Rattle.cw_cli.specs.declared.asked.Mode.TheVariants as mode
 use Rattle.cw_cli.specs.declared.asked.Options.{Options}
 
 -- the report of an answer, in each mode
-abbrev pub text_in : Mode → Program → (burden : ℕ) → Answer → List ℕ
+abbrev pub text_in : Mode → Program → (burden : Burden) → Answer → List ℕ
 text_in mode.Check program burden answer = report_text report.Check program burden answer
 text_in mode.Run program burden answer = report_text report.Run program burden answer
 text_in mode.Scale program burden answer = report_text report.Scale program burden answer
@@ -50,7 +51,7 @@ IsScheduleOf program args options = IsScheduledIn options.mode (answer_to progra
 
 -- the run ended with a value: it neither trapped nor passed its limit
 abbrev pub HasEnded : Answer → Type 0
-HasEnded (Ended v lines sums tree) = Unit {0}
+HasEnded (Ended v lines totals tree) = Unit {0}
 HasEnded _ = ⊥
 
 -- a sink goes from one state to another

@@ -4,6 +4,8 @@ use Rattle.clap.specs.Lexer.{usize_max}
 use Rattle.clap.specs.Words.{AddsSubcommand, App, Rule, Text, app_of, new_app, new_rule, with_rule, with_subcommand}
 use Rattle.clap.specs.declared.builder.Command.{Command}
 use Rattle.clap.specs.declared.builder.ArgAction.TheVariants.{Append, Set}
+use Rattle.cw_model.specs.declared.burden.Edges.{Edges}
+use Rattle.cw_model.specs.declared.burden.Edges.TheVariants.{Spawn, Both}
 use Rattle.cw_model.specs.declared.limits.TheConstants.{MOST_LIMIT, MOST_BURDEN}
 use Rattle.cw_yard.specs.declared.open.TheConstants.{MOST_WORKERS}
 use Rattle.cw_scheduled.specs.declared.schedules.TheConstants.{MOST_PROCESSORS}
@@ -22,7 +24,7 @@ pub record NumberRow : Type 0 where
 abbrev pub limit_row : NumberRow
 limit_row = record { name = codes "limit"; least = 1; most = MOST_LIMIT; usual = codes "1000000000" }
 
--- the burden of a spawn
+-- the burden of a charged edge
 abbrev pub burden_row : NumberRow
 burden_row = record { name = codes "burden"; least = 0; most = MOST_BURDEN; usual = codes "15000" }
 
@@ -38,17 +40,35 @@ workers_row = record { name = codes "workers"; least = 1; most = MOST_WORKERS; u
 abbrev pub number_rows : List NumberRow
 number_rows = limit_row ∷ burden_row ∷ processors_row ∷ workers_row ∷ []
 
--- the options that take a number
-abbrev pub option_rows : List NumberRow
-option_rows = limit_row ∷ burden_row ∷ workers_row ∷ []
-
 -- the words for the numbers that are not given
 abbrev pub usual_numbers : List Text
 usual_numbers = map (λ row. row.usual) number_rows
 
--- such an option, given at most once
+-- an option of this name that takes a word, given at most once, with the word where it is not given
+abbrev pub option_rule : (name usual : Text) → Rule
+option_rule name usual =
+    record (new_rule name) { long = Some name; value_names = 1; action = Some Set; defaults = usual ∷ [] }
+
+-- such an option for a number
 abbrev pub number_rule : NumberRow → Rule
-number_rule row = record (new_rule row.name) { long = Some row.name; value_names = 1; action = Some Set; defaults = row.usual ∷ [] }
+number_rule row = option_rule row.name row.usual
+
+-- the word for the edges that a burden is charged on
+abbrev pub edges_name : Edges → Text
+edges_name Spawn = codes "spawn"
+edges_name Both = codes "both"
+
+-- the word for them where none is given
+abbrev pub usual_edges : Text
+usual_edges = edges_name Spawn
+
+-- the option for it
+abbrev pub edges_rule : Rule
+edges_rule = option_rule (codes "edges") usual_edges
+
+-- the options of a command that takes a burden
+abbrev pub option_rules : List Rule
+option_rules = number_rule limit_row ∷ number_rule burden_row ∷ edges_rule ∷ number_rule workers_row ∷ []
 
 -- a word that has to be there
 abbrev pub needed_rule : Text → Rule
@@ -73,7 +93,7 @@ command_name verb.Greedy = codes "greedy"
 -- a command that runs a program and takes a burden: with its source, its arguments and the options
 abbrev pub running_line : Text → App
 running_line name =
-    fold with_rule (with_rule (with_rule (new_app name) file_rule) args_rule) (map number_rule option_rows)
+    fold with_rule (with_rule (with_rule (new_app name) file_rule) args_rule) option_rules
 
 -- the command for a schedule: with its processors before its source, its arguments, the limit and the workers
 abbrev pub greedy_line : App

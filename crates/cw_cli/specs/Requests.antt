@@ -4,12 +4,14 @@ use Rattle.std.specs.Option.{SomeIff}
 use Rattle.clap.specs.Words.{IsAmong, Kinds, Row, Text, all_of, fault_of, first_of, subcommand_of}
 use Rattle.clap.specs.declared.error.ErrorKind.{ErrorKind}
 use Rattle.clap.specs.declared.error.ErrorKind.TheVariants as kind
+use Rattle.cw_model.specs.declared.burden.Edges.{Edges}
 use Rattle.cw_model.specs.declared.limits.TheConstants.{MOST_LIMIT, MOST_BURDEN, MOST_NUMBER, USUAL_LIMIT, USUAL_BURDEN}
+use Rattle.cw_model.specs.Burdens.{on_spawns}
 use Rattle.cw_model.specs.Pieces.{decimal_value}
 use Rattle.cw_text.specs.declared.fault.Fault.{Fault}
 use Rattle.cw_text.specs.declared.fault.Fault.TheVariants as fault
 use Rattle.cw_cli.specs.Numbers.{IsNumberWithin}
-use Rattle.cw_cli.specs.Command.{NumberRow, command_line, command_name, number_rows}
+use Rattle.cw_cli.specs.Command.{NumberRow, command_line, command_name, edges_name, number_rows, usual_edges}
 use Rattle.cw_scheduled.specs.declared.schedules.TheConstants.{MOST_PROCESSORS}
 use Rattle.cw_cli.specs.declared.verb.Verb.{Verb}
 use Rattle.cw_cli.specs.declared.verb.Verb.TheVariants as verb
@@ -30,11 +32,11 @@ pub record AreInRange (options : Options) : Type 0 where
   pub mode : IsModeInRange options.mode
   pub some_limit : 1 ≤ options.limit
   pub limit : options.limit ≤ MOST_LIMIT
-  pub burden : options.burden ≤ MOST_BURDEN
+  pub burden : options.burden.charge ≤ MOST_BURDEN
 
 -- the options of a run that is given none
 abbrev pub usual_options : Options
-usual_options = record { mode = mode.Run; limit = USUAL_LIMIT; burden = USUAL_BURDEN }
+usual_options = record { mode = mode.Run; limit = USUAL_LIMIT; burden = on_spawns USUAL_BURDEN }
 
 -- the command of this name, if there is one
 abbrev pub IsVerbNamed : Text → Option Verb → Type 0
@@ -49,22 +51,30 @@ mode_with verb.Scale processors = mode.Scale
 mode_with verb.Sites processors = mode.Sites
 mode_with verb.Greedy processors = mode.Greedy processors
 
+-- the edges of this name, if there are any
+abbrev pub IsEdgesNamed : Text → Option Edges → Type 0
+IsEdgesNamed name None = (e : Edges) → edges_name e ≢ name
+IsEdgesNamed name (Some e) = edges_name e ≡ name
+
 -- what is entered is no command
 abbrev pub NamesNoCommand : Option (Text × List Row) → Type 0
 NamesNoCommand entered = (v : Verb) (rows : List Row) → entered ≢ Some (command_name v, rows)
 
--- what a command's words are: its verb, its source, the arguments of main, and a word for each row of the table of numbers
+-- what a command's words are: its verb, its source, the arguments of main, a word for each row of the table of
+-- numbers, and the word for the edges that are charged
 pub record Words : Type 0 where
   pub verb : Verb
   pub file : Text
   pub args : List Text
   pub numbers : List Text
+  pub edges : Text
 
--- the options and the workers of a command with these numbers, in the order of the table
-abbrev pub AreOptionsOf : Verb → List ℕ → Options → (workers : ℕ) → Type 0
-AreOptionsOf v (limit ∷ burden ∷ processors ∷ workers ∷ []) o w =
-    (o ≡ record { mode = mode_with v processors; limit = limit; burden = burden }) × (w ≡ workers)
-AreOptionsOf v _ o w = ⊥
+-- the options and the workers of a command with these numbers, in the order of the table, and this word for the edges
+abbrev pub AreOptionsOf : Verb → List ℕ → (edges : Text) → Options → (workers : ℕ) → Type 0
+AreOptionsOf v (limit ∷ charge ∷ processors ∷ workers ∷ []) edges o w =
+    (o.mode ≡ mode_with v processors) × (o.limit ≡ limit) × (o.burden.charge ≡ charge)
+    × (edges_name o.burden.edges ≡ edges) × (w ≡ workers)
+AreOptionsOf v _ edges o w = ⊥
 
 -- what the rows have for an argument that is given any number of times
 abbrev pub texts_of : List Row → Text → List Text
@@ -81,6 +91,14 @@ IsNumberOf text row n = SomeIff n (IsNumberWithin row.least row.most text) (deci
 -- the words for all numbers
 abbrev pub numbers_of : List Row → List Text
 numbers_of rows = map (λ row. number_text rows row) number_rows
+
+-- the word for the edges, or the usual one
+abbrev pub edges_text : List Row → Text
+edges_text rows = unwrap_or (first_of (codes "edges") rows) usual_edges
+
+-- a word that names edges
+abbrev pub NamesEdges : Text → Type 0
+NamesEdges text = (e : Edges) × (edges_name e ≡ text)
 
 -- a word that writes an argument of main
 abbrev pub IsArgument : Text → Type 0
@@ -100,16 +118,26 @@ AreWithin _ _ = ⊥
 abbrev pub AreNumbers : (args numbers : List Text) → Type 0
 AreNumbers args numbers = All IsArgument args × AreWithin number_rows numbers
 
+-- the words are understood: the arguments and the numbers are numbers in range, and the word for edges names some
+abbrev pub AreUnderstood : Words → Type 0
+AreUnderstood words = AreNumbers words.args words.numbers × NamesEdges words.edges
+
 -- the request is what these words ask for
 pub record IsRequestOf (words : Words) (r : Request) : Type 0 where
   pub in_range : AreNumbers words.args words.numbers
   pub file_is : string_bytes r.file ≡ words.file
   pub args_are : r.args.items ≡ values_of words.args
-  pub options_are : AreOptionsOf words.verb (map decimal_value words.numbers) r.options r.workers
+  pub options_are : AreOptionsOf words.verb (map decimal_value words.numbers) words.edges r.options r.workers
 
 -- the words that the rows of a command have, of this source
 abbrev pub words_in : Verb → Text → List Row → Words
-words_in v file rows = record { verb = v; file = file; args = texts_of rows (codes "ARGS"); numbers = numbers_of rows }
+words_in v file rows = record {
+  verb = v;
+  file = file;
+  args = texts_of rows (codes "ARGS");
+  numbers = numbers_of rows;
+  edges = edges_text rows;
+}
 
 -- the request that the rows of a command make
 pub record IsAskedBy (v : Verb) (rows : List Row) (r : Request) : Type 0 where
@@ -118,7 +146,9 @@ pub record IsAskedBy (v : Verb) (rows : List Row) (r : Request) : Type 0 where
 
 -- the rows make a request
 abbrev pub AreProper : List Row → Type 0
-AreProper rows = (is_some (first_of (codes "FILE") rows) ≡ true) × AreNumbers (texts_of rows (codes "ARGS")) (numbers_of rows)
+AreProper rows =
+    (is_some (first_of (codes "FILE") rows) ≡ true) × AreNumbers (texts_of rows (codes "ARGS")) (numbers_of rows)
+    × NamesEdges (edges_text rows)
 
 -- the kinds of error that the words may bring; none where they are taken
 abbrev pub faults : List Text → Kinds
@@ -135,6 +165,7 @@ pub record AreRead (given : List Text) (words : Words) : Type 0 where
   pub file_is : first_of (codes "FILE") rows ≡ Some words.file
   pub args_are : texts_of rows (codes "ARGS") ≡ words.args
   pub numbers_are : numbers_of rows ≡ words.numbers
+  pub edges_are : edges_text rows ≡ words.edges
 
 -- the request is of the words that what is given is read as
 pub record Asks (given : List Text) (r : Request) : Type 0 where
@@ -142,11 +173,11 @@ pub record Asks (given : List Text) (r : Request) : Type 0 where
   pub read : AreRead given words
   pub request : IsRequestOf words r
 
--- what is given is read, and an argument or a number is no number or out of range
-pub record HaveBadNumber (given : List Text) : Type 0 where
+-- what is given is read, and an argument or a number is no number or out of range, or the word for edges names none
+pub record HaveBadWord (given : List Text) : Type 0 where
   pub words : Words
   pub read : AreRead given words
-  pub bad : ¬ (AreNumbers words.args words.numbers)
+  pub bad : ¬ (AreUnderstood words)
 
 -- what is wrong where something does not hold, unless memory ran out
 abbrev pub IsFaultUnless : Type 0 → Fault → Type 0
@@ -170,10 +201,10 @@ IsSaidAt k (said.Fault f) = f ≡ fault.Memory
 abbrev pub BringKind : List Text → Bool → Type 0
 BringKind words helps = (k : ErrorKind) × IsAmong k (faults words) × (is_help k ≡ helps)
 
--- the help, what is wrong with words that are not taken, or a fault of the numbers among words that are
+-- the help, what is wrong with words that are not taken, or a fault of numbers or edges among words that are
 abbrev pub IsSaidOf : List Text → Said → Type 0
 IsSaidOf words (said.Help text) = BringKind words true
 IsSaidOf words (said.Misuse text) = BringKind words false
-IsSaidOf words (said.Fault fault.Arguments) = HaveBadNumber words
+IsSaidOf words (said.Fault fault.Arguments) = HaveBadWord words
 IsSaidOf words (said.Fault fault.Memory) = Unit {0}
 IsSaidOf words (said.Fault _) = ⊥

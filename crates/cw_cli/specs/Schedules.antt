@@ -18,7 +18,7 @@ greedy_row processors t =
 
 -- the names of the columns and the row of a run that ended; of another nothing
 abbrev pub greedy_text : ℕ → Answer → List ℕ
-greedy_text processors (Ended v lines sums t) = schedule_header ++ greedy_row processors t
+greedy_text processors (Ended v lines totals t) = schedule_header ++ greedy_row processors t
 greedy_text processors (TrappedAt trap line lines) = []
 greedy_text processors OverLimit = []
 
@@ -30,10 +30,10 @@ pub record IsScheduled (processors : ℕ) (t : Tree) : Type 0 where
 
 -- this holds where a schedule is asked for of a run that ended; of another run, and in another mode, nothing
 abbrev pub IsScheduledIn : Mode → Answer → Type 0
-IsScheduledIn (mode.Greedy processors) (Ended v lines sums t) = IsScheduled processors t
+IsScheduledIn (mode.Greedy processors) (Ended v lines totals t) = IsScheduled processors t
 IsScheduledIn _ _ = Unit {0}
 
 -- a schedule is asked for, and the run ended with more strands than are kept
 abbrev pub HasTooManyStrands : Mode → Answer → Type 0
-HasTooManyStrands (mode.Greedy processors) (Ended v lines sums t) = MOST_STRANDS < strand_count t
+HasTooManyStrands (mode.Greedy processors) (Ended v lines totals t) = MOST_STRANDS < strand_count t
 HasTooManyStrands _ _ = ⊥

@@ -4,7 +4,7 @@ use Rattle.clap.specs.Words.{Text}
 use Rattle.clap.specs.declared.error.ErrorKind.TheVariants as kind
 use Rattle.cw_model.specs.declared.limits.TheConstants.{USUAL_LIMIT, USUAL_BURDEN}
 use Rattle.cw_model.specs.Pieces.{decimal_value}
-use Rattle.cw_cli.specs.Command.{command_name, limit_row, burden_row, processors_row, workers_row, number_rows, usual_numbers}
+use Rattle.cw_cli.specs.Command.{command_name, limit_row, burden_row, processors_row, workers_row, number_rows, usual_numbers, usual_edges}
 use Rattle.cw_cli.specs.declared.asked.TheConstants.{USUAL_WORKERS}
 use Rattle.cw_cli.specs.Requests.{AreRead, AreWithin, Words, faults}
 use Rattle.cw_cli.specs.declared.verb.Verb.{Verb}
@@ -16,12 +16,23 @@ IsPlain word = slice_get word 0 ≢ Some 45
 
 -- a check of this source
 abbrev pub checking : Text → Words
-checking file = record { verb = verb.Check; file = file; args = []; numbers = usual_numbers }
+checking file = record { verb = verb.Check; file = file; args = []; numbers = usual_numbers; edges = usual_edges }
 
 -- a run of this source on these arguments, by this verb, with the words for the limit and the burden
 abbrev pub running : Verb → (file : Text) (args : List Text) (limit burden : Text) → Words
 running v file args limit burden =
-    record { verb = v; file = file; args = args; numbers = limit ∷ burden ∷ processors_row.usual ∷ workers_row.usual ∷ [] }
+    record {
+      verb = v;
+      file = file;
+      args = args;
+      numbers = limit ∷ burden ∷ processors_row.usual ∷ workers_row.usual ∷ [];
+      edges = usual_edges;
+    }
+
+-- the same with the usual numbers, and with the word for the edges that are charged
+abbrev pub running_along : Verb → (file : Text) (args : List Text) (edges : Text) → Words
+running_along v file args edges =
+    record { verb = v; file = file; args = args; numbers = usual_numbers; edges = edges }
 
 -- a run of this source on these arguments, by this verb, with the word for the workers
 abbrev pub running_on : Verb → (file : Text) (args : List Text) (workers : Text) → Words
@@ -31,12 +42,19 @@ running_on v file args workers =
       file = file;
       args = args;
       numbers = limit_row.usual ∷ burden_row.usual ∷ processors_row.usual ∷ workers ∷ [];
+      edges = usual_edges;
     }
 
 -- a schedule of this source on these arguments, with the words for the processors and the limit
 abbrev pub scheduling : (processors file : Text) (args : List Text) (limit : Text) → Words
 scheduling processors file args limit =
-    record { verb = verb.Greedy; file = file; args = args; numbers = limit ∷ burden_row.usual ∷ processors ∷ workers_row.usual ∷ [] }
+    record {
+      verb = verb.Greedy;
+      file = file;
+      args = args;
+      numbers = limit ∷ burden_row.usual ∷ processors ∷ workers_row.usual ∷ [];
+      edges = usual_edges;
+    }
 
 -- the command runs a program, and takes a burden
 abbrev pub TakesBurden : Verb → Type 0
@@ -68,6 +86,13 @@ BurdenIsRead =
     (v : Verb) (burden file : Text) (args : List Text) → TakesBurden v
     → IsPlain burden → IsPlain file → All IsPlain args → length args < 2 ^ 64
     → AreRead (command_name v ∷ codes "--burden" ∷ burden ∷ file ∷ args) (running v file args limit_row.usual burden)
+
+-- the same with a word for the edges before them
+abbrev pub EdgesAreRead : Type 0
+EdgesAreRead =
+    (v : Verb) (edges file : Text) (args : List Text) → TakesBurden v
+    → IsPlain edges → IsPlain file → All IsPlain args → length args < 2 ^ 64
+    → AreRead (command_name v ∷ codes "--edges" ∷ edges ∷ file ∷ args) (running_along v file args edges)
 
 -- the same with workers before them
 abbrev pub WorkersAreRead : Type 0
@@ -129,10 +154,12 @@ WordExamples =
     (scheduling (codes "007") (codes "-f") (codes "-1" ∷ []) (codes "9"))
     × AreRead (codes "sites" ∷ codes "f" ∷ codes "4" ∷ codes "--workers=64" ∷ [])
     (running_on verb.Sites (codes "f") (codes "4" ∷ []) (codes "64"))
+    × AreRead (codes "scale" ∷ codes "f" ∷ codes "4" ∷ codes "--edges=both" ∷ [])
+    (running_along verb.Scale (codes "f") (codes "4" ∷ []) (codes "both"))
 
--- words that are not taken: none, no source, a word too many for a check, a limit, a burden or workers for a check, an unknown
--- word, a negative number, no limit, two limits, no burden, two burdens, no workers, a schedule without processors, without a source
--- or with a burden, and calls for help
+-- words that are not taken: none, no source, a word too many for a check, a limit, a burden, workers or edges for a
+-- check, an unknown word, a negative number, no limit, two limits, no burden, two burdens, no workers, no edges, a
+-- schedule without processors, without a source, with a burden or with edges, and calls for help
 abbrev pub RefusalExamples : Type 0
 RefusalExamples =
     (faults [] ≡ kind.MissingSubcommand ∷ [])
@@ -151,9 +178,12 @@ RefusalExamples =
     × (faults (codes "sites" ∷ codes "--burden=1" ∷ codes "f" ∷ codes "--burden=2" ∷ []) ≡ kind.ArgumentConflict ∷ [])
     × (faults (codes "check" ∷ codes "f" ∷ codes "--workers=2" ∷ []) ≡ kind.UnknownArgument ∷ [])
     × (faults (codes "run" ∷ codes "f" ∷ codes "--workers" ∷ []) ≡ kind.InvalidValue ∷ [])
+    × (faults (codes "check" ∷ codes "f" ∷ codes "--edges=both" ∷ []) ≡ kind.UnknownArgument ∷ [])
+    × (faults (codes "scale" ∷ codes "f" ∷ codes "--edges" ∷ []) ≡ kind.InvalidValue ∷ [])
     × (faults (codes "greedy" ∷ []) ≡ kind.MissingRequiredArgument ∷ [])
     × (faults (codes "greedy" ∷ codes "2" ∷ []) ≡ kind.MissingRequiredArgument ∷ [])
     × (faults (codes "greedy" ∷ codes "2" ∷ codes "f" ∷ codes "--burden=9" ∷ []) ≡ kind.UnknownArgument ∷ [])
+    × (faults (codes "greedy" ∷ codes "2" ∷ codes "f" ∷ codes "--edges=both" ∷ []) ≡ kind.UnknownArgument ∷ [])
     × (faults (codes "--help" ∷ []) ≡ kind.DisplayHelp ∷ [])
     × (faults (codes "check" ∷ codes "--help" ∷ []) ≡ kind.DisplayHelp ∷ [])
     × (faults (codes "run" ∷ codes "--help" ∷ []) ≡ kind.DisplayHelp ∷ [])

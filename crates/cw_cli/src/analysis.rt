@@ -217,7 +217,7 @@ fn run_greedy<W: Sink>(
         → IsRun W.seen out.old out.new bytes args.now options result }
 {
     are_words(args);
-    if options.burden > MOST_BURDEN {
+    if options.burden.charge > MOST_BURDEN {
         return Err(Fault::Arguments);
     }
     let code = Arc::new(alloc, code)?;

@@ -3,6 +3,7 @@
 ghost use Rattle.std.specs.Prelude.{◌≡◌, [], false, string_bytes};
 ghost use Rattle.cw_cli.specs.declared.asked.Said.TheVariants.{Fault};
 
+use cw_model::burden::{Burden, Edges};
 use cw_model::limits::{USUAL_BURDEN, USUAL_LIMIT};
 use cw_text::Fault;
 use std::alloc::Global;
@@ -15,7 +16,7 @@ pub const USUAL_WORKERS: u64 = 2;
 pub enum Mode {
     /// That the source compiles. Nothing is run.
     Check,
-    /// What the program prints, its sums, and the value that its `main` gives.
+    /// What the program prints, the totals of its reducers, and the value that its `main` gives.
     Run,
     /// Work and span, with and without the burden: of the whole run, and of each tag of the source.
     Scale,
@@ -33,8 +34,8 @@ pub struct Options {
     pub mode: Mode,
     /// The greatest cost of the run in instructions, from 1 to 2^62.
     pub limit: u64,
-    /// What each spawn's continuation is charged in instructions, from 0 to 1,000,000,000.
-    pub burden: u64,
+    /// What each spawn is charged, from 0 to 1,000,000,000 instructions an edge.
+    pub burden: Burden,
 }
 
 /// What the words ask for.
@@ -74,7 +75,7 @@ impl Request {
     ghost use Rattle.cw_cli.specs.Requests.{usual_options};
 
     /// A run of the source on standard input, which has no path, without arguments: the limit is
-    /// `USUAL_LIMIT`, the burden `USUAL_BURDEN` and the workers `USUAL_WORKERS`, and nothing is explained.
+    /// `USUAL_LIMIT`, the burden `USUAL_BURDEN` on continuation edges alone and the workers `USUAL_WORKERS`, and nothing is explained.
     pub fn of_standard_input(alloc: Global) -> Self
         ensures file { string_bytes result.file ≡ [] }
         ensures args { result.args.items ≡ [] }
@@ -88,7 +89,10 @@ impl Request {
             options: Options {
                 mode: Mode::Run,
                 limit: USUAL_LIMIT,
-                burden: USUAL_BURDEN,
+                burden: Burden {
+                    charge: USUAL_BURDEN,
+                    edges: Edges::Spawn,
+                },
             },
             workers: USUAL_WORKERS,
             explain: false,

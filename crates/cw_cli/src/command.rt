@@ -6,15 +6,18 @@ ghost use Rattle.cw_cli.specs.Command.{
   IsCommandOf,
   args_rule,
   command_line,
+  edges_rule,
   file_rule,
   line_of,
   needed_rule,
   number_rule,
+  option_rule,
   running_line,
 };
 ghost use Rattle.cw_cli.specs.declared.verb.Verb.TheVariants as verb;
 ghost use Rattle.cw_cli.specs.Rows.{row_of};
 
+use crate::edges::{EDGES, USUAL_EDGES};
 use crate::help::{OF_CHECK, OF_GREEDY, OF_PROGRAM, OF_RUN, OF_SCALE, OF_SITES};
 use crate::number::{BURDEN, LIMIT, NumberOption, PROCESSORS, WORKERS};
 use clap::{Arg, ArgAction, Command};
@@ -98,6 +101,7 @@ fn running_command<'a>(
         .arg(main_args(alloc))?
         .arg(number(alloc, LIMIT))?
         .arg(number(alloc, BURDEN))?
+        .arg(edges(alloc))?
         .arg(number(alloc, WORKERS))?;
     Ok(command)
 }
@@ -137,10 +141,38 @@ fn number<'a>(alloc: Global, option: NumberOption) -> Arg<'a>
     ensures rule { rule_of result ≡ number_rule (row_of option) }
     ensures local { result.global ≡ false }
 {
-    Arg::new(alloc, option.name)
-        .long(option.name)
-        .value_name("N")
+    worded(alloc, option.name, "N", option.usual, option.help)
+}
+
+// The option for the edges that a burden is charged on.
+fn edges<'a>(alloc: Global) -> Arg<'a>
+    ensures rule { rule_of result ≡ edges_rule }
+    ensures local { result.global ≡ false }
+{
+    worded(
+        alloc,
+        EDGES,
+        "E",
+        USUAL_EDGES,
+        "The edges that are charged: spawn or both",
+    )
+}
+
+// An option that takes a word, by its name, what the help calls the word, and the word where it is not given.
+fn worded<'a>(
+    alloc: Global,
+    name: &'static str,
+    word: &'static str,
+    usual: &'static str,
+    help: &'static str,
+) -> Arg<'a>
+    ensures rule { rule_of result ≡ option_rule name.now usual.now }
+    ensures local { result.global ≡ false }
+{
+    Arg::new(alloc, name)
+        .long(name)
+        .value_name(word)
         .action(ArgAction::Set)
-        .default_value(option.usual)
-        .help(option.help)
+        .default_value(usual)
+        .help(help)
 }

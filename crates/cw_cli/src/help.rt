@@ -11,7 +11,7 @@ command. Without a command the source on standard input is run, without ARGS.
 
 What is written to standard output:
   check  'ok', where the source compiles
-  run    printed values, sums of reducers and the value of main, a line each
+  run    printed values, totals of reducers and the value of main, a line each
   scale  a table of work, span and parallelism, of the run and of each tag
   sites  a table of calls, work and span, of each call in the source
   greedy how many steps the run takes on P processors, in a table of one row
@@ -31,6 +31,8 @@ A number is one or more decimal digits; zeros in front are allowed:
             may take some seconds
   --burden  from 0 to 1000000000; what a path is charged at each spawn where it
             goes on behind it, as if another processor had stolen that
+  --edges   spawn, or both, where a path is charged the burden too that runs
+            through the spawned call, as if that came back to the join late
   --workers from 1 to 64; how many threads share the run. No report depends on
             it, and greedy runs with one
 
@@ -48,7 +50,8 @@ Exit status and standard error (L is a line of the source):
   4  over limit         the run costs more than its limit
   4  too many strands   a run that greedy is asked for has more than 1000000
   5  arguments          not as many arguments as main takes, a number that is
-                        none or out of range, or words that are no text
+                        none or out of range, edges other than spawn and both,
+                        or words that are no text
   5  file               the source cannot be opened or read
   5  error: ..          other words than the commands take
   6  memory             no memory is left
@@ -62,9 +65,11 @@ refusal says: 'cilkwork --help'.";
 
 /// Of `run`, below its options.
 pub const OF_RUN: &str = "\
-Writes each printed value on a line, then 'sum NAME = V' for each reducer of the
-source, and 'return V' with the value V of main. Where the run traps, standard
-output has what was printed before. --burden changes nothing here.
+Writes each printed value on a line, then for each reducer of the source what it
+comes to: 'sum NAME = V' or 'max NAME = V', and 'max NAME = none' where nothing
+was told to it; then 'return V' with the value V of main. Where the run traps,
+standard output has what was printed before. --burden and --edges change nothing
+here.
 
 --explain tells why a source is refused or a run traps. What ARGS and numbers
 may be, and the exit statuses: 'cilkwork --help'.";
@@ -81,7 +86,8 @@ never ran; what is counted of it are its executions that lie in no other of it.
   parallelism           work by span, to three digits and rounded down; 0.000
                         where the span is 0
   burdened_span         span where each path is charged the burden at each spawn
-                        behind which it goes on
+                        behind which it goes on; by --edges both at each spawn
+                        that it runs through, on either side
   burdened_parallelism  work by burdened span, in the same way
 How to read them: docs/GUIDE.md.
 
@@ -104,7 +110,7 @@ each call in the source has a line, by its place, also where it never ran.
   span      instructions on longest paths of these calls, added up
 In work and span a call inside another one of the same site is not counted
 again. The own work of all sites adds up to the work of the run, and their own
-span to its span. --burden changes nothing here.
+span to its span. --burden and --edges change nothing here.
 How to read them: docs/GUIDE.md.
 
 --explain tells why a source is refused or a run traps. What ARGS and numbers

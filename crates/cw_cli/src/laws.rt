@@ -4,6 +4,7 @@ ghost use Rattle.cw_cli.specs.Laws.{CompiledAreNotRefused, HaveOneProgram, HaveO
 ghost use Rattle.cw_cli.specs.WordLaws.{
   BurdenIsRead,
   CheckIsRead,
+  EdgesAreRead,
   GreedyIsRead,
   GreedyLimitIsRead,
   LimitIsRead,
@@ -41,12 +42,13 @@ pub fn one_answer()
 
 /// A word after `check` that starts with no hyphen is the source. Such words after `run`, `scale` or
 /// `sites` are the source and the arguments, and `--limit`, `--burden` or `--workers` with a word before them is
-/// that number; after `greedy` they are the processors, the source and the arguments, and `--limit` is the same.
+/// that number, `--edges` that word; after `greedy` they are the processors, the source and the arguments, and `--limit` is the same.
 pub fn plain_words()
     ensures check { CheckIsRead }
     ensures usual { PlainWordsAreRead }
     ensures limited { LimitIsRead }
     ensures burdened { BurdenIsRead }
+    ensures edged { EdgesAreRead }
     ensures worked { WorkersAreRead }
     ensures greedy { GreedyIsRead }
     ensures greedy_limited { GreedyLimitIsRead }

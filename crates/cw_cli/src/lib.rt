@@ -6,6 +6,7 @@ mod asked;
 mod command;
 mod compiling;
 mod crews;
+mod edges;
 mod explaining;
 mod help;
 pub mod laws;

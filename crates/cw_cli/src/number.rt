@@ -34,13 +34,13 @@ pub const LIMIT: NumberOption = NumberOption {
     help: "The most that the run may cost",
 };
 
-/// The burden of a spawn.
+/// The burden of a charged edge.
 pub const BURDEN: NumberOption = NumberOption {
     name: "burden",
     least: 0,
     most: MOST_BURDEN,
     usual: "15000",
-    help: "The instructions that a spawn is charged",
+    help: "The instructions that a charged edge costs",
 };
 
 /// The workers of a run.

@@ -2,6 +2,7 @@
 
 ghost use Rattle.std.specs.Prelude.{◌≡◌, ◌<◌, ◌-◌, ◌^◌, ℕ, ℤ, List, [], true};
 ghost use Rattle.std.specs.List.{list_all};
+ghost use Rattle.cw_model.specs.declared.burden.Burden.{Burden};
 ghost use Rattle.cw_code.specs.Code.{Code, code_view};
 ghost use Rattle.cw_machine.specs.Runs.{GivesAsCode, RunsAsCode};
 ghost use Rattle.cw_cli.specs.declared.asked.Mode.TheVariants as mode;
@@ -63,14 +64,14 @@ pub(crate) fn write_tables<W: Sink>(
 
 // The values of a run of which all was counted.
 pub(crate) fn values_of(ended: Result<Ended, Fault>) -> Result<Values, Fault>
-    ensures { (code : Code) (args : List ℤ) (n burden : ℕ) → RunsAsCode code args n burden ended
+    ensures { (code : Code) (args : List ℤ) (n : ℕ) (burden : Burden) → RunsAsCode code args n burden ended
         → GivesAsCode code args n burden result }
 {
     match ended {
         Ok(ended) => Ok(Values {
             value: ended.value,
             lines: ended.lines,
-            sums: ended.sums,
+            totals: ended.totals,
         }),
         Err(fault) => Err(fault),
     }

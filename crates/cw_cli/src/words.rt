@@ -33,10 +33,12 @@ ghost use Rattle.cw_cli.specs.Rows.{IsGivenNumber};
 
 use crate::asked::{Options, Request, Said};
 use crate::command::command;
+use crate::edges::edges_of;
 use crate::number::{BURDEN, LIMIT, NumberOption, PROCESSORS, WORKERS, read_number};
 use crate::verb::{Verb, mode_of, verb_named};
 use clap::error::ErrorKind;
 use clap::{ArgMatches, Error};
+use cw_model::burden::Burden;
 use cw_model::limits::MOST_NUMBER;
 use cw_text::Fault;
 use std::alloc::Global;
@@ -45,7 +47,8 @@ use std::alloc::Global;
 /// the request explains nothing.
 ///
 /// The error is what to say in place of a run: the help, what is wrong with the words, `Arguments`
-/// where the limit, the burden, the processors, the workers or an argument of `main` is no number or out of range, or `Memory`.
+/// where the limit, the burden, the processors, the workers or an argument of `main` is no number or out of range, or
+/// the word for the edges is neither `spawn` nor `both`; or `Memory`.
 pub fn request(alloc: Global, words: &[String]) -> Result<Request, Said>
     ensures ok { IfOk result (Asks (map string_bytes words.now)) }
     ensures why { IfErr result (IsSaidOf (map string_bytes words.now)) }
@@ -84,10 +87,11 @@ fn asked_by(alloc: Global, verb: Verb, given: &ArgMatches<'_>) -> Result<Request
     ensures ok { IfOk result (IsAskedBy verb (rows_of (found_of given.now))) }
     ensures why { IfErr result (IsFaultUnless (AreProper (rows_of (found_of given.now)))) }
 {
-    let (Some(file), Some(limit), Some(burden), Some(processors), Some(workers)) = (
+    let (Some(file), Some(limit), Some(charge), Some(edges), Some(processors), Some(workers)) = (
         given.get_str("FILE"),
         number_of(given, LIMIT),
         number_of(given, BURDEN),
+        edges_of(given),
         number_of(given, PROCESSORS),
         number_of(given, WORKERS),
     ) else {
@@ -98,7 +102,7 @@ fn asked_by(alloc: Global, verb: Verb, given: &ArgMatches<'_>) -> Result<Request
     let options = Options {
         mode: mode_of(verb, processors),
         limit,
-        burden,
+        burden: Burden { charge, edges },
     };
     Ok(Request {
         file,

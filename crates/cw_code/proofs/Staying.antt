@@ -18,7 +18,7 @@ use Rattle.cw_code.specs.declared.code.Func.{Func}
 use Rattle.cw_code.specs.declared.code.Halves.{Halves}
 use Rattle.cw_code.specs.declared.code.Instr.{Instr}
 use Rattle.cw_code.specs.declared.code.Instr.TheVariants as instr
-use Rattle.cw_code.specs.Code.{Code}
+use Rattle.cw_code.specs.Code.{Code, reducer_names}
 use Rattle.cw_code.specs.Run.{Slots, Results, Waiting, Around, Caller, Block, Opened, Whole, State, Transition, On, Ends, Stops, Stuck, on_top, on_two, on_slot, is_full, stored, operated, set_array, apply_unary, adds, prints, put_in, Entering, arguments_of, may_begin, waiting_at, begun, begins, call_of, arrays_in, on_arrays, enter, recur, parts_of, looped, on_range, start, given, given_back, awaited, result_of, going_on, returns_to, back, opened, opened_region, opens, may_cut, cuts, resumes, closed, resumes_uncut, cut_ends, passed_by, jumped, onto, act, step}
 use Rattle.cw_code.specs.Fits.{leaves, nexts, Shape, Table, FlowsInto, FlowsIntoEach, Fits, LieFrom}
 use Rattle.cw_code.specs.Good.{Seat, GoodState}
@@ -255,7 +255,7 @@ module _ (code : Code) (fits : Fits code) where
       acts_keep (instr.Open kind) l = opens_keeps (leads _ _ l.0) kind
       acts_keep instr.Close l = closed_keeps (leads _ _ l.0) s.around here
       acts_keep instr.Print l = top_keeps s _ (λ v rest. goes_on (leads _ _ l.0))
-      acts_keep (instr.AddTo n) l = top_keeps s _ (λ v rest. adds_keeps (leads _ _ l.0) (slice_get code.reducers n) v rest)
+      acts_keep (instr.Reduce n) l = top_keeps s _ (λ v rest. adds_keeps (leads _ _ l.0) (slice_get (reducer_names code.reducers) n) v rest)
       acts_keep instr.ReturnValue l = top_keeps (put_in s) _ (λ v rest. back_keeps s.place s.around (Some v) (put_in s).arrays _ here)
       acts_keep instr.Return l = back_keeps s.place s.around None (put_in s).arrays _ here
 

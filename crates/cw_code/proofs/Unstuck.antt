@@ -20,7 +20,7 @@ use Rattle.cw_code.specs.declared.code.Halves.{Halves}
 use Rattle.cw_code.specs.declared.code.Inner.{Inner}
 use Rattle.cw_code.specs.declared.code.Instr.{Instr}
 use Rattle.cw_code.specs.declared.code.Instr.TheVariants as instr
-use Rattle.cw_code.specs.Code.{Code}
+use Rattle.cw_code.specs.Code.{Code, reducer_names}
 use Rattle.cw_code.specs.Run.{Slots, Results, Whole, Waiting, Around, Caller, Block, State, Transition, On, Ends, Stops, Stuck, RunOutcome, ticked, synced, inside, on_top, on_two, on_slot, is_full, operated, set_array, apply_unary, adds, settled, put_in, slots_of, arrays_of, may_take, slot_taken, moved_out, Entering, arguments_of, has_room, may_keep, may_begin, waiting_at, begun, begins, call_of, on_arrays, enter, recur, parts_of, looped, on_range, start, given, going_on, returns_to, back, opened_at, opened, opened_region, cut_arrays, may_cut, cuts, resumes, closed, resumes_uncut, cut_ends, passed_by, jumped, act, step, go_on, steps, first_state, first_transition, reducers_of, code_serial}
 use Rattle.cw_code.specs.Fits.{params_of, array_params_of, gives_value, NeverStuck, is_site, names_target, names_callee, is_none_of, names_arrays, names_passed, names_well, Outer, Shape, empty_rows, gone_rows, full_in_all, is_full_in, has_slot, has_array, has_arrays, has_target, has_arguments, none_open, can_close, has_parts, can_uncut, is_no_part, are_no_parts, is_ready, with_target, with_gone, with_passed, none_empty, first_shape, closed_shape, with_uncut, uncut_shape, opened_shape, outer_of, cut_outer, popped, leaves, nexts, Table, FlowsInto, FlowsIntoEach, Fits}
 use Rattle.cw_code.specs.Good.{IsNotAmong, slots_in, slot_cut, ints_round, arrays_round, all_of, Holds, CutsAgree, Seat, Good, IsGiven, Resumed, Resumes, AllResume, GoodState, GoodTransition, Facts, FitBegins, FitFacts, FitSteps, NeverStuckFrom}
@@ -628,7 +628,7 @@ module _ (code : Code) (fits : Fits code) where
     acts_well (instr.Open (Region k)) n r l = region_well (slice_get code.tags k) (there code.tags k (lt_of k (length code.tags) n)) l.0
     acts_well instr.Close n r l = closes_well shape.outer s.around (second_true (nat_eq 0 shape.operands) (can_close shape.outer) r) joined_here good.others l.0
     acts_well instr.Print n r l = top_well _ r (λ v rest e. more (shape.operands - 1) _ refl (omega (arith, e)) l.0)
-    acts_well (instr.AddTo k) n r l = top_well _ r (λ v rest e. adds_well (slice_get code.reducers k) v rest (there code.reducers k (lt_of k (length code.reducers) n)) e l.0)
+    acts_well (instr.Reduce k) n r l = top_well _ r (λ v rest e. adds_well (slice_get (reducer_names code.reducers) k) v rest (there (reducer_names code.reducers) k (subst (λ n. k < n) (sym (length-map code.reducers (λ r. r.name))) (lt_of k (length code.reducers) n))) e l.0)
     acts_well instr.ReturnValue n r l = top_well _ (first_true (nat_le 1 shape.operands) (none_open shape.outer) r) (λ v rest e.
         ends_well (Some v) (subst (λ b. IsGiven b (Some v)) (sym n) tt) (second_true (nat_le 1 shape.operands) (none_open shape.outer) r))
     acts_well instr.Return n r l = ends_well None (nothing seat.func.gives_int n) r

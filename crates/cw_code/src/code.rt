@@ -1,6 +1,6 @@
 //! Instructions, functions and call sites.
 
-use cw_model::syntax::{CallKind, Name, Operator};
+use cw_model::syntax::{CallKind, Name, Operator, Reduction};
 
 /// What a call names.
 #[derive(Clone, Copy, Debug, PartialEq, Eq)]
@@ -105,8 +105,8 @@ pub enum Instr {
     Close,
     /// The last operand is printed.
     Print,
-    /// The last operand is added to the reducer of this index.
-    AddTo(u32),
+    /// The last operand is told to the reducer of this index.
+    Reduce(u32),
     /// A join, and the end of the call with the last operand as its value.
     ReturnValue,
     /// A join, and the end of a call that gives no value.
@@ -147,6 +147,15 @@ pub struct Site {
     pub function: u32,
 }
 
+/// A reducer of the source.
+#[derive(Debug, Drop)]
+pub struct Reducer {
+    /// Its name.
+    pub name: Name,
+    /// How it makes one total of what it is told.
+    pub how: Reduction,
+}
+
 /// The code of a program.
 #[derive(Debug, Drop)]
 pub struct Code {
@@ -160,8 +169,8 @@ pub struct Code {
     pub main_line: u32,
     /// The call sites, in source order.
     pub sites: Vec<Site>,
-    /// The names of the reducers, in source order.
-    pub reducers: Vec<Name>,
+    /// The reducers, in source order.
+    pub reducers: Vec<Reducer>,
     /// The different tags of the regions, in the order of their first places.
     pub tags: Vec<Name>,
     /// Lists of array slots whose arrays a call takes, in the order of its array parameters.

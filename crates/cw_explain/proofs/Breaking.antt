@@ -4,7 +4,7 @@ use Rattle.std.proofs.lemmas.List.{append-nil}
 use Rattle.cw_model.specs.Answers.{main_name}
 use Rattle.cw_model.specs.Lines.{unless}
 use Rattle.cw_model.specs.Names.{is_among, same_name}
-use Rattle.cw_model.specs.Syntax.{Name, Stmt, Declare, DeclareArray, Assign, AssignElement, AddTo, Call, Start, Begin, Sync, If, IfElse, While, For, Scope, Cut, Region, Print, Return, Block, Then, Param, Function, Program}
+use Rattle.cw_model.specs.Syntax.{Name, Stmt, Declare, DeclareArray, Assign, AssignElement, Reduce, Call, Start, Begin, Sync, If, IfElse, While, For, Scope, Cut, Region, Print, Return, Block, Then, Param, Function, Program}
 use Rattle.cw_model.specs.Typing.{Known, Returns, declares, ends_block, faults_in, faults_in_block, faults_of, globals, is_head, known_of, of_both_kinds, repeated, repeated_names, surely_returns, type_faults}
 use Rattle.cw_explain.specs.Names.{function_names, functions_named, known_names, param_names, reducers_named}
 use Rattle.cw_explain.specs.Places.{Declared, after_stmt, kinds, oldest, with_local, with_params}
@@ -40,7 +40,7 @@ by_parts program returns known line (Declare x e) = sym (append-nil (unless (kee
 by_parts program returns known line (DeclareArray a e) = sym (append-nil (unless (keeps_rules program returns known (DeclareArray a e)) line))
 by_parts program returns known line (Assign x e) = sym (append-nil (unless (keeps_rules program returns known (Assign x e)) line))
 by_parts program returns known line (AssignElement a i e) = sym (append-nil (unless (keeps_rules program returns known (AssignElement a i e)) line))
-by_parts program returns known line (AddTo s e) = sym (append-nil (unless (keeps_rules program returns known (AddTo s e)) line))
+by_parts program returns known line (Reduce how s e) = sym (append-nil (unless (keeps_rules program returns known (Reduce how s e)) line))
 by_parts program returns known line (Call kind site target f es) = sym (append-nil (unless (keeps_rules program returns known (Call kind site target f es)) line))
 by_parts program returns known line (Start kind f es) = refl
 by_parts program returns known line (Begin f from to captured over) = refl
@@ -94,7 +94,7 @@ kinds_after line (Declare x e) locals = refl
 kinds_after line (DeclareArray a e) locals = refl
 kinds_after line (Assign x e) locals = refl
 kinds_after line (AssignElement a i e) locals = refl
-kinds_after line (AddTo s e) locals = refl
+kinds_after line (Reduce how s e) locals = refl
 kinds_after line (Call kind site target f es) locals = refl
 kinds_after line (Start kind f es) locals = refl
 kinds_after line (Begin f from to captured over) locals = refl
@@ -115,7 +115,7 @@ oldest_after line (Declare x e) ks n h = oldest_more (record { name = x; is_arra
 oldest_after line (DeclareArray a e) ks n h = oldest_more (record { name = a; is_array = true; line = line }) ks n h
 oldest_after line (Assign x e) ks n h = refl
 oldest_after line (AssignElement a i e) ks n h = refl
-oldest_after line (AddTo s e) ks n h = refl
+oldest_after line (Reduce how s e) ks n h = refl
 oldest_after line (Call kind site target f es) ks n h = refl
 oldest_after line (Start kind f es) ks n h = refl
 oldest_after line (Begin f from to captured over) ks n h = refl
@@ -135,7 +135,7 @@ longer_after line (Declare x e) ks n h = omega arith
 longer_after line (DeclareArray a e) ks n h = omega arith
 longer_after line (Assign x e) ks n h = h
 longer_after line (AssignElement a i e) ks n h = h
-longer_after line (AddTo s e) ks n h = h
+longer_after line (Reduce how s e) ks n h = h
 longer_after line (Call kind site target f es) ks n h = h
 longer_after line (Start kind f es) ks n h = h
 longer_after line (Begin f from to captured over) ks n h = h

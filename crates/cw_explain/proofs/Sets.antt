@@ -9,7 +9,7 @@ use Rattle.std.specs.List.{filter}
 use Rattle.cw_model.specs.declared.syntax.CallKind.TheVariants.{Plain, Spawned}
 use Rattle.cw_model.specs.Names.{is_among, same_name}
 use Rattle.cw_model.specs.Ownership.{CutOf, Holder, SpawnIn, Taken, cut_ended, freed, given, is_cut_of, is_spawn_in, arrays_given, own_names, taken_after, taken_after_all, taken_by, target_names, where_it_goes_on, without}
-use Rattle.cw_model.specs.Syntax.{Name, Stmt, Declare, DeclareArray, Assign, AssignElement, AddTo, Call, Start, Begin, Sync, If, IfElse, While, For, Scope, Cut, Region, Print, Return, Block, End, Then, Expr, Param, Function}
+use Rattle.cw_model.specs.Syntax.{Name, Stmt, Declare, DeclareArray, Assign, AssignElement, Reduce, Call, Start, Begin, Sync, If, IfElse, While, For, Scope, Cut, Region, Print, Return, Block, End, Then, Expr, Param, Function}
 use Rattle.cw_model.specs.Typing.{block_returns, called}
 use Rattle.cw_explain.specs.declared.taken.Held.{Held}
 use Rattle.cw_explain.specs.Held.{AreSame, has_taken, held_of, holder_of, own_name, same_holder}
@@ -203,7 +203,7 @@ mutual
   same_after fs d (DeclareArray x e) a b s = s
   same_after fs d (Assign x e) a b s = s
   same_after fs d (AssignElement x i e) a b s = s
-  same_after fs d (AddTo x e) a b s = s
+  same_after fs d (Reduce how x e) a b s = s
   same_after fs d (Call Plain site target f es) a b s = s
   same_after fs d (Call Spawned site target f es) a b s = same_taken_by d (target_names target ++ given fs f es) a b s
   same_after fs d (Start kind f es) a b s = s
@@ -263,7 +263,7 @@ without_own line (Declare x e) b ts = without_more x (own_names b) ts
 without_own line (DeclareArray x e) b ts = without_more x (own_names b) ts
 without_own line (Assign x e) b ts = ap (without (own_names b)) (without_none ts)
 without_own line (AssignElement x i e) b ts = ap (without (own_names b)) (without_none ts)
-without_own line (AddTo x e) b ts = ap (without (own_names b)) (without_none ts)
+without_own line (Reduce how x e) b ts = ap (without (own_names b)) (without_none ts)
 without_own line (Call kind site target f es) b ts = ap (without (own_names b)) (without_none ts)
 without_own line (Start kind f es) b ts = ap (without (own_names b)) (without_none ts)
 without_own line (Begin f from to captured over) b ts = ap (without (own_names b)) (without_none ts)

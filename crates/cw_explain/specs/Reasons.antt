@@ -2,10 +2,11 @@
 use Rattle.std.specs.Prelude.{◌≡◌, ℕ, ◌+◌, Bool, true, false, ◌&&◌, nat_le, List, [], ◌∷◌, Option, Some, None, MatchOption, Contains, is_some, length, map, option_map}
 use Rattle.std.specs.List.{slice_get}
 use Rattle.cw_model.specs.declared.limits.TheConstants.{MOST_GRAIN}
+use Rattle.cw_model.specs.declared.syntax.Reduction.{Reduction}
 use Rattle.cw_model.specs.Answers.{main_name}
 use Rattle.cw_model.specs.Names.{same_name}
-use Rattle.cw_model.specs.Syntax.{Name, Expr, Variable, Stmt, Declare, DeclareArray, AddTo, Call, For, Cut, Return, Param, Function, Program}
-use Rattle.cw_model.specs.Typing.{Returns, Nowhere, WithInt, Alone, called, is_array, is_int, is_reducer}
+use Rattle.cw_model.specs.Syntax.{Name, Expr, Variable, Stmt, Declare, DeclareArray, Reduce, Call, For, Cut, Return, Param, Function, Program}
+use Rattle.cw_model.specs.Typing.{Returns, Nowhere, WithInt, Alone, called, is_array, is_int, is_reducer, reducer_called}
 use Rattle.cw_explain.specs.Names.{IsUnknown}
 use Rattle.cw_explain.specs.Places.{Declared, kind_and_line, kinds, name_and_line, newest}
 use Rattle.cw_explain.specs.Uses.{Use, uses}
@@ -68,10 +69,14 @@ IsUsing program locals used Else r = IsPart program locals used [] (Else r) r
 abbrev pub IsNaming : Program → List Declared → (used : List Use) → (declared : List Name) → IllTyped → Type 0
 IsNaming program locals used declared r = IsPart program locals used declared ⊥ r
 
--- the reason is of this name, which is no reducer's
-abbrev pub IsNoReducer : Program → Name → IllTyped → Type 0
-IsNoReducer program s (reason.NotReducer word) = (word.text.now ≡ s) × (is_reducer program s ≡ false)
-IsNoReducer program s _ = ⊥
+-- the reason is of this name, by which no reducer is called, or of which the first one, in this line, reduces otherwise
+abbrev pub IsNoReducer : Program → Reduction → Name → IllTyped → Type 0
+IsNoReducer program how s (reason.NotReducer word told) =
+    (word.text.now ≡ s) × (told ≡ how) × (reducer_called s program.reducers ≡ None)
+IsNoReducer program how s (reason.ReducesOtherwise word told line) =
+    (word.text.now ≡ s) × (told ≡ how) × (is_reducer program how s ≡ false)
+    × (option_map (λ r. r.line) (reducer_called s program.reducers) ≡ Some line)
+IsNoReducer program how s _ = ⊥
 
 -- a name alone
 abbrev pub is_name : Expr → Bool
@@ -140,7 +145,7 @@ names_declared _ = []
 
 -- the rules of a kind of statement
 abbrev pub IsWrongStmt : Program → Returns → Stmt → IllTyped → Type 0
-IsWrongStmt program returns (AddTo s e) r = IsNoReducer program s r
+IsWrongStmt program returns (Reduce how s e) r = IsNoReducer program how s r
 IsWrongStmt program returns (Call kind site target f es) r = IsWrongCall program target f es r
 IsWrongStmt program returns (For x y z from to grain over b) r = IsWrongHead x y z grain r
 IsWrongStmt program returns (Cut a e x y b) r = IsWrongParts x y r

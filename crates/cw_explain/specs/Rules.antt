@@ -3,7 +3,7 @@ use Rattle.std.specs.Prelude.{ℕ, nat_le, ◌==◌, Bool, true, false, not, ◌
 use Rattle.std.specs.List.{list_any}
 use Rattle.cw_model.specs.Answers.{main_name}
 use Rattle.cw_model.specs.Names.{same_name}
-use Rattle.cw_model.specs.Syntax.{Stmt, Declare, DeclareArray, Assign, AssignElement, AddTo, Call, Start, Begin, Sync, If, IfElse, While, For, Scope, Cut, Region, Print, Return, Param, Function, Program}
+use Rattle.cw_model.specs.Syntax.{Stmt, Declare, DeclareArray, Assign, AssignElement, Reduce, Call, Start, Begin, Sync, If, IfElse, While, For, Scope, Cut, Region, Print, Return, Param, Function, Program}
 use Rattle.cw_model.specs.Typing.{Known, Returns, Nowhere, WithInt, Alone, block_returns, called, ends_block, faults_in_block, is_array, is_call, is_cut, is_fine, is_head_of_loop, is_int, is_new, is_reducer, may_return, surely_returns}
 use Rattle.cw_tree.specs.declared.syntax.Call.{Call as CodeCall}
 use Rattle.cw_tree.specs.declared.syntax.Cut.{Cut as CodeCut}
@@ -40,7 +40,7 @@ keeps_rules program returns known (Declare x e) = is_fine known e && is_new prog
 keeps_rules program returns known (DeclareArray a e) = is_fine known e && is_new program known a
 keeps_rules program returns known (Assign x e) = is_int known x && is_fine known e
 keeps_rules program returns known (AssignElement a i e) = is_array known a && is_fine known i && is_fine known e
-keeps_rules program returns known (AddTo s e) = is_reducer program s && is_fine known e
+keeps_rules program returns known (Reduce how s e) = is_reducer program how s && is_fine known e
 keeps_rules program returns known (Call kind site target f es) = is_call known target (called f program.functions) es
 keeps_rules program returns known (Start kind callee es) = false
 keeps_rules program returns known (Begin callee from to captured over) = false

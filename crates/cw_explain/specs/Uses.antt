@@ -1,6 +1,6 @@
 -- The names that stand where an integer or an array must.
 use Rattle.std.specs.Prelude.{Bool, true, false, List, [], ◌∷◌, ◌++◌, Option, Some, None, map}
-use Rattle.cw_model.specs.Syntax.{Name, Expr, Number, Variable, Element, Length, Negative, Not, Binary, Stmt, Declare, DeclareArray, Assign, AssignElement, AddTo, Call, If, IfElse, While, For, Cut, Print, Return, Param, Function, Program}
+use Rattle.cw_model.specs.Syntax.{Name, Expr, Number, Variable, Element, Length, Negative, Not, Binary, Stmt, Declare, DeclareArray, Assign, AssignElement, Reduce, Call, If, IfElse, While, For, Cut, Print, Return, Param, Function, Program}
 use Rattle.cw_model.specs.Typing.{called}
 
 -- a name, and whether it must be an array where it stands, and not an integer
@@ -49,7 +49,7 @@ uses program (Declare x e) = uses_in e
 uses program (DeclareArray a e) = uses_in e
 uses program (Assign x e) = (x, false) ∷ uses_in e
 uses program (AssignElement a i e) = (a, true) ∷ (uses_in i ++ uses_in e)
-uses program (AddTo s e) = uses_in e
+uses program (Reduce how s e) = uses_in e
 uses program (Call kind site target f es) = uses_as_target target ++ uses_in_call (called f program.functions) es
 uses program (If e b) = uses_in e
 uses program (IfElse e b c) = uses_in e

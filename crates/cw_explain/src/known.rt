@@ -14,6 +14,7 @@ ghost use Rattle.std.specs.Prelude.{
   is_some,
   length,
   map,
+  option_map,
 };
 ghost use Rattle.cw_explain.specs.Names.{
   IsUnknown,
@@ -34,7 +35,7 @@ ghost use Rattle.cw_explain.specs.Places.{
   with_params,
 };
 ghost use Rattle.cw_model.specs.Names.{is_among};
-ghost use Rattle.cw_model.specs.Typing.{called, is_reducer};
+ghost use Rattle.cw_model.specs.Typing.{called, reducer_called};
 ghost use Rattle.cw_model.specs.Typing as rule;
 ghost use Rattle.cw_tree.specs.SyntaxView.{
   block_of,
@@ -192,7 +193,10 @@ pub fn function_among<'a>(functions: &'a [Function], name: &[u8]) -> Option<&'a 
 
 /// The first reducer of a name.
 pub fn reducer_named<'a>(ast: &'a Ast, name: &[u8]) -> Option<&'a Reducer>
-    ensures there { is_some result ≡ is_reducer (program_of ast.now) name.now }
+    ensures there { is_some result
+        ≡ is_among name.now (map (λ r. r.name) (program_of ast.now).reducers) }
+    ensures is { option_map (λ r. reducer_of r.now) result
+        ≡ reducer_called name.now (program_of ast.now).reducers }
     ensures of_line { IfSome result (λ reducer.
         Contains (map name_and_line (program_of ast.now).reducers)
         (name.now, reducer.now.line)) }
@@ -204,6 +208,8 @@ pub fn reducer_named<'a>(ast: &'a Ast, name: &[u8]) -> Option<&'a Reducer>
 pub fn reducer_among<'a>(reducers: &'a [Reducer], name: &[u8]) -> Option<&'a Reducer>
     ensures there { is_some result
         ≡ is_among name.now (map (λ r. r.name) (map reducer_of reducers.now)) }
+    ensures is { option_map (λ r. reducer_of r.now) result
+        ≡ reducer_called name.now (map reducer_of reducers.now) }
     ensures of_line { IfSome result (λ reducer.
         Contains (map name_and_line (map reducer_of reducers.now))
         (name.now, reducer.now.line)) }
@@ -232,7 +238,7 @@ pub fn surely_returns(stmt: &Stmt) -> bool
         | Stmt::DeclareArray(_, _)
         | Stmt::Assign(_, _)
         | Stmt::AssignElement(_, _, _)
-        | Stmt::AddTo(_, _)
+        | Stmt::Reduce(_, _, _)
         | Stmt::Call(_)
         | Stmt::Sync
         | Stmt::If(_, _)

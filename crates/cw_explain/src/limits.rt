@@ -366,7 +366,7 @@ fn add_declared_by(lines: &mut Vec<u32>, line: u32, stmt: &Stmt) -> Result<(), A
         }
         Stmt::Assign(_, _)
         | Stmt::AssignElement(_, _, _)
-        | Stmt::AddTo(_, _)
+        | Stmt::Reduce(_, _, _)
         | Stmt::Call(_)
         | Stmt::Sync
         | Stmt::Print(_)
@@ -444,7 +444,7 @@ fn add_tags_of<'a>(tags: &mut Vec<Tag<'a>>, line: u32, stmt: &'a Stmt) -> Result
         | Stmt::DeclareArray(_, _)
         | Stmt::Assign(_, _)
         | Stmt::AssignElement(_, _, _)
-        | Stmt::AddTo(_, _)
+        | Stmt::Reduce(_, _, _)
         | Stmt::Call(_)
         | Stmt::Sync
         | Stmt::Print(_)
@@ -580,7 +580,7 @@ fn add_loops_of(lines: &mut Vec<u32>, line: u32, stmt: &Stmt) -> Result<(), Allo
         | Stmt::DeclareArray(_, _)
         | Stmt::Assign(_, _)
         | Stmt::AssignElement(_, _, _)
-        | Stmt::AddTo(_, _)
+        | Stmt::Reduce(_, _, _)
         | Stmt::Call(_)
         | Stmt::Sync
         | Stmt::Print(_)
@@ -636,7 +636,7 @@ fn add_calls_of(lines: &mut Vec<u32>, line: u32, stmt: &Stmt) -> Result<(), Allo
         | Stmt::DeclareArray(_, _)
         | Stmt::Assign(_, _)
         | Stmt::AssignElement(_, _, _)
-        | Stmt::AddTo(_, _)
+        | Stmt::Reduce(_, _, _)
         | Stmt::Sync
         | Stmt::Print(_)
         | Stmt::Return(_) => Ok(()),

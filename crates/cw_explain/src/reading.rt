@@ -214,7 +214,7 @@ fn of_stmt<'a>(
     match stmt {
         Stmt::Declare(_, e)
         | Stmt::DeclareArray(_, e)
-        | Stmt::AddTo(_, e)
+        | Stmt::Reduce(_, _, e)
         | Stmt::If(e, _)
         | Stmt::IfElse(e, _, _)
         | Stmt::While(e, _)

@@ -54,6 +54,7 @@ use crate::known::{Known, function_named, reducer_named};
 use crate::typing::{IllTyped, Other};
 use crate::word::Word;
 use cw_model::limits::MOST_GRAIN;
+use cw_model::syntax::Reduction;
 use cw_tree::syntax::{Ast, Call, Cut, Expr, Function, Head, Name, Param, Stmt};
 
 /// The name of the function that a run begins with.
@@ -86,7 +87,7 @@ pub fn of_stmt<'a>(
         Stmt::DeclareArray(a, e) => Some(of_declare(ast, known, a, e)?),
         Stmt::Assign(x, e) => Some(of_name_and(ast, known, x, false, e)?),
         Stmt::AssignElement(a, i, e) => Some(of_assign_element(ast, known, a, i, e)?),
-        Stmt::AddTo(s, e) => Some(of_add(ast, known, s, e)?),
+        Stmt::Reduce(how, s, e) => Some(of_reduce(ast, known, *how, s, e)?),
         Stmt::If(e, _) => Some(of_expr(ast, known, e)?),
         Stmt::IfElse(e, _, _) => Some(of_expr(ast, known, e)?),
         Stmt::While(e, _) => Some(of_expr(ast, known, e)?),
@@ -299,26 +300,48 @@ fn of_two<'a>(ast: &'a Ast, known: &Known<'a>, d: &'a Expr, e: &'a Expr) -> Opti
     Some(reason)
 }
 
-// A name is no reducer's.
-fn of_reducer<'a>(ast: &'a Ast, name: &'a Name) -> Option<IllTyped<'a>>
-    ensures decides { is_some result ≡ not (rule.is_reducer (program_of ast.now) name.now) }
-    ensures holds { IfSome result (IsNoReducer (program_of ast.now) name.now) }
+// One way to reduce is another.
+fn same_reduction(how: Reduction, other: Reduction) -> bool
+    ensures { result ≡ rule.same_reduction how other }
 {
-    match reducer_named(ast, name.as_bytes()) {
-        Some(_) => None,
-        None => Some(IllTyped::NotReducer(Word::of(name))),
+    match (how, other) {
+        (Reduction::Sum, Reduction::Sum) => true,
+        (Reduction::Max, Reduction::Max) => true,
+        _ => false,
     }
 }
 
-// An addition is to no reducer, or adds what names what it may not.
-fn of_add<'a>(ast: &'a Ast, known: &Known<'a>, s: &'a Name, e: &'a Expr) -> Option<IllTyped<'a>>
+// A name is that of no reducer which reduces so.
+fn of_reducer<'a>(ast: &'a Ast, how: Reduction, name: &'a Name) -> Option<IllTyped<'a>>
+    ensures decides { is_some result ≡ not (rule.is_reducer (program_of ast.now) how name.now) }
+    ensures holds { IfSome result (IsNoReducer (program_of ast.now) how name.now) }
+{
+    match reducer_named(ast, name.as_bytes()) {
+        None => Some(IllTyped::NotReducer(Word::of(name), how)),
+        Some(reducer) => {
+            if same_reduction(how, reducer.how) {
+                return None;
+            }
+            Some(IllTyped::ReducesOtherwise(Word::of(name), how, reducer.line))
+        }
+    }
+}
+
+// A value is told to no reducer that reduces so, or names what it may not.
+fn of_reduce<'a>(
+    ast: &'a Ast,
+    known: &Known<'a>,
+    how: Reduction,
+    s: &'a Name,
+    e: &'a Expr,
+) -> Option<IllTyped<'a>>
     ensures decides { is_some result
-        ≡ not (rule.is_reducer (program_of ast.now) s.now
+        ≡ not (rule.is_reducer (program_of ast.now) how s.now
         && rule.is_fine (names_of known.now) (expr_of e.now)) }
     ensures holds { IfSome result (IsUsing (program_of ast.now) (locals_of known.now)
-        (uses_in (expr_of e.now)) (IsNoReducer (program_of ast.now) s.now)) }
+        (uses_in (expr_of e.now)) (IsNoReducer (program_of ast.now) how s.now)) }
 {
-    if let Some(reason) = of_reducer(ast, s) {
+    if let Some(reason) = of_reducer(ast, how, s) {
         return Some(reason);
     }
     let reason = of_expr(ast, known, e)?;

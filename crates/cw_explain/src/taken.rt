@@ -216,7 +216,7 @@ impl<'a> Taken<'a> {
             Stmt::DeclareArray(a, _) => self.end(a),
             Stmt::Assign(_, _)
             | Stmt::AssignElement(_, _, _)
-            | Stmt::AddTo(_, _)
+            | Stmt::Reduce(_, _, _)
             | Stmt::Call(_)
             | Stmt::Sync
             | Stmt::If(_, _)
@@ -458,7 +458,7 @@ pub fn after<'a>(
         | Stmt::DeclareArray(_, _)
         | Stmt::Assign(_, _)
         | Stmt::AssignElement(_, _, _)
-        | Stmt::AddTo(_, _)
+        | Stmt::Reduce(_, _, _)
         | Stmt::Print(_) => Ok(()),
     }
 }

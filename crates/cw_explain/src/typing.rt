@@ -2,6 +2,7 @@
 
 use crate::word::Word;
 use cw_model::limits::MOST_GRAIN;
+use cw_model::syntax::Reduction;
 use std::fmt;
 
 /// What else a name is.
@@ -49,8 +50,10 @@ pub enum IllTyped<'a> {
     Known(Word<'a>, u32),
     /// A local name is that of a function or a reducer.
     Global(Word<'a>, Other, u32),
-    /// What is added to is no reducer.
-    NotReducer(Word<'a>),
+    /// What is told a value, to be reduced so, is no reducer.
+    NotReducer(Word<'a>, Reduction),
+    /// A reducer is told a value to be reduced so, and reduces otherwise.
+    ReducesOtherwise(Word<'a>, Reduction, u32),
     /// No function has the name.
     NoFunction(Word<'a>),
     /// A statement calls main.
@@ -89,6 +92,7 @@ impl IllTyped<'_> {
             | IllTyped::Count(_, _, _, line)
             | IllTyped::ArgumentNotArray(_, _, _, line)
             | IllTyped::GivesNothing(_, line)
+            | IllTyped::ReducesOtherwise(_, _, line)
             | IllTyped::NeverReached(line) => Some(*line),
             _ => None,
         }
@@ -103,7 +107,8 @@ impl fmt::Display for IllTyped<'_> {
             | IllTyped::NotArray(_, _, _)
             | IllTyped::Known(_, _)
             | IllTyped::Global(_, _, _)
-            | IllTyped::NotReducer(_) => fmt_name(self, f),
+            | IllTyped::NotReducer(_, _)
+            | IllTyped::ReducesOtherwise(_, _, _) => fmt_name(self, f),
             IllTyped::NoFunction(_)
             | IllTyped::CallsMain
             | IllTyped::Count(_, _, _, _)
@@ -172,11 +177,46 @@ fn fmt_name<W: fmt::Write>(reason: &IllTyped<'_>, f: &mut fmt::Formatter<W>) -> 
             f,
             "{name} is the name of {other} (line {line}): no local name is spelled like it"
         ),
-        IllTyped::NotReducer(name) => write!(
+        IllTyped::NotReducer(name, how) => fmt_no_reducer(*name, *how, f),
+        IllTyped::ReducesOtherwise(name, how, line) => fmt_other_reducer(*name, *how, *line, f),
+        _ => Ok(()),
+    }
+}
+
+// Of a name that is no reducer's.
+fn fmt_no_reducer<W: fmt::Write>(
+    name: Word<'_>,
+    how: Reduction,
+    f: &mut fmt::Formatter<W>,
+) -> fmt::Result {
+    match how {
+        Reduction::Sum => write!(
             f,
             "+= adds to a reducer, and {name} is none: declare 'reducer sum {name};' outside of functions, or write {name} = {name} + .."
         ),
-        _ => Ok(()),
+        Reduction::Max => write!(
+            f,
+            "max= tells a reducer a value, and {name} is none: declare 'reducer max {name};' outside of functions"
+        ),
+    }
+}
+
+// Of a reducer that reduces otherwise.
+fn fmt_other_reducer<W: fmt::Write>(
+    name: Word<'_>,
+    how: Reduction,
+    line: u32,
+    f: &mut fmt::Formatter<W>,
+) -> fmt::Result {
+    match how {
+        Reduction::Sum => write!(
+            f,
+            "+= adds to a reducer of sums, and {name} keeps the greatest value that it is told (line {line}): write {name} max= .."
+        ),
+        Reduction::Max => write!(
+            f,
+            "max= tells a value to a reducer that keeps the greatest, and {name} adds up (line {line}): write {name} += .."
+        ),
     }
 }
 

@@ -50,6 +50,15 @@ const GRAMMAR: &[(&str, &str)] = &[
         "int main(int over) { return 0; }",
         "refused 2 line 1\nover cannot stand here: over is a word of the language, and no name; here can stand a name\n  1 | int main(int over) { return 0; }\n",
     ),
+    (
+        "int max(int a, int b) { return a; }\nint main() { return 0; }",
+        "refused 2 line 1\nmax cannot stand here: max is a word of the language, and no name; here can stand a name\n  1 | int max(int a, int b) { return a; }\n",
+    ),
+    // a value told to a reducer without its sign
+    (
+        "reducer max m;\nint main(int n) {\n  m max n;\n  return 0;\n}",
+        "refused 2 line 3\nn cannot stand here; here can stand =\n  3 |   m max n;\n",
+    ),
     // loops and increments of C
     (
         "int main() {\n  for (int i = 0; i < 9; i++) { }\n  return 0;\n}",
@@ -57,7 +66,7 @@ const GRAMMAR: &[(&str, &str)] = &[
     ),
     (
         "int main(int n) {\n  n++;\n  return n;\n}",
-        "refused 2 line 2\n++ cannot stand here: ++ stands in the head of a cilk_for alone; write x = x + 1; here can stand (, [, = or +=\n  2 |   n++;\n",
+        "refused 2 line 2\n++ cannot stand here: ++ stands in the head of a cilk_for alone; write x = x + 1; here can stand max, (, [, = or +=\n  2 |   n++;\n",
     ),
     // a declaration without a value
     (
@@ -78,6 +87,11 @@ const GRAMMAR: &[(&str, &str)] = &[
     (
         "x = 1;",
         "refused 2 line 1\nx cannot stand here; here can stand int, void or reducer\n  1 | x = 1;\n",
+    ),
+    // a reducer that neither adds up nor keeps the greatest
+    (
+        "reducer product p;\nint main() { return 0; }",
+        "refused 2 line 1\nproduct cannot stand here; here can stand sum or max\n  1 | reducer product p;\n",
     ),
     // the source ends too early: the block may go on or end
     (

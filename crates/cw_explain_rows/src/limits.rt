@@ -87,6 +87,18 @@ fn limits_of_parts(rt: HostRuntime) -> Result<(), Fail> {
         told(alloc, reducers.as_bytes())?.as_str(),
         "refused 5 line 34\nthere are more than 32 reducers\n  34 | reducer sum r32;\n"
     );
+    // of both kinds, 32 in all
+    let both = numbered(
+        alloc,
+        "reducer sum s;\nint main() { return 0; }\n",
+        ("reducer max m", ";\n"),
+        32,
+        "",
+    )?;
+    assert_eq!(rt;
+        told(alloc, both.as_bytes())?.as_str(),
+        "refused 5 line 34\nthere are more than 32 reducers\n  34 | reducer max m31;\n"
+    );
     let parameters = numbered(
         alloc,
         "void f(int a",

@@ -79,6 +79,33 @@ const NAMES: &[(&str, &str)] = &[
         "int main() {\n  int x = 0;\n  x += 2;\n  return x;\n}",
         "refused 3 line 3\n+= adds to a reducer, and x is none: declare 'reducer sum x;' outside of functions, or write x = x + ..\n  3 |   x += 2;\n",
     ),
+    (
+        "int main() {\n  int x = 0;\n  x max= 2;\n  return x;\n}",
+        "refused 3 line 3\nmax= tells a reducer a value, and x is none: declare 'reducer max x;' outside of functions\n  3 |   x max= 2;\n",
+    ),
+    // a reducer that reduces otherwise
+    (
+        "reducer sum s;\nint main() {\n  s max= 1;\n  return 0;\n}",
+        "refused 3 line 3\nmax= tells a value to a reducer that keeps the greatest, and s adds up (line 1): write s += ..\n  1 | reducer sum s;\n  3 |   s max= 1;\n",
+    ),
+    (
+        "reducer sum s;\nreducer max m;\nint main() {\n  m += 1;\n  return 0;\n}",
+        "refused 3 line 4\n+= adds to a reducer of sums, and m keeps the greatest value that it is told (line 2): write m max= ..\n  2 | reducer max m;\n  4 |   m += 1;\n",
+    ),
+    // of two reducers of a name the first counts, and the least line is told
+    (
+        "int main() {\n  r max= 1;\n  return 0;\n}\nreducer sum r;\nreducer max r;",
+        "refused 3 line 2\nmax= tells a value to a reducer that keeps the greatest, and r adds up (line 5): write r += ..\n  2 |   r max= 1;\n  5 | reducer sum r;\n",
+    ),
+    (
+        "reducer max r;\nreducer sum r;\nint main() {\n  r max= 1;\n  return 0;\n}",
+        "refused 3 line 2\nr is the name of a function or reducer in line 1 already: their names differ\n  1 | reducer max r;\n  2 | reducer sum r;\n",
+    ),
+    // the value names what it may not
+    (
+        "reducer max m;\nint main() {\n  m max= m;\n  return 0;\n}",
+        "refused 3 line 3\nan integer must stand here, and m is a reducer (line 1)\n  1 | reducer max m;\n  3 |   m max= m;\n",
+    ),
 ];
 
 const CALLS: &[(&str, &str)] = &[

@@ -21,9 +21,9 @@ use cw_types::check;
 use std::alloc::Global;
 use std::process::Abort;
 
-// Line 1 of each source: a reducer, and functions of integers and arrays.
+// Line 1 of each source: a reducer of each kind, and functions of integers and arrays.
 const HEAD: &str =
-    "reducer sum total; int f(int v) { return v; } int two(int v, int w) { return v; } \
+    "reducer sum total; reducer max top; int f(int v) { return v; } int two(int v, int w) { return v; } \
 void g(int a[]) { } void h(int a[], int b[]) { } int s(int a[]) { return len(a); } \
 int n(int a[], int v) { return v; } void three(int a[], int v, int b[]) { }\n";
 

@@ -55,10 +55,10 @@ pub fn all_break(rt: &impl Abort, alloc: Global, rows: &[(u32, &str)]) {
 
 // A source with these statements, from line 2 on, in a `main` that has the integers `x` and `y` and the
 // arrays `a` and `b`. `f` takes an integer and gives one, `v` takes an array and gives nothing, `w` takes
-// both, an integer first, and gives an integer, `s` is a reducer.
+// both, an integer first, and gives an integer, `s` is a reducer that sums, `top` one that keeps the greatest.
 fn in_main(alloc: Global, body: &str) -> Result<String, AllocError> {
     format!(in alloc;
-        "int f(int p) {{ return p; }} void v(int q[]) {{ }} int w(int p, int q[]) {{ return p; }} reducer sum s; int main(int x, int y) {{ int a[4]; int b[4];\n{body}\nreturn 0; }}"
+        "int f(int p) {{ return p; }} void v(int q[]) {{ }} int w(int p, int q[]) {{ return p; }} reducer sum s; reducer max top; int main(int x, int y) {{ int a[4]; int b[4];\n{body}\nreturn 0; }}"
     )
 }
 

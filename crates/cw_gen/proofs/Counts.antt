@@ -2,7 +2,7 @@
 use Rattle.std.proofs.Common.{◌≡◌, ℕ, suc, ◌+◌, List, [], ◌∷◌, ◌++◌, length, Bool, true, false, if◌then◌else◌, Some, None, refl, sym, ap, ◌∙◌, arith, length-append}
 use Rattle.std.specs.Prelude.{sum_by, map}
 use Rattle.std.proofs.lemmas.List.Sums.{sum_by-cons}
-use Rattle.cw_model.specs.Syntax.{Name, Expr, Number, Variable, Element, Length, Negative, Not, Binary, Stmt, Declare, DeclareArray, Assign, AssignElement, AddTo, Call, Start, Begin, Sync, If, IfElse, While, Scope, Cut, Region, Print, Return, Block, End, Then, Param, Function, Program}
+use Rattle.cw_model.specs.Syntax.{Name, Expr, Number, Variable, Element, Length, Negative, Not, Binary, Stmt, Declare, DeclareArray, Assign, AssignElement, Reduce, Call, Start, Begin, Sync, If, IfElse, While, Scope, Cut, Region, Print, Return, Block, End, Then, Param, Function, Program}
 use Rattle.cw_model.specs.Meaning.{function_named}
 use Rattle.cw_model.specs.Typing.{Returns, Nowhere, WithInt, Alone}
 use Rattle.cw_model.specs.Ownership.{CutOf, Taken}
@@ -75,7 +75,7 @@ module _ (fs : List Function) (lists : Lists) (tables : Tables) where
         let ce = expr_code locals line e in
         omega (arith, length-append ci (ce ++ instr.SetElement (slot_of a locals.arrays) line ∷ []), one_more ce (instr.SetElement (slot_of a locals.arrays) line), expr_count locals taken line i fine.1, expr_count locals taken line e fine.2)
     stmt_count size returns level locals taken line (Assign x e) fine = one_more (expr_code locals line e) _ ∙ ap (λ k. k + 1) (expr_count locals taken line e fine.1)
-    stmt_count size returns level locals taken line (AddTo s e) fine = one_more (expr_code locals line e) _ ∙ ap (λ k. k + 1) (expr_count locals taken line e fine.1)
+    stmt_count size returns level locals taken line (Reduce how s e) fine = one_more (expr_code locals line e) _ ∙ ap (λ k. k + 1) (expr_count locals taken line e fine.1)
     stmt_count size returns level locals taken line (Print e) fine = one_more (expr_code locals line e) _ ∙ ap (λ k. k + 1) (expr_count locals taken line e fine)
     stmt_count size returns level locals taken line (Call kind site target f es) fine =
         one_more (args_code locals line es) _ ∙ ap (λ k. k + 1) (args_count locals taken line (function_named f fs).params es fine.2)

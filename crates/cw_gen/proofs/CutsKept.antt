@@ -4,7 +4,7 @@ use Rattle.std.specs.Prelude.{map}
 use Rattle.std.proofs.lemmas.List.{append-nil}
 use Rattle.std.proofs.lemmas.Slice.Eq.{bytes_eq-Decides}
 use Rattle.cw_model.specs.declared.syntax.CallKind.TheVariants.{Plain, Spawned}
-use Rattle.cw_model.specs.Syntax.{Name, Stmt, Declare, DeclareArray, Assign, AssignElement, AddTo, Call, Start, Begin, Sync, If, IfElse, While, Scope, Cut, Region, Print, Return, Block, End, Then, Function}
+use Rattle.cw_model.specs.Syntax.{Name, Stmt, Declare, DeclareArray, Assign, AssignElement, Reduce, Call, Start, Begin, Sync, If, IfElse, While, Scope, Cut, Region, Print, Return, Block, End, Then, Function}
 use Rattle.cw_model.specs.Names.{same_name, is_among}
 use Rattle.cw_model.specs.Typing.{Nowhere, surely_returns, block_returns}
 use Rattle.cw_model.specs.Ownership.{Holder, SpawnIn, CutOf, Taken, is_taken, is_spawn_in, is_cut_of, freed, without, own_names, where_it_goes_on, target_names, given, Closing, Joins, Leaves, at_end}
@@ -68,7 +68,7 @@ module _ (fs : List Function) (lists : Lists) (tables : Tables) (size : Room) wh
     stmt_keeps level locals taken (DeclareArray x e) q fine h = h
     stmt_keeps level locals taken (Assign x e) q fine h = h
     stmt_keeps level locals taken (AssignElement x i e) q fine h = h
-    stmt_keeps level locals taken (AddTo x e) q fine h = h
+    stmt_keeps level locals taken (Reduce how x e) q fine h = h
     stmt_keeps level locals taken (Print e) q fine h = h
     stmt_keeps level locals taken (Call Plain site target f es) q fine h = h
     stmt_keeps level locals taken (Call Spawned site target f es) q fine h = in_behind (q, CutOf) (map (λ x. (x, SpawnIn level)) (target_names target ++ given fs f es)) taken h

@@ -3,7 +3,7 @@ use Rattle.std.proofs.Common.{◌≡◌, ℕ, ◌+◌, ◌≤◌, List, [], ◌�
 use Rattle.std.specs.Prelude.{map, flat_map}
 use Rattle.std.proofs.lemmas.List.{length-map, length-drop}
 use Rattle.cw_model.specs.declared.limits.TheConstants.{MOST_FUNCTIONS, MOST_LOOPS}
-use Rattle.cw_model.specs.Syntax.{Stmt, Declare, DeclareArray, Assign, AssignElement, AddTo, Call, Start, Begin, Sync, If, IfElse, While, For, Scope, Cut, Region, Print, Return, Block, End, Then, Function, Program}
+use Rattle.cw_model.specs.Syntax.{Stmt, Declare, DeclareArray, Assign, AssignElement, Reduce, Call, Start, Begin, Sync, If, IfElse, While, For, Scope, Cut, Region, Print, Return, Block, End, Then, Function, Program}
 use Rattle.cw_model.specs.Captured.{captured}
 use Rattle.cw_model.specs.Sizes.{lines_beyond, loops_in, loops_in_block}
 use Rattle.cw_model.specs.lemmas.Kept.{left_none}
@@ -34,7 +34,7 @@ mutual
   made_count line k (DeclareArray x e) = refl
   made_count line k (Assign x e) = refl
   made_count line k (AssignElement x i e) = refl
-  made_count line k (AddTo x e) = refl
+  made_count line k (Reduce how x e) = refl
   made_count line k (Call kind site t f es) = refl
   made_count line k (Start kind f es) = refl
   made_count line k (Begin f from to xs arrays) = refl

@@ -1,6 +1,6 @@
 -- Lowered programs whose code does what they do, as the laws read them.
 use Rattle.std.specs.Prelude.{◌≡◌, ◌++◌, suc, map, not, ℕ, ◌+◌, if◌then◌else◌, ◌-◌, ◌<◌, ◌≤◌, Bool, true, false, List, [], ◌∷◌, length, Option, Some, None, slice_get}
-use Rattle.cw_model.specs.Syntax.{Name, Expr, Number, Variable, Element, Length, Negative, Not, Binary, Stmt, Declare, DeclareArray, Assign, AssignElement, AddTo, Call, Start, Begin, Sync, If, IfElse, While, Scope, Cut, Region, Print, Return, Block, End, Then, Param, Function, Program}
+use Rattle.cw_model.specs.Syntax.{Name, Expr, Number, Variable, Element, Length, Negative, Not, Binary, Stmt, Declare, DeclareArray, Assign, AssignElement, Reduce, Call, Start, Begin, Sync, If, IfElse, While, Scope, Cut, Region, Print, Return, Block, End, Then, Param, Function, Program}
 use Rattle.cw_model.specs.Names.{same_name, is_among, differ}
 use Rattle.cw_model.specs.Meaning.{function_named}
 use Rattle.cw_model.specs.Typing.{Returns, Nowhere, WithInt, Alone, block_returns}
@@ -133,7 +133,7 @@ abbrev mutual
   StmtFine fs lists tables room returns depth locals taken (AssignElement a i e) =
       IsUsable locals.arrays taken a × ExprFine locals taken i × ExprFine locals taken e
   StmtFine fs lists tables room returns depth locals taken (Assign x e) = IsUsable locals.ints taken x × ExprFine locals taken e
-  StmtFine fs lists tables room returns depth locals taken (AddTo s e) = IsListed lists.reducers s × ExprFine locals taken e
+  StmtFine fs lists tables room returns depth locals taken (Reduce how s e) = IsListed lists.reducers s × ExprFine locals taken e
   StmtFine fs lists tables room returns depth locals taken (Call kind site target f es) =
       (is_function f fs ≡ true)
       × TargetFine locals taken (function_named f fs) target

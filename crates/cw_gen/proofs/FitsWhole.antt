@@ -13,9 +13,10 @@ use Rattle.cw_loops.specs.Lowered.{lowered}
 use Rattle.cw_loops.specs.Slotted.{slotted_function, lowered_lists}
 use Rattle.cw_code.specs.declared.code.Func.{Func}
 use Rattle.cw_code.specs.declared.code.Instr.{Instr}
-use Rattle.cw_code.specs.Code.{Code}
+use Rattle.cw_code.specs.Code.{Code, reducer_names}
 use Rattle.cw_code.specs.Fits.{gives_value, array_params_of, are_apart, names_well, Shape, first_shape, FlowsInto, FitsFunc, LieFrom, Fits}
 use Rattle.cw_gen.specs.Emit.{Tables, first_list, most_jump, emitted_end, emitted_func, emitted_instrs, emitted_funcs}
+use Rattle.cw_gen.proofs.CodedReducers.{names_kept}
 use Rattle.cw_gen.proofs.Codes.{main_locals}
 use Rattle.cw_gen.proofs.Entries.{ints_of, arrays_of, params_counted, as_counted, main_slot}
 use Rattle.cw_gen.proofs.Fine.{Room, room_of, is_function, BlockFine, FunctionFine, FunctionsFine, ProgramFine}
@@ -48,7 +49,7 @@ within_shapes zero ss place shape h = (omega arith, there (slice_get ss place) r
 within_shapes (suc start) ss zero shape h = cc
 within_shapes (suc start) ss (suc place) shape h = let more = within_shapes start ss place shape h in (omega (arith, more.0), omega (arith, more.1))
 
-module _ (code : Code) (fs : List Function) (lists : Lists) (small : length code.instrs ≤ most_jump) (functions : texts.Table code fs lists) (reducers_are : code.reducers ≡ lists.reducers) (tags_are : code.tags ≡ lists.tags) (least : TurnsClose fs) where
+module _ (code : Code) (fs : List Function) (lists : Lists) (small : length code.instrs ≤ most_jump) (functions : texts.Table code fs lists) (reducers_are : reducer_names code.reducers ≡ lists.reducers) (tags_are : code.tags ≡ lists.tags) (least : TurnsClose fs) where
   abbrev first : ℕ
   first = first_list code.sites
 
@@ -253,11 +254,11 @@ generated_fits program is_main small least functions fine apart =
     let entry = functions.entry main_name fine.main in
     let at : slice_get code.funcs code.main ≡ Some entry.0 = ap (slice_get code.funcs) (main_slot program is_main) ∙ entry.1 in
     let none_before : 0 + length code.instrs ≡ length code.instrs = omega arith in
-    let all = row_fits code (lowered program).functions (lowered_lists program) small functions refl refl least [] (lowered program).functions refl fine.functions in
+    let all = row_fits code (lowered program).functions (lowered_lists program) small functions (names_kept program.reducers) refl least [] (lowered program).functions refl fine.functions in
     record {
       main = ap gives_value at ∙ entry.2.gives ∙ fine.gives;
       of_integers = ap array_params_of at ∙ entry.2.array_params ∙ (main_locals main.params fine.ints).1;
-      reducers = fine.reducers;
+      reducers = ap are_apart (names_kept program.reducers) ∙ fine.reducers;
       tags = apart;
       lie = subst (λ m. LieFrom 0 code.funcs m) none_before all.lie;
       each = all.each;

@@ -1,7 +1,7 @@
 -- Generated code fits: each place finds what its instruction needs, and leads on to places that take what it leaves.
 use Rattle.std.proofs.Common.{◌≡◌, ℕ, ◌+◌, ◌-◌, ◌≤◌, [], ◌∷◌, ◌++◌, length, true, false, ◌&&◌, not, nat_lt, Some, None, refl, sym, ap, ◌∙◌, subst, arith, append_assoc, length-append}
 use Rattle.std.specs.Prelude.{nat_le, option_map}
-use Rattle.cw_model.specs.Syntax.{Stmt, Declare, DeclareArray, Assign, AssignElement, AddTo, Call, Start, Begin, Sync, If, IfElse, While, Scope, Cut, Region, Print, Return, Block, End, Then}
+use Rattle.cw_model.specs.Syntax.{Stmt, Declare, DeclareArray, Assign, AssignElement, Reduce, Call, Start, Begin, Sync, If, IfElse, While, Scope, Cut, Region, Print, Return, Block, End, Then}
 use Rattle.cw_model.specs.Meaning.{function_named}
 use Rattle.cw_model.specs.Typing.{Returns, Nowhere, surely_returns, block_returns}
 use Rattle.cw_model.specs.Ownership.{CutOf, Taken, freed, without, own_names, where_it_goes_on, Leaves}
@@ -29,7 +29,7 @@ use Rattle.cw_gen.proofs.FittingExprs.{given_fits, slot_is_there, array_is_there
 use Rattle.cw_gen.proofs.FittingCalls.{call_fits}
 use Rattle.cw_gen.proofs.FittingEnds.{branch_covers}
 use Rattle.cw_gen.proofs.FittingFirsts.{room_after, block_enters, cuts_behind}
-use Rattle.cw_gen.proofs.FittingParts.{jump_fits, back_fits, inside_fits, return_place, value_place, none_round, store_fits, tell_fits, index_there}
+use Rattle.cw_gen.proofs.FittingParts.{jump_fits, back_fits, inside_fits, return_place, value_place, none_round, store_fits, tell_fits, index_there, reducer_there}
 use Rattle.cw_gen.proofs.FittingCuts.{cut_fits}
 
 -- sums of places, regrouped
@@ -99,8 +99,8 @@ module _ (setting : Setting) where
         let last = reached (block_returns b) (end_shape setting.fs (size setting) inside inner ((a, CutOf) ∷ taken) b) in
         let second = stands_back setting.tab place (length ce) se (Some (made setting opened locals taken 1) ∷ (ss ++ last ∷ [])) (expr_as_many (made setting opened locals taken) 0 locals line e) stands in
         block_fits Nowhere (level + 1) inside inner ((a, CutOf) ∷ taken) b (place + length ce + 1) (omega (arith, at)) room' cuts' tt fine.3 (omega (arith, short, n_all)) (stands_front setting.tab (place + length ce + 1) ss (last ∷ []) second.1) closes)
-    stmt_fits returns level opened locals taken line (AddTo s e) place at room cuts returning fine short stands leads =
-        tell_fits setting opened locals taken room cuts e line place (instr.AddTo (slot_of s setting.lists.reducers)) fine.1 stands (λ h. (index_there setting.code.reducers setting.lists.reducers s setting.reducers_are fine.0, refl, (h, tt))) (leads refl)
+    stmt_fits returns level opened locals taken line (Reduce how s e) place at room cuts returning fine short stands leads =
+        tell_fits setting opened locals taken room cuts e line place (instr.Reduce (slot_of s setting.lists.reducers)) fine.1 stands (λ h. (reducer_there setting.code.reducers setting.lists.reducers s setting.reducers_are fine.0, refl, (h, tt))) (leads refl)
     stmt_fits returns level opened locals taken line (Print e) place at room cuts returning fine short stands leads =
         tell_fits setting opened locals taken room cuts e line place instr.Print fine stands (λ h. (refl, refl, (h, tt))) (leads refl)
     stmt_fits returns level opened locals taken line (Call kind site target name es) place at room cuts returning fine short stands leads =

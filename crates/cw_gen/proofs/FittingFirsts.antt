@@ -1,6 +1,6 @@
 -- The first place of a statement takes what comes to it.
 use Rattle.std.proofs.Common.{◌≡◌, ℕ, ◌+◌, List, [], ◌∷◌, ◌++◌, length, false, Some, None, refl, sym, subst, arith, append_assoc, length-append}
-use Rattle.cw_model.specs.Syntax.{Expr, Stmt, Declare, DeclareArray, Assign, AssignElement, AddTo, Call, Start, Begin, Sync, If, IfElse, While, Scope, Cut, Region, Print, Return, Block, End, Then, Param}
+use Rattle.cw_model.specs.Syntax.{Expr, Stmt, Declare, DeclareArray, Assign, AssignElement, Reduce, Call, Start, Begin, Sync, If, IfElse, While, Scope, Cut, Region, Print, Return, Block, End, Then, Param}
 use Rattle.cw_model.specs.Meaning.{function_named}
 use Rattle.cw_model.specs.Typing.{Returns, Nowhere, WithInt, Alone, block_returns}
 use Rattle.cw_model.specs.Ownership.{Taken, without, own_names, where_it_goes_on}
@@ -45,7 +45,7 @@ module _ (setting : Setting) where
   stmt_enters returns level opened locals taken (Cut a e l r b) place more at room cuts fine h =
       expr_enters setting opened locals taken room cuts e place 0 _ fine.1 (subst (λ ss. StandsAt setting.tab place ss) (append_assoc (expr_shapes (made setting opened locals taken) 0 e) _ more) h)
   stmt_enters returns level opened locals taken (Assign x e) place more at room cuts fine h = valued_enters setting opened locals taken room cuts e place more fine.1 h
-  stmt_enters returns level opened locals taken (AddTo s e) place more at room cuts fine h = valued_enters setting opened locals taken room cuts e place more fine.1 h
+  stmt_enters returns level opened locals taken (Reduce how s e) place more at room cuts fine h = valued_enters setting opened locals taken room cuts e place more fine.1 h
   stmt_enters returns level opened locals taken (Print e) place more at room cuts fine h = valued_enters setting opened locals taken room cuts e place more fine h
   stmt_enters returns level opened locals taken (Call kind site target name es) place more at room cuts fine h =
       args_enter_call opened locals taken (function_named name setting.fs).params es place more room cuts fine.2 h

@@ -1,6 +1,7 @@
 -- The parts of statements fit: jumps, blocks, returns, and an expression with an instruction on its value.
 use Rattle.std.proofs.Common.{◌≡◌, ℕ, suc, ◌+◌, ◌-◌, List, [], ◌∷◌, ◌++◌, length, Bool, true, false, nat_lt, Some, None, refl, sym, ap, ◌∙◌, subst, arith, length-append}
 use Rattle.std.specs.Prelude.{nat_le}
+use Rattle.std.proofs.lemmas.List.{length-map}
 use Rattle.std.proofs.lemmas.Option.{slice_get_within}
 use Rattle.cw_model.specs.Syntax.{Name, Expr, Block}
 use Rattle.cw_model.specs.Typing.{Returns, Nowhere, WithInt, Alone, block_returns}
@@ -9,6 +10,8 @@ use Rattle.cw_tree.specs.Resolved.{Locals, slot_of}
 use Rattle.cw_code.specs.declared.code.BlockKind.{BlockKind}
 use Rattle.cw_code.specs.declared.code.Instr.{Instr}
 use Rattle.cw_code.specs.declared.code.Instr.TheVariants as instr
+use Rattle.cw_code.specs.declared.code.Reducer.{Reducer}
+use Rattle.cw_code.specs.Code.{reducer_names}
 use Rattle.cw_code.specs.Fits.{names_tag, Shape, has_slot, none_open, leaves, FlowsInto}
 use Rattle.cw_gen.specs.Emit.{distance, past}
 use Rattle.cw_gen.proofs.Held.{held_after_all}
@@ -25,6 +28,10 @@ use Rattle.cw_gen.proofs.FittingFirsts.{block_enters}
 -- a listed name has an index
 pub index_there : (ks names : List Name) (x : Name) → ks ≡ names → IsListed names x → nat_lt (slot_of x names) (length ks) ≡ true
 index_there ks names x e h = below (slot_of x names) (length ks) (omega (arith, slice_get_within names (slot_of x names) x h, ap length e))
+
+-- so has a reducer
+pub reducer_there : (ks : List Reducer) (names : List Name) (x : Name) → reducer_names ks ≡ names → IsListed names x → nat_lt (slot_of x names) (length ks) ≡ true
+reducer_there ks names x e h = below (slot_of x names) (length ks) (omega (arith, slice_get_within names (slot_of x names) x h, ap length e, length-map ks (λ r. r.name)))
 
 module _ (setting : Setting) where
   -- the jump over the second branch

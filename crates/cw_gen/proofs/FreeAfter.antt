@@ -4,7 +4,7 @@ use Rattle.std.specs.Prelude.{map, not, ◌&&◌, ◌||◌, Option}
 use Rattle.std.specs.List.{list_all}
 use Rattle.cw_model.specs.declared.syntax.CallKind.TheVariants.{Plain, Spawned}
 use Rattle.cw_model.specs.Lines.{unless}
-use Rattle.cw_model.specs.Syntax.{Name, Expr, Stmt, Declare, DeclareArray, Assign, AssignElement, AddTo, Call, Start, Begin, Sync, If, IfElse, While, For, Scope, Cut, Region, Print, Return, Block, End, Then, Function, Program}
+use Rattle.cw_model.specs.Syntax.{Name, Expr, Stmt, Declare, DeclareArray, Assign, AssignElement, Reduce, Call, Start, Begin, Sync, If, IfElse, While, For, Scope, Cut, Region, Print, Return, Block, End, Then, Function, Program}
 use Rattle.cw_model.specs.Names.{is_among}
 use Rattle.cw_model.specs.Meaning.{function_named}
 use Rattle.cw_model.specs.Typing.{Known, Returns, Nowhere, is_fine, is_int, is_array, is_call, called, is_cut, surely_returns, block_returns, declares, ends_block, faults_in, faults_in_block}
@@ -134,7 +134,7 @@ module _ (program : Program) (least : WhilesAreLeast) (gs : List Function) (same
     stmt_carries (DeclareArray x e') over k known owners around same returns line depth source shift e held taken src types owns all = more_carried shift depth owners (x ∷ owners) held taken (λ y o. later_among y x owners o) all
     stmt_carries (Assign x e') over k known owners around same returns line depth source shift e held taken src types owns all = all
     stmt_carries (AssignElement a i e') over k known owners around same returns line depth source shift e held taken src types owns all = all
-    stmt_carries (AddTo s e') over k known owners around same returns line depth source shift e held taken src types owns all = all
+    stmt_carries (Reduce how s e') over k known owners around same returns line depth source shift e held taken src types owns all = all
     stmt_carries (Call Plain site target f es) over k known owners around same returns line depth source shift e held taken src types owns all = all
     stmt_carries (Call Spawned site target f es) over k known owners around same returns line depth source shift e held taken src types owns all = call_carries site target f es over k known owners around same returns line depth source shift e held taken src types owns all
     stmt_carries (Start kind f es) over k known owners around same returns line depth source shift e held taken src types owns all = absurd cc

@@ -5,7 +5,7 @@ use Rattle.std.specs.List.{list_all}
 use Rattle.std.proofs.lemmas.Slice.Eq.{bytes_eq-Decides}
 use Rattle.cw_model.specs.declared.syntax.CallKind.TheVariants.{Plain, Spawned}
 use Rattle.cw_model.specs.Lines.{unless}
-use Rattle.cw_model.specs.Syntax.{Name, Expr, Stmt, Declare, DeclareArray, Assign, AssignElement, AddTo, Call, Start, Begin, Sync, If, IfElse, While, For, Scope, Cut, Region, Print, Return, Block, End, Then, Program}
+use Rattle.cw_model.specs.Syntax.{Name, Expr, Stmt, Declare, DeclareArray, Assign, AssignElement, Reduce, Call, Start, Begin, Sync, If, IfElse, While, For, Scope, Cut, Region, Print, Return, Block, End, Then, Program}
 use Rattle.cw_model.specs.Names.{same_name, is_among, differ}
 use Rattle.cw_model.specs.Captured.{read_by, read_by_all, read_in, read_in_block}
 use Rattle.cw_model.specs.Typing.{Known, Returns, Nowhere, is_fine, is_int, is_array, is_cut, is_new, is_head_of_loop, surely_returns, block_returns, declares, ends_block, faults_in, faults_in_block}
@@ -218,7 +218,7 @@ module _ (program : Program) where
         let two = both_true (may_read around taken j && may_read around taken e) (are_free taken (a ∷ [])) three.0 in
         let one = both_true (may_read around taken j) (may_read around taken e) two.0 in
         record { stays = i; unread = none_among t.0 (read_by j) (read_by e) (unread_expr around taken j t one.0 i) (unread_expr around taken e t one.1 i) }
-    stmt_stays (AddTo s e) known owners around same depth line taken types owns t i o n = record { stays = i; unread = unread_expr around taken e t (kept _ line owns) i }
+    stmt_stays (Reduce how s e) known owners around same depth line taken types owns t i o n = record { stays = i; unread = unread_expr around taken e t (kept _ line owns) i }
     stmt_stays (Call Plain site target f es) known owners around same depth line taken types owns t i o n =
         let two = both_true _ (differ (given program.functions f es)) (kept _ line owns) in
         let one = both_true (list_all (λ e. may_read around taken e) es) (may_write around taken (target_names target ++ given program.functions f es)) two.0 in

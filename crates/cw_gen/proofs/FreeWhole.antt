@@ -4,7 +4,7 @@ use Rattle.std.specs.Prelude.{map, flat_map, not, ◌&&◌, ◌||◌, if◌then�
 use Rattle.std.specs.List.{list_all}
 use Rattle.cw_model.specs.declared.syntax.CallKind.{CallKind}
 use Rattle.cw_model.specs.Lines.{unless}
-use Rattle.cw_model.specs.Syntax.{Name, Expr, Stmt, Declare, DeclareArray, Assign, AssignElement, AddTo, Call, Start, Begin, Sync, If, IfElse, While, For, Scope, Cut, Region, Print, Return, Block, End, Then, Function, Program}
+use Rattle.cw_model.specs.Syntax.{Name, Expr, Stmt, Declare, DeclareArray, Assign, AssignElement, Reduce, Call, Start, Begin, Sync, If, IfElse, While, For, Scope, Cut, Region, Print, Return, Block, End, Then, Function, Program}
 use Rattle.cw_model.specs.Names.{is_among, differ}
 use Rattle.cw_model.specs.Captured.{captured, read_by, read_in_block, declared_in_block}
 use Rattle.cw_model.specs.Meaning.{function_named}
@@ -295,7 +295,7 @@ module _ (program : Program) (least : WhilesAreLeast) (gs : List Function) (same
         ((write_free shift depth owners held taken all around x p.1, read_free shift depth owners held taken all around over e' p.0), tt)
     stmt_frees (AssignElement a i e') over k known owners around same returns line depth source shift some e held taken src types owns all found =
         element_frees a i e' over k known owners around same returns line depth source shift some e held taken src types owns all found
-    stmt_frees (AddTo s e') over k known owners around same returns line depth source shift some e held taken src types owns all found = (read_free shift depth owners held taken all around over e' (kept (may_read around taken e') line owns), tt)
+    stmt_frees (Reduce how s e') over k known owners around same returns line depth source shift some e held taken src types owns all found = (read_free shift depth owners held taken all around over e' (kept (may_read around taken e') line owns), tt)
     stmt_frees (Call kind site target f es) over k known owners around same returns line depth source shift some e held taken src types owns all found =
         call_frees kind site target f es over k known owners around same returns line depth source shift some e held taken src types owns all found
     stmt_frees (Start kind f es) over k known owners around same returns line depth source shift some e held taken src types owns all found = absurd cc

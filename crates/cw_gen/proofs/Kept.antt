@@ -1,6 +1,6 @@
 -- The rules that a lowered program keeps, in two parts: that names are known, and that none that is used is taken.
 use Rattle.std.specs.Prelude.{◌≡◌, map, ℕ, ◌+◌, if◌then◌else◌, Bool, true, false, ◌++◌, List, [], ◌∷◌, Option, Some, None}
-use Rattle.cw_model.specs.Syntax.{Name, Expr, Number, Variable, Element, Length, Negative, Not, Binary, Stmt, Declare, DeclareArray, Assign, AssignElement, AddTo, Call, Start, Begin, Sync, If, IfElse, While, Scope, Cut, Region, Print, Return, Block, End, Then, Param, Function}
+use Rattle.cw_model.specs.Syntax.{Name, Expr, Number, Variable, Element, Length, Negative, Not, Binary, Stmt, Declare, DeclareArray, Assign, AssignElement, Reduce, Call, Start, Begin, Sync, If, IfElse, While, Scope, Cut, Region, Print, Return, Block, End, Then, Param, Function}
 use Rattle.cw_model.specs.Names.{is_among, differ}
 use Rattle.cw_model.specs.Meaning.{function_named}
 use Rattle.cw_model.specs.Typing.{Returns, Nowhere, WithInt, Alone, block_returns}
@@ -54,7 +54,7 @@ abbrev mutual
   StmtKnown fs given_arrays returns locals (DeclareArray a e) = ExprKnown locals e × Begins given_arrays locals.arrays
   StmtKnown fs given_arrays returns locals (AssignElement a i e) = (is_among a locals.arrays ≡ true) × ExprKnown locals i × ExprKnown locals e
   StmtKnown fs given_arrays returns locals (Assign x e) = (is_among x locals.ints ≡ true) × ExprKnown locals e
-  StmtKnown fs given_arrays returns locals (AddTo s e) = ExprKnown locals e
+  StmtKnown fs given_arrays returns locals (Reduce how s e) = ExprKnown locals e
   StmtKnown fs given_arrays returns locals (Call kind site target f es) =
       (is_function f fs ≡ true) × TargetKnown locals (function_named f fs) target × ArgsKnown locals (function_named f fs).params es
   StmtKnown fs given_arrays returns locals (Start kind f es) =
@@ -112,7 +112,7 @@ abbrev mutual
   StmtFree fs depth taken (AssignElement a i e) =
       (is_taken taken a ≡ false) × (are_free taken (names_in i) ≡ true) × (are_free taken (names_in e) ≡ true)
   StmtFree fs depth taken (Assign x e) = (is_taken taken x ≡ false) × (are_free taken (names_in e) ≡ true)
-  StmtFree fs depth taken (AddTo s e) = are_free taken (names_in e) ≡ true
+  StmtFree fs depth taken (Reduce how s e) = are_free taken (names_in e) ≡ true
   StmtFree fs depth taken (Call kind site target f es) =
       (are_free taken (target_names target) ≡ true) × ExprsFree taken es × (differ (given fs f es) ≡ true)
   StmtFree fs depth taken (Start kind f es) = ExprsFree taken es × (differ (given fs f es) ≡ true)

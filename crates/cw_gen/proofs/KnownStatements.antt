@@ -4,7 +4,7 @@ use Rattle.std.specs.Prelude.{if◌then◌else◌, nat_le, not, ◌&&◌, ◌||�
 use Rattle.std.specs.List.{list_all}
 use Rattle.cw_model.specs.declared.limits.TheConstants.{MOST_GRAIN}
 use Rattle.cw_model.specs.Lines.{unless}
-use Rattle.cw_model.specs.Syntax.{Name, Expr, Stmt, Declare, DeclareArray, Assign, AssignElement, AddTo, Call, Start, Begin, Sync, If, IfElse, While, For, Scope, Cut, Region, Print, Return, Block, End, Then, Function, Program}
+use Rattle.cw_model.specs.Syntax.{Name, Expr, Stmt, Declare, DeclareArray, Assign, AssignElement, Reduce, Call, Start, Begin, Sync, If, IfElse, While, For, Scope, Cut, Region, Print, Return, Block, End, Then, Function, Program}
 use Rattle.cw_model.specs.Names.{same_name, is_among, differ}
 use Rattle.cw_model.specs.Answers.{main_name}
 use Rattle.cw_model.specs.Meaning.{function_named}
@@ -32,7 +32,7 @@ mutual
   no_half c ints arrays over k (DeclareArray a e) can = refl
   no_half c ints arrays over k (Assign x e) can = refl
   no_half c ints arrays over k (AssignElement a i e) can = refl
-  no_half c ints arrays over k (AddTo s e) can = refl
+  no_half c ints arrays over k (Reduce how s e) can = refl
   no_half c ints arrays over k (Call kind site target f es) can = refl
   no_half c ints arrays over k (Start kind f es) can = absurd cc
   no_half c ints arrays over k (Begin f from to captured' over') can = absurd cc
@@ -72,7 +72,7 @@ mutual
   surely_same over k (DeclareArray a e) = refl
   surely_same over k (Assign x e) = refl
   surely_same over k (AssignElement a i e) = refl
-  surely_same over k (AddTo s e) = refl
+  surely_same over k (Reduce how s e) = refl
   surely_same over k (Call kind site target f es) = refl
   surely_same over k (Start kind f es) = refl
   surely_same over k (Begin f from to captured' over') = refl
@@ -97,7 +97,7 @@ same_after over k locals (Declare x e) = refl
 same_after over k locals (DeclareArray a e) = refl
 same_after over k locals (Assign x e) = refl
 same_after over k locals (AssignElement a i e) = refl
-same_after over k locals (AddTo s e) = refl
+same_after over k locals (Reduce how s e) = refl
 same_after over k locals (Call kind site target f es) = refl
 same_after over k locals (Start kind f es) = refl
 same_after over k locals (Begin f from to captured' over') = refl
@@ -241,8 +241,8 @@ module _ (program : Program) (all : List Function) (calls : (f : Name) (g : Func
         let g = both_true _ (can_evaluate c e) can in
         let spot = spot_known agree a i u.0 g.0 (λ h. expr_known agree i u.1 h) in
         (spot.0, spot.1, expr_known agree e t.1 g.1)
-    stmt_known given returns c ints arrays known locals agree begins line k (AddTo s e) typed can found =
-        expr_known agree e (both_true (is_reducer program s) (is_fine known e) (kept _ line typed)).1 can
+    stmt_known given returns c ints arrays known locals agree begins line k (Reduce how s e) typed can found =
+        expr_known agree e (both_true (is_reducer program how s) (is_fine known e) (kept _ line typed)).1 can
     stmt_known given returns c ints arrays known locals agree begins line k (Call kind site target f es) typed can found =
         let one = both_true (is_plain f) _ can in
         let two = both_true (length es == length (function_named f c.functions).params) _ one.1 in

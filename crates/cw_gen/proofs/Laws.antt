@@ -12,7 +12,7 @@ use Rattle.cw_model.specs.Typing.{WithInt, Alone, block_returns}
 use Rattle.cw_tree.specs.Resolved.{Lists, locals_of}
 use Rattle.cw_code.specs.declared.code.Func.{Func}
 use Rattle.cw_code.specs.declared.code.Instr.TheVariants as instr
-use Rattle.cw_code.specs.Code.{Code}
+use Rattle.cw_code.specs.Code.{Code, reducer_names}
 use Rattle.cw_code.specs.Run.{synced, settled, full}
 use Rattle.cw_gen.specs.Emit.{most_jump, first_list, emitted_end}
 use Rattle.cw_gen.proofs.Held.{held_after_all}
@@ -67,7 +67,7 @@ module _ (code : Code) (fs : List Function) (lists : Lists) (small : length code
       cases false e = refl
 
   -- calls run, from any depth
-  pub calls_run : (table : Table code fs lists) (reducers_are : code.reducers ≡ lists.reducers) (tags_are : code.tags ≡ lists.tags) → (bound depth : ℕ) → CallsRun code fs lists bound depth (λ e g given line left. call bound depth fs e g given line left)
+  pub calls_run : (table : Table code fs lists) (reducers_are : reducer_names code.reducers ≡ lists.reducers) (tags_are : code.tags ≡ lists.tags) → (bound depth : ℕ) → CallsRun code fs lists bound depth (λ e g given line left. call bound depth fs e g given line left)
   unfolding call
   calls_run table reducers_are tags_are zero depth = record {
     enters = λ entry h f fn compiled vs xss given n m bound_frame around line left t next below k. absurd (omega arith);

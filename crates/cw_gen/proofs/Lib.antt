@@ -41,6 +41,7 @@ pub mod Passing
 pub mod Scopes
 pub mod Cutting
 pub mod Codes
+pub mod CodedReducers
 pub mod Steps
 pub mod Values
 pub mod Simple

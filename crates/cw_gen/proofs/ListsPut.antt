@@ -3,7 +3,7 @@ use Rattle.std.proofs.Common.{◌≡◌, ℕ, zero, suc, ◌+◌, ◌≤◌, ◌
 use Rattle.std.specs.Prelude.{if◌then◌else◌, nat_eq, slice_get, slice_set}
 use Rattle.std.proofs.lemmas.Bool.Decides.{nat_tests}
 use Rattle.std.proofs.lemmas.List.{length-set}
-use Rattle.cw_loops.specs.Slotted.{Stmt, Declare, DeclareArray, Assign, AssignElement, AddTo, Call, Start, Begin, Sync, If, IfElse, While, Scope, Cut, Region, Print, Return, Block, End, Then, Function}
+use Rattle.cw_loops.specs.Slotted.{Stmt, Declare, DeclareArray, Assign, AssignElement, Reduce, Call, Start, Begin, Sync, If, IfElse, While, Scope, Cut, Region, Print, Return, Block, End, Then, Function}
 use Rattle.cw_code.specs.lemmas.Slots.{set_other}
 use Rattle.cw_gen.specs.Emit.{whole_list, half_list, passed_in, put_lists, put_lists_in, put_lists_of}
 
@@ -61,7 +61,7 @@ mutual
   puts first (DeclareArray x e) lists = refl
   puts first (Assign x e) lists = refl
   puts first (AssignElement x i e) lists = refl
-  puts first (AddTo x e) lists = refl
+  puts first (Reduce how x e) lists = refl
   puts first Sync lists = refl
   puts first (Print e) lists = refl
   puts first (Return e) lists = refl

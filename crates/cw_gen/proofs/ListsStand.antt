@@ -8,7 +8,7 @@ use Rattle.std.proofs.lemmas.List.{length-map, length-replicate}
 use Rattle.cw_model.specs.declared.syntax.CallKind.{CallKind}
 use Rattle.cw_model.specs.declared.syntax.CallKind.TheVariants.{Plain, Spawned}
 use Rattle.cw_model.specs.declared.limits.TheConstants.{MOST_CALL_STATEMENTS}
-use Rattle.cw_model.specs.Syntax.{Name, Stmt, Declare, DeclareArray, Assign, AssignElement, AddTo, Call, Start, Begin, Sync, If, IfElse, While, For, Scope, Cut, Region, Print, Return, Block, End, Then, Function, Program}
+use Rattle.cw_model.specs.Syntax.{Name, Stmt, Declare, DeclareArray, Assign, AssignElement, Reduce, Call, Start, Begin, Sync, If, IfElse, While, For, Scope, Cut, Region, Print, Return, Block, End, Then, Function, Program}
 use Rattle.cw_model.specs.Names.{same_name}
 use Rattle.cw_model.specs.Sites.{CallSite, call_sites, are_numbered}
 use Rattle.cw_tree.specs.Resolved.{Lists, Locals, slot_of, with_array, locals_after, locals_of, function_names, resolved}
@@ -96,7 +96,7 @@ module _ (first : ℕ) (lists : Lists) (key : ℕ) where
     used locals (DeclareArray x e) = refl
     used locals (Assign x e) = refl
     used locals (AssignElement x i e) = refl
-    used locals (AddTo x e) = refl
+    used locals (Reduce how x e) = refl
     used locals Sync = refl
     used locals (Print e) = refl
     used locals (Return e) = refl

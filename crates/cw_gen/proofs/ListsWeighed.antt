@@ -4,7 +4,7 @@ use Rattle.std.specs.Prelude.{◌&&◌}
 use Rattle.std.specs.List.{list_all}
 use Rattle.cw_model.specs.declared.syntax.CallKind.{CallKind}
 use Rattle.cw_model.specs.declared.syntax.CallKind.TheVariants.{Plain, Spawned}
-use Rattle.cw_model.specs.Syntax.{Name, Stmt, Declare, DeclareArray, Assign, AssignElement, AddTo, Call, Start, Begin, Sync, If, IfElse, While, For, Scope, Cut, Region, Print, Return, Block, End, Then, Function}
+use Rattle.cw_model.specs.Syntax.{Name, Stmt, Declare, DeclareArray, Assign, AssignElement, Reduce, Call, Start, Begin, Sync, If, IfElse, While, For, Scope, Cut, Region, Print, Return, Block, End, Then, Function}
 use Rattle.cw_model.specs.Captured.{captured}
 use Rattle.cw_model.specs.Sites.{CallSite, sites_in, sites_in_block}
 use Rattle.cw_loops.specs.Lowered.{is_plain, in_cuts, both_halves, left_arguments, right_arguments, loop_name, loop_function, loop_count, loop_count_in, lower_stmt, lower_block, made_by, made_in, lower_functions, made_of}
@@ -132,7 +132,7 @@ module _ (w : Weights) where
     stmt_weighs (DeclareArray x e) over k line h = omega arith
     stmt_weighs (Assign x e) over k line h = omega arith
     stmt_weighs (AssignElement x i e) over k line h = omega arith
-    stmt_weighs (AddTo x e) over k line h = omega arith
+    stmt_weighs (Reduce how x e) over k line h = omega arith
     stmt_weighs (Call kind site target f es) over k line h = omega arith
     stmt_weighs (Start kind f es) over k line h = absurd cc
     stmt_weighs (Begin f from to xs arrays) over k line h = absurd cc

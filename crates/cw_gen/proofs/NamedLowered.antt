@@ -1,7 +1,7 @@
 -- The reducers, the tags and the sites that a lowered program names are told by its code.
 use Rattle.std.proofs.Common.{◌≡◌, ℕ, ◌+◌, List, [], ◌∷◌, ◌++◌, true, refl, ap, ◌∙◌}
 use Rattle.std.proofs.lemmas.List.{map-append}
-use Rattle.cw_model.specs.Syntax.{Name, Stmt, Declare, DeclareArray, Assign, AssignElement, AddTo, Call, Start, Begin, Sync, If, IfElse, While, For, Scope, Cut, Region, Print, Return, Block, End, Then, Function, Program}
+use Rattle.cw_model.specs.Syntax.{Name, Stmt, Declare, DeclareArray, Assign, AssignElement, Reduce, Call, Start, Begin, Sync, If, IfElse, While, For, Scope, Cut, Region, Print, Return, Block, End, Then, Function, Program}
 use Rattle.cw_model.specs.Names.{is_among}
 use Rattle.cw_model.specs.Captured.{captured}
 use Rattle.cw_model.specs.Sites.{call_sites, are_numbered}
@@ -29,7 +29,7 @@ module _ (lists : Lists) (tables : Tables) where
     stmt_listed over k (DeclareArray a e) h = tt
     stmt_listed over k (Assign x e) h = tt
     stmt_listed over k (AssignElement a i e) h = tt
-    stmt_listed over k (AddTo s e) h = h
+    stmt_listed over k (Reduce how s e) h = h
     stmt_listed over k (Call kind site target f es) h = h
     stmt_listed over k (Start kind f es) h = tt
     stmt_listed over k (Begin f from to ints arrays) h = tt

@@ -2,13 +2,14 @@
 use Rattle.std.proofs.Common.{◌≡◌, ℕ, List, [], ◌∷◌, ◌++◌, Bool, true, false, not, ◌&&◌, ◌||◌, if◌then◌else◌, Option, Some, None, refl, sym, ap, ◌∙◌, subst}
 use Rattle.std.specs.Prelude.{map, flat_map}
 use Rattle.std.proofs.lemmas.Slice.Eq.{bytes_eq-Decides}
-use Rattle.cw_model.specs.Syntax.{Name, Expr, Stmt, AddTo, Call, If, IfElse, While, For, Scope, Cut, Region, Block, End, Then, Function, Program}
+use Rattle.cw_model.specs.Syntax.{Name, Expr, Stmt, Reduce, Call, If, IfElse, While, For, Scope, Cut, Region, Block, End, Then, Function, Program}
 use Rattle.cw_model.specs.Names.{same_name, is_among, new_names}
 use Rattle.cw_model.specs.Lines.{unless}
 use Rattle.cw_model.specs.Typing.{Returns, Nowhere, WithInt, Alone, Known, is_fine, called, is_call, is_cut, is_head_of_loop, is_head, is_reducer, surely_returns, declares, ends_block, faults_in, faults_in_block, faults_of, known_of, type_faults}
 use Rattle.cw_model.specs.Report.{tags_in, tags_in_block}
 use Rattle.cw_model.specs.lemmas.Kept.{kept, left_none, right_none}
 use Rattle.cw_tree.specs.Resolved.{Lists, Locals, slot_of, with_int, with_array, locals_after, locals_of, lists_of, function_names, reducer_names, tags_of, resolved_stmt, resolved_block, resolved_function, resolved}
+use Rattle.cw_tree.specs.lemmas.Reducers.{is_named}
 use Rattle.cw_loops.specs.lemmas.Heads.{heads_kept}
 use Rattle.cw_gen.specs.Emit.{Tables, emitted_sites, emitted_sites_in, emitted_sites_of}
 use Rattle.cw_gen.proofs.Decided.{first_true}
@@ -20,7 +21,7 @@ use Rattle.cw_gen.proofs.Tags.{tags_are_told}
 abbrev mutual
   -- the reducers, the tags and the sites that a statement of a source names are there, in its loops too
   pub NamedStmt : Lists → Tables → Stmt → Type 0
-  NamedStmt lists tables (AddTo s e) = IsListed lists.reducers s
+  NamedStmt lists tables (Reduce how s e) = IsListed lists.reducers s
   NamedStmt lists tables (Call kind site target f es) = HasSite tables.sites kind site (slot_of f lists.functions)
   NamedStmt lists tables (If e b) = NamedBlock lists tables b
   NamedStmt lists tables (IfElse e b c) = NamedBlock lists tables b × NamedBlock lists tables c
@@ -88,8 +89,8 @@ module _ (program : Program) (lists : Lists) (tables : Tables) (reducers_are : l
 
   mutual
     stmt_named : (returns : Returns) (known : Known) (locals : Locals) (line : ℕ) (s : Stmt) → faults_in program returns known line s ≡ [] → Each (λ t. Tag t) (tags_in s) → Each (StandsAtItsNumber tables.sites) (emitted_sites line (resolved_stmt plain_lists locals s)) → NamedStmt lists tables s
-    stmt_named returns known locals line (AddTo s e) typed tags sites =
-        subst (λ names. IsListed names s) (sym reducers_are) (listed_there s (reducer_names program.reducers) (first_true (is_reducer program s) (is_fine known e) (kept (is_reducer program s && is_fine known e) line typed)))
+    stmt_named returns known locals line (Reduce how s e) typed tags sites =
+        subst (λ names. IsListed names s) (sym reducers_are) (listed_there s (reducer_names program.reducers) (is_named how s program.reducers (first_true (is_reducer program how s) (is_fine known e) (kept (is_reducer program how s && is_fine known e) line typed))))
     stmt_named returns known locals line (Call kind site target f es) typed tags sites =
         let there = callee_there program.functions known target f es (called f program.functions) refl (kept (is_call known target (called f program.functions) es) line typed) in
         record { site = _; positive = sites.0.positive; there = sites.0.there; numbered = refl; of_kind = refl; calls = sym (same_slots f there) }

@@ -7,9 +7,9 @@ use Rattle.cw_model.specs.Names.{same_name, is_among}
 use Rattle.cw_model.specs.Frames.{no_frame}
 use Rattle.cw_model.specs.Outcome.{Outcome, Done, Trapped, Over, quiet}
 use Rattle.cw_model.specs.Meaning.{Returned, Deeper, function_named, call}
-use Rattle.cw_model.specs.Answers.{Ended, sum_to, int_given, answer_of, main_frame, main_name, serial_answer}
+use Rattle.cw_model.specs.Answers.{Ended, int_given, answer_of, main_frame, main_name, serial_answer}
 use Rattle.cw_model.specs.Trees.{Marked, Invocation, tree_of, normal}
-use Rattle.cw_tree.specs.Resolved.{Lists, slot_of, locals_of, function_names, reducer_names}
+use Rattle.cw_tree.specs.Resolved.{Lists, slot_of, locals_of, function_names}
 use Rattle.cw_tree.specs.lemmas.NamedSlots.{slot_stays}
 use Rattle.cw_loops.specs.Lowered.{lower_functions, made_by, made_in, made_of, loop_count, loop_count_in, lowered}
 use Rattle.cw_loops.specs.Slotted.{slotted_block, slotted_function, lowered_lists}
@@ -29,6 +29,7 @@ use Rattle.cw_gen.proofs.Decided.{taken, both_true, at_most, equal}
 use Rattle.cw_gen.proofs.Codes.{bound_main, main_locals}
 use Rattle.cw_gen.proofs.Texts.{function_code, tables_in, Compiled, Table, code_of, TurnsClose}
 use Rattle.cw_gen.proofs.Laws.{calls_run}
+use Rattle.cw_gen.proofs.CodedReducers.{names_kept, same_totals}
 
 -- as many integers and arrays are counted as there are names of them
 counted_ints : (ps : List Param) → length (locals_of ps).ints ≡ count_ints (map (λ p. p.is_array) ps)
@@ -178,14 +179,9 @@ pub main_place : (program : Program) → is_function main_name (lowered program)
 main_place program h =
     sym (slot_stays main_name (function_names program.functions) (function_names (made_of 0 program.functions)) (main_there program h)) ∙ sym (ap (slot_of main_name) (names_are program))
 
--- reducers are known by their names alone
-same_sums : (rs : List Reducer) (additions : List (Name × ℤ)) → map (λ (r : Reducer). sum_to r.name additions) (map (λ name. record { name = name; line = 0 }) (reducer_names rs)) ≡ map (λ (r : Reducer). sum_to r.name additions) rs
-same_sums [] additions = refl
-same_sums (r ∷ rs) additions = ap (λ l. sum_to r.name additions ∷ l) (same_sums rs additions)
-
 -- the answer of the code is that of the program
 same_answer : (program : Program) (o : Outcome Returned) → option_map (λ o'. answer_of (reducers_of (code_of program)) o') (resume quiet o (λ r l u. Some (Done (r.0, no_frame) l u))) ≡ Some (answer_of program.reducers o)
-same_answer program (Done r l u) = ap (λ sums. Some (Ended (int_given r.0) u.lines sums (normal (Marked (Invocation 0) (tree_of u.events))))) (same_sums program.reducers u.additions)
+same_answer program (Done r l u) = ap (λ totals. Some (Ended (int_given r.0) u.lines totals (normal (Marked (Invocation 0) (tree_of u.events))))) (same_totals program.reducers u.updates)
 same_answer program (Trapped trap line lines) = refl
 same_answer program Over = refl
 
@@ -213,7 +209,7 @@ same_run program small least fine args m n =
     ap (λ i. answer (go_on (first_transition (slice_get code.funcs i) args) n (λ s. steps code n s))) (main_place program fine.main)
     ∙ ap (λ o. answer (go_on (first_transition o args) n (λ s. steps code n s))) entry.1
     ∙ ap (λ w. answer (go_on w n (λ s. steps code n s))) (taken (nat_eq (length args) fn.params && (nat_le fn.params fn.slots && nat_eq fn.array_params 0)) begin Stuck fits)
-    ∙ ap answer ((calls_run code fs lists small least table refl refl (suc n) 0).enters Deeper refl main fn entry.2 args [] given many none (bound_main main.params args no_frame fine.ints m) [] main.line n quiet (λ r l u. Some (Done (r.0, no_frame) l u)) (omega arith) (λ v g arrays l u gives_int gives le. refl))
+    ∙ ap answer ((calls_run code fs lists small least table (names_kept program.reducers) refl (suc n) 0).enters Deeper refl main fn entry.2 args [] given many none (bound_main main.params args no_frame fine.ints m) [] main.line n quiet (λ r l u. Some (Done (r.0, no_frame) l u)) (omega arith) (λ v g arrays l u gives_int gives le. refl))
     ∙ same_answer program (call (suc n) 0 fs Deeper main (main_frame main.params args no_frame) main.line n)
 
 -- main takes as many arguments as the program's

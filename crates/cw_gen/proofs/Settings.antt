@@ -7,7 +7,7 @@ use Rattle.cw_model.specs.Ownership.{Taken}
 use Rattle.cw_tree.specs.Resolved.{Lists, Locals}
 use Rattle.cw_code.specs.declared.code.Func.{Func}
 use Rattle.cw_code.specs.declared.code.Instr.{Instr}
-use Rattle.cw_code.specs.Code.{Code}
+use Rattle.cw_code.specs.Code.{Code, reducer_names}
 use Rattle.cw_code.specs.Fits.{names_well, Shape, is_ready, leaves, nexts, Table, FlowsInto, FlowsIntoEach}
 use Rattle.cw_gen.specs.Emit.{Tables, first_list}
 use Rattle.cw_gen.proofs.Decided.{below}
@@ -65,7 +65,7 @@ pub record Setting : Type 0 where
   pub fs : List Function
   pub lists : Lists
   pub functions : texts.Table code fs lists
-  pub reducers_are : code.reducers ≡ lists.reducers
+  pub reducers_are : reducer_names code.reducers ≡ lists.reducers
   pub tags_are : code.tags ≡ lists.tags
   pub least : TurnsClose fs
   pub f : Func

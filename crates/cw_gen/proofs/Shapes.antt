@@ -1,7 +1,7 @@
 -- What the places of generated code find.
 use Rattle.std.proofs.Common.{◌≡◌, ℕ, suc, ◌+◌, List, [], ◌∷◌, ◌++◌, length, Bool, true, false, if◌then◌else◌, Option, Some, None, refl, sym, ap, ◌∙◌, subst, arith, length-append}
 use Rattle.std.specs.Prelude.{map}
-use Rattle.cw_model.specs.Syntax.{Name, Expr, Number, Variable, Element, Length, Negative, Not, Binary, Stmt, Declare, DeclareArray, Assign, AssignElement, AddTo, Call, Start, Begin, Sync, If, IfElse, While, Scope, Cut, Region, Print, Return, Block, End, Then, Param, Function}
+use Rattle.cw_model.specs.Syntax.{Name, Expr, Number, Variable, Element, Length, Negative, Not, Binary, Stmt, Declare, DeclareArray, Assign, AssignElement, Reduce, Call, Start, Begin, Sync, If, IfElse, While, Scope, Cut, Region, Print, Return, Block, End, Then, Param, Function}
 use Rattle.cw_model.specs.Meaning.{function_named}
 use Rattle.cw_model.specs.Typing.{Returns, Nowhere, block_returns}
 use Rattle.cw_model.specs.Ownership.{CutOf, Taken}
@@ -83,7 +83,7 @@ abbrev mutual
   stmt_shapes fs size opened locals taken (AssignElement x i e) =
       expr_shapes (shape_at size opened locals taken) 0 i ++ (expr_shapes (shape_at size opened locals taken) 1 e ++ Some (shape_at size opened locals taken 2) ∷ [])
   stmt_shapes fs size opened locals taken (Assign x e) = valued_shapes (shape_at size opened locals taken) e
-  stmt_shapes fs size opened locals taken (AddTo s e) = valued_shapes (shape_at size opened locals taken) e
+  stmt_shapes fs size opened locals taken (Reduce how s e) = valued_shapes (shape_at size opened locals taken) e
   stmt_shapes fs size opened locals taken (Print e) = valued_shapes (shape_at size opened locals taken) e
   stmt_shapes fs size opened locals taken (Call kind site target f es) = args_shapes (shape_at size opened locals taken) 0 (function_named f fs).params es ++ Some (shape_at size opened locals taken (args_after 0 (function_named f fs).params es)) ∷ []
   stmt_shapes fs size opened locals taken (Start kind f es) = args_shapes (shape_at size opened locals taken) 0 (function_named f fs).params es ++ Some (shape_at size opened locals taken (args_after 0 (function_named f fs).params es)) ∷ []
@@ -166,7 +166,7 @@ module _ (fs : List Function) (lists : Lists) (tables : Tables) (size : Room) wh
     stmt_as_many returns level opened locals taken line (AssignElement x i e) at fine =
         both_as_many (expr_shapes _ 0 i) _ (expr_code locals line i) _ (expr_as_many _ 0 locals line i) (last_one (expr_shapes _ 1 e) _ (expr_code locals line e) _ (expr_as_many _ 1 locals line e))
     stmt_as_many returns level opened locals taken line (Assign x e) at fine = last_one (expr_shapes _ 0 e) _ (expr_code locals line e) _ (expr_as_many _ 0 locals line e)
-    stmt_as_many returns level opened locals taken line (AddTo s e) at fine = last_one (expr_shapes _ 0 e) _ (expr_code locals line e) _ (expr_as_many _ 0 locals line e)
+    stmt_as_many returns level opened locals taken line (Reduce how s e) at fine = last_one (expr_shapes _ 0 e) _ (expr_code locals line e) _ (expr_as_many _ 0 locals line e)
     stmt_as_many returns level opened locals taken line (Print e) at fine = last_one (expr_shapes _ 0 e) _ (expr_code locals line e) _ (expr_as_many _ 0 locals line e)
     stmt_as_many returns level opened locals taken line (Call kind site target f es) at fine = last_one (args_shapes _ 0 (function_named f fs).params es) _ (args_code locals line es) _ (args_as_many _ 0 locals taken line (function_named f fs).params es fine.2)
     stmt_as_many returns level opened locals taken line (Start kind f es) at fine = last_one (args_shapes _ 0 (function_named f fs).params es) _ (args_code locals line es) _ (args_as_many _ 0 locals taken line (function_named f fs).params es fine.2)

@@ -5,7 +5,7 @@ use Rattle.std.proofs.Math.Seq.{get_or-append_seam}
 use Rattle.std.proofs.lemmas.Bool.Decides.{nat_tests}
 use Rattle.std.proofs.lemmas.List.{length-map, map-append}
 use Rattle.std.proofs.lemmas.Option.{slice_get-get_or}
-use Rattle.cw_model.specs.Syntax.{Stmt, Declare, DeclareArray, Assign, AssignElement, AddTo, Call, Start, Begin, Sync, If, IfElse, While, For, Scope, Cut, Region, Print, Return, Block, End, Then, Function, Program}
+use Rattle.cw_model.specs.Syntax.{Stmt, Declare, DeclareArray, Assign, AssignElement, Reduce, Call, Start, Begin, Sync, If, IfElse, While, For, Scope, Cut, Region, Print, Return, Block, End, Then, Function, Program}
 use Rattle.cw_model.specs.Sites.{sites_in, sites_in_block, call_sites, are_numbered}
 use Rattle.cw_tree.specs.Resolved.{Lists, Locals, with_int, with_array, locals_after, locals_of, lists_of, resolved_stmt, resolved_block, resolved_function, resolved}
 use Rattle.cw_code.specs.Code.{CodeSite, told_sites}
@@ -22,7 +22,7 @@ module _ (lists : Lists) where
     told_stmt locals line (DeclareArray x e) = refl
     told_stmt locals line (AssignElement x i e) = refl
     told_stmt locals line (Assign x e) = refl
-    told_stmt locals line (AddTo s e) = refl
+    told_stmt locals line (Reduce how s e) = refl
     told_stmt locals line (Print e) = refl
     told_stmt locals line (Call kind site target f es) = refl
     told_stmt locals line (Start kind f es) = refl

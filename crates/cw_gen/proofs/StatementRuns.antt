@@ -5,7 +5,7 @@ use Rattle.cw_model.specs.declared.limits.TheConstants.{MOST_DEPTH}
 use Rattle.cw_model.specs.Ints.{is_zero, natural}
 use Rattle.cw_model.specs.declared.syntax.CallKind.{CallKind}
 use Rattle.cw_model.specs.declared.syntax.CallKind.TheVariants.{Plain, Spawned}
-use Rattle.cw_model.specs.Syntax.{Name, Expr, Stmt, Declare, DeclareArray, Assign, AssignElement, AddTo, Call, Start, Begin, Sync, If, IfElse, While, Scope, Cut, Region, Print, Return, Block, End, Then, Function}
+use Rattle.cw_model.specs.Syntax.{Name, Expr, Stmt, Declare, DeclareArray, Assign, AssignElement, Reduce, Call, Start, Begin, Sync, If, IfElse, While, Scope, Cut, Region, Print, Return, Block, End, Then, Function}
 use Rattle.cw_model.specs.Trees.{Join, works}
 use Rattle.cw_model.specs.Frames.{Frame, no_frame, int_of, array_of, new_int, new_array, set_int, set_result, leave}
 use Rattle.cw_model.specs.Frames as frames
@@ -20,7 +20,7 @@ use Rattle.cw_tree.specs.Resolved.{Lists, Locals, slot_of, with_array, locals_af
 use Rattle.cw_loops.specs.Slotted.{slotted_block}
 use Rattle.cw_code.specs.declared.code.BlockKind.TheVariants as block
 use Rattle.cw_code.specs.declared.code.Instr.TheVariants as instr
-use Rattle.cw_code.specs.Code.{Code}
+use Rattle.cw_code.specs.Code.{Code, reducer_names}
 use Rattle.cw_code.specs.Run.{Around, State, On, RunOutcome, ticked, synced, on_slot, set_array, settled, slots_named, opened_region, adds, steps}
 use Rattle.cw_gen.specs.Emit.{most_jump, distance, first_list, half_list, whole_list, emitted_arg, emitted_loads, callee_of, half_of, halves_of, whole_of, past, emitted_end}
 use Rattle.cw_gen.proofs.Held.{held_after, held_after_all}
@@ -44,7 +44,7 @@ use Rattle.cw_gen.proofs.Recurring.{call_runs, recur_runs}
 use Rattle.cw_gen.proofs.Beginning.{begin_runs}
 use Rattle.cw_gen.proofs.Bodies.{scoped_runs, inside_block, cut_runs, in_reach, while_runs}
 
-module _ (code : Code) (fs : List Function) (lists : Lists) (small : length code.instrs ≤ most_jump) (least : TurnsClose fs) (table : Table code fs lists) (reducers_are : code.reducers ≡ lists.reducers) (tags_are : code.tags ≡ lists.tags)
+module _ (code : Code) (fs : List Function) (lists : Lists) (small : length code.instrs ≤ most_jump) (least : TurnsClose fs) (table : Table code fs lists) (reducers_are : reducer_names code.reducers ≡ lists.reducers) (tags_are : code.tags ≡ lists.tags)
     (depth : ℕ) (shallow : nat_lt MOST_DEPTH depth ≡ false) (bound : ℕ) (calls : Calls) (run_calls : CallsRun code fs lists bound depth calls) where
   abbrev at : List Around → ℕ → List ℤ → Store → Trace → State
   at around pc ops store t = here depth around pc ops store t
@@ -78,8 +78,8 @@ module _ (code : Code) (fs : List Function) (lists : Lists) (small : length code
   listed ks names x e h = ap (λ l. slice_get l (slot_of x names)) e ∙ h
 
   -- an instruction that tells of a value counts as any other
-  told_after : (u : Trace) (lines : List ℤ) (additions : List (Name × ℤ)) → joined u (record { lines = lines; additions = additions; events = works 1 }) ≡ joined (ticked u) (record { lines = lines; additions = additions; events = [] })
-  told_after u lines additions = sym (joined_joined u (shows (works 1)) (record { lines = lines; additions = additions; events = [] }))
+  told_after : (u : Trace) (lines : List ℤ) (updates : List (Name × ℤ)) → joined u (record { lines = lines; updates = updates; events = works 1 }) ≡ joined (ticked u) (record { lines = lines; updates = updates; events = [] })
+  told_after u lines updates = sym (joined_joined u (shows (works 1)) (record { lines = lines; updates = updates; events = [] }))
 
   -- what a call statement takes
   call_holds : (kind : CallKind) (site : ℕ) (target : Option Name) (name : Name) (es : List Expr) (level : ℕ) (taken' : Taken) → taken_on kind level target (ownership.given fs name es) taken' ≡ held_after fs level (Call kind site target name es) taken'
@@ -133,11 +133,11 @@ module _ (code : Code) (fs : List Function) (lists : Lists) (small : length code
         store_runs code depth around locals locals taken' e line pc (slot_of x locals.ints) size store outer frame (λ v. set_int x v frame) t left next has fine.1 a n
         (writes locals taken' x frame store outer fine.0 a)
         (λ v. assigns locals taken' x v frame store outer fine.0 a) (on refl)
-    stmt_runs around returns level locals taken' (AddTo s e) line pc size store outer frame t left next at_level out within has fine a n on backs =
-        tells_runs code depth around locals taken' e line pc size (instr.AddTo (slot_of s lists.reducers)) store outer frame (λ v. record { lines = []; additions = (s, v) ∷ []; events = [] }) t left next has fine.1 a n
-        (λ v place u. ap (λ o. adds (at around place (v ∷ []) store u) o v []) (listed code.reducers lists.reducers s reducers_are fine.0) ∙ ap (λ q. On (at around (place + 1) [] store q)) (told_after u [] ((s, v) ∷ []))) (on refl)
+    stmt_runs around returns level locals taken' (Reduce how s e) line pc size store outer frame t left next at_level out within has fine a n on backs =
+        tells_runs code depth around locals taken' e line pc size (instr.Reduce (slot_of s lists.reducers)) store outer frame (λ v. record { lines = []; updates = (s, v) ∷ []; events = [] }) t left next has fine.1 a n
+        (λ v place u. ap (λ o. adds (at around place (v ∷ []) store u) o v []) (listed (reducer_names code.reducers) lists.reducers s reducers_are fine.0) ∙ ap (λ q. On (at around (place + 1) [] store q)) (told_after u [] ((s, v) ∷ []))) (on refl)
     stmt_runs around returns level locals taken' (Print e) line pc size store outer frame t left next at_level out within has fine a n on backs =
-        tells_runs code depth around locals taken' e line pc size instr.Print store outer frame (λ v. record { lines = v ∷ []; additions = []; events = [] }) t left next has fine a n
+        tells_runs code depth around locals taken' e line pc size instr.Print store outer frame (λ v. record { lines = v ∷ []; updates = []; events = [] }) t left next has fine a n
         (λ v place u. ap (λ q. On (at around (place + 1) [] store q)) (told_after u (v ∷ []) [])) (on refl)
     stmt_runs around returns level locals taken' (Call kind site target name es) line pc size store outer frame t left next at_level out within has fine a n on backs =
         let f = function_named name fs in

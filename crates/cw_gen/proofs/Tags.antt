@@ -3,7 +3,7 @@ use Rattle.std.proofs.Common.{◌≡◌, ℕ, suc, List, [], ◌∷◌, ◌++◌
 use Rattle.std.proofs.lemmas.Slice.Eq.{bytes_eq-Decides}
 use Rattle.std.proofs.lemmas.List.{map-append}
 use Rattle.std.specs.Prelude.{map, flat_map, slice_get}
-use Rattle.cw_model.specs.Syntax.{Name, Stmt, Declare, DeclareArray, Assign, AssignElement, AddTo, Call, Start, Begin, Sync, If, IfElse, While, For, Scope, Cut, Region, Print, Return, Block, End, Then, Function, Program}
+use Rattle.cw_model.specs.Syntax.{Name, Stmt, Declare, DeclareArray, Assign, AssignElement, Reduce, Call, Start, Begin, Sync, If, IfElse, While, For, Scope, Cut, Region, Print, Return, Block, End, Then, Function, Program}
 use Rattle.cw_model.specs.Names.{same_name, is_among, new_names}
 use Rattle.cw_model.specs.Meaning.{function_named}
 use Rattle.cw_model.specs.Report.{tags_in, tags_in_block}
@@ -64,7 +64,7 @@ mutual
   tags_are line (DeclareArray a e) = refl
   tags_are line (Assign x e) = refl
   tags_are line (AssignElement a i e) = refl
-  tags_are line (AddTo s e) = refl
+  tags_are line (Reduce how s e) = refl
   tags_are line (Call kind site target f es) = refl
   tags_are line (Start kind f es) = refl
   tags_are line (Begin f from to captured over) = refl

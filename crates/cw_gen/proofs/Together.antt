@@ -1,7 +1,7 @@
 -- Functions whose names are known and free, and whose slots, lists and sites are told, are what their code relies on.
 use Rattle.std.proofs.Common.{◌≡◌, ℕ, ◌+◌, List, [], ◌∷◌, Bool, true, false, not, ◌||◌, if◌then◌else◌, Option, Some, None, refl}
 use Rattle.std.specs.List.{list_any}
-use Rattle.cw_model.specs.Syntax.{Name, Expr, Number, Variable, Element, Length, Negative, Not, Binary, Stmt, Declare, DeclareArray, Assign, AssignElement, AddTo, Call, Start, Begin, Sync, If, IfElse, While, For, Scope, Cut, Region, Print, Return, Block, End, Then, Param, Function}
+use Rattle.cw_model.specs.Syntax.{Name, Expr, Number, Variable, Element, Length, Negative, Not, Binary, Stmt, Declare, DeclareArray, Assign, AssignElement, Reduce, Call, Start, Begin, Sync, If, IfElse, While, For, Scope, Cut, Region, Print, Return, Block, End, Then, Param, Function}
 use Rattle.cw_model.specs.Meaning.{function_named}
 use Rattle.cw_model.specs.Typing.{Returns, Nowhere, WithInt, Alone}
 use Rattle.cw_model.specs.Ownership.{Taken, CutOf, is_taken, names_in, target_names, are_free}
@@ -68,7 +68,7 @@ module _ (fs : List Function) (lists : Lists) (tables : Tables) (room : Room) wh
     stmt_fine returns depth locals taken (AssignElement a i e) known free passes there listed =
         (record { declared = known.0; free = free.0 }, expr_fine locals taken i known.1 free.1, expr_fine locals taken e known.2 free.2)
     stmt_fine returns depth locals taken (Assign x e) known free passes there listed = (record { declared = known.0; free = free.0 }, expr_fine locals taken e known.1 free.1)
-    stmt_fine returns depth locals taken (AddTo s e) known free passes there listed = (listed, expr_fine locals taken e known free)
+    stmt_fine returns depth locals taken (Reduce how s e) known free passes there listed = (listed, expr_fine locals taken e known free)
     stmt_fine returns depth locals taken (Call kind site target f es) known free passes there listed =
         (known.0, target_fine locals taken (function_named f fs) target known.1 free.0, args_fine locals taken (function_named f fs).params es known.2 free.1, free.2, passes, listed)
     stmt_fine returns depth locals taken (Start kind f es) known free passes there listed =

@@ -1,6 +1,6 @@
 -- What the code of a lowered program tells of its text: rooms, lists of array slots, sites, reducers and tags.
 use Rattle.std.specs.Prelude.{suc, ◌<◌, ◌≤◌, List, [], ◌∷◌, length, map}
-use Rattle.cw_model.specs.Syntax.{Stmt, Declare, DeclareArray, AddTo, Call, Start, Begin, If, IfElse, While, Scope, Cut, Region, Block, End, Then, Function}
+use Rattle.cw_model.specs.Syntax.{Stmt, Declare, DeclareArray, Reduce, Call, Start, Begin, If, IfElse, While, Scope, Cut, Region, Block, End, Then, Function}
 use Rattle.cw_tree.specs.Resolved.{Lists, Locals, slot_of, with_array, locals_after, locals_of}
 use Rattle.cw_loops.specs.Slotted.{slotted_argument}
 use Rattle.cw_gen.specs.Emit.{Tables, first_list, whole_list, half_list, passed_in}
@@ -63,7 +63,7 @@ AllHaveRooms lists (f ∷ fs) = HasRooms lists f × AllHaveRooms lists fs
 abbrev mutual
   -- the reducers, the tags and the sites that a statement names are there
   pub ListedStmt : Lists → Tables → Stmt → Type 0
-  ListedStmt lists tables (AddTo s e) = IsListed lists.reducers s
+  ListedStmt lists tables (Reduce how s e) = IsListed lists.reducers s
   ListedStmt lists tables (Call kind site target f es) = HasSite tables.sites kind site (slot_of f lists.functions)
   ListedStmt lists tables (If e b) = ListedBlock lists tables b
   ListedStmt lists tables (IfElse e b c) = ListedBlock lists tables b × ListedBlock lists tables c

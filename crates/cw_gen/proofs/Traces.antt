@@ -12,18 +12,18 @@ resume t (Done a left u) next = next a left (joined t u)
 resume t (Trapped trap line lines) next = Some (Trapped trap line (t.lines ++ lines))
 resume t Over next = Some Over
 
-pub same_trace : (t u : Trace) → t.lines ≡ u.lines → t.additions ≡ u.additions → t.events ≡ u.events → t ≡ u
+pub same_trace : (t u : Trace) → t.lines ≡ u.lines → t.updates ≡ u.updates → t.events ≡ u.events → t ≡ u
 same_trace t u a b c =
-    ap (λ l. record { lines = l; additions = t.additions; events = t.events }) a
-    ∙ ap (λ l. record { lines = u.lines; additions = l; events = t.events }) b
-    ∙ ap (λ l. record { lines = u.lines; additions = u.additions; events = l }) c
+    ap (λ l. record { lines = l; updates = t.updates; events = t.events }) a
+    ∙ ap (λ l. record { lines = u.lines; updates = l; events = t.events }) b
+    ∙ ap (λ l. record { lines = u.lines; updates = u.updates; events = l }) c
 
 pub joined_joined : (t u v : Trace) → joined (joined t u) v ≡ joined t (joined u v)
 joined_joined t u v =
-    same_trace _ _ (append_assoc t.lines u.lines v.lines) (append_assoc t.additions u.additions v.additions) (append_assoc t.events u.events v.events)
+    same_trace _ _ (append_assoc t.lines u.lines v.lines) (append_assoc t.updates u.updates v.updates) (append_assoc t.events u.events v.events)
 
 pub joined_quiet : (t : Trace) → joined t quiet ≡ t
-joined_quiet t = same_trace _ _ (append-nil t.lines) (append-nil t.additions) (append-nil t.events)
+joined_quiet t = same_trace _ _ (append-nil t.lines) (append-nil t.updates) (append-nil t.events)
 
 pub resume_after : {B : Type 0} (t u : Trace) (o : Outcome B) (next : B → ℕ → Trace → RunOutcome) → resume t (after u o) next ≡ resume (joined t u) o next
 resume_after t u (Done b l v) next = ap (next b l) (sym (joined_joined t u v))

@@ -3,9 +3,10 @@ use Rattle.std.specs.Prelude.{ℕ, suc, ◌+◌, ◌-◌, ◌*◌, ◌^◌, Bool
 use Rattle.cw_model.specs.declared.syntax.CallKind.{CallKind}
 use Rattle.cw_model.specs.declared.syntax.CallKind.TheVariants.{Plain, Spawned}
 use Rattle.cw_model.specs.Sites.{Of}
-use Rattle.cw_tree.specs.Resolved.{Listed, Resolved, reducer_names}
+use Rattle.cw_model.specs.Syntax as model
+use Rattle.cw_tree.specs.Resolved.{Listed, Resolved}
 use Rattle.cw_tree.specs.Resolved as source
-use Rattle.cw_loops.specs.Slotted.{Expr, Number, Variable, Element, Length, Negative, Not, Binary, Argument, Int, Array, Stmt, Declare, DeclareArray, Assign, AssignElement, AddTo, Call, Start, Begin, Sync, If, IfElse, While, Scope, Cut, Region, Print, Return, Block, End, Then, Function}
+use Rattle.cw_loops.specs.Slotted.{Expr, Number, Variable, Element, Length, Negative, Not, Binary, Argument, Int, Array, Stmt, Declare, DeclareArray, Assign, AssignElement, Reduce, Call, Start, Begin, Sync, If, IfElse, While, Scope, Cut, Region, Print, Return, Block, End, Then, Function}
 use Rattle.cw_code.specs.declared.code.UnaryOperator.TheVariants as unary
 use Rattle.cw_code.specs.declared.code.BlockKind.{BlockKind}
 use Rattle.cw_code.specs.declared.code.BlockKind.TheVariants as block
@@ -15,6 +16,7 @@ use Rattle.cw_code.specs.declared.code.Func.{Func}
 use Rattle.cw_code.specs.declared.code.Halves.{Halves}
 use Rattle.cw_code.specs.declared.code.Instr.{Instr}
 use Rattle.cw_code.specs.declared.code.Instr.TheVariants as instr
+use Rattle.cw_code.specs.declared.code.Reducer.{Reducer}
 use Rattle.cw_code.specs.Code.{CodeSite, Code}
 
 -- the greatest distance of a jump
@@ -121,7 +123,7 @@ emitted_alone first line (DeclareArray u e) = emitted_expr line e ++ instr.NewAr
 emitted_alone first line (AssignElement u i e) =
     emitted_expr line i ++ (emitted_expr line e ++ instr.SetElement u line ∷ [])
 emitted_alone first line (Assign u e) = emitted_expr line e ++ instr.Store u ∷ []
-emitted_alone first line (AddTo s e) = emitted_expr line e ++ instr.AddTo s ∷ []
+emitted_alone first line (Reduce how s e) = emitted_expr line e ++ instr.Reduce s ∷ []
 emitted_alone first line (Print e) = emitted_expr line e ++ instr.Print ∷ []
 emitted_alone first line (Call kind site target f es) =
     emitted_args line es ++ instr.Call kind (callee_of line site target f) ∷ []
@@ -313,6 +315,13 @@ abbrev pub head_line : Option source.Function → ℕ
 head_line None = 0
 head_line (Some f) = f.line
 
+-- a reducer as the code keeps it: without its line
+abbrev pub coded_reducer : model.Reducer → Reducer
+coded_reducer r = record { name = r.name; how = r.how }
+
+abbrev pub coded_reducers : List model.Reducer → List Reducer
+coded_reducers reducers = map coded_reducer reducers
+
 -- the whole code of a program: sites, reducers and tags are those of its source, and all else is that of its functions,
 -- in which no loop is left
 abbrev pub emitted : Resolved → List Function → Code
@@ -325,7 +334,7 @@ emitted tree functions =
       main = tree.main;
       main_line = head_line (slice_get tree.functions tree.main);
       sites = sites;
-      reducers = reducer_names tree.reducers;
+      reducers = coded_reducers tree.reducers;
       tags = tree.tags;
       passed = emitted_lists first functions;
     }

@@ -11,13 +11,13 @@ use Rattle.cw_model.specs.Sites.{call_sites, root_site}
 use Rattle.cw_model.specs.Sizes.{program_faults}
 use Rattle.cw_text.specs.declared.fault.Fault.{Fault}
 use Rattle.cw_text.specs.declared.fault.Fault.TheVariants as fault
-use Rattle.cw_tree.specs.Resolved.{reducer_names}
 use Rattle.cw_tree.specs.ResolvedView.{program_of}
 use Rattle.cw_loops.specs.declared.program.Core.{Core}
 use Rattle.cw_code.specs.declared.code.Code as made_code
 use Rattle.cw_code.specs.Code.{Code, code_view, told_sites}
 use Rattle.cw_code.specs.Run.{code_serial}
 use Rattle.cw_code.specs.Fits.{main_params, Fits}
+use Rattle.cw_gen.specs.Emit.{coded_reducers}
 
 -- how many arguments the main of a program takes
 abbrev pub main_count : Program → ℕ
@@ -35,7 +35,7 @@ pub record Generates (program : Program) (code : Code) : Type 0 where
   pub params : main_params code ≡ main_count program
   pub sites : told_sites code ≡ call_sites program
   pub main_line : code.main_line ≡ (root_site program).line
-  pub reducers : code.reducers ≡ reducer_names program.reducers
+  pub reducers : code.reducers ≡ coded_reducers program.reducers
   pub tags : code.tags ≡ tags_of program
   pub small : program_faults program ≡ []
 

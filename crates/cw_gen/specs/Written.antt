@@ -8,7 +8,6 @@ use Rattle.cw_tree.specs.declared.resolved.Function as code
 use Rattle.cw_tree.specs.declared.resolved.Param.{Param}
 use Rattle.cw_tree.specs.declared.resolved.Reducer.{Reducer}
 use Rattle.cw_tree.specs.declared.resolved.Tree as source
-use Rattle.cw_tree.specs.Resolved.{reducer_names}
 use Rattle.cw_tree.specs.ResolvedView.{function_of, listed_of, param_of, reducer_of, resolved_of}
 use Rattle.cw_loops.specs.declared.program.Core.{Core}
 use Rattle.cw_loops.specs.declared.tree.Argument.{Argument}
@@ -30,9 +29,10 @@ use Rattle.cw_code.specs.declared.code.Inner.{Inner}
 use Rattle.cw_code.specs.declared.code.Instr.{Instr}
 use Rattle.cw_code.specs.declared.code.Instr.TheVariants as instr
 use Rattle.cw_code.specs.declared.code.BlockKind.{BlockKind}
+use Rattle.cw_code.specs.declared.code.Reducer as code_reducer
 use Rattle.cw_code.specs.declared.code.Site.{Site}
 use Rattle.cw_code.specs.Code.{Code, CodeSite, site_view}
-use Rattle.cw_gen.specs.Emit.{callee_of, distance, past, halves_of, passed_in, put_lists_in, ints_in_block, arrays_in_block, site_of}
+use Rattle.cw_gen.specs.Emit.{callee_of, coded_reducers, distance, past, halves_of, passed_in, put_lists_in, ints_in_block, arrays_in_block, site_of}
 use Rattle.cw_gen.specs.Emit.{emitted, emitted_args, emitted_begin, emitted_block, emitted_cut, emitted_expr, emitted_func, emitted_funcs, emitted_function}
 use Rattle.cw_gen.specs.Emit.{emitted_inside, emitted_instrs, emitted_lists, emitted_loads, emitted_return, emitted_sites_of, emitted_stmt, emitted_turn}
 
@@ -66,9 +66,9 @@ sites_of functions = emitted_sites_of (map function_of functions)
 abbrev pub call_site : (line : ℕ) → code_call.Call → CodeSite
 call_site line c = site_of line c.kind c.site (listed_of c.callee)
 
--- the names of reducers
-abbrev pub names_of_reducers : List Reducer → List (List ℕ)
-names_of_reducers reducers = reducer_names (map reducer_of reducers)
+-- reducers as the code keeps them
+abbrev pub kept_reducers : List Reducer → List code_reducer.Reducer
+kept_reducers reducers = coded_reducers (map reducer_of reducers)
 
 -- which parameters are arrays
 abbrev pub are_arrays : List Param → List Bool

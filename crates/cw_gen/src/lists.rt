@@ -182,7 +182,7 @@ fn lists_at(
         | Stmt::DeclareArray(_, _)
         | Stmt::Assign(_, _)
         | Stmt::AssignElement(_, _, _)
-        | Stmt::AddTo(_, _)
+        | Stmt::Reduce(_, _, _)
         | Stmt::Sync
         | Stmt::Print(_)
         | Stmt::Return(_) => Ok(()),

@@ -57,7 +57,7 @@ fn sites_at(alloc: Global, sites: &mut Vec<Site>, line: u32, stmt: &Stmt) -> Res
         | Stmt::DeclareArray(_, _)
         | Stmt::Assign(_, _)
         | Stmt::AssignElement(_, _, _)
-        | Stmt::AddTo(_, _)
+        | Stmt::Reduce(_, _, _)
         | Stmt::Sync
         | Stmt::Print(_)
         | Stmt::Return(_) => Ok(()),

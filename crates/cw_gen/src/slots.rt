@@ -69,7 +69,7 @@ fn ints_in(n: usize, stmt: &Stmt) -> usize
         Stmt::DeclareArray(_, _)
         | Stmt::Assign(_, _)
         | Stmt::AssignElement(_, _, _)
-        | Stmt::AddTo(_, _)
+        | Stmt::Reduce(_, _, _)
         | Stmt::Call(_)
         | Stmt::Begin(_)
         | Stmt::Sync
@@ -105,7 +105,7 @@ fn arrays_in(n: usize, stmt: &Stmt) -> usize
         Stmt::Declare(_, _)
         | Stmt::Assign(_, _)
         | Stmt::AssignElement(_, _, _)
-        | Stmt::AddTo(_, _)
+        | Stmt::Reduce(_, _, _)
         | Stmt::Call(_)
         | Stmt::Begin(_)
         | Stmt::Sync

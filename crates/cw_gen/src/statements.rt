@@ -87,7 +87,7 @@ fn statement(
         | Stmt::DeclareArray(_, _)
         | Stmt::Assign(_, _)
         | Stmt::AssignElement(_, _, _)
-        | Stmt::AddTo(_, _)
+        | Stmt::Reduce(_, _, _)
         | Stmt::Call(_)
         | Stmt::Begin(_)
         | Stmt::Sync
@@ -110,7 +110,7 @@ fn alone(instrs: &mut Vec<Instr>, first: usize, line: u32, stmt: &Stmt) -> Resul
             valued(instrs, line, e, Instr::SetElement(*u, line))
         }
         Stmt::Assign(u, e) => valued(instrs, line, e, Instr::Store(*u)),
-        Stmt::AddTo(s, e) => valued(instrs, line, e, Instr::AddTo(*s)),
+        Stmt::Reduce(_, s, e) => valued(instrs, line, e, Instr::Reduce(*s)),
         Stmt::Print(e) => valued(instrs, line, e, Instr::Print),
         Stmt::Call(c) => call(instrs, line, c),
         Stmt::Begin(b) => begin(instrs, first, line, b),

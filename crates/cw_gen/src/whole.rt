@@ -4,17 +4,17 @@ ghost use Rattle.std.specs.Prelude.{◌≡◌, ◌+◌, ◌≤◌, [], length, m
 ghost use Rattle.cw_code.specs.Code as code;
 ghost use Rattle.cw_gen.specs.Emit as spec;
 ghost use Rattle.cw_gen.specs.Written.{all_code, all_funcs, all_lists, code_of_core, lists_of};
-ghost use Rattle.cw_gen.specs.Written.{names_of_reducers, seen_sites, sites_of};
+ghost use Rattle.cw_gen.specs.Written.{kept_reducers, seen_sites, sites_of};
 ghost use Rattle.cw_loops.specs.Small.{IsSmallTree};
 ghost use Rattle.cw_model.specs.declared.limits.TheConstants.{MOST_CALL_STATEMENTS};
 ghost use Rattle.cw_tree.specs.ResolvedView as view;
 
 use crate::functions::{functions_with, loop_functions};
 use crate::lists::{lists_of_bodies, lists_of_loops, no_lists};
-use cw_code::code::{Code, Func, Instr, Site};
+use cw_code::code::{Code, Func, Instr, Reducer, Site};
 use cw_loops::{Core, tree};
 use cw_model::syntax::Name;
-use cw_tree::resolved::{Function, Reducer, Tree};
+use cw_tree::resolved::{self, Function, Tree};
 use std::alloc::{AllocError, Global};
 
 /// The code of a tree whose loops are lowered, with the call sites of its source.
@@ -94,16 +94,16 @@ fn head_line(functions: &[Function], function: u32) -> u32
     }
 }
 
-// The names of reducers.
-fn reducers_of(alloc: Global, reducers: &[Reducer]) -> Result<Vec<Name>, AllocError>
-    ensures { IfOk result (λ names. names.items ≡ names_of_reducers reducers.now) }
+// Reducers with their names and how they reduce.
+fn reducers_of(alloc: Global, reducers: &[resolved::Reducer]) -> Result<Vec<Reducer>, AllocError>
+    ensures { IfOk result (λ kept. kept.items ≡ kept_reducers reducers.now) }
 {
-    let mut names = Vec::new(alloc);
+    let mut kept = Vec::new(alloc);
     for r in reducers {
         let name = Name::new(alloc, r.name.as_bytes())?;
-        names.push(name)?;
+        kept.push(Reducer { name, how: r.how })?;
     }
-    Ok(names)
+    Ok(kept)
 }
 
 // The names of tags.

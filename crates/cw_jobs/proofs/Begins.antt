@@ -4,6 +4,7 @@ use Rattle.std.specs.Prelude.{replicate, slice_get}
 use Rattle.std.proofs.lemmas.List.{length-map, length-replicate}
 use Rattle.std.proofs.lemmas.Option.{slice_get_within, get_or_from_slice_get}
 use Rattle.std.proofs.lemmas.Bool.Decides.{nat_tests}
+use Rattle.cw_model.specs.declared.burden.Burden.{Burden}
 use Rattle.cw_model.specs.declared.limits.TheConstants.{MOST_LIMIT, MOST_BURDEN}
 use Rattle.cw_code.specs.declared.code.Func.{Func}
 use Rattle.cw_code.specs.Code.{code_view}
@@ -48,13 +49,13 @@ pub params_same : (v : Verified) (f : Func) → slice_get (code_view v.code).fun
 params_same v f e = ap params_of e
 
 -- what was asked for is in range
-pub record InRange (params count n burden : ℕ) : Type 0 where
+pub record InRange (params count n : ℕ) (burden : Burden) : Type 0 where
   pub count_is : count ≡ params
   pub least : 1 ≤ n
   pub most : n ≤ MOST_LIMIT
-  pub light : burden ≤ MOST_BURDEN
+  pub light : burden.charge ≤ MOST_BURDEN
 
-pub in_range : (params count n burden : ℕ) → is_asked params count n burden ≡ true → InRange params count n burden
+pub in_range : (params count n : ℕ) (burden : Burden) → is_asked params count n burden ≡ true → InRange params count n burden
 in_range params count n burden h = record { count_is = grind (arith, nat_tests, h); least = grind (arith, nat_tests, h); most = grind (arith, nat_tests, h); light = grind (arith, nat_tests, h) }
 
 -- a list holds itself

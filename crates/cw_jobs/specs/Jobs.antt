@@ -2,6 +2,7 @@
 use Rattle.std.specs.Prelude.{◌≡◌, ◌≢◌, ◌⊎◌, ℕ, ◌-◌, ◌<◌, ◌≤◌, ℤ, pos, Bool, true, false, ◌&&◌, nat_eq, nat_le, List, [], ◌∷◌, ◌++◌, length, replicate, Option, Some, None, slice_get}
 use Rattle.std.specs.Arc.{arc_value}
 use Rattle.cw_slices.specs.Placed.{Placed, IsOwn}
+use Rattle.cw_model.specs.declared.burden.Burden.{Burden}
 use Rattle.cw_model.specs.declared.limits.TheConstants.{MOST_LIMIT, MOST_BURDEN}
 use Rattle.cw_model.specs.Outcome.{quiet}
 use Rattle.cw_code.specs.declared.code.Func.{Func}
@@ -128,19 +129,19 @@ pub record IsSound (p : Parts) : Type 0 where
   pub is : IsJob (code_of p) ok p job
   pub within : p.before ≤ p.limit
   pub range : p.limit ≤ MOST_LIMIT
-  pub light : p.burden ≤ MOST_BURDEN
+  pub light : p.burden.charge ≤ MOST_BURDEN
 
 -- as many arguments as there are parameters, and a limit and a burden in their ranges
-abbrev pub is_asked : (params count n burden : ℕ) → Bool
+abbrev pub is_asked : (params count n : ℕ) → Burden → Bool
 is_asked params count n burden =
-    nat_eq count params && (nat_le 1 n && (nat_le n MOST_LIMIT && nat_le burden MOST_BURDEN))
+    nat_eq count params && (nat_le 1 n && (nat_le n MOST_LIMIT && nat_le burden.charge MOST_BURDEN))
 
 -- the code can be asked for this run
-abbrev pub is_request : Code → List ℤ → (n burden : ℕ) → Bool
+abbrev pub is_request : Code → List ℤ → (n : ℕ) → Burden → Bool
 is_request code args n burden = is_asked (main_params code) (length args) n burden
 
 -- the job of a whole run: main on these arguments
-pub record IsRoot (v : Verified) (args : List ℤ) (n b : ℕ) (p : Parts) : Type 0 where
+pub record IsRoot (v : Verified) (args : List ℤ) (n : ℕ) (b : Burden) (p : Parts) : Type 0 where
   pub asked : is_request (code_view v.code) args n b ≡ true
   pub code : code_of p ≡ v
   pub burden : p.burden ≡ b
@@ -149,7 +150,7 @@ pub record IsRoot (v : Verified) (args : List ℤ) (n b : ℕ) (p : Parts) : Typ
       → IsJob v ok p (root_job f args n)
 
 -- why there is no such job: what was asked for is out of range, or memory ran out
-abbrev pub IsRefused : Code → List ℤ → (n burden : ℕ) → Fault → Type 0
+abbrev pub IsRefused : Code → List ℤ → (n : ℕ) → Burden → Fault → Type 0
 IsRefused code args n burden fault.Arguments = is_request code args n burden ≡ false
 IsRefused code args n burden fault.Memory = is_request code args n burden ≡ true
 IsRefused code args n burden _ = ⊥

@@ -2,3 +2,4 @@ pub mod Calls
 pub mod Cuts
 pub mod Jobs
 pub mod Means
+pub mod Totals

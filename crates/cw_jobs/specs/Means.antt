@@ -1,5 +1,6 @@
 -- When an effect means a job.
 use Rattle.std.specs.Prelude.{◌≡◌, ℕ, []}
+use Rattle.cw_model.specs.declared.burden.Burden.{Burden}
 use Rattle.cw_model.specs.Outcome.{Trace}
 use Rattle.cw_code.specs.Code.{Code, code_view}
 use Rattle.cw_verify.specs.declared.verified.Verified.{Verified}
@@ -14,14 +15,15 @@ use Rattle.cw_jobs.specs.declared.call.Rest.{Rest}
 use Rattle.cw_jobs.specs.declared.effect.Effect.{Effect}
 use Rattle.cw_jobs.specs.declared.effect.Effect.TheVariants as effect
 use Rattle.cw_jobs.specs.declared.job.Job.{Job}
-use Rattle.cw_jobs.specs.Calls.{HoldsFrame, HoldsSums}
+use Rattle.cw_jobs.specs.Calls.{HoldsFrame}
 use Rattle.cw_jobs.specs.Jobs.{Ok, code_of, IsJob, KeepsHomes, KeepsEmpty, KeepsFixed}
+use Rattle.cw_jobs.specs.Totals.{HoldsTotals}
 
 -- what a run has shown, as so many instructions
 pub record HasShown (code : Code) (shown : Shown) (t : Trace) (count : ℕ) : Type 0 where
   pub cost : shown.cost ≡ count
   pub lines : shown.lines.items ≡ t.lines
-  pub sums : HoldsSums code shown.sums.items t.additions
+  pub totals : HoldsTotals code shown.totals.items t.updates
 
 -- an effect tells one of the definitions
 abbrev pub Tells : (code : Code) → jobs.Job → Rest → Effect → jobs.Effect → Type 0
@@ -37,7 +39,7 @@ Tells code j r _ _ = ⊥
 
 -- the meter of an effect tells of what the effect shows: that of a whole run with the call of main as its one event,
 -- that of a rest with the events of its block
-abbrev pub Counts : (code : Code) → (burden site : ℕ) → Effect → jobs.Effect → Type 0
+abbrev pub Counts : (code : Code) → (burden : Burden) → (site : ℕ) → Effect → jobs.Effect → Type 0
 Counts code burden site (effect.Ended value shown) (jobs.Ended v arrays t cost) =
     (g : Gauge code) → g.burden ≡ burden → Meters g.burden g.tags Main cost [] (whole t) shown.meter
 Counts code burden site (effect.Joined back replaced shown) (jobs.Joined frame t cost) =

@@ -1,5 +1,6 @@
 //! What a job is made of.
 
+use cw_model::burden::Burden;
 use cw_slices::Slice;
 use cw_verify::verified::Verified;
 use std::sync::Arc;
@@ -39,8 +40,8 @@ pub struct Parts {
     pub rest: Rest,
     /// The number of the call site of that call: all that its meter must be told of what is open round it.
     pub site: u32,
-    /// The cost of a spawn, in instructions.
-    pub burden: u64,
+    /// What is charged for a spawn.
+    pub burden: Burden,
     /// The limit of the whole run, in instructions.
     pub limit: u64,
     /// The instructions that the run had done before this job.

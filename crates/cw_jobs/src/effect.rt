@@ -2,6 +2,7 @@
 
 use crate::call::Rest;
 use cw_meter::Meter;
+use cw_model::total::Total;
 use cw_model::trap::Trap;
 use cw_slices::Slice;
 
@@ -10,8 +11,8 @@ use cw_slices::Slice;
 pub struct Shown {
     /// The values printed, in order.
     pub lines: Vec<i64>,
-    /// For each reducer the sum of what was added to it.
-    pub sums: Vec<i128>,
+    /// For each reducer what it comes to.
+    pub totals: Vec<Total>,
     /// Work, span, burdened span and all rows, of sites and of tags.
     pub meter: Meter,
     /// The instructions that it did.

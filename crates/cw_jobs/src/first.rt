@@ -5,15 +5,16 @@ ghost use Rattle.cw_jobs.specs.Jobs as jobs;
 
 use crate::call::Rest;
 use cw_code::code::Func;
+use cw_model::burden::Burden;
 use cw_model::limits::{MOST_BURDEN, MOST_LIMIT};
 use cw_slices::Slice;
 use std::alloc::{AllocError, Global};
 
 // Whether there are as many arguments as parameters, and the limit and the burden are in their ranges.
-pub(crate) fn is_asked(params: usize, count: usize, n: u64, burden: u64) -> bool
+pub(crate) fn is_asked(params: usize, count: usize, n: u64, burden: Burden) -> bool
     ensures { result ≡ jobs.is_asked params count n burden }
 {
-    count == params && 1 <= n && n <= MOST_LIMIT && burden <= MOST_BURDEN
+    count == params && 1 <= n && n <= MOST_LIMIT && burden.charge <= MOST_BURDEN
 }
 
 // The frame of a function on these arguments, with no elements in its arrays.

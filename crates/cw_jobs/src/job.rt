@@ -5,6 +5,7 @@ ghost use Rattle.cw_jobs.specs.Jobs.{IsSound};
 use crate::call::{Extent, Parts, Rest};
 use crate::effect::Effect;
 use crate::first::{first_rest, is_asked};
+use cw_model::burden::Burden;
 use cw_text::Fault;
 use cw_verify::verified::Verified;
 use std::alloc::Global;
@@ -23,17 +24,18 @@ impl Job {
     ghost use Rattle.cw_jobs.specs.Jobs.{IsRefused, IsRoot};
     ghost use Rattle.cw_jobs.specs.Means.{IsMeaningOf};
 
-    /// The job of a whole run: `main` on these arguments, within `n` instructions. `burden` is the cost of a spawn in
-    /// instructions, by which the burdened spans alone are told.
+    /// The job of a whole run: `main` on these arguments, within `n` instructions. `burden` is what is charged for
+    /// a spawn, by which the burdened spans alone are told.
     ///
     /// The error is `Arguments` exactly where the count of the arguments is not that of `main`'s parameters, or `n` is
-    /// not in 1..=2^62, or `burden` is above 1,000,000,000; otherwise `Memory`, where memory runs out.
+    /// not in 1..=2^62, or more than 1,000,000,000 instructions are charged for an edge; otherwise `Memory`, where
+    /// memory runs out.
     pub fn root(
         alloc: Global,
         code: Arc<Verified>,
         args: &[i64],
         n: u64,
-        burden: u64,
+        burden: Burden,
     ) -> Result<Job, Fault>
         ensures { MatchResult result (λ job. IsRoot code.value args.now n burden job.parts.value) (IsRefused (code_view code.value.code) args.now n burden) }
     {

@@ -5,3 +5,4 @@ pub mod call;
 pub mod effect;
 mod first;
 pub mod job;
+pub mod totals;

@@ -6,7 +6,7 @@ ghost use Rattle.cw_model.specs.Tokens.{lookup, word_kind};
 
 use cw_model::token::Kind;
 
-const KEYWORDS: [(&[u8], Kind); 20] = [
+const KEYWORDS: [(&[u8], Kind); 21] = [
     (b"int", Kind::Int),
     (b"void", Kind::Void),
     (b"if", Kind::If),
@@ -21,6 +21,7 @@ const KEYWORDS: [(&[u8], Kind); 20] = [
     (b"region", Kind::Region),
     (b"reducer", Kind::Reducer),
     (b"sum", Kind::Sum),
+    (b"max", Kind::Max),
     (b"grain", Kind::Grain),
     (b"over", Kind::Over),
     (b"cilk_spawn", Kind::Spawn),

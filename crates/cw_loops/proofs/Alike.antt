@@ -43,13 +43,13 @@ same_tree r = let h = same_parts r in in_series h.0 h.1
 
 -- a run given so much of the budget does as another, and what they give is related
 pub data Alike {A B : Type 0} (R : A → B → Type 0) (given : ℕ) : Outcome A → Outcome B → Type 0 where
-  both_done : {a : A} {b : B} {left : ℕ} {t u : Trace} → R a b → left ≤ given → t.lines ≡ u.lines → t.additions ≡ u.additions → SameEvents t.events u.events → Alike R given (Done a left t) (Done b left u)
+  both_done : {a : A} {b : B} {left : ℕ} {t u : Trace} → R a b → left ≤ given → t.lines ≡ u.lines → t.updates ≡ u.updates → SameEvents t.events u.events → Alike R given (Done a left t) (Done b left u)
   both_trapped : {trap : Trap} {line : ℕ} {lines lines' : List ℤ} → lines ≡ lines' → Alike R given (Trapped trap line lines) (Trapped trap line lines')
   both_over : Alike R given Over Over
 
 -- the same, where only the trees of the wholes are compared
 pub data Whole {A B : Type 0} (R : A → B → Type 0) (given : ℕ) : Outcome A → Outcome B → Type 0 where
-  whole_done : {a : A} {b : B} {left : ℕ} {t u : Trace} → R a b → left ≤ given → t.lines ≡ u.lines → t.additions ≡ u.additions → Regrouped (tree_of t.events) (tree_of u.events) → Whole R given (Done a left t) (Done b left u)
+  whole_done : {a : A} {b : B} {left : ℕ} {t u : Trace} → R a b → left ≤ given → t.lines ≡ u.lines → t.updates ≡ u.updates → Regrouped (tree_of t.events) (tree_of u.events) → Whole R given (Done a left t) (Done b left u)
   whole_trapped : {trap : Trap} {line : ℕ} {lines lines' : List ℤ} → lines ≡ lines' → Whole R given (Trapped trap line lines) (Trapped trap line lines')
   whole_over : Whole R given Over Over
 
@@ -74,7 +74,7 @@ appended : {A : Type 0} {a b c d : List A} → a ≡ b → c ≡ d → a ++ c �
 appended e f = cc
 
 pub alike_after : {A B : Type 0} {R : A → B → Type 0} {left given : ℕ} {t u : Trace} {o : Outcome A} {o' : Outcome B} →
-    left ≤ given → t.lines ≡ u.lines → t.additions ≡ u.additions → SameEvents t.events u.events → Alike R left o o' → Alike R given (after t o) (after u o')
+    left ≤ given → t.lines ≡ u.lines → t.updates ≡ u.updates → SameEvents t.events u.events → Alike R left o o' → Alike R given (after t o) (after u o')
 alike_after le l a e (both_done r le' l' a' e') = both_done r (omega arith) (appended l l') (appended a a') (same_append e e')
 alike_after le l a e (both_trapped l') = both_trapped (appended l l')
 alike_after le l a e both_over = both_over
@@ -114,13 +114,13 @@ alike_one part k whole_over = both_over
 
 -- equations of outcomes
 
-pub same_trace : (t : Trace) (l : List ℤ) (a : List (Name × ℤ)) (e : List Event) → l ≡ t.lines → a ≡ t.additions → e ≡ t.events →
-    ◌≡◌ {A = Trace} (record { lines = l; additions = a; events = e }) t
+pub same_trace : (t : Trace) (l : List ℤ) (a : List (Name × ℤ)) (e : List Event) → l ≡ t.lines → a ≡ t.updates → e ≡ t.events →
+    ◌≡◌ {A = Trace} (record { lines = l; updates = a; events = e }) t
 same_trace t l a e p q r = rw (p, q, r) refl
 
 pub after_after : {A : Type 0} (t u : Trace) (o : Outcome A) → after t (after u o) ≡ after (joined t u) o
 after_after t u (Done a left v) =
-    ap (Done a left) (same_trace (joined (joined t u) v) _ _ _ (sym (append_assoc t.lines u.lines v.lines)) (sym (append_assoc t.additions u.additions v.additions)) (sym (append_assoc t.events u.events v.events)))
+    ap (Done a left) (same_trace (joined (joined t u) v) _ _ _ (sym (append_assoc t.lines u.lines v.lines)) (sym (append_assoc t.updates u.updates v.updates)) (sym (append_assoc t.events u.events v.events)))
 after_after t u (Trapped trap line lines) = ap (Trapped trap line) (sym (append_assoc t.lines u.lines lines))
 after_after t u Over = refl
 
@@ -142,7 +142,7 @@ after_quiet Over = refl
 
 -- nothing goes on
 pub then_gives : {A : Type 0} (o : Outcome A) → then_do o (λ a left. Done a left quiet) ≡ o
-then_gives (Done a left t) = ap (Done a left) (same_trace t _ _ _ (append-nil t.lines) (append-nil t.additions) (append-nil t.events))
+then_gives (Done a left t) = ap (Done a left) (same_trace t _ _ _ (append-nil t.lines) (append-nil t.updates) (append-nil t.events))
 then_gives (Trapped trap line lines) = refl
 then_gives Over = refl
 

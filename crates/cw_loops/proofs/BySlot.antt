@@ -6,7 +6,7 @@ use Rattle.std.proofs.lemmas.Bool.Decides.{nat_tests}
 use Rattle.std.proofs.lemmas.List.{map-append, length-map}
 use Rattle.cw_model.specs.declared.syntax.CallKind.{CallKind}
 use Rattle.cw_model.specs.declared.syntax.Operator.TheVariants.{Minus}
-use Rattle.cw_model.specs.Syntax.{Name, Expr, Number, Variable, Element, Length, Negative, Not, Binary, Stmt, Declare, DeclareArray, Assign, AssignElement, AddTo, Call, Start, Begin, Sync, If, IfElse, While, For, Scope, Cut, Region, Print, Return, Block, End, Then, Program}
+use Rattle.cw_model.specs.Syntax.{Name, Expr, Number, Variable, Element, Length, Negative, Not, Binary, Stmt, Declare, DeclareArray, Assign, AssignElement, Reduce, Call, Start, Begin, Sync, If, IfElse, While, For, Scope, Cut, Region, Print, Return, Block, End, Then, Program}
 use Rattle.cw_model.specs.Syntax as model
 use Rattle.cw_model.specs.Lines.{unless}
 use Rattle.cw_model.specs.Names.{same_name, is_among}
@@ -219,7 +219,7 @@ arrays_follow lists c ints arrays (DeclareArray a e) few = array_more (at c ints
 arrays_follow lists c ints arrays (Declare x e) few = ap (λ w. length (c.arrays ++ w)) (sym (append-nil arrays))
 arrays_follow lists c ints arrays (Assign x e) few = ap (λ w. length (c.arrays ++ w)) (sym (append-nil arrays))
 arrays_follow lists c ints arrays (AssignElement a i e) few = ap (λ w. length (c.arrays ++ w)) (sym (append-nil arrays))
-arrays_follow lists c ints arrays (AddTo s e) few = ap (λ w. length (c.arrays ++ w)) (sym (append-nil arrays))
+arrays_follow lists c ints arrays (Reduce how s e) few = ap (λ w. length (c.arrays ++ w)) (sym (append-nil arrays))
 arrays_follow lists c ints arrays (Call kind site target f es) few = ap (λ w. length (c.arrays ++ w)) (sym (append-nil arrays))
 arrays_follow lists c ints arrays (Start kind f es) few = ap (λ w. length (c.arrays ++ w)) (sym (append-nil arrays))
 arrays_follow lists c ints arrays (Begin f from to captured' over') few = ap (λ w. length (c.arrays ++ w)) (sym (append-nil arrays))
@@ -240,7 +240,7 @@ same_after over k known (Declare x e) = refl
 same_after over k known (DeclareArray a e) = refl
 same_after over k known (Assign x e) = refl
 same_after over k known (AssignElement a i e) = refl
-same_after over k known (AddTo s e) = refl
+same_after over k known (Reduce how s e) = refl
 same_after over k known (Call kind site target f es) = refl
 same_after over k known (Start kind f es) = refl
 same_after over k known (Begin f from to captured' over') = refl
@@ -303,7 +303,7 @@ module _ (program : Program) (fs fs' rs ts : List Name) (n total : ℕ) (few_loo
       (here_array a (both_true (nat_lt (length (c.arrays ++ arrays)) counts.arrays) _ fits).0 (new_unknown program known a (both_true (is_fine known e) (is_new program known a) (kept _ line types)).1).no_int here)
   here_after {m} {c} {ints} {arrays} {known} {counts} (Assign x e) returns line here fits types = here_as (sym (append-nil ints)) (sym (append-nil arrays)) here
   here_after {m} {c} {ints} {arrays} {known} {counts} (AssignElement a i e) returns line here fits types = here_as (sym (append-nil ints)) (sym (append-nil arrays)) here
-  here_after {m} {c} {ints} {arrays} {known} {counts} (AddTo s e) returns line here fits types = here_as (sym (append-nil ints)) (sym (append-nil arrays)) here
+  here_after {m} {c} {ints} {arrays} {known} {counts} (Reduce how s e) returns line here fits types = here_as (sym (append-nil ints)) (sym (append-nil arrays)) here
   here_after {m} {c} {ints} {arrays} {known} {counts} (Call kind site target f es) returns line here fits types = here_as (sym (append-nil ints)) (sym (append-nil arrays)) here
   here_after {m} {c} {ints} {arrays} {known} {counts} (Start kind f es) returns line here fits types = here_as (sym (append-nil ints)) (sym (append-nil arrays)) here
   here_after {m} {c} {ints} {arrays} {known} {counts} (Begin f from to captured' over') returns line here fits types = here_as (sym (append-nil ints)) (sym (append-nil arrays)) here
@@ -643,8 +643,8 @@ module _ (program : Program) (fs fs' rs ts : List Name) (n total : ℕ) (few_loo
         (ap (λ s. slotted.Assign s (moved_expr m (resolved_expr (at c ints arrays) e))) (write_moved m c here.tracks ints arrays here.few_ints here.few_arrays x g.0)
         ∙ ap (λ i. slotted.Assign (slot_of x (c.given ++ ints)) i) (expr_moved m c here.tracks ints arrays here.few_ints here.few_arrays e g.1))
     stmt_made (AssignElement a i e) m c ints arrays known counts returns loops k line here can fits types len room = element_made a i e m c ints arrays known counts returns loops k line here can fits types len room
-    stmt_made (AddTo s e) m c ints arrays known counts returns loops k line here can fits types len room =
-        done_alone n Target _ _ loops k len (ap (λ i. slotted.AddTo (slot_of s rs) i) (expr_moved m c here.tracks ints arrays here.few_ints here.few_arrays e can))
+    stmt_made (Reduce how s e) m c ints arrays known counts returns loops k line here can fits types len room =
+        done_alone n Target _ _ loops k len (ap (λ i. slotted.Reduce how (slot_of s rs) i) (expr_moved m c here.tracks ints arrays here.few_ints here.few_arrays e can))
     stmt_made (Call kind site target f es) m c ints arrays known counts returns loops k line here can fits types len room = call_made kind site target f es m c ints arrays known counts returns loops k line here can fits types len room
     stmt_made (Start kind f es) m c ints arrays known counts returns loops k line here can fits types len room = absurd cc
     stmt_made (Begin f from to captured' over') m c ints arrays known counts returns loops k line here can fits types len room = absurd cc

@@ -2,7 +2,7 @@
 use Rattle.std.proofs.Common.{◌≡◌, ℕ, ◌+◌, List, [], ◌∷◌, ◌++◌, length, arith, refl, ◌∙◌, ap, append-nil, length-append}
 use Rattle.std.specs.Prelude.{flat_map}
 use Rattle.std.proofs.lemmas.Grind.{flat_map-append}
-use Rattle.cw_model.specs.Syntax.{Name, Stmt, Declare, DeclareArray, Assign, AssignElement, AddTo, Call, Start, Begin, Sync, If, IfElse, While, For, Scope, Cut, Region, Print, Return, Block, End, Then, Function, Program}
+use Rattle.cw_model.specs.Syntax.{Name, Stmt, Declare, DeclareArray, Assign, AssignElement, Reduce, Call, Start, Begin, Sync, If, IfElse, While, For, Scope, Cut, Region, Print, Return, Block, End, Then, Function, Program}
 use Rattle.cw_model.specs.Captured.{captured}
 use Rattle.cw_model.specs.Sites.{CallSite, sites_in, sites_in_block}
 use Rattle.cw_model.specs.Sizes.{loops_in, loops_in_block, call_count}
@@ -49,7 +49,7 @@ mutual
   stmt_no_loop (DeclareArray x e) over k line = (refl, refl)
   stmt_no_loop (Assign x e) over k line = (refl, refl)
   stmt_no_loop (AssignElement x i e) over k line = (refl, refl)
-  stmt_no_loop (AddTo x e) over k line = (refl, refl)
+  stmt_no_loop (Reduce how x e) over k line = (refl, refl)
   stmt_no_loop (Call kind site t f es) over k line = (refl, refl)
   stmt_no_loop (Start kind f es) over k line = (refl, refl)
   stmt_no_loop (Begin f from to xs arrays) over k line = (refl, refl)
@@ -118,7 +118,7 @@ mutual
   stmt_sites (DeclareArray x e) over k line = omega arith
   stmt_sites (Assign x e) over k line = omega arith
   stmt_sites (AssignElement x i e) over k line = omega arith
-  stmt_sites (AddTo x e) over k line = omega arith
+  stmt_sites (Reduce how x e) over k line = omega arith
   stmt_sites (Call kind site t f es) over k line = omega arith
   stmt_sites (Start kind f es) over k line = omega arith
   stmt_sites (Begin f from to xs arrays) over k line = omega arith

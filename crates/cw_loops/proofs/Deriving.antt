@@ -159,6 +159,7 @@ module _ (text : List ℕ) where
       let k = expr_from h.1.1.1 tt value in
       (all_of (is_plain (name_of text t)) _ known (all_of (is_source_expr i) (is_source_expr e) h.0 k.0), k.1.1)
   named_from {t = t} known plain (grammar.ReadsNamed.add {e = e} read is) = let h = expr_from plain tt read in (all_of (is_plain (name_of text t)) (is_source_expr e) known h.0, h.1.1)
+  named_from {t = t} known plain (grammar.ReadsNamed.raise {e = e} equals read is) = let h = expr_from plain.1 tt read in (all_of (is_plain (name_of text t)) (is_source_expr e) known h.0, h.1.1)
   named_from {t = t} known plain (grammar.ReadsNamed.call {es = es} read is) = let h = arguments_from plain read in (all_of (is_plain (name_of text t)) (list_all is_source_expr es) known h.0, h.1.1)
 
   declared_from : {x : Name} {ts rest : List Token} {s : Stmt} → is_plain x ≡ true → Plain text ts → ReadsDeclared text x ts s rest → Sourced text (is_source_stmt s) rest

@@ -1,7 +1,7 @@
 -- What holds where the body of a loop is entered, and what is known after a statement.
 use Rattle.std.proofs.Common.{◌≡◌, true, false, List, [], ◌∷◌, ◌++◌, refl, sym, ◌∙◌, ap, append_assoc, append-nil}
 use Rattle.std.specs.Prelude.{not, ◌&&◌}
-use Rattle.cw_model.specs.Syntax.{Name, Expr, Number, Variable, Element, Length, Negative, Not, Binary, Stmt, Declare, DeclareArray, Assign, AssignElement, AddTo, Call, Start, Begin, Sync, If, IfElse, While, For, Scope, Cut, Region, Print, Return}
+use Rattle.cw_model.specs.Syntax.{Name, Expr, Number, Variable, Element, Length, Negative, Not, Binary, Stmt, Declare, DeclareArray, Assign, AssignElement, Reduce, Call, Start, Begin, Sync, If, IfElse, While, For, Scope, Cut, Region, Print, Return}
 use Rattle.cw_model.specs.Names.{is_among, differ}
 use Rattle.cw_tree.specs.Resolved.{Locals, with_int, with_array, locals_after}
 use Rattle.cw_loops.specs.Lowered.{is_plain}
@@ -122,7 +122,7 @@ after_stmt o q ints arrays (Declare x e) = after_int o q ints arrays x ∙ ap (j
 after_stmt o q ints arrays (DeclareArray a e) = after_array o q ints arrays a ∙ ap (λ w. joined o q w (arrays ++ a ∷ [])) (sym (append-nil ints))
 after_stmt o q ints arrays (Assign x e) = after_none o q ints arrays
 after_stmt o q ints arrays (AssignElement a i e) = after_none o q ints arrays
-after_stmt o q ints arrays (AddTo s e) = after_none o q ints arrays
+after_stmt o q ints arrays (Reduce how s e) = after_none o q ints arrays
 after_stmt o q ints arrays (Call kind site target f es) = after_none o q ints arrays
 after_stmt o q ints arrays (Start kind f es) = after_none o q ints arrays
 after_stmt o q ints arrays (Begin f from to captured over) = after_none o q ints arrays

@@ -5,7 +5,10 @@ use Rattle.cw_model.specs.declared.syntax.CallKind.{CallKind}
 use Rattle.cw_model.specs.declared.syntax.CallKind.TheVariants.{Plain, Spawned}
 use Rattle.cw_model.specs.declared.syntax.Operator.{Operator}
 use Rattle.cw_model.specs.declared.syntax.Operator.TheVariants as operator
-use Rattle.cw_loops.specs.Slotted.{Expr, Number, Variable, Element, Length, Negative, Not, Binary, Argument, Int, Array, Stmt, Declare, DeclareArray, Assign, AssignElement, AddTo, Call, Start, Begin, Sync, If, IfElse, While, Scope, Cut, Region, Print, Return, Block, End, Then}
+use Rattle.cw_model.specs.declared.syntax.Reduction.{Reduction}
+use Rattle.cw_model.specs.declared.syntax.Reduction.TheVariants.{Sum, Max}
+use Rattle.cw_model.specs.Typing.{same_reduction}
+use Rattle.cw_loops.specs.Slotted.{Expr, Number, Variable, Element, Length, Negative, Not, Binary, Argument, Int, Array, Stmt, Declare, DeclareArray, Assign, AssignElement, Reduce, Call, Start, Begin, Sync, If, IfElse, While, Scope, Cut, Region, Print, Return, Block, End, Then}
 use Rattle.cw_loops.specs.Moved.{Loop}
 use Rattle.cw_loops.specs.Lowers.{Bodies}
 use Rattle.cw_loops.specs.Same.{number_of, same_kind, same_int, same_slots, same_target, same_expr, same_argument, same_arguments, same_return, same_stmt, same_block, same_loop, same_loops, same_blocks, same_bodies}
@@ -29,6 +32,11 @@ kind_equal : (k l : CallKind) → same_kind k l ≡ true → k ≡ l
 kind_equal Plain Plain h = refl
 kind_equal Spawned Spawned h = refl
 kind_equal k l h = absurd cc
+
+reduction_equal : (how other : Reduction) → same_reduction how other ≡ true → how ≡ other
+reduction_equal Sum Sum h = refl
+reduction_equal Max Max h = refl
+reduction_equal how other h = absurd cc
 
 int_equal : (n m : ℤ) → same_int n m ≡ true → n ≡ m
 int_equal (pos n) (pos m) h = ap pos (eqb-true n m h)
@@ -88,7 +96,10 @@ mutual
       let p = both_true (u == v) _ h in
       let q = both_true (same_expr i j) (same_expr d e) p.1 in
       rw (eqb-true u v p.0, expr_equal i j q.0, expr_equal d e q.1) refl
-  stmt_equal (AddTo u d) (AddTo v e) h = let p = both_true (u == v) (same_expr d e) h in rw (eqb-true u v p.0, expr_equal d e p.1) refl
+  stmt_equal (Reduce how u d) (Reduce other v e) h =
+      let q = both_true (same_reduction how other) _ h in
+      let p = both_true (u == v) (same_expr d e) q.1 in
+      rw (reduction_equal how other q.0, eqb-true u v p.0, expr_equal d e p.1) refl
   stmt_equal (Call k s t f ds) (Call l r u g es) h =
       let p = both_true (same_kind k l) _ h in
       let q = both_true (s == r) _ p.1 in

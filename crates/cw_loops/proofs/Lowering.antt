@@ -5,7 +5,7 @@ use Rattle.std.specs.List.{list_all}
 use Rattle.std.proofs.lemmas.Bool.Decides.{nat_tests}
 use Rattle.cw_model.specs.declared.syntax.CallKind.{CallKind}
 use Rattle.cw_model.specs.Lines.{unless}
-use Rattle.cw_model.specs.Syntax.{Name, Expr, Number, Variable, Element, Length, Negative, Not, Binary, Stmt, Declare, DeclareArray, Assign, AssignElement, AddTo, Call, Start, Begin, Sync, If, IfElse, While, For, Scope, Cut, Region, Print, Return, Block, End, Then, Param, Function, Program}
+use Rattle.cw_model.specs.Syntax.{Name, Expr, Number, Variable, Element, Length, Negative, Not, Binary, Stmt, Declare, DeclareArray, Assign, AssignElement, Reduce, Call, Start, Begin, Sync, If, IfElse, While, For, Scope, Cut, Region, Print, Return, Block, End, Then, Param, Function, Program}
 use Rattle.cw_model.specs.Names.{same_name, is_among, differ}
 use Rattle.cw_model.specs.Meaning.{function_named}
 use Rattle.cw_model.specs.Captured.{captured, read_by, read_by_all, read_in, read_in_block, declared_in_block}
@@ -375,7 +375,7 @@ module _ (program : Program) (fs : List Function) (fs_is : program.functions ≡
         let o3 = both_true (may_read around taken i) (may_read around taken e) o2.0 in
         all_of (if is_among a c.over then is_variable c i else (is_local c a && can_evaluate c i)) _
         (spot_can agree a i s.0 o1.1 (read_keeps around taken i o3.0) (first_well c (read_by i) (read_by e) well)) (expr_can agree e s.1 (read_keeps around taken e o3.1) (second_well c (read_by i) (read_by e) well))
-    stmt_can (AddTo r e) c ints arrays known owners around returns here agree depth line taken source types owns well =
+    stmt_can (Reduce how r e) c ints arrays known owners around returns here agree depth line taken source types owns well =
         expr_can agree e (both_true (is_plain r) (is_source_expr e) source).1 (read_keeps around taken e (kept _ line owns)) well
     stmt_can (Call kind site target f es) c ints arrays known owners around returns here agree depth line taken source types owns well =
         call_can kind site target f es c ints arrays known owners around returns here agree depth line taken source types owns well

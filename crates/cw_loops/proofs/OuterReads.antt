@@ -1,7 +1,7 @@
 -- What a resolved body takes from outside, in the body of a loop that can be lowered.
 use Rattle.std.proofs.Common.{◌≡◌, ℕ, nat_lt, Bool, true, false, List, [], ◌∷◌, ◌++◌, length, map, arith, refl, sym, ◌∙◌, ap, subst, append_assoc, append-nil}
 use Rattle.std.specs.Prelude.{if◌then◌else◌, nat_le, ◌==◌, not, ◌&&◌, ◌||◌, Some, None}
-use Rattle.cw_model.specs.Syntax.{Name, Expr, Number, Variable, Element, Length, Negative, Not, Binary, Stmt, Declare, DeclareArray, Assign, AssignElement, AddTo, Call, Start, Begin, Sync, If, IfElse, While, For, Scope, Cut, Region, Print, Return, Block, End, Then}
+use Rattle.cw_model.specs.Syntax.{Name, Expr, Number, Variable, Element, Length, Negative, Not, Binary, Stmt, Declare, DeclareArray, Assign, AssignElement, Reduce, Call, Start, Begin, Sync, If, IfElse, While, For, Scope, Cut, Region, Print, Return, Block, End, Then}
 use Rattle.cw_model.specs.Names.{same_name, is_among, new_names}
 use Rattle.cw_model.specs.Meaning.{function_named}
 use Rattle.cw_loops.specs.Lowered.{is_plain}
@@ -229,7 +229,7 @@ declared_new (DeclareArray a e) v o = o
 declared_new (Declare x e) v o = absurd cc
 declared_new (Assign x e) v o = absurd cc
 declared_new (AssignElement a i e) v o = absurd cc
-declared_new (AddTo s e) v o = absurd cc
+declared_new (Reduce how s e) v o = absurd cc
 declared_new (Call kind site target f es) v o = absurd cc
 declared_new (Start kind f es) v o = absurd cc
 declared_new (Begin f from to captured' over) v o = absurd cc
@@ -273,7 +273,7 @@ mutual
       both_match (c.outer ++ ints0) (x ∷ declared) (reads (resolved_expr (at t ints arrays) i)) (reads (resolved_expr (at t ints arrays) e)) (read_by i) (read_by e)
       (expr_in c ints0 arrays0 x total declared over can i ints arrays (element_can c ints0 arrays0 x total declared over can a i g.0) (first_among (read_by i) (read_by e) total all))
       (expr_in c ints0 arrays0 x total declared over can e ints arrays g.1 (second_among (read_by i) (read_by e) total all))
-  stmt_reads (AddTo s e) c ints0 arrays0 x total declared over can lists ints arrays here all own arrays_own = expr_in c ints0 arrays0 x total declared over can e ints arrays here all
+  stmt_reads (Reduce how s e) c ints0 arrays0 x total declared over can lists ints arrays here all own arrays_own = expr_in c ints0 arrays0 x total declared over can e ints arrays here all
   stmt_reads (Call kind site target f es) c ints0 arrays0 x total declared over can lists ints arrays here all own arrays_own =
       let t = Inner c ints0 arrays0 x total declared over in
       let g = both_true (is_plain f) _ here in

@@ -3,7 +3,10 @@ use Rattle.std.proofs.Common.{◌≡◌, ℕ, ◌==◌, ℤ, pos, negsuc, true, 
 use Rattle.std.proofs.lemmas.Bool.Decides.{nat_tests}
 use Rattle.cw_model.specs.declared.syntax.CallKind.{CallKind}
 use Rattle.cw_model.specs.declared.syntax.CallKind.TheVariants.{Plain, Spawned}
-use Rattle.cw_loops.specs.Slotted.{Expr, Number, Variable, Element, Length, Negative, Not, Binary, Argument, Int, Array, Stmt, Declare, DeclareArray, Assign, AssignElement, AddTo, Call, Start, Begin, Sync, If, IfElse, While, Scope, Cut, Region, Print, Return, Block, End, Then}
+use Rattle.cw_model.specs.declared.syntax.Reduction.{Reduction}
+use Rattle.cw_model.specs.declared.syntax.Reduction.TheVariants.{Sum, Max}
+use Rattle.cw_model.specs.Typing.{same_reduction}
+use Rattle.cw_loops.specs.Slotted.{Expr, Number, Variable, Element, Length, Negative, Not, Binary, Argument, Int, Array, Stmt, Declare, DeclareArray, Assign, AssignElement, Reduce, Call, Start, Begin, Sync, If, IfElse, While, Scope, Cut, Region, Print, Return, Block, End, Then}
 use Rattle.cw_loops.specs.Moved.{Loop}
 use Rattle.cw_loops.specs.Lowers.{Bodies}
 use Rattle.cw_loops.specs.Same.{number_of, same_kind, same_int, same_slots, same_target, same_expr, same_argument, same_arguments, same_return, same_stmt, same_block, same_loop, same_loops, same_blocks, same_bodies}
@@ -15,6 +18,10 @@ itself n = grind (arith, nat_tests)
 kind_itself : (k : CallKind) → same_kind k k ≡ true
 kind_itself Plain = refl
 kind_itself Spawned = refl
+
+reduction_itself : (how : Reduction) → same_reduction how how ≡ true
+reduction_itself Sum = refl
+reduction_itself Max = refl
 
 int_itself : (n : ℤ) → same_int n n ≡ true
 int_itself (pos n) = itself n
@@ -55,7 +62,7 @@ mutual
   stmt_itself (DeclareArray u e) = all_of (u == u) _ (itself u) (expr_itself e)
   stmt_itself (Assign u e) = all_of (u == u) _ (itself u) (expr_itself e)
   stmt_itself (AssignElement u i e) = all_of (u == u) _ (itself u) (all_of (same_expr i i) _ (expr_itself i) (expr_itself e))
-  stmt_itself (AddTo u e) = all_of (u == u) _ (itself u) (expr_itself e)
+  stmt_itself (Reduce how u e) = all_of (same_reduction how how) _ (reduction_itself how) (all_of (u == u) _ (itself u) (expr_itself e))
   stmt_itself (Call k s t f es) =
       all_of (same_kind k k) _ (kind_itself k) (all_of (s == s) _ (itself s) (all_of (same_target t t) _ (target_itself t) (all_of (f == f) _ (itself f) (arguments_itself es))))
   stmt_itself (Start k f es) = all_of (same_kind k k) _ (kind_itself k) (all_of (f == f) _ (itself f) (arguments_itself es))

@@ -3,7 +3,7 @@ use Rattle.std.proofs.Common.{◌≡◌, ℕ, ◌+◌, ◌-◌, ◌≤◌, ◌<�
 use Rattle.std.specs.Prelude.{not, ◌&&◌, ◌==◌, nat_lt, nat_le, map, Some, None}
 use Rattle.std.proofs.lemmas.Bool.{leb-true, eqb-true}
 use Rattle.cw_model.specs.declared.limits.TheConstants.{MOST_DEPTH}
-use Rattle.cw_model.specs.Syntax.{Name, Expr, Stmt, Declare, DeclareArray, Assign, AssignElement, AddTo, Call, Start, Begin, Sync, If, IfElse, While, For, Scope, Cut, Region, Print, Return, Block, End, Then, Function}
+use Rattle.cw_model.specs.Syntax.{Name, Expr, Stmt, Declare, DeclareArray, Assign, AssignElement, Reduce, Call, Start, Begin, Sync, If, IfElse, While, For, Scope, Cut, Region, Print, Return, Block, End, Then, Function}
 use Rattle.cw_model.specs.Names.{same_name, is_among}
 use Rattle.cw_model.specs.Captured.{captured}
 use Rattle.cw_model.specs.Frames.{Frame, array_of, int_of}
@@ -20,7 +20,7 @@ use Rattle.cw_loops.proofs.Arguments.{Fresh}
 use Rattle.cw_loops.proofs.Tables.{keys}
 use Rattle.cw_loops.proofs.Fitting.{Good, evaluate_fits}
 use Rattle.cw_loops.proofs.Worlds.{World, Rel, related, source, target, evaluate_same, can_fit, local_same}
-use Rattle.cw_loops.proofs.Statements.{Out, returns, OutAll, alike_done, value_then, declare_alike, declare_array_alike, assign_alike, add_alike, print_alike, sync_alike, return_alike}
+use Rattle.cw_loops.proofs.Statements.{Out, returns, OutAll, alike_done, value_then, declare_alike, declare_array_alike, assign_alike, reduce_alike, print_alike, sync_alike, return_alike}
 use Rattle.cw_loops.proofs.Blocks.{write_alike, out_before, onward_then}
 use Rattle.cw_loops.proofs.Control.{if_alike, if_else_alike, while_alike, scope_alike, region_alike, stays}
 use Rattle.cw_loops.proofs.Fresh.{taken_of, keys-taken}
@@ -87,8 +87,8 @@ module _ (fs fs' : List Function) (calls : Calls) (depth : ℕ) (shallow : nat_l
         no_more (assign_alike c fo go Slot w ints arrays loc fa ga la slot ki ka good x e p.0 p.1 line left fs fs' calls (call bound depth fs'))
     stmt_alike (AssignElement a i e) c fo go Slot w fine ints arrays can k line found f g (related loc fa ga la slot ki ka good) left bound h1 h2 =
         no_more (write_alike c fo go Slot w ints arrays loc fa ga la slot ki ka good a i e can line left fs fs' calls (call bound depth fs'))
-    stmt_alike (AddTo s e) c fo go Slot w fine ints arrays can k line found f g (related loc fa ga la slot ki ka good) left bound h1 h2 =
-        no_more (add_alike c fo go Slot w ints arrays loc fa ga la slot ki ka good s e can line left fs fs' calls (call bound depth fs'))
+    stmt_alike (Reduce how s e) c fo go Slot w fine ints arrays can k line found f g (related loc fa ga la slot ki ka good) left bound h1 h2 =
+        no_more (reduce_alike c fo go Slot w ints arrays loc fa ga la slot ki ka good how s e can line left fs fs' calls (call bound depth fs'))
     stmt_alike (Call kind site target' callee es) c fo go Slot w fine ints arrays can k line found f g (related loc fa ga la slot ki ka good) left bound h1 h2 =
         let n = both_true (is_plain callee) _ can in
         let n2 = both_true (length es == length (function_named callee c.functions).params) (can_target c target' && can_pass_all c es) n.1 in

@@ -6,7 +6,7 @@ use Rattle.std.proofs.lemmas.Bool.Decides.{nat_tests}
 use Rattle.std.proofs.lemmas.List.{length-map}
 use Rattle.cw_model.specs.declared.limits.TheConstants.{MOST_FUNCTIONS, MOST_GRAIN, MOST_LOOPS}
 use Rattle.cw_model.specs.Lines.{unless}
-use Rattle.cw_model.specs.Syntax.{Name, Expr, Stmt, Declare, DeclareArray, Assign, AssignElement, AddTo, Call, Start, Begin, Sync, If, IfElse, While, For, Scope, Cut, Region, Print, Return, Block, End, Then, Param, Function, Program}
+use Rattle.cw_model.specs.Syntax.{Name, Expr, Stmt, Declare, DeclareArray, Assign, AssignElement, Reduce, Call, Start, Begin, Sync, If, IfElse, While, For, Scope, Cut, Region, Print, Return, Block, End, Then, Param, Function, Program}
 use Rattle.cw_model.specs.Names.{is_among, differ}
 use Rattle.cw_model.specs.Sizes.{limit_faults, loop_faults, function_limits}
 use Rattle.cw_model.specs.Typing.{Known, is_array, is_fine, is_head_of_loop, is_cut, is_head, declares, faults_in, faults_in_block, faults_of, known_of, Returns, Nowhere, WithInt, Alone, IsWellTyped}
@@ -48,7 +48,7 @@ few_after l known (Declare x e) = let p = one_more l.ints x in (omega (arith, p)
 few_after l known (DeclareArray a e) = (omega arith, omega arith)
 few_after l known (Assign x e) = (omega arith, omega arith)
 few_after l known (AssignElement a i e) = (omega arith, omega arith)
-few_after l known (AddTo s e) = (omega arith, omega arith)
+few_after l known (Reduce how s e) = (omega arith, omega arith)
 few_after l known (Call kind site target f es) = (omega arith, omega arith)
 few_after l known (Start kind f es) = (omega arith, omega arith)
 few_after l known (Begin f from to captured over) = (omega arith, omega arith)
@@ -164,7 +164,7 @@ module _ (program : Program) (lists : Lists) (n : ℕ) where
     stmt_small (DeclareArray a e) m arrays line l known returns around owners depth taken loops few_ints few_known types owns h = h
     stmt_small (Assign x e) m arrays line l known returns around owners depth taken loops few_ints few_known types owns h = h
     stmt_small (AssignElement a i e) m arrays line l known returns around owners depth taken loops few_ints few_known types owns h = h
-    stmt_small (AddTo s e) m arrays line l known returns around owners depth taken loops few_ints few_known types owns h = h
+    stmt_small (Reduce how s e) m arrays line l known returns around owners depth taken loops few_ints few_known types owns h = h
     stmt_small (Call kind site target f es) m arrays line l known returns around owners depth taken loops few_ints few_known types owns h = h
     stmt_small (Start kind f es) m arrays line l known returns around owners depth taken loops few_ints few_known types owns h = h
     stmt_small (Begin f from to captured over) m arrays line l known returns around owners depth taken loops few_ints few_known types owns h = h
@@ -206,7 +206,7 @@ module _ (program : Program) (lists : Lists) (n : ℕ) where
     stmt_many (DeclareArray a e) m arrays line l loops = omega arith
     stmt_many (Assign x e) m arrays line l loops = omega arith
     stmt_many (AssignElement a i e) m arrays line l loops = omega arith
-    stmt_many (AddTo s e) m arrays line l loops = omega arith
+    stmt_many (Reduce how s e) m arrays line l loops = omega arith
     stmt_many (Call kind site target f es) m arrays line l loops = omega arith
     stmt_many (Start kind f es) m arrays line l loops = omega arith
     stmt_many (Begin f from to captured over) m arrays line l loops = omega arith

@@ -6,8 +6,9 @@ use Rattle.std.proofs.lemmas.List.{length-replicate, length-set}
 use Rattle.cw_model.specs.declared.limits.TheConstants.{MOST_ELEMENTS}
 use Rattle.cw_model.specs.Ints.{Result, Value, Fails, fits, natural}
 use Rattle.cw_model.specs.declared.trap.Trap.TheVariants as trap
+use Rattle.cw_model.specs.declared.syntax.Reduction.{Reduction}
 use Rattle.cw_model.specs.Trees.{Join}
-use Rattle.cw_model.specs.Syntax.{Name, Expr, Declare, DeclareArray, Assign, AddTo, Sync, Print, Return, Function}
+use Rattle.cw_model.specs.Syntax.{Name, Expr, Declare, DeclareArray, Assign, Reduce, Sync, Print, Return, Function}
 use Rattle.cw_model.specs.Names.{same_name, put}
 use Rattle.cw_model.specs.Frames.{Frame, new_int, new_array, set_int, set_array}
 use Rattle.cw_model.specs.Expressions.{Evaluated, Gives, Traps, evaluate, and_then, done_at, element, written}
@@ -177,18 +178,18 @@ module _ (c : Surroundings) (fo go : List (Name × ℤ)) (Slot : (fa ga : List (
       (then_fits (evaluate e f0) new_length (evaluate_fits e f0 good (can_fit c e can)) new_length_fits) _ _ (λ v l f le.
       alike_done l (goes (rel_new_array a (replicate (natural v) (pos 0)) (zeros_fine v f)) (kept_more (fa ++ la) ((a, replicate (natural v) (pos 0)) ∷ []))))
 
-  pub add_alike : (s : Name) (e : Expr) → can_evaluate c e ≡ true → (line left : ℕ) (fs fs' : List Function) (calls calls' : Calls) →
-      Alike (OutOf ints arrays) left (run (AddTo s e) line fs calls f0 left) (run (AddTo s (lower_expr c.over e)) line fs' calls' g0 left)
-  add_alike s e can line left fs fs' calls calls' =
+  pub reduce_alike : (how : Reduction) (s : Name) (e : Expr) → can_evaluate c e ≡ true → (line left : ℕ) (fs fs' : List Function) (calls calls' : Calls) →
+      Alike (OutOf ints arrays) left (run (Reduce how s e) line fs calls f0 left) (run (Reduce how s (lower_expr c.over e)) line fs' calls' g0 left)
+  reduce_alike how s e can line left fs fs' calls calls' =
       value_then (evaluate e f0) (evaluate (lower_expr c.over e) g0) line left (evaluate_same c fo go Slot w e can loc fa ga la slot) (evaluate_fits e f0 good (can_fit c e can)) _ _ (λ v l f le.
-      alike_pay 1 l _ _ (λ enough. alike_after {t = record { lines = []; additions = (s, v) ∷ []; events = [] }} {u = record { lines = []; additions = (s, v) ∷ []; events = [] }} (omega arith) refl refl (same_events [])
+      alike_pay 1 l _ _ (λ enough. alike_after {t = record { lines = []; updates = (s, v) ∷ []; events = [] }} {u = record { lines = []; updates = (s, v) ∷ []; events = [] }} (omega arith) refl refl (same_events [])
       (alike_done (l - 1) (goes (related loc fa ga la slot ki ka good) (kept_same (fa ++ la) (fa ++ la) refl)))))
 
   pub print_alike : (e : Expr) → can_evaluate c e ≡ true → (line left : ℕ) (fs fs' : List Function) (calls calls' : Calls) →
       Alike (OutOf ints arrays) left (run (Print e) line fs calls f0 left) (run (Print (lower_expr c.over e)) line fs' calls' g0 left)
   print_alike e can line left fs fs' calls calls' =
       value_then (evaluate e f0) (evaluate (lower_expr c.over e) g0) line left (evaluate_same c fo go Slot w e can loc fa ga la slot) (evaluate_fits e f0 good (can_fit c e can)) _ _ (λ v l f le.
-      alike_pay 1 l _ _ (λ enough. alike_after {t = record { lines = v ∷ []; additions = []; events = [] }} {u = record { lines = v ∷ []; additions = []; events = [] }} (omega arith) refl refl (same_events [])
+      alike_pay 1 l _ _ (λ enough. alike_after {t = record { lines = v ∷ []; updates = []; events = [] }} {u = record { lines = v ∷ []; updates = []; events = [] }} (omega arith) refl refl (same_events [])
       (alike_done (l - 1) (goes (related loc fa ga la slot ki ka good) (kept_same (fa ++ la) (fa ++ la) refl)))))
 
   pub sync_alike : (line left : ℕ) (fs fs' : List Function) (calls calls' : Calls) →

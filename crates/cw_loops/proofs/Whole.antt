@@ -13,7 +13,7 @@ use Rattle.cw_model.specs.Names.{differ}
 use Rattle.cw_model.specs.Frames.{Frame, no_frame, new_int}
 use Rattle.cw_model.specs.Outcome.{Outcome, Trapped, then_do, Piece, shows}
 use Rattle.cw_model.specs.Meaning.{Completion, Returned, Deeper, function_named, run_all, end_of_call, call}
-use Rattle.cw_model.specs.Answers.{Ended, TrappedAt, sum_to, int_given, answer_of, main_frame, main_name, serial_answer}
+use Rattle.cw_model.specs.Answers.{Ended, TrappedAt, total_to, int_given, answer_of, main_frame, main_name, serial_answer}
 use Rattle.cw_loops.specs.Lowered.{is_plain, loop_count_in, lower_block, made_in, lower_function, lower_functions, made_of, lowered}
 use Rattle.cw_loops.specs.Lowerable.{nothing_around, integers_of, arrays_of, can_lower_all, can_lower_function, is_lowerable}
 use Rattle.cw_loops.specs.lemmas.Tests.{both_true, not_true}
@@ -156,11 +156,11 @@ main_sliced (p ∷ ps) [] frame = refl
 main_sliced (p ∷ ps) (v ∷ args) frame = main_sliced ps args (new_int p.name v frame)
 
 same_answer : {given : Frame} {left : ℕ} {o o' : Outcome Returned} (reducers : List Reducer) → Whole (CallSame given) left o o' → answer_of reducers o' ≡ answer_of reducers o
-same_answer reducers (whole_done {t = t} {u = u} (same_call {v = v} fit g kept) le lines additions tree) =
+same_answer reducers (whole_done {t = t} {u = u} (same_call {v = v} fit g kept) le lines updates tree) =
     let n : normal (Marked (Invocation 0) (tree_of u.events)) ≡ normal (Marked (Invocation 0) (tree_of t.events)) = sym (same_normal (Marked (Invocation 0) (tree_of t.events)) (Marked (Invocation 0) (tree_of u.events)) (in_mark (Invocation 0) tree)) in
-    ap (λ ls. Ended (int_given v) ls (map (λ r. sum_to r.name u.additions) reducers) (normal (Marked (Invocation 0) (tree_of u.events)))) (sym lines)
-    ∙ ap (λ as'. Ended (int_given v) t.lines (map (λ r. sum_to r.name as') reducers) (normal (Marked (Invocation 0) (tree_of u.events)))) (sym additions)
-    ∙ ap (λ x. Ended (int_given v) t.lines (map (λ r. sum_to r.name t.additions) reducers) x) n
+    ap (λ ls. Ended (int_given v) ls (map (λ r. total_to r.how r.name u.updates) reducers) (normal (Marked (Invocation 0) (tree_of u.events)))) (sym lines)
+    ∙ ap (λ as'. Ended (int_given v) t.lines (map (λ r. total_to r.how r.name as') reducers) (normal (Marked (Invocation 0) (tree_of u.events)))) (sym updates)
+    ∙ ap (λ x. Ended (int_given v) t.lines (map (λ r. total_to r.how r.name t.updates) reducers) x) n
 same_answer reducers (whole_trapped {trap = trap} {line = line} e) = ap (TrappedAt trap line) (sym e)
 same_answer reducers whole_over = refl
 

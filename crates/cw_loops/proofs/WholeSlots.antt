@@ -6,7 +6,7 @@ use Rattle.std.proofs.lemmas.Bool.Decides.{nat_tests}
 use Rattle.std.proofs.lemmas.List.{map-append, length-map}
 use Rattle.cw_model.specs.declared.limits.TheConstants.{MOST_DECLARED}
 use Rattle.cw_model.specs.Lines.{unless}
-use Rattle.cw_model.specs.Syntax.{Name, Stmt, Declare, DeclareArray, Assign, AssignElement, AddTo, Call, Start, Begin, Sync, If, IfElse, While, For, Scope, Cut, Region, Print, Return, Block, End, Then, Param, Function, Program}
+use Rattle.cw_model.specs.Syntax.{Name, Stmt, Declare, DeclareArray, Assign, AssignElement, Reduce, Call, Start, Begin, Sync, If, IfElse, While, For, Scope, Cut, Region, Print, Return, Block, End, Then, Param, Function, Program}
 use Rattle.cw_model.specs.Names.{same_name, is_among, differ}
 use Rattle.cw_model.specs.Sizes.{loops_in, loops_in_block, limit_faults, loop_faults, function_limits}
 use Rattle.cw_model.specs.Typing.{is_head, faults_of, type_faults, WithInt, Alone, known_of, IsWellTyped}
@@ -59,7 +59,7 @@ mutual
   count_here line (DeclareArray a e) = refl
   count_here line (Assign x e) = refl
   count_here line (AssignElement a i e) = refl
-  count_here line (AddTo s e) = refl
+  count_here line (Reduce how s e) = refl
   count_here line (Call kind site target f es) = refl
   count_here line (Start kind f es) = refl
   count_here line (Begin f from to captured over) = refl

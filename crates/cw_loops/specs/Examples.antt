@@ -4,9 +4,12 @@ use Rattle.cw_model.specs.declared.trap.Trap.{Trap}
 use Rattle.cw_model.specs.declared.trap.Trap.TheVariants as trap
 use Rattle.cw_model.specs.Loops.{loop_cost}
 use Rattle.cw_model.specs.Answers.{Answer, Ended, TrappedAt, OverLimit}
-use Rattle.cw_model.specs.declared.syntax.Operator.TheVariants.{Plus, Times}
+use Rattle.cw_model.specs.declared.syntax.Operator.TheVariants.{Plus, Minus, Times}
+use Rattle.cw_model.specs.declared.syntax.Reduction.TheVariants.{Sum, Max}
+use Rattle.cw_model.specs.declared.total.Total.{Total}
+use Rattle.cw_model.specs.declared.total.Total.TheVariants as total
 use Rattle.cw_model.specs.declared.syntax.CallKind.TheVariants.{Spawned}
-use Rattle.cw_model.specs.Syntax.{Number, Variable, Element, Length, Binary, Declare, DeclareArray, AssignElement, AddTo, Call, For, Print, Return, Sync, End, Then, Program}
+use Rattle.cw_model.specs.Syntax.{Number, Variable, Element, Length, Binary, Declare, DeclareArray, AssignElement, Reduce, Call, For, Print, Return, Sync, End, Then, Program}
 use Rattle.cw_model.specs.ExamplePrograms as example
 use Rattle.cw_model.specs.Examples.{serial}
 use Rattle.cw_loops.specs.Lowered.{lowered}
@@ -19,7 +22,7 @@ Same program limits = map (serial (lowered program) []) limits ≡ map (serial p
 -- a loop in a loop, over a new array of each turn, with prints, a spawn's result and a trap in the end
 abbrev pub nested : ℕ → Program
 nested trap_at = record {
-  reducers = record { name = example.s; line = 1 } ∷ [];
+  reducers = record { name = example.s; how = Sum; line = 1 } ∷ [];
   functions =
       record {
         name = example.f;
@@ -40,7 +43,7 @@ nested trap_at = record {
             (Then 7 (DeclareArray example.b (Binary Plus (Variable example.i) (Number (pos 2))))
             (Then 8 (For example.p example.p example.p (Number (pos 0)) (Length example.b) 1 (example.b ∷ [])
             (Then 9 (AssignElement example.b (Variable example.p) (Binary Plus (Variable example.t) (Binary Times (Variable example.p) (Variable example.i))))
-            (Then 10 (AddTo example.s (Element example.b (Variable example.p))) End)))
+            (Then 10 (Reduce Sum example.s (Element example.b (Variable example.p))) End)))
             (Then 11 (Declare example.x (Number (pos 0)))
             (Then 12 (Call Spawned 1 (Some example.x) example.f (Variable example.i ∷ []))
             (Then 13 (Print (Element example.b (Number (pos trap_at))))
@@ -58,9 +61,22 @@ turns_program turns grain =
     example.with_sum (
     example.main_of (
     For example.i example.i example.i (Number (pos 0)) (Number (pos turns)) grain []
-    (example.block (AddTo example.s (Variable example.i) ∷ []))
+    (example.block (Reduce Sum example.s (Variable example.i) ∷ []))
     ∷ Return (Some (Number (pos 0))) ∷ [])
     ∷ [])
+
+-- a loop with grain 2 that keeps the greatest of i * (3 - i)
+abbrev pub greatest_program : (from to : ℕ) → Program
+greatest_program from to = record {
+  reducers = record { name = example.s; how = Max; line = 1 } ∷ [];
+  functions =
+      example.main_of (
+      For example.i example.i example.i (Number (pos from)) (Number (pos to)) 2 []
+      (example.block (Reduce Max example.s
+      (Binary Times (Variable example.i) (Binary Minus (Number (pos 3)) (Variable example.i))) ∷ []))
+      ∷ Return (Some (Number (pos 0))) ∷ [])
+      ∷ [];
+}
 
 -- what it costs: the two ends and the start, the halves with two more a turn, and the return
 abbrev pub turns_cost : (turns grain : ℕ) → ℕ
@@ -73,7 +89,7 @@ sum_below (suc n) = sum_below n + n
 
 -- it ends with this sum
 abbrev pub ends_with : ℕ → Answer → Bool
-ends_with sum (Ended v lines (pos n ∷ []) t) = n == sum
+ends_with sum (Ended v lines (total.Sum (pos n) ∷ []) t) = n == sum
 ends_with sum _ = false
 
 abbrev pub is_over : Answer → Bool
@@ -93,8 +109,13 @@ all_have_cost grain (suc n) = all_have_cost grain n && has_cost grain n
 
 -- lowered, it ends with this value within so many instructions, and is over with one less
 abbrev pub value_answered : Answer → Option ℤ
-value_answered (Ended v lines sums t) = Some v
+value_answered (Ended v lines totals t) = Some v
 value_answered _ = None
+
+-- what the reducers come to, lowered
+abbrev pub totals_answered : Answer → List Total
+totals_answered (Ended v lines totals t) = totals
+totals_answered _ = []
 
 abbrev pub CostsLowered : Program → ℕ → ℤ → Type 0
 CostsLowered program cost v =
@@ -117,6 +138,11 @@ pub record LoweredExamples : Type 0 where
   pub grain_3 : all_have_cost 3 8 ≡ true
   pub sums : Same (example.sum_program 0 4) (1000 ∷ 106 ∷ 105 ∷ 20 ∷ 5 ∷ [])
   pub no_turn : Same (example.sum_program 5 3) (1000 ∷ 19 ∷ 18 ∷ [])
+  -- a reducer that keeps the greatest of what it was told: 2 of 0, 2, 2 and 0, and none of no turn
+  pub greatest : Same (greatest_program 0 4) (1000 ∷ 122 ∷ 121 ∷ 20 ∷ 5 ∷ [])
+  pub greatest_cost : CostsLowered (greatest_program 0 4) 122 (pos 0)
+  pub greatest_told : totals_answered (serial (lowered (greatest_program 0 4)) [] 122) ≡ total.Max (Some (pos 2)) ∷ []
+  pub none_told : totals_answered (serial (lowered (greatest_program 5 3)) [] 122) ≡ total.Max None ∷ []
   pub squares_printed : Same (example.square_print_program 4) (1000 ∷ 136 ∷ 135 ∷ 60 ∷ [])
   pub squares_past : Same (example.square_print_program 5) (1000 ∷ 5 ∷ 4 ∷ [])
   pub squares : Same (example.square_program 4 0 4 3) (1000 ∷ [])
@@ -128,6 +154,7 @@ pub record LoweredExamples : Type 0 where
   pub twice_traps : Same (nested 4) (5000 ∷ 700 ∷ [])
   -- these can be lowered, by the test
   pub sums_can : is_lowerable (example.sum_program 0 4) ≡ true
+  pub greatest_can : is_lowerable (greatest_program 0 4) ≡ true
   pub squares_can : is_lowerable (example.square_program 5 0 5 4) ≡ true
   pub fill_can : is_lowerable example.fill_program ≡ true
   pub cut_can : is_lowerable (example.cut_program 3) ≡ true

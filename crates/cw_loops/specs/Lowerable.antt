@@ -2,7 +2,7 @@
 use Rattle.std.specs.Prelude.{Bool, true, false, not, ◌&&◌, ◌||◌, if◌then◌else◌, nat_le, ◌==◌, List, [], ◌∷◌, ◌++◌, length, Option, Some, None}
 use Rattle.std.specs.List.{list_all}
 use Rattle.cw_model.specs.Ints.{fits}
-use Rattle.cw_model.specs.Syntax.{Name, Expr, Number, Variable, Element, Length, Negative, Not, Binary, Stmt, Declare, DeclareArray, Assign, AssignElement, AddTo, Call, Start, Begin, Sync, If, IfElse, While, For, Scope, Cut, Region, Print, Return, Block, End, Then, Param, Function, Program}
+use Rattle.cw_model.specs.Syntax.{Name, Expr, Number, Variable, Element, Length, Negative, Not, Binary, Stmt, Declare, DeclareArray, Assign, AssignElement, Reduce, Call, Start, Begin, Sync, If, IfElse, While, For, Scope, Cut, Region, Print, Return, Block, End, Then, Param, Function, Program}
 use Rattle.cw_model.specs.Names.{same_name, is_among, differ}
 use Rattle.cw_model.specs.Captured.{captured}
 use Rattle.cw_model.specs.Meaning.{function_named}
@@ -125,7 +125,7 @@ abbrev mutual
   can_lower c ints arrays (Assign x e) = can_write c x && can_evaluate c e
   can_lower c ints arrays (AssignElement a i e) =
       (if is_among a c.over then is_variable c i else (is_local c a && can_evaluate c i)) && can_evaluate c e
-  can_lower c ints arrays (AddTo s e) = can_evaluate c e
+  can_lower c ints arrays (Reduce how s e) = can_evaluate c e
   can_lower c ints arrays (Call kind site target f es) =
       is_plain f
       && (length es == length (function_named f c.functions).params && (can_target c target && can_pass_all c es))

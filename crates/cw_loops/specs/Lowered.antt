@@ -2,7 +2,7 @@
 use Rattle.std.specs.Prelude.{ℕ, ◌+◌, ◌==◌, not, pos, true, false, Bool, List, [], ◌∷◌, ◌++◌, map, Option, Some, None}
 use Rattle.cw_model.specs.declared.syntax.Operator.TheVariants.{AtMost, Less, Plus, Minus, Divide}
 use Rattle.cw_model.specs.declared.syntax.CallKind.TheVariants.{Plain, Spawned}
-use Rattle.cw_model.specs.Syntax.{Name, Expr, Number, Variable, Element, Length, Negative, Not, Binary, Stmt, Declare, DeclareArray, Assign, AssignElement, AddTo, Call, Start, Begin, Sync, If, IfElse, While, For, Scope, Cut, Region, Print, Return, Block, End, Then, Param, Function, Program}
+use Rattle.cw_model.specs.Syntax.{Name, Expr, Number, Variable, Element, Length, Negative, Not, Binary, Stmt, Declare, DeclareArray, Assign, AssignElement, Reduce, Call, Start, Begin, Sync, If, IfElse, While, For, Scope, Cut, Region, Print, Return, Block, End, Then, Param, Function, Program}
 use Rattle.cw_model.specs.Names.{is_among}
 use Rattle.cw_model.specs.Captured.{captured}
 
@@ -147,7 +147,7 @@ abbrev mutual
   lower_stmt over k (Assign x e) = Assign x (lower_expr over e)
   lower_stmt over k (AssignElement a i e) =
       AssignElement a (lower_index (is_among a over) (lower_expr over i)) (lower_expr over e)
-  lower_stmt over k (AddTo s e) = AddTo s (lower_expr over e)
+  lower_stmt over k (Reduce how s e) = Reduce how s (lower_expr over e)
   lower_stmt over k (Call kind site target f es) = Call kind site target f (lower_exprs over es)
   lower_stmt over k (Start kind f es) = Start kind f es
   lower_stmt over k (Begin f from to ints arrays) = Begin f from to ints arrays

@@ -20,7 +20,7 @@ abbrev pub main_of : Program → Function
 main_of program = function_named main_name program.functions
 
 -- on as many arguments of 64 bits as its main has parameters, and within each limit, the lowered program answers as
--- the program: value, printed lines, sums, tree, trap with its line, and over the limit
+-- the program: value, printed lines, totals, tree, trap with its line, and over the limit
 abbrev pub AnswersAsItsSource : Program → Type 0
 AnswersAsItsSource program =
     (args : List ℤ) (limit : ℕ) → list_all fits args ≡ true → length args ≡ length (main_of program).params →

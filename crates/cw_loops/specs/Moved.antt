@@ -3,7 +3,7 @@ use Rattle.std.specs.Prelude.{ℕ, ◌+◌, ◌-◌, ◌^◌, ◌==◌, min, nat
 use Rattle.cw_model.specs.declared.syntax.Operator.TheVariants.{Minus}
 use Rattle.cw_tree.specs.Resolved.{Use, is_slot_in}
 use Rattle.cw_tree.specs.Resolved as source
-use Rattle.cw_loops.specs.Slotted.{Expr, Number, Variable, Element, Length, Negative, Not, Binary, Argument, Int, Array, Stmt, Declare, DeclareArray, Assign, AssignElement, AddTo, Call, Begin, Sync, If, IfElse, While, Scope, Cut, Region, Print, Return, Block, End, Then}
+use Rattle.cw_loops.specs.Slotted.{Expr, Number, Variable, Element, Length, Negative, Not, Binary, Argument, Int, Array, Stmt, Declare, DeclareArray, Assign, AssignElement, Reduce, Call, Begin, Sync, If, IfElse, While, Scope, Cut, Region, Print, Return, Block, End, Then}
 
 -- the greatest slot or index that a tree can tell
 abbrev pub most_slot : ℕ
@@ -117,7 +117,7 @@ moved_alone m (source.DeclareArray u e) = DeclareArray (moved_array m u.slot) (m
 moved_alone m (source.Assign u e) = Assign (moved_int m u.slot) (moved_expr m e)
 moved_alone m (source.AssignElement u i e) =
     AssignElement (moved_array m u.slot) (from_low (is_over m u.slot) (moved_expr m i)) (moved_expr m e)
-moved_alone m (source.AddTo s e) = AddTo s.index (moved_expr m e)
+moved_alone m (source.Reduce how s e) = Reduce how s.index (moved_expr m e)
 moved_alone m (source.Call kind site target f es) =
     Call kind site (moved_target m target) f.index (map (moved_argument m) es)
 moved_alone m (source.Print e) = Print (moved_expr m e)

@@ -4,7 +4,8 @@ use Rattle.cw_model.specs.declared.syntax.CallKind.{CallKind}
 use Rattle.cw_model.specs.declared.syntax.CallKind.TheVariants.{Plain, Spawned}
 use Rattle.cw_model.specs.declared.syntax.Operator.{Operator}
 use Rattle.cw_model.specs.declared.syntax.Operator.TheVariants.{Equal, Unequal, Less, AtMost, Greater, AtLeast, Plus, Minus, Times, Divide, Modulo}
-use Rattle.cw_loops.specs.Slotted.{Expr, Number, Variable, Element, Length, Negative, Not, Binary, Argument, Int, Array, Stmt, Declare, DeclareArray, Assign, AssignElement, AddTo, Call, Start, Begin, Sync, If, IfElse, While, Scope, Cut, Region, Print, Return, Block, End, Then}
+use Rattle.cw_model.specs.Typing.{same_reduction}
+use Rattle.cw_loops.specs.Slotted.{Expr, Number, Variable, Element, Length, Negative, Not, Binary, Argument, Int, Array, Stmt, Declare, DeclareArray, Assign, AssignElement, Reduce, Call, Start, Begin, Sync, If, IfElse, While, Scope, Cut, Region, Print, Return, Block, End, Then}
 use Rattle.cw_loops.specs.Moved.{Loop}
 use Rattle.cw_loops.specs.Lowers.{Bodies}
 
@@ -82,7 +83,7 @@ abbrev mutual
   same_stmt (DeclareArray u d) (DeclareArray v e) = (u == v) && same_expr d e
   same_stmt (Assign u d) (Assign v e) = (u == v) && same_expr d e
   same_stmt (AssignElement u i d) (AssignElement v j e) = (u == v) && (same_expr i j && same_expr d e)
-  same_stmt (AddTo u d) (AddTo v e) = (u == v) && same_expr d e
+  same_stmt (Reduce how u d) (Reduce other v e) = same_reduction how other && ((u == v) && same_expr d e)
   same_stmt (Call k s t f ds) (Call l r u g es) =
       same_kind k l && ((s == r) && (same_target t u && ((f == g) && same_arguments ds es)))
   same_stmt (Start k f ds) (Start l g es) = same_kind k l && ((f == g) && same_arguments ds es)

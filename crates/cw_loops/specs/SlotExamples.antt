@@ -5,7 +5,7 @@ use Rattle.cw_model.specs.ExamplePrograms as example
 use Rattle.cw_tree.specs.Resolved.{resolved}
 use Rattle.cw_loops.specs.Slotted.{slotted_functions}
 use Rattle.cw_loops.specs.Expanded.{lowered_by_slot}
-use Rattle.cw_loops.specs.Examples.{nested}
+use Rattle.cw_loops.specs.Examples.{nested, greatest_program}
 
 -- a program is lowered by slot as by name
 abbrev pub LowersBySlot : Program → Type 0
@@ -13,6 +13,7 @@ LowersBySlot program = lowered_by_slot (resolved program) ≡ slotted_functions 
 
 pub record SlotExamples : Type 0 where
   pub sums : LowersBySlot (example.sum_program 0 4)
+  pub greatest : LowersBySlot (greatest_program 0 4)
   pub squares : LowersBySlot (example.square_program 5 0 5 4)
   pub idle : LowersBySlot (example.idle_loop (Number (pos 0)) 4)
   pub fill : LowersBySlot example.fill_program

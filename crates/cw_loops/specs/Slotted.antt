@@ -9,6 +9,7 @@
 use Rattle.std.specs.Prelude.{ℕ, suc, ℤ, Bool, List, length, map, Option, option_map, if◌then◌else◌}
 use Rattle.cw_model.specs.declared.syntax.CallKind.{CallKind}
 use Rattle.cw_model.specs.declared.syntax.Operator.{Operator}
+use Rattle.cw_model.specs.declared.syntax.Reduction.{Reduction}
 use Rattle.cw_model.specs.Syntax.{Name, Program}
 use Rattle.cw_model.specs.Syntax as model
 use Rattle.cw_model.specs.Names.{is_among}
@@ -37,7 +38,7 @@ mutual
     DeclareArray : ℕ → Expr → Stmt
     Assign : ℕ → Expr → Stmt
     AssignElement : ℕ → Expr → Expr → Stmt
-    AddTo : (reducer : ℕ) → Expr → Stmt
+    Reduce : (how : Reduction) (reducer : ℕ) → Expr → Stmt
     Call : (kind : CallKind) (site : ℕ) (target : Option ℕ) (callee : ℕ) → List Argument → Stmt
     Start : (kind : CallKind) (callee : ℕ) → List Argument → Stmt
     Begin : (callee : ℕ) (from to : Expr) (captured over : List ℕ) → Stmt
@@ -90,7 +91,7 @@ abbrev mutual
   slotted_stmt lists locals (model.Assign x e) = Assign (slot_of x locals.ints) (slotted_expr locals e)
   slotted_stmt lists locals (model.AssignElement a i e) =
       AssignElement (slot_of a locals.arrays) (slotted_expr locals i) (slotted_expr locals e)
-  slotted_stmt lists locals (model.AddTo s e) = AddTo (slot_of s lists.reducers) (slotted_expr locals e)
+  slotted_stmt lists locals (model.Reduce how s e) = Reduce how (slot_of s lists.reducers) (slotted_expr locals e)
   slotted_stmt lists locals (model.Call kind site target f es) =
       Call kind site (option_map (λ x. slot_of x locals.ints) target) (slot_of f lists.functions)
       (map (slotted_argument locals) es)

@@ -2,7 +2,7 @@
 use Rattle.std.specs.Prelude.{Bool, true, false, ◌&&◌, Option, Some, None}
 use Rattle.std.specs.List.{list_all}
 use Rattle.cw_model.specs.Ints.{fits}
-use Rattle.cw_model.specs.Syntax.{Name, Expr, Number, Variable, Element, Length, Negative, Not, Binary, Stmt, Declare, DeclareArray, Assign, AssignElement, AddTo, Call, Start, Begin, Sync, If, IfElse, While, For, Scope, Cut, Region, Print, Return, Block, End, Then, Function, Program}
+use Rattle.cw_model.specs.Syntax.{Name, Expr, Number, Variable, Element, Length, Negative, Not, Binary, Stmt, Declare, DeclareArray, Assign, AssignElement, Reduce, Call, Start, Begin, Sync, If, IfElse, While, For, Scope, Cut, Region, Print, Return, Block, End, Then, Function, Program}
 use Rattle.cw_loops.specs.Lowered.{is_plain}
 
 -- an expression of plain names, and of numbers that fit 64 bits
@@ -32,7 +32,7 @@ abbrev mutual
   is_source_stmt (DeclareArray a e) = is_plain a && is_source_expr e
   is_source_stmt (Assign x e) = is_plain x && is_source_expr e
   is_source_stmt (AssignElement a i e) = is_plain a && (is_source_expr i && is_source_expr e)
-  is_source_stmt (AddTo s e) = is_plain s && is_source_expr e
+  is_source_stmt (Reduce how s e) = is_plain s && is_source_expr e
   is_source_stmt (Call kind site target f es) = is_source_target target && (is_plain f && list_all is_source_expr es)
   -- no source has one
   is_source_stmt (Start kind f es) = false

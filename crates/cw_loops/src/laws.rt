@@ -17,7 +17,7 @@ pub fn lowered_examples()
 {}
 
 /// A program whose loops are lowered answers as the program, on as many arguments of 64 bits as its main has parameters,
-/// within each limit: value, printed lines, sums, tree, trap with its line, and over the limit.
+/// within each limit: value, printed lines, totals, tree, trap with its line, and over the limit.
 pub fn lowered_answers_as_its_source()
     ensures { LoweredAnswersAsItsSource }
 {}
@@ -44,7 +44,7 @@ pub fn owned_is_lowerable()
 {}
 
 /// Such a program, lowered, answers as it does by its own text, on as many arguments of 64 bits as its main takes and
-/// within each limit: value, printed lines, sums, tree, trap with its line, and over the limit. It is as long as its
+/// within each limit: value, printed lines, totals, tree, trap with its line, and over the limit. It is as long as its
 /// static size says. Of a program that a text derives nothing is asked but that types and ownership accept it.
 pub fn lowering_keeps_answers()
     ensures answers { LoweringKeepsAnswers }

@@ -187,9 +187,9 @@ pub(crate) fn alone(alloc: Global, moves: Moves, stmt: &Stmt) -> Result<tree::St
             let value = expression(alloc, moves, e)?;
             Ok(tree::Stmt::AssignElement(moves.array(a.slot), index, value))
         }
-        Stmt::AddTo(s, e) => {
+        Stmt::Reduce(how, s, e) => {
             let value = expression(alloc, moves, e)?;
-            Ok(tree::Stmt::AddTo(s.index, value))
+            Ok(tree::Stmt::Reduce(*how, s.index, value))
         }
         Stmt::Call(c) => call(alloc, moves, c),
         Stmt::Print(e) => Ok(tree::Stmt::Print(expression(alloc, moves, e)?)),

@@ -4,7 +4,7 @@
 //! Integers and arrays of a function have slots of their own, from 0. An index of a function counts those of the source
 //! first, in their order there, and then those of the loops; indices of reducers and tags are those of the source.
 
-use cw_model::syntax::{CallKind, Operator};
+use cw_model::syntax::{CallKind, Operator, Reduction};
 
 /// An expression.
 #[derive(Drop, Debug)]
@@ -97,8 +97,8 @@ pub enum Stmt {
     Assign(u32, Expr),
     /// An array, an index, and the new value of the element there.
     AssignElement(u32, Expr, Expr),
-    /// A reducer and what is added to it.
-    AddTo(u32, Expr),
+    /// How a reducer reduces, the reducer, and what it is told.
+    Reduce(Reduction, u32, Expr),
     /// A call, plain or spawned.
     Call(Call),
     /// The beginning of a loop.

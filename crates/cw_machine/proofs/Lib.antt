@@ -19,9 +19,9 @@ pub mod Begun
 pub mod Lending
 pub mod Entering
 pub mod Starting
-pub mod Sums
+pub mod Totals
 pub mod Going
-pub mod Additions
+pub mod Updates
 pub mod Metering
 pub mod Told
 pub mod Keeping

@@ -1,19 +1,19 @@
 -- What the effect of a whole run tells of the run.
-use Rattle.std.proofs.Common.{◌≡◌, ◌⊎◌, inl, inr, ℕ, ◌+◌, ◌-◌, ◌≤◌, ℤ, Bool, true, false, Option, Some, None, List, [], ◌∷◌, length, refl, sym, ap, ◌∙◌, subst, arith}
+use Rattle.std.proofs.Common.{◌≡◌, ◌⊎◌, inl, inr, ℕ, ◌+◌, ◌≤◌, ℤ, true, Option, Some, List, [], length, refl, sym, ap, ◌∙◌, subst, arith}
 use Rattle.std.specs.Prelude.{slice_get}
 use Rattle.std.proofs.lemmas.List.{length-map}
 use Rattle.std.specs.Coded.{le_prop}
 use Rattle.std.proofs.Math.Bool.{Bool-set}
 use Rattle.std.proofs.Math.Logic.{∥∥₁_elim}
-use Rattle.cw_model.specs.declared.limits.TheConstants.{MOST_LIMIT, MOST_BURDEN}
+use Rattle.cw_model.specs.declared.burden.Burden.{Burden}
+use Rattle.cw_model.specs.declared.limits.TheConstants.{MOST_LIMIT}
 use Rattle.cw_model.specs.declared.trap.Trap.{Trap}
-use Rattle.cw_model.specs.Outcome.{Trace}
 use Rattle.cw_model.specs.Trees.{Marked, Invocation, tree_of, normal}
 use Rattle.cw_model.specs.Answers.{int_given, TrappedAt, OverLimit}
 use Rattle.cw_model.specs.Ints.{trap_number}
 use Rattle.cw_code.specs.declared.code.Func.{Func}
 use Rattle.cw_code.specs.Code.{Code, code_view}
-use Rattle.cw_code.specs.Run.{Slots, On, first_state, first_transition, code_serial}
+use Rattle.cw_code.specs.Run.{On, first_state, first_transition, code_serial}
 use Rattle.cw_strands.specs.Jobs as jobs
 use Rattle.cw_strands.specs.Jobs.{Came, Arrives, Returns, Falls, Beyond, Lost, IsOf, JobMeaning, Same, Passed, Short, root_job, course}
 use Rattle.cw_strands.specs.RestLaws.{RootsAreSerial}
@@ -27,19 +27,17 @@ use Rattle.cw_jobs.specs.declared.effect.Effect.TheVariants as effect
 use Rattle.cw_jobs.specs.declared.effect.Shown.{Shown}
 use Rattle.cw_jobs.specs.declared.call.Rest.{Rest}
 use Rattle.cw_jobs.specs.declared.job.Job.{Job}
-use Rattle.cw_jobs.specs.Calls as calls
-use Rattle.cw_jobs.specs.Jobs.{Ok, IsJob, IsRoot, code_of}
+use Rattle.cw_jobs.specs.Jobs.{Ok, IsJob, IsRoot}
 use Rattle.cw_jobs.specs.Means.{IsMeaningOf, MeansIt, Tells, Counts, HasShown}
 use Rattle.cw_machine.specs.declared.alone.Ended as alone
 use Rattle.cw_machine.specs.Arrays.{IsFit}
-use Rattle.cw_machine.specs.Runs.{is_asked, is_request, IsEndOf, Runs}
-use Rattle.cw_machine.specs.Shows as shows
-use Rattle.cw_machine.proofs.Additions.{ReturnsWithin, travelled, sums_are}
+use Rattle.cw_machine.specs.Runs.{is_asked, IsEndOf, Runs}
+use Rattle.cw_machine.proofs.Updates.{ReturnsWithin, travelled, totals_are}
 use Rattle.cw_machine.proofs.Metering.{gauge_of}
-use Rattle.cw_machine.proofs.FromMain.{Main, main_of, asked_of, told, IsEnded, IsEnded-prop, IsTrapped, IsTrapped-prop, was_trapped, is_over, was_over, same_as, first_is, asked_count, asked_limit, asked_burden, main_room, main_arrays}
+use Rattle.cw_machine.proofs.FromMain.{Main, main_of, asked_of, told, IsEnded, IsEnded-prop, IsTrapped, IsTrapped-prop, was_trapped, is_over, was_over, same_as, same_totals_as, first_is, asked_count, asked_limit, asked_burden, main_room, main_arrays}
 
 -- an effect that means the job of a whole run means what the definitions have as that job
-pub means_root : (v : Verified) (args : List ℤ) (n burden : ℕ) (root : Job) (e : Effect) → IsRoot v args n burden root.parts.value → IsMeaningOf root e
+pub means_root : (v : Verified) (args : List ℤ) (n : ℕ) (burden : Burden) (root : Job) (e : Effect) → IsRoot v args n burden root.parts.value → IsMeaningOf root e
     → (ok : Ok v) (f : Func) → slice_get (code_view v.code).funcs v.code.main ≡ Some f → ∥ MeansIt v ok root.parts.value e (root_job f args n) ∥₁
 unfolding IsMeaningOf
 means_root v args n burden root e r means ok f found =
@@ -47,7 +45,7 @@ means_root v args n burden root e r means ok f found =
 
 -- the definition of the run of a whole call ends with a value only within the limit, and comes to no join
 abbrev Few : ℕ → jobs.Effect → Type 0
-Few n (jobs.Ended x arrays t cost) = (length t.additions ≤ n) × (cost ≤ n)
+Few n (jobs.Ended x arrays t cost) = (length t.updates ≤ n) × (cost ≤ n)
 Few n (jobs.Joined frame t cost) = ⊥
 Few n (jobs.TrapIn trap line lines cost) = Unit {0}
 Few n jobs.OverLimit = Unit {0}
@@ -65,15 +63,7 @@ few code f args n e (Same h) = cases (course code (root_job f args n) n) (travel
 few code f args n e (Passed h k) = subst (Few n) (sym h) tt
 few code f args n e (Short h) = subst (Few n) (sym h) tt
 
--- the sums of a run, by the machine's own words
-sums_as : (code : Code) (sums : List ℤ) (t : Trace) → calls.HoldsSums code sums t.additions → shows.HoldsSums code sums t.additions
-sums_as code sums t h = record { fit = fits t.additions h.fit; as_many = h.as_many; are = h.are }
-  where
-    fits : (ts : _) → calls.AllFit ts → shows.AllFit ts
-    fits [] h = tt
-    fits (a ∷ ts) h = (h.0, fits ts h.1)
-
-module _ (laws : RootsAreSerial) (v : Verified) (ok : IsFit v) (f : Func) (args : List ℤ) (n burden : ℕ) (root : Job) (found : slice_get (code_view v.code).funcs v.code.main ≡ Some f) (asked : is_asked f.params (length args) n burden ≡ true) (r : IsRoot v args n burden root.parts.value) where
+module _ (laws : RootsAreSerial) (v : Verified) (ok : IsFit v) (f : Func) (args : List ℤ) (n : ℕ) (burden : Burden) (root : Job) (found : slice_get (code_view v.code).funcs v.code.main ≡ Some f) (asked : is_asked f.params (length args) n burden ≡ true) (r : IsRoot v args n burden root.parts.value) where
   begins : first_transition (slice_get (code_view v.code).funcs v.code.main) args ≡ On (first_state f args [])
   begins = first_is (code_view v.code) f args found (asked_count f args n burden asked) (main_room v f ok found) (main_arrays v f ok found)
 
@@ -139,7 +129,7 @@ module _ (laws : RootsAreSerial) (v : Verified) (ok : IsFit v) (f : Func) (args 
             subst (λ o. IsEnded (code_view v.code) burden e end.all o) s (
               ap int_given (sym h.1) ∙ sym end.value,
               same_as t.lines e.lines.items (sym has.lines ∙ sym end.lines),
-              same_as _ e.sums.items (sums_are (code_view v.code) shown.sums.items t.additions (sums_as (code_view v.code) shown.sums.items t has.sums) (let le = w.0 in omega (arith, le, most)) ∙ sym end.sums),
+              same_totals_as _ e.totals.items (totals_are (code_view v.code) shown.totals.items t.updates has.totals (let le = w.0 in omega (arith, le, most)) ∙ sym end.totals),
               subst (λ k. AreMeasures burden (k + 1) (code_view v.code).tags (normal (Marked (Invocation 0) (tree_of t.events))) end.all) (sym sites) (end.reads burden g.tags (code_view v.code).tags t.events (omega (arith, within, most)) light g.named refl meters),
             ),
           )
@@ -150,13 +140,13 @@ module _ (laws : RootsAreSerial) (v : Verified) (ok : IsFit v) (f : Func) (args 
       cases jobs.Memory h counts w s = absurd h
 
 -- whatever is a proposition and holds of the job's meaning holds
-on_root : {P : Type 0} → IsProp P → (v : Verified) (args : List ℤ) (n burden : ℕ) (root : Job) (e : Effect) → IsRoot v args n burden root.parts.value → IsMeaningOf root e
+on_root : {P : Type 0} → IsProp P → (v : Verified) (args : List ℤ) (n : ℕ) (burden : Burden) (root : Job) (e : Effect) → IsRoot v args n burden root.parts.value → IsMeaningOf root e
     → ((ok : IsFit v) (main : Main v) → is_asked main.func.params (length args) n burden ≡ true → MeansIt v ok root.parts.value e (root_job main.func args n) → P) → P
 on_root prop v args n burden root e r means f = ∥∥₁_elim v.ok prop (λ ok.
     let main = main_of v ok in
     ∥∥₁_elim (means_root v args n burden root e r means ok main.func main.found) prop (f ok main (asked_of v main args n burden r.asked)))
 
-module _ (laws : RootsAreSerial) (v : Verified) (args : List ℤ) (n burden : ℕ) (root : Job) (r : IsRoot v args n burden root.parts.value) where
+module _ (laws : RootsAreSerial) (v : Verified) (args : List ℤ) (n : ℕ) (burden : Burden) (root : Job) (r : IsRoot v args n burden root.parts.value) where
   pub ended_as_code : (x : Option ℤ) (shown : Shown) (e : alone.Ended) → IsMeaningOf root (effect.Ended x shown) → IsEndOf v.code x shown e → Runs (code_view v.code) args n burden e
   ended_as_code x shown e means end =
       let is_end = IsEnded-prop (code_view v.code) burden e end.all (code_serial (code_view v.code) args n) in

@@ -52,7 +52,7 @@ act_kept : (code : Code) (s : State) (o : Option Instr) → KeptAt (length s.aro
 act_kept code s o = acts_by code s (λ j turn w. KeptAt (length s.around) (newest_spawn s.around) w turn) (record {
   stuck = λ j turn. tt;
   stops = λ j turn trap line lines. tt;
-  local = λ place operands slots arrays lines additions. refl;
+  local = λ place operands slots arrays lines updates. refl;
   enters = λ e. enters_as e.kind e.target e.taken (length s.around) (newest_spawn s.around);
   opens = λ operands arrays tag cut. refl;
   syncs = refl;

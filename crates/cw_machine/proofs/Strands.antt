@@ -3,6 +3,8 @@ use Rattle.std.proofs.Common.{◌≡◌, ℕ, zero, suc, ℤ, ◌<◌, ◌≤◌
 use Rattle.std.specs.Prelude.{slice_get}
 use Rattle.std.specs.Coded.{le_prop}
 use native.Mathlib.Nat.{ℕ_set}
+use Rattle.cw_model.specs.declared.total.Total.{Total}
+use Rattle.cw_model.specs.Burdens.{no_burden}
 use Rattle.cw_model.specs.Trees.{Tree, Marked, Invocation, tree_of, normal}
 use Rattle.cw_model.specs.Outcome.{Trace}
 use Rattle.cw_model.specs.Answers.{Answer, Ended, TrappedAt, OverLimit}
@@ -107,22 +109,22 @@ IsRecorded-prop kept None = hlevel le_prop
 pub record WasRecorded (kept : Recorded) (o : Option Answer) : Type 0 where
   pub value : ℤ
   pub lines : List ℤ
-  pub sums : List ℤ
+  pub totals : List Total
   pub tree : Tree
-  pub answer : o ≡ Some (Ended value lines sums tree)
+  pub answer : o ≡ Some (Ended value lines totals tree)
   pub is_kept : IsKept tree kept
 
 pub was_recorded : (kept : Recorded) (o : Option Answer) → IsRecorded kept o → WasRecorded kept o
-was_recorded kept (Some (Ended w shown totals tree)) h = record { value = w; lines = shown; sums = totals; tree = tree; answer = refl; is_kept = kept_is kept tree h }
+was_recorded kept (Some (Ended w shown totals tree)) h = record { value = w; lines = shown; totals = totals; tree = tree; answer = refl; is_kept = kept_is kept tree h }
 was_recorded kept (Some (TrappedAt trap line shown)) h = absurd h
 was_recorded kept (Some OverLimit) h = absurd h
 was_recorded kept None h = absurd h
 
 -- what a recorder reads at the end of a run
-pub recorded : (v : Verified) (f : Func) (args : List ℤ) (n count : ℕ) (r : Recording) → slice_get (code_view v.code).funcs v.code.main ≡ Some f → is_asked f.params (length args) n 0 ≡ true → (ok : IsFit v) (x : Option ℤ) (kept : Recorded) → Reads r.recorder count kept → Reaches v (from_main v ok) count (moved.Gave x) r n (first_state f args []) → IsRecorded kept (code_serial (code_view v.code) args n)
+pub recorded : (v : Verified) (f : Func) (args : List ℤ) (n count : ℕ) (r : Recording) → slice_get (code_view v.code).funcs v.code.main ≡ Some f → is_asked f.params (length args) n no_burden ≡ true → (ok : IsFit v) (x : Option ℤ) (kept : Recorded) → Reads r.recorder count kept → Reaches v (from_main v ok) count (moved.Gave x) r n (first_state f args []) → IsRecorded kept (code_serial (code_view v.code) args n)
 recorded v f args n count r found asked ok x kept reads h =
     let t : Trace = h.1 in
     let code = code_view v.code in
-    let serial : code_serial code args n ≡ answered code (steps code n (first_state f args [])) = serial_is code f args n found (asked_count f args n 0 asked) (main_room v f ok found) (main_arrays v f ok found) in
+    let serial : code_serial code args n ≡ answered code (steps code n (first_state f args [])) = serial_is code f args n found (asked_count f args n no_burden asked) (main_room v f ok found) (main_arrays v f ok found) in
     subst (λ o. IsRecorded kept o) (sym (serial ∙ ap (answered code) h.2))
     (kept_as kept (normal (Marked (Invocation 0) (tree_of t.events))) (reads t.events h.3.records))

@@ -1,5 +1,6 @@
 -- The effect of a whole run.
 use Rattle.std.specs.Prelude.{ℕ, ℤ, List}
+use Rattle.cw_model.specs.declared.burden.Burden.{Burden}
 use Rattle.cw_verify.specs.declared.verified.Verified.{Verified}
 use Rattle.cw_jobs.specs.declared.effect.Effect.{Effect}
 use Rattle.cw_jobs.specs.declared.job.Job.{Job}
@@ -10,7 +11,7 @@ use Rattle.cw_jobs.specs.Means.{IsMeaningOf}
 pub record IsOfWhole (v : Verified) (e : Effect) : Type 0 where
   pub args : List ℤ
   pub limit : ℕ
-  pub burden : ℕ
+  pub burden : Burden
   pub root : Job
   pub is : IsRoot v args limit burden root.parts.value
   pub means : IsMeaningOf root e

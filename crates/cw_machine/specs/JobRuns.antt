@@ -3,6 +3,7 @@ use Rattle.std.specs.Prelude.{◌≡◌, ◌≢◌, ◌⊎◌, ℕ, ◌+◌, ◌
 use Rattle.cw_slices.specs.Placed.{Placed, IsOwn}
 use Rattle.cw_slices.specs.Blocks.{Lodged, ins, Have}
 use Rattle.cw_model.specs.Outcome.{quiet}
+use Rattle.cw_code.specs.declared.code.Reducer.{Reducer}
 use Rattle.cw_code.specs.Code.{code_view}
 use Rattle.cw_code.specs.Run.{Results, Around, Caller, Block, State}
 use Rattle.cw_code.specs.Good.{GoodState}
@@ -12,6 +13,7 @@ use Rattle.cw_jobs.specs.declared.call.Parts.{Parts}
 use Rattle.cw_jobs.specs.declared.call.Rest.{Rest}
 use Rattle.cw_jobs.specs.Calls.{cell, placed, HoldsCall, HoldsFrame}
 use Rattle.cw_jobs.specs.Cuts.{cut_slots, AreNone, AreOwn, AreThere, RoundThere}
+use Rattle.cw_jobs.specs.Totals.{none_told}
 use Rattle.cw_jobs.specs.Jobs.{AreBlocks, IsOutermost, IsJob, own_or, home_of, IsOwnIn, KeepsHomes, KeepsEmpty, KeepsFixed}
 use Rattle.cw_verify.specs.declared.verified.Verified.{Verified}
 use Rattle.cw_machine.specs.declared.machine.Machine.{Machine}
@@ -54,7 +56,7 @@ abbrev pub lodged : Placed → Lodged
 lodged p = record { cells = ins p.items; spot = p.spot }
 
 -- a machine with room for a rest, where its slices will lie
-pub record HasRoomFor (rest : Rest) (room reducers : ℕ) (m : Machine) : Type 0 where
+pub record HasRoomFor (rest : Rest) (room : ℕ) (reducers : List Reducer) (m : Machine) : Type 0 where
   pub place : m.place ≡ rest.place
   pub first : m.first ≡ 0
   pub first_array : m.first_array ≡ length rest.slices.items
@@ -70,7 +72,7 @@ pub record HasRoomFor (rest : Rest) (room reducers : ℕ) (m : Machine) : Type 0
   pub small : AreSmall rest.slices.items
   pub blocks : length m.blocks.items ≡ length rest.slices.items + length rest.slices.items
   pub bare : (k : ℕ) → (block m.blocks.items k).cells ≡ []
-  pub sums : m.sums.items ≡ replicate reducers (pos 0)
+  pub totals : m.totals.items ≡ none_told reducers
 
 -- slices are the first blocks of a machine, and its other blocks have no numbers
 pub record HasSlices (slices : List Placed) (m : Machine) : Type 0 where
@@ -88,7 +90,7 @@ pub record KeepsAll (m m' : Machine) : Type 0 where
   pub cuts : m'.cuts.items ≡ m.cuts.items
   pub cells : m'.cells.items ≡ m.cells.items
   pub views : m'.views.items ≡ m.views.items
-  pub sums : m'.sums.items ≡ m.sums.items
+  pub totals : m'.totals.items ≡ m.totals.items
   pub blocks : length m'.blocks.items ≡ length m.blocks.items
 
 -- a rest whose slices were moved out keeps as many without numbers, and all else
@@ -249,7 +251,7 @@ pub record LeavesOthers (m : Machine) (count a : ℕ) (m' : Machine) : Type 0 wh
   pub place : m'.place ≡ m.place
   pub depth : m'.depth ≡ m.depth
   pub lines : m'.lines.items ≡ m.lines.items
-  pub sums : m'.sums.items ≡ m.sums.items
+  pub totals : m'.totals.items ≡ m.totals.items
 
 -- what comes of the array in a slot: the slot's own slice comes home, the array's numbers are in what comes back, and
 -- where it is as long as the slot's own slice it is in that

@@ -1,6 +1,8 @@
 -- What a run keeps of its strands.
 use Rattle.std.specs.Prelude.{◌≡◌, ◌<◌, ℕ, ◌+◌, ℤ, true, List, [], Some, Result, MatchResult}
 use Rattle.cw_model.specs.declared.limits.TheConstants.{MOST_LIMIT}
+use Rattle.cw_model.specs.declared.total.Total.{Total}
+use Rattle.cw_model.specs.Burdens.{no_burden}
 use Rattle.cw_model.specs.Frames.{no_frame}
 use Rattle.cw_model.specs.Trees.{Tree, Event}
 use Rattle.cw_model.specs.Outcome.{Trace, Done, Trapped}
@@ -18,7 +20,8 @@ use Rattle.cw_machine.specs.declared.machine.Moved.{Moved}
 use Rattle.cw_machine.specs.declared.machine.Moved.TheVariants as moved
 use Rattle.cw_machine.specs.declared.recorded.Recording.{Recording}
 use Rattle.cw_machine.specs.Arrays.{IsFit, Ok, alone}
-use Rattle.cw_machine.specs.Shows.{HoldsSums, Shows, MayGo, Follows}
+use Rattle.cw_jobs.specs.Totals.{HoldsTotals}
+use Rattle.cw_machine.specs.Shows.{Shows, MayGo, Follows}
 use Rattle.cw_metered.specs.Opens.{whole}
 use Rattle.cw_machine.specs.Telling.{opens_round, After, Tells}
 use Rattle.cw_machine.specs.Runs.{is_request, IsFailure}
@@ -56,7 +59,7 @@ DoesRecording v r count to r' =
 -- a run came to its end after so many instructions, with what the code has shown
 pub record CameTo (v : Verified) (count : ℕ) (r : Recording) (t : Trace) : Type 0 where
   pub lines : r.machine.lines.items ≡ t.lines
-  pub sums : HoldsSums (code_view v.code) r.machine.sums.items t.additions
+  pub totals : HoldsTotals (code_view v.code) r.machine.totals.items t.updates
   pub records : RecordsIn count [] (whole t) r.recorder
 
 -- all of so many instructions are done, and the machine holds the state that they lead to; or the run ended before
@@ -83,14 +86,14 @@ ReachesAny v r n count to r' =
 
 -- what was asked for is in range, and the run ends, with this record of the strands of its tree
 pub record Records (code : Code) (args : List ℤ) (n : ℕ) (kept : Recorded) : Type 0 where
-  pub asked : is_request code args n 0 ≡ true
+  pub asked : is_request code args n no_burden ≡ true
   pub value : ℤ
   pub lines : List ℤ
-  pub sums : List ℤ
+  pub totals : List Total
   pub tree : Tree
-  pub answer : code_serial code args n ≡ Some (Ended value lines sums tree)
+  pub answer : code_serial code args n ≡ Some (Ended value lines totals tree)
   pub is_kept : IsKept tree kept
 
 -- a run of code keeps what its strands come to, or tells why there are none
 abbrev pub RecordsAsCode : Code → List ℤ → (n : ℕ) → Result Recorded Fault → Type 0
-RecordsAsCode code args n result = MatchResult result (Records code args n) (IsFailure code args n 0)
+RecordsAsCode code args n result = MatchResult result (Records code args n) (IsFailure code args n no_burden)

@@ -12,8 +12,10 @@ use crate::run::Run;
 use cw_code::code::Code;
 use cw_jobs::effect::Shown;
 use cw_meter::Readings;
+use cw_model::burden::Burden;
 use cw_model::limits::{MOST_BURDEN, MOST_LIMIT};
 use cw_model::syntax::Name;
+use cw_model::total::Total;
 use cw_regions::RegionRow;
 use cw_sites::table::SiteRow;
 use cw_text::Fault;
@@ -29,8 +31,8 @@ pub struct Ended {
     pub value: i64,
     /// The values printed, in order.
     pub lines: Vec<i64>,
-    /// For each reducer the sum of what was added to it, in source order.
-    pub sums: Vec<i128>,
+    /// For each reducer what it comes to, in source order.
+    pub totals: Vec<Total>,
     /// Work, span and burdened span of the whole run, in instructions.
     pub measure: Readings,
     /// What is counted of each call site, under its number and in the order of the numbers: 0 is the call of `main` by
@@ -40,20 +42,21 @@ pub struct Ended {
     pub regions: IndexMap<Vec<u8>, RegionRow>,
 }
 
-/// Runs code on these arguments within `n` instructions: its value, the values printed, the sum of each reducer and all
-/// that is counted of its strand tree, exactly where the code's meaning gives them.
+/// Runs code on these arguments within `n` instructions: its value, the values printed, what each reducer comes to and
+/// all that is counted of its strand tree, exactly where the code's meaning gives them.
 ///
-/// `burden` is the cost of a spawn in instructions, by which the burdened spans alone are told.
+/// `burden` is what is charged for a spawn, by which the burdened spans alone are told.
 ///
 /// The error is `Arguments` exactly where the count of the arguments is not that of `main`'s parameters, or `n` is not
-/// in 1..=2^62, or `burden` is above 1,000,000,000; otherwise `OverLimit` exactly where the run costs more than `n`,
+/// in 1..=2^62, or more than 1,000,000,000 instructions are charged for an edge; otherwise `OverLimit` exactly where the run
+/// costs more than `n`,
 /// `Trap` exactly where it traps, with its line and the values printed before, and `Memory` where memory runs out.
 pub fn run_alone(
     alloc: Global,
     code: Arc<Verified>,
     args: &[i64],
     n: u64,
-    burden: u64,
+    burden: Burden,
 ) -> Result<Ended, Fault>
     ensures { runs.RunsAsCode (code_view code.value.code) args.now n burden result }
 {
@@ -68,7 +71,7 @@ pub fn run_alone(
         f,
         verified.room(main),
         args,
-        verified.code.reducers.len(),
+        verified.code.reducers.as_slice(),
         burden,
     )?;
     let (stop, count) = run.go(verified, n);
@@ -77,7 +80,7 @@ pub fn run_alone(
             let Run { machine, meter } = run;
             let shown = Shown {
                 lines: machine.lines,
-                sums: machine.sums,
+                totals: machine.totals,
                 meter,
                 cost: count,
             };
@@ -107,7 +110,7 @@ pub(crate) fn end_of(
 {
     let Shown {
         lines,
-        sums,
+        totals,
         meter,
         cost,
     } = shown;
@@ -118,7 +121,7 @@ pub(crate) fn end_of(
     Ok(Ended {
         value: int_given(value),
         lines,
-        sums,
+        totals,
         measure: all.measure,
         sites,
         regions,
@@ -172,8 +175,8 @@ pub(crate) fn int_given(value: Option<i64>) -> i64
 }
 
 // Whether there are as many arguments as parameters, and the limit and the burden are in their ranges.
-pub(crate) fn is_asked(params: usize, count: usize, n: u64, burden: u64) -> bool
+pub(crate) fn is_asked(params: usize, count: usize, n: u64, burden: Burden) -> bool
     ensures { result ≡ runs.is_asked params count n burden }
 {
-    count == params && 1 <= n && n <= MOST_LIMIT && burden <= MOST_BURDEN
+    count == params && 1 <= n && n <= MOST_LIMIT && burden.charge <= MOST_BURDEN
 }

@@ -5,6 +5,8 @@ ghost use Rattle.cw_machine.specs.Runs as runs;
 
 use crate::alone::{int_given, is_asked, main_takes};
 use crate::machine::{Machine, Moved};
+use cw_model::burden::Burden;
+use cw_model::total::Total;
 use cw_text::Fault;
 use cw_verify::verified::Verified;
 use std::alloc::Global;
@@ -17,11 +19,11 @@ pub struct Values {
     pub value: i64,
     /// The values printed, in order.
     pub lines: Vec<i64>,
-    /// For each reducer the sum of what was added to it, in source order.
-    pub sums: Vec<i128>,
+    /// For each reducer what it comes to, in source order.
+    pub totals: Vec<Total>,
 }
 
-/// Runs code on these arguments within `n` instructions: its value, the values printed and the sum of each reducer,
+/// Runs code on these arguments within `n` instructions: its value, the values printed and what each reducer comes to,
 /// exactly where the code's meaning gives them. Nothing is counted of its strand tree.
 ///
 /// The errors are those of `run_alone`; the burden is only looked at for that.
@@ -30,7 +32,7 @@ pub fn values_alone(
     code: Arc<Verified>,
     args: &[i64],
     n: u64,
-    burden: u64,
+    burden: Burden,
 ) -> Result<Values, Fault>
     ensures { runs.GivesAsCode (code_view code.value.code) args.now n burden result }
 {
@@ -43,7 +45,7 @@ pub fn values_alone(
         Moved::Gave(value) => Ok(Values {
             value: int_given(value),
             lines: machine.lines,
-            sums: machine.sums,
+            totals: machine.totals,
         }),
         Moved::On => Err(Fault::OverLimit),
         Moved::Trapped(trap, line) => Err(Fault::Trap {

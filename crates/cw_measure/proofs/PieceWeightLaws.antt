@@ -2,6 +2,8 @@
 use Rattle.std.specs.Prelude.{◌≡◌, ℕ, ◌+◌, ◌<◌, ◌≤◌, ◌^◌, max, Bool, true, false, not, List, [], ◌∷◌, ◌++◌, refl}
 use Rattle.std.proofs.Common.{sym, ◌∙◌, ap, subst, arith}
 use Rattle.std.specs.Global.{Vec}
+use Rattle.cw_model.specs.declared.burden.Burden.{Burden}
+use Rattle.cw_model.specs.Burdens.{at_child, at_rest}
 use Rattle.cw_model.specs.Trees.{Event, Work, Series, Fork, Join, burdened_span}
 use Rattle.cw_measure.specs.declared.burdened_path.BurdenedBlock.{BurdenedBlock}
 use Rattle.cw_measure.specs.declared.burdened_path.BurdenedPath.{BurdenedPath}
@@ -23,17 +25,17 @@ joined_more k (Split j n) (Straight m) = ap (Split j) (omega arith)
 joined_more k (Straight n) (Split l m) = ap (Split (n + l)) (omega arith)
 joined_more k (Split j n) (Split l m) = ap (Split (max j (n + l))) (omega arith)
 
-joined_forked : (burden c : ℕ) (L M : BlockWeight) → joined_on L (child_ended burden c M) ≡ child_ended burden c (joined_on L M)
-joined_forked burden c (Straight n) (Straight m) = same_split (n + (m + c)) ((n + m) + c) (n + (m + burden)) ((n + m) + burden) (omega arith) (omega arith)
-joined_forked burden c (Split j n) (Straight m) = same_split (max j (n + (m + c))) (max j ((n + m) + c)) (n + (m + burden)) ((n + m) + burden) (omega arith) (omega arith)
-joined_forked burden c (Straight n) (Split l m) = same_split (n + max l (m + c)) (max (n + l) ((n + m) + c)) (n + (m + burden)) ((n + m) + burden) (omega arith) (omega arith)
-joined_forked burden c (Split j n) (Split l m) = same_split (max j (n + max l (m + c))) (max (max j (n + l)) ((n + m) + c)) (n + (m + burden)) ((n + m) + burden) (omega arith) (omega arith)
+joined_forked : (burden : Burden) (c : ℕ) (L M : BlockWeight) → joined_on L (child_ended burden c M) ≡ child_ended burden c (joined_on L M)
+joined_forked burden c (Straight n) (Straight m) = same_split (n + (m + (at_child burden + c))) ((n + m) + (at_child burden + c)) (n + (m + at_rest burden)) ((n + m) + at_rest burden) (omega arith) (omega arith)
+joined_forked burden c (Split j n) (Straight m) = same_split (max j (n + (m + (at_child burden + c)))) (max j ((n + m) + (at_child burden + c))) (n + (m + at_rest burden)) ((n + m) + at_rest burden) (omega arith) (omega arith)
+joined_forked burden c (Straight n) (Split l m) = same_split (n + max l (m + (at_child burden + c))) (max (n + l) ((n + m) + (at_child burden + c))) (n + (m + at_rest burden)) ((n + m) + at_rest burden) (omega arith) (omega arith)
+joined_forked burden c (Split j n) (Split l m) = same_split (max j (n + max l (m + (at_child burden + c)))) (max (max j (n + l)) ((n + m) + (at_child burden + c))) (n + (m + at_rest burden)) ((n + m) + at_rest burden) (omega arith) (omega arith)
 
 joined_nothing : (L : BlockWeight) → joined_on L (Straight 0) ≡ L
 joined_nothing (Straight n) = ap Straight (omega arith)
 joined_nothing (Split l n) = ap (Split l) (omega arith)
 
-joined_all : (burden : ℕ) (L M : BlockWeight) (fs : List Event) → no_joins fs ≡ true → joined_on L (after_all burden M fs) ≡ after_all burden (joined_on L M) fs
+joined_all : (burden : Burden) (L M : BlockWeight) (fs : List Event) → no_joins fs ≡ true → joined_on L (after_all burden M fs) ≡ after_all burden (joined_on L M) fs
 joined_all burden L M [] n = refl
 joined_all burden L M (Work k ∷ fs) n = joined_all burden L (gone_on k M) fs n ∙ ap (λ (K : BlockWeight). after_all burden K fs) (joined_more k L M)
 joined_all burden L M (Series t ∷ fs) n = joined_all burden L (gone_on (burdened_span burden t) M) fs n ∙ ap (λ (K : BlockWeight). after_all burden K fs) (joined_more (burdened_span burden t) L M)
@@ -41,10 +43,10 @@ joined_all burden L M (Fork t ∷ fs) n = joined_all burden L (child_ended burde
 joined_all burden L M (Join ∷ fs) n = cc
 
 -- THE LAW OF PIECES
-pub piece_joined : (burden : ℕ) (L : BlockWeight) (fs : List Event) → no_joins fs ≡ true → joined_on L (after_all burden (Straight 0) fs) ≡ after_all burden L fs
+pub piece_joined : (burden : Burden) (L : BlockWeight) (fs : List Event) → no_joins fs ≡ true → joined_on L (after_all burden (Straight 0) fs) ≡ after_all burden L fs
 piece_joined burden L fs n = joined_all burden L (Straight 0) fs n ∙ ap (λ (K : BlockWeight). after_all burden K fs) (joined_nothing L)
 
-block_append : (burden : ℕ) (os : List Open) (es fs : List Event) → block_weight burden os (es ++ fs) ≡ after_all burden (block_weight burden os es) fs
+block_append : (burden : Burden) (os : List Open) (es fs : List Event) → block_weight burden os (es ++ fs) ≡ after_all burden (block_weight burden os es) fs
 block_append burden [] es fs = after_all-append burden (Straight 0) es fs
 block_append burden (o ∷ os) es fs = after_all-append burden (enters o.spawned (block_weight burden os o.outer)) es fs
 
@@ -70,7 +72,7 @@ appended_at below first L (Split l k) m (p ∷ ps) v s h e g =
     let P : ℕ → Type 0 = λ x. ShowsBlock below (joined_on L (Split l k)) (record { now = v.now + k; blocks = lengthened first (v.now + x) v.now v.blocks }) in
     subst N (sym e) (subst P (sym g.0) (lengthened_at below first L l k v.now v.blocks s h.now_is h.blocks_are))
 
-shows_piece : (burden : ℕ) (os : List Open) (es fs : List Event) (u v : StrandWeight) (first : Bool) → has_spawned es ≡ not first → no_joins fs ≡ true → ShowsWeight burden os es v → ShowsWeight burden [] fs u → ShowsWeight burden os (es ++ fs) (appends first u v)
+shows_piece : (burden : Burden) (os : List Open) (es fs : List Event) (u v : StrandWeight) (first : Bool) → has_spawned es ≡ not first → no_joins fs ≡ true → ShowsWeight burden os es v → ShowsWeight burden [] fs u → ShowsWeight burden os (es ++ fs) (appends first u v)
 shows_piece burden os es fs u v first s n h g =
     let L = block_weight burden os es in
     by_block burden os (es ++ fs) (joined_on L (after_all burden (Straight 0) fs)) (appends first u v)
@@ -84,7 +86,7 @@ longest_top (Straight n) (b ∷ bs) h = cc
 longest_top (Split l n) [] h = absurd h
 longest_top (Split l n) (b ∷ bs) h = let a = h.0 in omega arith
 
-fits_piece : (burden : ℕ) (os : List Open) (es fs : List Event) (u v : StrandWeight) → FitsRun burden os (es ++ fs) → ShowsWeight burden os es v → ShowsWeight burden [] fs u → FitsPiece u v
+fits_piece : (burden : Burden) (os : List Open) (es fs : List Event) (u v : StrandWeight) → FitsRun burden os (es ++ fs) → ShowsWeight burden os es v → ShowsWeight burden [] fs u → FitsPiece u v
 fits_piece burden os es fs u v fits h g =
     let a = weight_within burden os es in let b = weight_within burden [] fs in let c = top_in burden [] fs in
     let d = longest_top (block_weight burden [] fs) u.blocks g.blocks_are in

@@ -1,13 +1,15 @@
 -- A strand's weight shows a run so far, and the calls of a run keep it so.
 use Rattle.std.specs.Prelude.{◌≡◌, ℕ, zero, suc, ◌+◌, ◌-◌, ◌<◌, ◌≤◌, ◌^◌, max, Bool, true, false, not, List, [], ◌∷◌, ◌++◌, Option, length, take, refl}
 use Rattle.std.proofs.Common.{sym, ◌∙◌, ap, subst, set, get_or, arith}
+use Rattle.cw_model.specs.declared.burden.Burden.{Burden}
+use Rattle.cw_model.specs.Burdens.{at_child, at_rest}
 use Rattle.cw_model.specs.Trees.{Mark, Event, Work, Series, Fork, Join, tree_of, work, burdened_span}
 use Rattle.cw_measure.specs.declared.burdened_path.BurdenedBlock.{BurdenedBlock}
 use Rattle.cw_measure.specs.declared.burdened_path.BurdenedPath.{BurdenedPath}
 use Rattle.cw_measure.specs.OpenParts.{Open, in_fork, marked, closed, has_spawned, Since}
 use Rattle.cw_measure.specs.BlockWeights.{BlockWeight, Straight, Split, now_of, gone_on, child_ended, top_of, after, after_all, enters, block_weight, weight_in, burdened_work_in, WorkAndWeightAreMetered}
 use Rattle.cw_measure.specs.StrandWeights.{StrandWeight, reversed, strand_weight, goes_on, begins, begins_again, spawns, ends, joins, saved_of, Fits, StandsOn, RestsOn, Under, ShowsWeight, TellsWeight, FitsRun}
-use Rattle.cw_measure.specs.lemmas.BlockWeights.{top-after_all}
+use Rattle.cw_measure.specs.lemmas.BlockWeights.{top-after_all, child_charge}
 use Rattle.cw_measure.specs.lemmas.OpenParts.{KeptBy, kept_since, has_spawned_since, work_since, work_adds, work_more, sum_begun, left_work}
 use Rattle.cw_measure.specs.lemmas.StrandWeights.{block_more, is_split, split-block, straight, span_marked, ended_weight, weight_meters, work_meters, ShowsBlock, by_block, stands_gone_on, now_gone_on, stands_straight, span_within, event_work, sum_of_works, works_is}
 
@@ -20,13 +22,13 @@ block_of l s = record { longest = l; saved = s }
 pub same_top : (n n' l l' s : ℕ) (bs : List BurdenedBlock) → n ≡ n' → l ≡ l' → weighs n (block_of l s ∷ bs) ≡ weighs n' (block_of l' s ∷ bs)
 same_top n n' l l' s bs e f = ap (λ (x : ℕ). weighs x (block_of l s ∷ bs)) e ∙ ap (λ (x : ℕ). weighs n' (block_of x s ∷ bs)) f
 
-pub fits_top : (w burden : ℕ) (all : List BurdenedBlock) (b : BurdenedBlock) (bs : List BurdenedBlock) → all ≡ b ∷ bs → Fits (weighs w all) burden → (b.saved + w < 2 ^ 128) × (b.saved + burden < 2 ^ 128)
-fits_top w burden all b bs e h = let P : List BurdenedBlock → Type 0 = λ x. Fits (weighs w x) burden in subst P e h
+pub fits_top : (w : ℕ) (burden : Burden) (all : List BurdenedBlock) (b : BurdenedBlock) (bs : List BurdenedBlock) → all ≡ b ∷ bs → Fits burden (weighs w all) → (b.saved + (at_child burden + w) < 2 ^ 128) × (b.saved + at_rest burden < 2 ^ 128)
+fits_top w burden all b bs e h = let P : List BurdenedBlock → Type 0 = λ x. Fits burden (weighs w x) in subst P e h
 
 pub work_and_weight_are_metered : WorkAndWeightAreMetered
 work_and_weight_are_metered = record { work_is = work_meters; weight_is = weight_meters }
 
-shows_work : (burden : ℕ) (os : List Open) (es : List Event) (v : StrandWeight) (k : ℕ) → ShowsWeight burden os es v → ShowsWeight burden os (es ++ Work k ∷ []) (goes_on k v)
+shows_work : (burden : Burden) (os : List Open) (es : List Event) (v : StrandWeight) (k : ℕ) → ShowsWeight burden os es v → ShowsWeight burden os (es ++ Work k ∷ []) (goes_on k v)
 shows_work burden os es v k h =
     by_block burden os (es ++ Work k ∷ []) (gone_on k (block_weight burden os es)) (goes_on k v) (block_more burden os es (Work k))
     (record { now_is = ap (λ (x : ℕ). x + k) h.now_is ∙ sym (now_gone_on k (block_weight burden os es)); blocks_are = stands_gone_on (Under burden os) k (block_weight burden os es) v.blocks h.blocks_are })
@@ -44,7 +46,7 @@ again_now : (n : ℕ) (bs : List BurdenedBlock) → (begins_again (record { now 
 again_now n [] = refl
 again_now n (b ∷ bs) = refl
 
-shows_spawned : (first : Bool) (burden : ℕ) (mark : Option Mark) (os : List Open) (es : List Event) (v : StrandWeight) → has_spawned es ≡ not first → ShowsWeight burden os es v → ShowsWeight burden (in_fork mark es os) [] (spawns first v)
+shows_spawned : (first : Bool) (burden : Burden) (mark : Option Mark) (os : List Open) (es : List Event) (v : StrandWeight) → has_spawned es ≡ not first → ShowsWeight burden os es v → ShowsWeight burden (in_fork mark es os) [] (spawns first v)
 shows_spawned true burden mark os es v e h = record {
   now_is = refl;
   blocks_are = begins_split (Under burden os) (block_weight burden os es) v (split-block burden os es ∙ e) (record { now_is = h.now_is; blocks_are = h.blocks_are });
@@ -59,7 +61,7 @@ joins_at below (Straight m) n bs e f h = cc
 joins_at below (Split l m) n [] e f h = absurd h
 joins_at below (Split l m) n (b ∷ bs) e f h = record { now_is = ap (λ (x : ℕ). max x n) h.0 ∙ ap (max l) f; blocks_are = h.1 }
 
-shows_joined : (burden : ℕ) (os : List Open) (es : List Event) (v : StrandWeight) → has_spawned es ≡ true → ShowsWeight burden os es v → ShowsWeight burden os (es ++ Join ∷ []) (joins v)
+shows_joined : (burden : Burden) (os : List Open) (es : List Event) (v : StrandWeight) → has_spawned es ≡ true → ShowsWeight burden os es v → ShowsWeight burden os (es ++ Join ∷ []) (joins v)
 shows_joined burden os es v e h =
     by_block burden os (es ++ Join ∷ []) (Straight (top_of (block_weight burden os es))) (joins v) (block_more burden os es Join)
     (joins_at (Under burden os) (block_weight burden os es) v.now v.blocks (split-block burden os es ∙ e) h.now_is h.blocks_are)
@@ -68,17 +70,17 @@ stays_at : (below : List BurdenedBlock → Type 0) (L : BlockWeight) (v : Strand
 stays_at below (Straight n) v e h = record { now_is = h.now_is; blocks_are = h.blocks_are }
 stays_at below (Split l n) v e h = cc
 
-shows_unjoined : (burden : ℕ) (os : List Open) (es : List Event) (v : StrandWeight) → has_spawned es ≡ false → ShowsWeight burden os es v → ShowsWeight burden os (es ++ Join ∷ []) v
+shows_unjoined : (burden : Burden) (os : List Open) (es : List Event) (v : StrandWeight) → has_spawned es ≡ false → ShowsWeight burden os es v → ShowsWeight burden os (es ++ Join ∷ []) v
 shows_unjoined burden os es v e h =
     by_block burden os (es ++ Join ∷ []) (Straight (top_of (block_weight burden os es))) v (block_more burden os es Join)
     (stays_at (Under burden os) (block_weight burden os es) v (split-block burden os es ∙ e) (record { now_is = h.now_is; blocks_are = h.blocks_are }))
 
-ends_blocks : (burden : ℕ) (below : List BurdenedBlock → Type 0) (L : BlockWeight) (c : ℕ) (bs : List BurdenedBlock) → RestsOn below L bs → ShowsBlock below (child_ended burden c L) (ends burden (record { now = c; blocks = bs }))
+ends_blocks : (burden : Burden) (below : List BurdenedBlock → Type 0) (L : BlockWeight) (c : ℕ) (bs : List BurdenedBlock) → RestsOn below L bs → ShowsBlock below (child_ended burden c L) (ends burden (record { now = c; blocks = bs }))
 ends_blocks burden below L c [] h = absurd h
-ends_blocks burden below (Straight n) c (b ∷ bs) h = let l = h.0 in let s = h.1 in record { now_is = ap (λ (x : ℕ). x + burden) s; blocks_are = (omega arith, h.2) }
-ends_blocks burden below (Split m n) c (b ∷ bs) h = let l = h.0 in let s = h.1 in record { now_is = ap (λ (x : ℕ). x + burden) s; blocks_are = (omega arith, h.2) }
+ends_blocks burden below (Straight n) c (b ∷ bs) h = let l = h.0 in let s = h.1 in record { now_is = ap (λ (x : ℕ). x + at_rest burden) s; blocks_are = (omega arith, h.2) }
+ends_blocks burden below (Split m n) c (b ∷ bs) h = let l = h.0 in let s = h.1 in record { now_is = ap (λ (x : ℕ). x + at_rest burden) s; blocks_are = (omega arith, h.2) }
 
-in_fork_ends : (burden : ℕ) (mark : Option Mark) (outer : List Event) (os : List Open) (es : List Event) (v : StrandWeight) → has_spawned es ≡ false → ShowsWeight burden (in_fork mark outer os) es v → ShowsWeight burden os (closed (record { spawned = true; mark = mark; outer = outer }) es) (ends burden v)
+in_fork_ends : (burden : Burden) (mark : Option Mark) (outer : List Event) (os : List Open) (es : List Event) (v : StrandWeight) → has_spawned es ≡ false → ShowsWeight burden (in_fork mark outer os) es v → ShowsWeight burden os (closed (record { spawned = true; mark = mark; outer = outer }) es) (ends burden v)
 in_fork_ends burden mark outer os es v e h =
     let o : Open = record { spawned = true; mark = mark; outer = outer } in
     let t = marked mark (tree_of es) in
@@ -90,24 +92,24 @@ in_fork_ends burden mark outer os es v e h =
     by_block burden os (closed o es) (child_ended burden c L) (ends burden v) (block_more burden os outer (Fork t))
     (subst R (sym n) (ends_blocks burden (Under burden os) L c v.blocks below))
 
-shows_ended : (burden : ℕ) (o : Open) (os : List Open) (es : List Event) (v : StrandWeight) → o.spawned ≡ true → has_spawned es ≡ false → ShowsWeight burden (o ∷ os) es v → ShowsWeight burden os (closed o es) (ends burden v)
+shows_ended : (burden : Burden) (o : Open) (os : List Open) (es : List Event) (v : StrandWeight) → o.spawned ≡ true → has_spawned es ≡ false → ShowsWeight burden (o ∷ os) es v → ShowsWeight burden os (closed o es) (ends burden v)
 shows_ended burden o os es v b e h = by_kind o.spawned b h
   where
     by_kind : (s : Bool) → s ≡ true → ShowsWeight burden (record { spawned = s; mark = o.mark; outer = o.outer } ∷ os) es v → ShowsWeight burden os (closed (record { spawned = s; mark = o.mark; outer = o.outer }) es) (ends burden v)
     by_kind true b h = in_fork_ends burden o.mark o.outer os es v e h
     by_kind false b h = cc
 
-top_within : (burden : ℕ) (L : BlockWeight) (e : Event) → top_of (after burden L e) ≤ top_of L + event_work burden e
+top_within : (burden : Burden) (L : BlockWeight) (e : Event) → top_of (after burden L e) ≤ top_of L + event_work burden e
 top_within burden (Straight n) (Work k) = omega arith
 top_within burden (Split l n) (Work k) = omega arith
 top_within burden (Straight n) (Series t) = let s = span_within burden t in omega arith
 top_within burden (Split l n) (Series t) = let s = span_within burden t in omega arith
-top_within burden (Straight n) (Fork t) = let s = span_within burden t in omega arith
-top_within burden (Split l n) (Fork t) = let s = span_within burden t in omega arith
+top_within burden (Straight n) (Fork t) = let s = span_within burden t in let d = child_charge burden in omega arith
+top_within burden (Split l n) (Fork t) = let s = span_within burden t in let d = child_charge burden in omega arith
 top_within burden (Straight n) Join = omega arith
 top_within burden (Split l n) Join = omega arith
 
-top_all : (burden : ℕ) (L : BlockWeight) (es : List Event) → top_of (after_all burden L es) ≤ top_of L + sum_of_works burden es
+top_all : (burden : Burden) (L : BlockWeight) (es : List Event) → top_of (after_all burden L es) ≤ top_of L + sum_of_works burden es
 top_all burden L [] = omega arith
 top_all burden L (e ∷ es) = let a = top_within burden L e in let b = top_all burden (after burden L e) es in omega arith
 
@@ -115,18 +117,18 @@ now_top : (L : BlockWeight) → now_of L ≤ top_of L
 now_top (Straight n) = omega arith
 now_top (Split l n) = omega arith
 
-enters_top : (b : Bool) (burden : ℕ) (L : BlockWeight) → top_of (enters b L) ≤ top_of L
+enters_top : (b : Bool) (burden : Burden) (L : BlockWeight) → top_of (enters b L) ≤ top_of L
 enters_top true burden L = omega arith
 enters_top false burden L = now_top L
 
-pub top_in : (burden : ℕ) (os : List Open) (es : List Event) → top_of (block_weight burden os es) ≤ burdened_work_in burden os es
+pub top_in : (burden : Burden) (os : List Open) (es : List Event) → top_of (block_weight burden os es) ≤ burdened_work_in burden os es
 top_in burden [] es = let a = top_all burden (Straight 0) es in let w = works_is burden es in omega arith
 top_in burden (o ∷ os) es =
     let L = block_weight burden os o.outer in
     let a = top_all burden (enters o.spawned L) es in let w = works_is burden es in
     let b = enters_top o.spawned burden L in let i = top_in burden os o.outer in omega arith
 
-pub weight_within : (burden : ℕ) (os : List Open) (es : List Event) → weight_in burden os es ≤ burdened_work_in burden os es
+pub weight_within : (burden : Burden) (os : List Open) (es : List Event) → weight_in burden os es ≤ burdened_work_in burden os es
 weight_within burden os es = let a = top_in burden os es in let b = now_top (block_weight burden os es) in omega arith
 
 -- the path of the strand that runs with the one up to its spawn
@@ -135,8 +137,8 @@ saved_rests below L [] h = absurd h
 saved_rests below (Straight n) (b ∷ bs) h = h.1
 saved_rests below (Split l n) (b ∷ bs) h = h.1
 
--- a spawned part whose block has joined: with the path up to its spawn and the burden its path fits
-pub child_fits : (burden : ℕ) (mark : Option Mark) (outer : List Event) (os : List Open) (es : List Event) (v : StrandWeight) → has_spawned es ≡ false → FitsRun burden (in_fork mark outer os) es → ShowsWeight burden (in_fork mark outer os) es v → Fits v burden
+-- a spawned part whose block has joined: with the path up to its spawn and what it is charged its path fits
+pub child_fits : (burden : Burden) (mark : Option Mark) (outer : List Event) (os : List Open) (es : List Event) (v : StrandWeight) → has_spawned es ≡ false → FitsRun burden (in_fork mark outer os) es → ShowsWeight burden (in_fork mark outer os) es v → Fits burden v
 child_fits burden mark outer os es v e fits h =
     let o : Open = record { spawned = true; mark = mark; outer = outer } in
     let L = block_weight burden os outer in
@@ -145,11 +147,11 @@ child_fits burden mark outer os es v e fits h =
     let a = weight_within burden os outer in
     let c = top_all burden (Straight 0) es in let w = works_is burden es in
     let d = now_top (after_all burden (Straight 0) es) in
-    let n = h.now_is in (omega arith, omega arith)
+    let g = child_charge burden in let n = h.now_is in (omega arith, omega arith)
 
 -- THE CALLS
 
-pub noted_weight : (burden : ℕ) (os : List Open) (es fs : List Event) (old new : BurdenedPath) (count : ℕ) → Since old.noted count es fs → FitsRun burden os (es ++ fs) → TellsWeight burden os es old → (old.weight + (count - old.noted) < 2 ^ 128 → strand_weight new ≡ goes_on (count - old.noted) (strand_weight old)) → new.noted ≡ count → TellsWeight burden os (es ++ fs) new
+pub noted_weight : (burden : Burden) (os : List Open) (es fs : List Event) (old new : BurdenedPath) (count : ℕ) → Since old.noted count es fs → FitsRun burden os (es ++ fs) → TellsWeight burden os es old → (old.weight + (count - old.noted) < 2 ^ 128 → strand_weight new ≡ goes_on (count - old.noted) (strand_weight old)) → new.noted ≡ count → TellsWeight burden os (es ++ fs) new
 noted_weight burden os es fs old new count since fits h f m =
     let k = count - old.noted in
     let v = strand_weight old in
@@ -170,7 +172,7 @@ noted_weight burden os es fs old new count since fits h f m =
       noted_is = let a = work_since os es fs k since.instructions in let b = h.noted_is in let d = since.goes_on in omega arith;
     }
 
-pub spawned_weight : (burden : ℕ) (mark : Option Mark) (os : List Open) (es fs : List Event) (old mid new : BurdenedPath) (count : ℕ) (first : Bool) → Since old.noted count es fs → has_spawned es ≡ not first → TellsWeight burden os (es ++ fs) mid → strand_weight new ≡ spawns first (strand_weight mid) → new.noted ≡ mid.noted → TellsWeight burden (in_fork mark (es ++ fs) os) [] new
+pub spawned_weight : (burden : Burden) (mark : Option Mark) (os : List Open) (es fs : List Event) (old mid new : BurdenedPath) (count : ℕ) (first : Bool) → Since old.noted count es fs → has_spawned es ≡ not first → TellsWeight burden os (es ++ fs) mid → strand_weight new ≡ spawns first (strand_weight mid) → new.noted ≡ mid.noted → TellsWeight burden (in_fork mark (es ++ fs) os) [] new
 spawned_weight burden mark os es fs old mid new count first since e h f m =
     let n = has_spawned_since es fs (count - old.noted) since.instructions ∙ e in
     let D : StrandWeight → Type 0 = λ x. ShowsWeight burden (in_fork mark (es ++ fs) os) [] x in
@@ -179,7 +181,7 @@ spawned_weight burden mark os es fs old mid new count first since e h f m =
       noted_is = m ∙ h.noted_is ∙ sym (sum_begun work work_adds (record { spawned = true; mark = mark; outer = es ++ fs }) os);
     }
 
-pub child_ended_weight : (burden : ℕ) (o : Open) (os : List Open) (es fs : List Event) (old mid new : BurdenedPath) (count : ℕ) → Since old.noted count es fs → FitsRun burden (o ∷ os) (es ++ fs) → o.spawned ≡ true → has_spawned es ≡ false → TellsWeight burden (o ∷ os) (es ++ fs) mid → (Fits (strand_weight mid) burden → strand_weight new ≡ ends burden (strand_weight mid)) → new.noted ≡ mid.noted → TellsWeight burden os (closed o (es ++ fs)) new
+pub child_ended_weight : (burden : Burden) (o : Open) (os : List Open) (es fs : List Event) (old mid new : BurdenedPath) (count : ℕ) → Since old.noted count es fs → FitsRun burden (o ∷ os) (es ++ fs) → o.spawned ≡ true → has_spawned es ≡ false → TellsWeight burden (o ∷ os) (es ++ fs) mid → (Fits burden (strand_weight mid) → strand_weight new ≡ ends burden (strand_weight mid)) → new.noted ≡ mid.noted → TellsWeight burden os (closed o (es ++ fs)) new
 child_ended_weight burden o os es fs old mid new count since fits b e h f m =
     let n = has_spawned_since es fs (count - old.noted) since.instructions ∙ e in
     let D : StrandWeight → Type 0 = λ x. ShowsWeight burden os (closed o (es ++ fs)) x in
@@ -188,11 +190,11 @@ child_ended_weight burden o os es fs old mid new count since fits b e h f m =
       noted_is = m ∙ h.noted_is ∙ sym (left_work o os (es ++ fs));
     }
   where
-    fits_by : (s : Bool) → s ≡ true → FitsRun burden (record { spawned = s; mark = o.mark; outer = o.outer } ∷ os) (es ++ fs) → ShowsWeight burden (record { spawned = s; mark = o.mark; outer = o.outer } ∷ os) (es ++ fs) (strand_weight mid) → has_spawned (es ++ fs) ≡ false → Fits (strand_weight mid) burden
+    fits_by : (s : Bool) → s ≡ true → FitsRun burden (record { spawned = s; mark = o.mark; outer = o.outer } ∷ os) (es ++ fs) → ShowsWeight burden (record { spawned = s; mark = o.mark; outer = o.outer } ∷ os) (es ++ fs) (strand_weight mid) → has_spawned (es ++ fs) ≡ false → Fits burden (strand_weight mid)
     fits_by true b fits h n = child_fits burden o.mark o.outer os (es ++ fs) (strand_weight mid) n fits h
     fits_by false b fits h n = cc
 
-pub joined_weight : (burden : ℕ) (os : List Open) (es fs : List Event) (old mid new : BurdenedPath) (count : ℕ) → Since old.noted count es fs → has_spawned es ≡ true → TellsWeight burden os (es ++ fs) mid → strand_weight new ≡ joins (strand_weight mid) → new.noted ≡ mid.noted → TellsWeight burden os ((es ++ fs) ++ Join ∷ []) new
+pub joined_weight : (burden : Burden) (os : List Open) (es fs : List Event) (old mid new : BurdenedPath) (count : ℕ) → Since old.noted count es fs → has_spawned es ≡ true → TellsWeight burden os (es ++ fs) mid → strand_weight new ≡ joins (strand_weight mid) → new.noted ≡ mid.noted → TellsWeight burden os ((es ++ fs) ++ Join ∷ []) new
 joined_weight burden os es fs old mid new count since e h f m =
     let n = has_spawned_since es fs (count - old.noted) since.instructions ∙ e in
     let D : StrandWeight → Type 0 = λ x. ShowsWeight burden os ((es ++ fs) ++ Join ∷ []) x in
@@ -201,7 +203,7 @@ joined_weight burden os es fs old mid new count since e h f m =
       noted_is = let a = work_more os (es ++ fs) Join in let b = h.noted_is in omega arith;
     }
 
-pub weight_read : (burden : ℕ) (es : List Event) (path : BurdenedPath) → has_spawned es ≡ false → TellsWeight burden [] es path → path.weight ≡ burdened_span burden (tree_of es)
+pub weight_read : (burden : Burden) (es : List Event) (path : BurdenedPath) → has_spawned es ≡ false → TellsWeight burden [] es path → path.weight ≡ burdened_span burden (tree_of es)
 weight_read burden es path e h =
     h.shows.now_is ∙ straight (block_weight burden [] es) (split-block burden [] es ∙ e) ∙ top-after_all burden 0 es ∙ omega arith
 

@@ -1,6 +1,8 @@
 -- Counters of pieces join in any grouping, and read the burdened span of the tree of their events.
 use Rattle.std.specs.Prelude.{◌≡◌, ℕ, ◌+◌, max, List, [], ◌∷◌, ◌++◌, refl, zero, suc}
 use Rattle.std.proofs.Common.{sym, ◌∙◌, ap, arith}
+use Rattle.cw_model.specs.declared.burden.Burden.{Burden}
+use Rattle.cw_model.specs.Burdens.{at_child, at_rest}
 use Rattle.cw_model.specs.Trees.{Event, Work, Series, Fork, Join, burdened_span, tree_of, parts_of}
 use Rattle.cw_measure.specs.Counters.{Sum, exactly, Counters, Unsynced, Synced, later, onward, fresh, ticked, forked, synced, heaviest, of_event, of_events}
 use Rattle.cw_measure.specs.SumLaws.{IsSum, exactly_is, later-later, later-max, later-under}
@@ -61,8 +63,8 @@ pub ticked_onward : (add : Sum) (n : ℕ) (c : Counters) → ticked add n c ≡ 
 ticked_onward add n (Unsynced l k) = let f : max l 0 ≡ l = omega arith in cc
 ticked_onward add n (Synced p l k) = let f : max l 0 ≡ l = omega arith in cc
 
-pub forked_onward : (add : Sum) (burden child : ℕ) (c : Counters)
-    → forked add burden child c ≡ onward add c (Unsynced child burden)
+pub forked_onward : (add : Sum) (burden : Burden) (child : ℕ) (c : Counters)
+    → forked add burden child c ≡ onward add c (Unsynced (add (at_child burden) child) (at_rest burden))
 forked_onward add burden child (Unsynced l k) = refl
 forked_onward add burden child (Synced p l k) = refl
 
@@ -71,7 +73,7 @@ synced_onward add S (Unsynced l k) = let e = S.last k in cc
 synced_onward add S (Synced p l k) = let e = S.last k in let f = S.last (max l k) in cc
 
 -- events in two pieces
-pub of_events-append : (burden : ℕ) (a b : List Event)
+pub of_events-append : (burden : Burden) (a b : List Event)
     → of_events burden (a ++ b) ≡ onward exactly (of_events burden a) (of_events burden b)
 of_events-append burden [] b = sym (onward-fresh_first exactly exactly_is (of_events burden b))
 of_events-append burden (e ∷ a) b =
@@ -89,11 +91,11 @@ reads_work w first second (Unsynced zero k) h = (omega arith, h.1)
 reads_work w first second (Unsynced (suc l) k) h = (omega arith, h.1)
 reads_work w first second (Synced p l k) h = (omega arith, h.1)
 
-reads_fork : (s burden first second : ℕ) (c : Counters) → Reads c first second
-    → Reads (onward exactly (Unsynced s burden) c) (max s (burden + first)) second
-reads_fork s burden first second (Unsynced zero k) h = (omega arith, h.1)
-reads_fork s burden first second (Unsynced (suc l) k) h = (omega arith, h.1)
-reads_fork s burden first second (Synced p l k) h = (omega arith, h.1)
+reads_fork : (child charge first second : ℕ) (c : Counters) → Reads c first second
+    → Reads (onward exactly (Unsynced child charge) c) (max child (charge + first)) second
+reads_fork child charge first second (Unsynced zero k) h = (omega arith, h.1)
+reads_fork child charge first second (Unsynced (suc l) k) h = (omega arith, h.1)
+reads_fork child charge first second (Synced p l k) h = (omega arith, h.1)
 
 reads_join : (first second : ℕ) (c : Counters) → Reads c first second
     → Reads (onward exactly (Synced 0 0 0) c) 0 (first + second)
@@ -102,7 +104,7 @@ reads_join first second (Unsynced (suc l) k) h = (refl, omega arith)
 reads_join first second (Synced p zero k) h = (refl, omega arith)
 reads_join first second (Synced p (suc l) k) h = (refl, omega arith)
 
-reads_parts : (burden : ℕ) (events : List Event)
+reads_parts : (burden : Burden) (events : List Event)
     → Reads (of_events burden events) (burdened_span burden (parts_of events).0)
     (burdened_span burden (parts_of events).1)
 reads_parts burden [] = (refl, refl)
@@ -113,7 +115,7 @@ reads_parts burden (Series t ∷ events) =
     reads_work (burdened_span burden t) (burdened_span burden (parts_of events).0)
     (burdened_span burden (parts_of events).1) (of_events burden events) (reads_parts burden events)
 reads_parts burden (Fork t ∷ events) =
-    reads_fork (burdened_span burden t) burden (burdened_span burden (parts_of events).0)
+    reads_fork (at_child burden + burdened_span burden t) (at_rest burden) (burdened_span burden (parts_of events).0)
     (burdened_span burden (parts_of events).1) (of_events burden events) (reads_parts burden events)
 reads_parts burden (Join ∷ events) =
     reads_join (burdened_span burden (parts_of events).0) (burdened_span burden (parts_of events).1)
@@ -124,7 +126,7 @@ reads_reading (Unsynced l k) first second h = omega arith
 reads_reading (Synced p l k) first second h = omega arith
 
 -- the counters read the span of the tree of the events so far
-pub heaviest-of_events : (burden : ℕ) (events : List Event)
+pub heaviest-of_events : (burden : Burden) (events : List Event)
     → heaviest exactly (of_events burden events) ≡ burdened_span burden (tree_of events)
 heaviest-of_events burden events =
     reads_reading (of_events burden events) (burdened_span burden (parts_of events).0)

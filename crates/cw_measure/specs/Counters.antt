@@ -1,5 +1,7 @@
 -- Counters of a piece of one sync block: how heavy its paths are so far.
 use Rattle.std.specs.Prelude.{◌≡◌, ℕ, zero, suc, ◌+◌, max, min, List, [], ◌∷◌, ◌++◌, Option, Some, None}
+use Rattle.cw_model.specs.declared.burden.Burden.{Burden}
+use Rattle.cw_model.specs.Burdens.{at_child, at_rest}
 use Rattle.cw_model.specs.Trees.{Event, Work, Series, Fork, Join, burdened_span, tree_of}
 
 -- the path into the longest child, which is 0 where there is none, and the continuation; after a join what the first
@@ -45,10 +47,13 @@ abbrev pub ticked : Sum → ℕ → Counters → Counters
 ticked add n (Unsynced l k) = Unsynced l (add k n)
 ticked add n (Synced p l k) = Synced p l (add k n)
 
--- a child of this span more: it is taken into the longest, and then the burden is added to the continuation
-abbrev pub forked : Sum → (burden child : ℕ) → Counters → Counters
-forked add burden child (Unsynced l k) = Unsynced (max l (later add k child)) (add k burden)
-forked add burden child (Synced p l k) = Synced p (max l (later add k child)) (add k burden)
+-- a child of this span more: with what its path is charged it is taken into the longest, and then what the rest's is
+-- charged is added to the continuation
+abbrev pub forked : Sum → Burden → (child : ℕ) → Counters → Counters
+forked add burden child (Unsynced l k) =
+    Unsynced (max l (later add k (add (at_child burden) child))) (add k (at_rest burden))
+forked add burden child (Synced p l k) =
+    Synced p (max l (later add k (add (at_child burden) child))) (add k (at_rest burden))
 
 -- a join: what the first one closes is the prefix, and what a later one closes stays in the continuation
 abbrev pub synced : Counters → Counters
@@ -66,19 +71,19 @@ held g (Unsynced l k) = Unsynced (min g l) (min g k)
 held g (Synced p l k) = Synced (min g p) (min g l) (min g k)
 
 -- the exact counters of one event, and of a list of events
-abbrev pub of_event : (burden : ℕ) → Event → Counters
+abbrev pub of_event : Burden → Event → Counters
 of_event burden (Work k) = Unsynced 0 k
 of_event burden (Series t) = Unsynced 0 (burdened_span burden t)
-of_event burden (Fork t) = Unsynced (burdened_span burden t) burden
+of_event burden (Fork t) = Unsynced (at_child burden + burdened_span burden t) (at_rest burden)
 of_event burden Join = Synced 0 0 0
 
-abbrev pub of_events : (burden : ℕ) → List Event → Counters
+abbrev pub of_events : Burden → List Event → Counters
 of_events burden [] = fresh
 of_events burden (e ∷ events) = onward exactly (of_event burden e) (of_events burden events)
 
 -- exact counters read the span of the tree of their events, and those of two pieces make those of the whole
 pub record CountersReadSpans : Type 0 where
-  pub reads : (burden : ℕ) (es : List Event)
+  pub reads : (burden : Burden) (es : List Event)
       → heaviest exactly (of_events burden es) ≡ burdened_span burden (tree_of es)
-  pub pieces : (burden : ℕ) (es fs : List Event)
+  pub pieces : (burden : Burden) (es fs : List Event)
       → of_events burden (es ++ fs) ≡ onward exactly (of_events burden es) (of_events burden fs)

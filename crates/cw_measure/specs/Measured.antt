@@ -1,5 +1,7 @@
 -- What a measure holds of the events of a piece of one sync block.
 use Rattle.std.specs.Prelude.{◌≡◌, ℕ, ◌-◌, ◌^◌, min, List, [], ◌∷◌, ◌++◌}
+use Rattle.cw_model.specs.declared.burden.Burden.{Burden}
+use Rattle.cw_model.specs.Burdens.{no_burden}
 use Rattle.cw_model.specs.Trees.{Tree, Event, Series, Fork, tree_of, work, span, burdened_span}
 use Rattle.cw_measure.specs.Counters.{Counters, up_to, onward, fresh, ticked, forked, synced, heaviest, held, of_events}
 
@@ -16,12 +18,12 @@ pub record Measured : Type 0 where
   pub plain : Counters
   pub burdened : Counters
 
--- what is held of events, at a burden for each spawn
-abbrev pub measure_of : (burden : ℕ) → List Event → Measured
+-- what is held of events, with what is charged at each fork
+abbrev pub measure_of : Burden → List Event → Measured
 measure_of burden events =
     record {
       work = min most (work (tree_of events));
-      plain = held most (of_events 0 events);
+      plain = held most (of_events no_burden events);
       burdened = held most_burdened (of_events burden events);
     }
 
@@ -62,11 +64,11 @@ after_part part m =
     }
 
 -- a spawned child, which is measured
-abbrev pub after_child : (burden : ℕ) → Measured → Measured → Measured
+abbrev pub after_child : Burden → Measured → Measured → Measured
 after_child burden child m =
     record {
       work = up_to most m.work child.work;
-      plain = forked (up_to most) 0 (span_read child) m.plain;
+      plain = forked (up_to most) no_burden (span_read child) m.plain;
       burdened = forked (up_to most_burdened) burden (burdened_read child) m.burdened;
     }
 
@@ -74,40 +76,40 @@ abbrev pub after_join : Measured → Measured
 after_join m = record { work = m.work; plain = synced m.plain; burdened = synced m.burdened }
 
 -- the readings are those of a tree: a reading above its type's greatest number is that number
-pub record ReadsTree (burden : ℕ) (m : Measured) (t : Tree) : Type 0 where
+pub record ReadsTree (burden : Burden) (m : Measured) (t : Tree) : Type 0 where
   pub work_is : m.work ≡ min most (work t)
   pub span_is : span_read m ≡ min most (span t)
   pub burdened_is : burdened_read m ≡ min most_burdened (burdened_span burden t)
 
 -- the measure of the events so far
-abbrev pub Measures : (burden : ℕ) → Measured → List Event → Type 0
+abbrev pub Measures : Burden → Measured → List Event → Type 0
 Measures burden m events = m ≡ measure_of burden events
 
 -- what each call on a measure does: it was the measure of some events, and is that of what they have come to
 abbrev pub AddsEvent : Measured → Measured → Event → Type 0
-AddsEvent old new e = (burden : ℕ) (es : List Event) → Measures burden old es → Measures burden new (es ++ e ∷ [])
+AddsEvent old new e = (burden : Burden) (es : List Event) → Measures burden old es → Measures burden new (es ++ e ∷ [])
 
 abbrev pub AddsPart : Measured → Measured → (part : Measured) → Type 0
 AddsPart old new part =
-    (burden : ℕ) (es : List Event) (t : Tree) → Measures burden old es → ReadsTree burden part t
+    (burden : Burden) (es : List Event) (t : Tree) → Measures burden old es → ReadsTree burden part t
     → Measures burden new (es ++ Series t ∷ [])
 
-abbrev pub AddsChild : (burden : ℕ) → Measured → Measured → (child : Measured) → Type 0
+abbrev pub AddsChild : Burden → Measured → Measured → (child : Measured) → Type 0
 AddsChild burden old new child =
     (es : List Event) (t : Tree) → Measures burden old es → ReadsTree burden child t
     → Measures burden new (es ++ Fork t ∷ [])
 
 abbrev pub JoinsEvents : Measured → Measured → (whole : Measured) → Type 0
 JoinsEvents left right whole =
-    (burden : ℕ) (es fs : List Event) → Measures burden left es → Measures burden right fs
+    (burden : Burden) (es fs : List Event) → Measures burden left es → Measures burden right fs
     → Measures burden whole (es ++ fs)
 
 -- the readings are those of the tree of the events so far
 abbrev pub ReadsEvents : Measured → Type 0
-ReadsEvents m = (burden : ℕ) (es : List Event) → Measures burden m es → ReadsTree burden m (tree_of es)
+ReadsEvents m = (burden : Burden) (es : List Event) → Measures burden m es → ReadsTree burden m (tree_of es)
 
 -- the measure of events reads their tree, and those of two pieces join to that of the whole
 pub record MeasuresReadTrees : Type 0 where
-  pub reads : (burden : ℕ) (es : List Event) → ReadsTree burden (measure_of burden es) (tree_of es)
-  pub pieces : (burden : ℕ) (es fs : List Event)
+  pub reads : (burden : Burden) (es : List Event) → ReadsTree burden (measure_of burden es) (tree_of es)
+  pub pieces : (burden : Burden) (es fs : List Event)
       → measure_of burden (es ++ fs) ≡ joined (measure_of burden es) (measure_of burden fs)

@@ -1,5 +1,6 @@
 -- What a call on a burdened path does to the weight of its strand.
 use Rattle.std.specs.Prelude.{◌≡◌, ℕ, Bool}
+use Rattle.cw_model.specs.declared.burden.Burden.{Burden}
 use Rattle.cw_measure.specs.declared.burdened_path.BurdenedPath.{BurdenedPath}
 use Rattle.cw_measure.specs.StrandWeights.{ends, spawns, strand_weight, lengthened, appends, Fits, FitsPiece}
 
@@ -8,8 +9,8 @@ abbrev pub BeginsChild : BurdenedPath → BurdenedPath → (first : Bool) → Ty
 BeginsChild old new first = strand_weight new ≡ spawns first (strand_weight old)
 
 -- the spawned child that ran has ended, where the weights fit
-abbrev pub EndsWithin : BurdenedPath → BurdenedPath → (burden : ℕ) → Type 0
-EndsWithin old new burden = Fits (strand_weight old) burden → strand_weight new ≡ ends burden (strand_weight old)
+abbrev pub EndsWithin : BurdenedPath → BurdenedPath → Burden → Type 0
+EndsWithin old new burden = Fits burden (strand_weight old) → strand_weight new ≡ ends burden (strand_weight old)
 
 -- the block that runs has a way of this weight into a child that has ended
 abbrev pub Lengthens : BurdenedPath → BurdenedPath → (first : Bool) → (longest : ℕ) → Type 0

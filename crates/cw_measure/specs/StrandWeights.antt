@@ -1,5 +1,7 @@
 -- The heaviest path of a strand with the blocks round it that have spawned, and which run so far it shows.
 use Rattle.std.specs.Prelude.{◌≡◌, ℕ, ◌+◌, ◌-◌, ◌^◌, ◌<◌, ◌≤◌, max, Bool, true, false, not, List, [], ◌∷◌, ◌++◌, Option}
+use Rattle.cw_model.specs.declared.burden.Burden.{Burden}
+use Rattle.cw_model.specs.Burdens.{at_child, at_rest}
 use Rattle.cw_model.specs.Trees.{Mark, Event, Join, tree_of, burdened_span}
 use Rattle.cw_measure.specs.declared.burdened_path.BurdenedBlock.{BurdenedBlock}
 use Rattle.cw_measure.specs.declared.burdened_path.BurdenedPath.{BurdenedPath}
@@ -44,14 +46,15 @@ spawns true v = begins v
 spawns false v = begins_again v
 
 -- the spawned child that ran has ended
-abbrev pub ends : (burden : ℕ) → StrandWeight → StrandWeight
+abbrev pub ends : Burden → StrandWeight → StrandWeight
 ends burden v = at v.now v.blocks
   where
     at : ℕ → List BurdenedBlock → StrandWeight
     at n [] = record { now = n; blocks = [] }
     at n (b ∷ bs) =
+        let child = b.saved + (at_child burden + n) in
         record
-        { now = b.saved + burden; blocks = record { longest = max b.longest (b.saved + n); saved = b.saved } ∷ bs }
+        { now = b.saved + at_rest burden; blocks = record { longest = max b.longest child; saved = b.saved } ∷ bs }
 
 -- the block joins
 abbrev pub joins : StrandWeight → StrandWeight
@@ -84,13 +87,14 @@ longest_of (b ∷ bs) = b.longest
 abbrev pub FitsPiece : (piece v : StrandWeight) → Type 0
 FitsPiece piece v = (v.now + piece.now < 2 ^ 128) × (v.now + longest_of piece.blocks < 2 ^ 128)
 
--- the path of the strand that runs with that up to its spawn, and the latter with so much more, fit 128 bits
+-- with the path up to the spawn of the strand that runs, its own and what is charged at the rest fit 128 bits
 abbrev pub saved_of : List BurdenedBlock → ℕ
 saved_of [] = 0
 saved_of (b ∷ bs) = b.saved
 
-abbrev pub Fits : StrandWeight → ℕ → Type 0
-Fits v more = (saved_of v.blocks + v.now < 2 ^ 128) × (saved_of v.blocks + more < 2 ^ 128)
+abbrev pub Fits : Burden → StrandWeight → Type 0
+Fits burden v =
+    (saved_of v.blocks + (at_child burden + v.now) < 2 ^ 128) × (saved_of v.blocks + at_rest burden < 2 ^ 128)
 
 -- a block that runs, or that a part in series goes on with
 abbrev pub StandsOn : (below : List BurdenedBlock → Type 0) → BlockWeight → List BurdenedBlock → Type 0
@@ -109,37 +113,37 @@ abbrev pub LiesUnder : (spawned : Bool) → (below : List BurdenedBlock → Type
 LiesUnder true below L bs = RestsOn below L bs
 LiesUnder false below L bs = StandsOn below L bs
 
-abbrev pub Under : (burden : ℕ) → List Open → List BurdenedBlock → Type 0
+abbrev pub Under : Burden → List Open → List BurdenedBlock → Type 0
 Under burden [] bs = bs ≡ []
 Under burden (o ∷ os) bs = LiesUnder o.spawned (Under burden os) (block_weight burden os o.outer) bs
 
 -- a strand's weight shows a run so far
-pub record ShowsWeight (burden : ℕ) (os : List Open) (es : List Event) (v : StrandWeight) : Type 0 where
+pub record ShowsWeight (burden : Burden) (os : List Open) (es : List Event) (v : StrandWeight) : Type 0 where
   pub now_is : v.now ≡ now_of (block_weight burden os es)
   pub blocks_are : StandsOn (Under burden os) (block_weight burden os es) v.blocks
 
 -- a burdened path tells of a run so far
-pub record TellsWeight (burden : ℕ) (os : List Open) (es : List Event) (path : BurdenedPath) : Type 0 where
+pub record TellsWeight (burden : Burden) (os : List Open) (es : List Event) (path : BurdenedPath) : Type 0 where
   pub shows : ShowsWeight burden os es (strand_weight path)
   pub noted_is : path.noted ≡ work_in os es
 
 -- the weights of a run so far fit 128 bits
-abbrev pub FitsRun : (burden : ℕ) → List Open → List Event → Type 0
+abbrev pub FitsRun : Burden → List Open → List Event → Type 0
 FitsRun burden os es = burdened_work_in burden os es < 2 ^ 128
 
 -- what each call on a burdened path does: it told of a run, and tells of what the run has come to
 abbrev pub NotesWeight : BurdenedPath → BurdenedPath → (count : ℕ) → Type 0
 NotesWeight old new count =
-    (burden : ℕ) (os : List Open) (es fs : List Event) → Since old.noted count es fs → FitsRun burden os (es ++ fs)
+    (burden : Burden) (os : List Open) (es fs : List Event) → Since old.noted count es fs → FitsRun burden os (es ++ fs)
     → TellsWeight burden os es old → TellsWeight burden os (es ++ fs) new
 
 abbrev pub SpawnsWeight : BurdenedPath → BurdenedPath → (count : ℕ) → (first : Bool) → Type 0
 SpawnsWeight old new count first =
-    (burden : ℕ) (mark : Option Mark) (os : List Open) (es fs : List Event) → Since old.noted count es fs
+    (burden : Burden) (mark : Option Mark) (os : List Open) (es fs : List Event) → Since old.noted count es fs
     → FitsRun burden os (es ++ fs)
     → has_spawned es ≡ not first → TellsWeight burden os es old → TellsWeight burden (in_fork mark (es ++ fs) os) [] new
 
-abbrev pub EndsChildWeight : BurdenedPath → BurdenedPath → (count burden : ℕ) → Type 0
+abbrev pub EndsChildWeight : BurdenedPath → BurdenedPath → (count : ℕ) → Burden → Type 0
 EndsChildWeight old new count burden =
     (o : Open) (os : List Open) (es fs : List Event) → Since old.noted count es fs → FitsRun burden (o ∷ os) (es ++ fs)
     → o.spawned ≡ true → has_spawned es ≡ false → TellsWeight burden (o ∷ os) es old
@@ -147,19 +151,19 @@ EndsChildWeight old new count burden =
 
 abbrev pub JoinsWeight : BurdenedPath → BurdenedPath → (count : ℕ) → Type 0
 JoinsWeight old new count =
-    (burden : ℕ) (os : List Open) (es fs : List Event) → Since old.noted count es fs → FitsRun burden os (es ++ fs)
+    (burden : Burden) (os : List Open) (es fs : List Event) → Since old.noted count es fs → FitsRun burden os (es ++ fs)
     → has_spawned es ≡ true → TellsWeight burden os es old → TellsWeight burden os ((es ++ fs) ++ Join ∷ []) new
 
 -- a piece of the block that runs, which ran apart and has no join, is joined on
 abbrev pub AppendsWeight : BurdenedPath → (piece : BurdenedPath) → BurdenedPath → (first : Bool) → Type 0
 AppendsWeight old piece new first =
-    (burden : ℕ) (os : List Open) (es fs : List Event) → has_spawned es ≡ not first → no_joins fs ≡ true
+    (burden : Burden) (os : List Open) (es fs : List Event) → has_spawned es ≡ not first → no_joins fs ≡ true
     → work_in os (es ++ fs) < 2 ^ 64
     → FitsRun burden os (es ++ fs) → TellsWeight burden os es old → TellsWeight burden [] fs piece
     → TellsWeight burden os (es ++ fs) new
 
 -- parts in series begin and end without a call, once the instructions so far are noted
-pub record SeriesNeedNoCall (burden : ℕ) (path : BurdenedPath) : Type 0 where
+pub record SeriesNeedNoCall (burden : Burden) (path : BurdenedPath) : Type 0 where
   pub begins : (mark : Option Mark) (os : List Open) (es : List Event) → TellsWeight burden os es path
       → TellsWeight burden (in_series mark es os) [] path
   pub ends : (o : Open) (os : List Open) (es : List Event) → o.spawned ≡ false → has_spawned es ≡ false
@@ -168,5 +172,5 @@ pub record SeriesNeedNoCall (burden : ℕ) (path : BurdenedPath) : Type 0 where
 -- what a burdened path says at the end of a run
 abbrev pub ReadsWeight : BurdenedPath → (weight : ℕ) → Type 0
 ReadsWeight path weight =
-    (burden : ℕ) (es : List Event) → has_spawned es ≡ false → TellsWeight burden [] es path
+    (burden : Burden) (es : List Event) → has_spawned es ≡ false → TellsWeight burden [] es path
     → weight ≡ burdened_span burden (tree_of es)

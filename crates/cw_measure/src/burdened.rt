@@ -1,9 +1,10 @@
-//! Counters in 128 bits, for weights with a burden for each spawn.
+//! Counters in 128 bits, for weights with what is charged at each fork.
 
 ghost use Rattle.std.specs.Prelude.{◌≡◌};
 ghost use Rattle.cw_measure.specs.Counters.{up_to, onward, fresh, ticked, forked, synced, heaviest};
 ghost use Rattle.cw_measure.specs.Measured.{most_burdened};
 
+use cw_model::burden::Burden;
 use std::marker::Model;
 
 /// How heavy the paths of a piece of one sync block are so far. Sums stop at the greatest number.
@@ -59,11 +60,12 @@ impl Burdened {
     }
 
     /// A spawned child of this span more.
-    pub fn fork(&mut self, burden: u128, child: u128)
+    pub fn fork(&mut self, burden: Burden, child: u128)
         ensures { self.new ≡ forked (up_to most_burdened) burden child self.old }
     {
+        let child = sum_of(burden.at_child() as u128, child);
         self.longest = self.longest.max(later(self.continuation, child));
-        self.continuation = sum_of(self.continuation, burden);
+        self.continuation = sum_of(self.continuation, burden.at_rest() as u128);
     }
 
     /// A join.

@@ -1,10 +1,12 @@
-//! The weight of a heaviest path, with a burden for each spawn, as a strand keeps it: only a spawn pushes a block.
+//! The weight of a heaviest path, with what it is charged at each fork, as a strand keeps it: only a spawn pushes a block.
 
 ghost use Rattle.std.specs.Prelude.{◌≡◌, ℕ, [], true, false, OnOk};
+ghost use Rattle.cw_model.specs.declared.burden.Burden.{Burden};
 ghost use Rattle.cw_measure.specs.PathCalls.{AppendsWithin, BeginsChild, EndsWithin, Lengthens};
 ghost use Rattle.cw_measure.specs.StrandWeights.{begins, begins_again, joins, strand_weight};
 ghost use Rattle.cw_measure.specs.StrandWeights.{AppendsWeight, EndsChildWeight, JoinsWeight, HasGoneOn, NotesWeight, ReadsWeight, SpawnsWeight, TellsWeight};
 
+use cw_model::burden::Burden;
 use std::alloc::{AllocError, Global};
 
 /// A block that has spawned since its last join, from where its strand or child began.
@@ -16,7 +18,7 @@ pub struct BurdenedBlock {
     pub saved: u128,
 }
 
-/// The weight of the heaviest path of the strand that runs, in instructions and burdens, and of the blocks round it
+/// The weight of the heaviest path of the strand that runs, in instructions and charges, and of the blocks round it
 /// that have spawned.
 ///
 /// Each call is told the count of instructions so far, those of children that others ran included.
@@ -33,7 +35,7 @@ pub struct BurdenedPath {
 impl BurdenedPath {
     /// Nothing has run. Takes no memory.
     pub fn new(alloc: Global) -> BurdenedPath
-        ensures { (burden : ℕ) → TellsWeight burden [] [] result }
+        ensures { (burden : Burden) → TellsWeight burden [] [] result }
     {
         BurdenedPath {
             weight: 0,
@@ -64,10 +66,10 @@ impl BurdenedPath {
         Ok(())
     }
 
-    /// The spawned part that runs ends, its block joined: its path may be the longest, and then the burden is added to
-    /// the path of the strand that goes on.
+    /// The spawned part that runs ends, its block joined: with what a path into it is charged its path may be the
+    /// longest, and the path of the strand that goes on is charged as the rest is.
     #[inline(always)]
-    pub fn end_child(&mut self, count: u64, burden: u64)
+    pub fn end_child(&mut self, count: u64, burden: Burden)
         ensures { EndsChildWeight self.old self.new count burden }
     {
         self.note(count);
@@ -206,7 +208,7 @@ impl BurdenedPath {
 
     // The spawned child that ran has ended.
     #[inline(always)]
-    fn end(&mut self, burden: u64)
+    fn end(&mut self, burden: Burden)
         ensures weight { EndsWithin self.old self.new burden }
         ensures noted { self.new.noted ≡ self.old.noted }
     {
@@ -215,12 +217,13 @@ impl BurdenedPath {
             return;
         }
         let block = self.blocks[len - 1];
-        let child = block.saved.wrapping_add(self.weight);
+        let own = self.weight.wrapping_add(burden.at_child() as u128);
+        let child = block.saved.wrapping_add(own);
         self.blocks[len - 1] = BurdenedBlock {
             longest: block.longest.max(child),
             saved: block.saved,
         };
-        self.weight = block.saved.wrapping_add(burden as u128);
+        self.weight = block.saved.wrapping_add(burden.at_rest() as u128);
     }
 
     // The innermost block that has spawned joins.

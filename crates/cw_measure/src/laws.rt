@@ -1,6 +1,6 @@
 //! The laws of measures: each function has one as its contract, and does nothing.
 
-ghost use Rattle.std.specs.Prelude.{ℕ};
+ghost use Rattle.cw_model.specs.declared.burden.Burden.{Burden};
 ghost use Rattle.cw_measure.specs.BlockWeights.{BlocksWeighTheirSpans, WorkAndWeightAreMetered};
 ghost use Rattle.cw_measure.specs.Counters.{CountersReadSpans};
 ghost use Rattle.cw_measure.specs.Laws.{AllTalliesKeep};
@@ -30,7 +30,7 @@ pub fn blocks_weigh_their_spans()
 /// Parts in series begin and end without a call on the burdened path, once the instructions so far are noted.
 #[tactic(auto, using(crate::specs::lemmas::StrandWeights::series_need_no_call))]
 pub fn series_need_no_call()
-    ensures { (burden : ℕ) (path : BurdenedPath) → SeriesNeedNoCall burden path }
+    ensures { (burden : Burden) (path : BurdenedPath) → SeriesNeedNoCall burden path }
 {}
 
 /// The work of a run and the weight of a strand's heaviest path grow along each part, whose block has joined, by the

@@ -1,12 +1,14 @@
 //! What is counted of a piece of one sync block.
 
 ghost use Rattle.std.specs.Prelude.{◌≡◌, ℕ, [], IsOk, IfOk};
+ghost use Rattle.cw_model.specs.declared.burden.Burden.{Burden};
 ghost use Rattle.cw_model.specs.Trees.{Join, Work};
 ghost use Rattle.cw_measure.specs.Measured.{after_work, after_part, after_child, after_join, nothing, joined, span_read, burdened_read};
 ghost use Rattle.cw_measure.specs.Measured.{AddsChild, AddsEvent, AddsPart, JoinsEvents, Measures, ReadsEvents};
 
 use crate::burdened::Burdened;
 use crate::plain::Plain;
+use cw_model::burden::Burden;
 use cw_model::monoid::Monoid;
 use std::alloc::{AllocError, Global};
 use std::marker::Model;
@@ -32,7 +34,7 @@ impl Measure {
     /// The measure of nothing.
     pub fn new() -> Measure
         ensures value { result ≡ nothing }
-        ensures events { (burden : ℕ) → Measures burden result [] }
+        ensures events { (burden : Burden) → Measures burden result [] }
     {
         Measure {
             work: 0,
@@ -61,15 +63,14 @@ impl Measure {
         self.burdened.tick(part.burdened.heaviest());
     }
 
-    /// A spawned child more: it is taken into the longest, and then the burden is added to the burdened continuation.
-    pub fn spawned(&mut self, burden: u64, child: &Measure)
+    /// A spawned child more: it is taken into the longest, and then the rest begins; burdened, each with its charge.
+    pub fn spawned(&mut self, burden: Burden, child: &Measure)
         ensures value { self.new ≡ after_child burden child.now self.old }
         ensures events { AddsChild burden self.old self.new child.now }
     {
         self.work = self.work.saturating_add(child.work);
-        self.plain.fork(0, child.plain.heaviest());
-        self.burdened
-            .fork(burden as u128, child.burdened.heaviest());
+        self.plain.fork(child.plain.heaviest());
+        self.burdened.fork(burden, child.burdened.heaviest());
     }
 
     /// A join.
@@ -97,7 +98,7 @@ impl Measure {
         self.plain.heaviest()
     }
 
-    /// The weight of a heaviest path with a burden for each spawn whose continuation it goes along.
+    /// The weight of a heaviest path with what it is charged at each fork that it runs through.
     pub fn burdened(&self) -> u128
         ensures value { result ≡ burdened_read self.now }
         ensures reads { ReadsEvents self.now }
@@ -116,7 +117,7 @@ impl Monoid for Measure {
 
     fn unit(_alloc: Global) -> Self
         ensures value { result ≡ nothing }
-        ensures events { (burden : ℕ) → Measures burden result [] }
+        ensures events { (burden : Burden) → Measures burden result [] }
     {
         Measure::new()
     }

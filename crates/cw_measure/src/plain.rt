@@ -1,6 +1,7 @@
-//! Counters in 64 bits, for weights without a burden.
+//! Counters in 64 bits, for weights with nothing charged.
 
 ghost use Rattle.std.specs.Prelude.{◌≡◌};
+ghost use Rattle.cw_model.specs.Burdens.{no_burden};
 ghost use Rattle.cw_measure.specs.Counters.{up_to, onward, fresh, ticked, forked, synced, heaviest};
 ghost use Rattle.cw_measure.specs.Measured.{most};
 
@@ -18,6 +19,7 @@ pub struct Plain {
 }
 
 impl Model for Plain {
+    ghost use Rattle.cw_model.specs.Burdens.{no_burden};
     ghost use Rattle.cw_measure.specs.Counters.{Counters, counters_of};
 
     ghost Value = { Counters };
@@ -59,11 +61,10 @@ impl Plain {
     }
 
     /// A spawned child of this span more.
-    pub fn fork(&mut self, burden: u64, child: u64)
-        ensures { self.new ≡ forked (up_to most) burden child self.old }
+    pub fn fork(&mut self, child: u64)
+        ensures { self.new ≡ forked (up_to most) no_burden child self.old }
     {
         self.longest = self.longest.max(later(self.continuation, child));
-        self.continuation = sum_of(self.continuation, burden);
     }
 
     /// A join.

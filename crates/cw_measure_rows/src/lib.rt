@@ -3,6 +3,8 @@
 #![tactic(auto)]
 
 #[cfg(test)]
+mod burdens;
+#[cfg(test)]
 mod measure;
 #[cfg(test)]
 mod meter;

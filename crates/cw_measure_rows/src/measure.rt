@@ -1,5 +1,6 @@
 //! Work, span and burdened span of small runs, whole and joined from pieces, by hand.
 
+use crate::burdens::{on_both, on_spawns};
 use cw_measure::{BurdenedPath, Measure};
 use cw_model::monoid::Monoid;
 use std::alloc::AllocError;
@@ -12,33 +13,54 @@ fn strand(n: u64) -> Measure {
     measure
 }
 
-// 3 instructions, a child of 5 beside 2, a join, 1 instruction: the child is the longer one, and with a burden of 4 the
-// rest is.
+// 3 instructions, a child of 5 beside 2, a join, 1 instruction: the child is the longer one, and with a burden of 4 on
+// the rest alone the rest is.
 #[test]
 fn a_child_beside_a_rest(rt: HostRuntime) -> Result<(), Fail> {
-    let mut whole = strand(3);
-    whole.spawned(4, &strand(5));
-    whole.tick(2);
-    whole.sync();
-    whole.tick(1);
-    assert_eq!(rt; whole.work(), 11);
-    assert_eq!(rt; whole.span(), 9);
-    assert_eq!(rt; whole.burdened(), 10);
+    for (burden, burdened) in [(on_spawns(4), 10), (on_both(4), 13)] {
+        let mut whole = strand(3);
+        whole.spawned(burden, &strand(5));
+        whole.tick(2);
+        whole.sync();
+        whole.tick(1);
+        assert_eq!(rt; whole.work(), 11);
+        assert_eq!(rt; whole.span(), 9);
+        assert_eq!(rt; whole.burdened(), burdened);
+    }
     Ok(())
 }
 
 // Two children of 4 with 3 instructions between them, and a join at once: the second child's path takes the 3 before
-// it, and a burden of 2.
+// it, and a burden of 2, or one for each of the two forks that it runs through.
 #[test]
 fn two_children(rt: HostRuntime) -> Result<(), Fail> {
-    let mut whole = strand(1);
-    whole.spawned(2, &strand(4));
-    whole.tick(3);
-    whole.spawned(2, &strand(4));
-    whole.sync();
-    assert_eq!(rt; whole.work(), 12);
-    assert_eq!(rt; whole.span(), 8);
-    assert_eq!(rt; whole.burdened(), 10);
+    for (burden, burdened) in [(on_spawns(2), 10), (on_both(2), 12)] {
+        let mut whole = strand(1);
+        whole.spawned(burden, &strand(4));
+        whole.tick(3);
+        whole.spawned(burden, &strand(4));
+        whole.sync();
+        assert_eq!(rt; whole.work(), 12);
+        assert_eq!(rt; whole.span(), 8);
+        assert_eq!(rt; whole.burdened(), burdened);
+    }
+    Ok(())
+}
+
+// A rest beside two children that join together is charged for both forks, whichever edges are charged.
+#[test]
+fn one_rest_beside_two_children(rt: HostRuntime) -> Result<(), Fail> {
+    for burden in [on_spawns(10), on_both(10)] {
+        let mut whole = strand(1);
+        whole.spawned(burden, &strand(1));
+        whole.tick(3);
+        whole.spawned(burden, &strand(1));
+        whole.tick(5);
+        whole.sync();
+        assert_eq!(rt; whole.work(), 11);
+        assert_eq!(rt; whole.span(), 9);
+        assert_eq!(rt; whole.burdened(), 29);
+    }
     Ok(())
 }
 
@@ -46,77 +68,86 @@ fn two_children(rt: HostRuntime) -> Result<(), Fail> {
 #[test]
 fn pieces_join_to_the_whole(rt: HostRuntime) -> Result<(), AllocError> {
     let alloc = rt.alloc();
-    let mut child = strand(3);
-    child.spawned(4, &strand(5));
-    let mut rest = strand(2);
-    rest.sync();
-    let whole = child
-        .join(Measure::unit(alloc))?
-        .join(rest)?
-        .join(strand(1))?;
-    assert_eq!(rt; whole.work(), 11);
-    assert_eq!(rt; whole.span(), 9);
-    assert_eq!(rt; whole.burdened(), 10);
-    let mut forked = Measure::unit(alloc);
-    forked.spawned(4, &strand(5));
-    let mut rest = strand(2);
-    rest.sync();
-    let later = forked.join(rest.join(strand(1))?)?;
-    let whole = strand(3).join(later)?;
-    assert_eq!(rt; whole.work(), 11);
-    assert_eq!(rt; whole.span(), 9);
-    assert_eq!(rt; whole.burdened(), 10);
+    for (burden, burdened) in [(on_spawns(4), 10), (on_both(4), 13)] {
+        let mut child = strand(3);
+        child.spawned(burden, &strand(5));
+        let mut rest = strand(2);
+        rest.sync();
+        let whole = child
+            .join(Measure::unit(alloc))?
+            .join(rest)?
+            .join(strand(1))?;
+        assert_eq!(rt; whole.work(), 11);
+        assert_eq!(rt; whole.span(), 9);
+        assert_eq!(rt; whole.burdened(), burdened);
+        let mut forked = Measure::unit(alloc);
+        forked.spawned(burden, &strand(5));
+        let mut rest = strand(2);
+        rest.sync();
+        let later = forked.join(rest.join(strand(1))?)?;
+        let whole = strand(3).join(later)?;
+        assert_eq!(rt; whole.work(), 11);
+        assert_eq!(rt; whole.span(), 9);
+        assert_eq!(rt; whole.burdened(), burdened);
+    }
     Ok(())
 }
 
 // A part in series counts with all three of its readings.
 #[test]
 fn a_part_in_series(rt: HostRuntime) -> Result<(), Fail> {
-    let mut part = strand(1);
-    part.spawned(10, &strand(7));
-    part.sync();
-    let mut whole = strand(2);
-    whole.called(&part);
-    assert_eq!(rt; whole.work(), 10);
-    assert_eq!(rt; whole.span(), 10);
-    assert_eq!(rt; whole.burdened(), 13);
+    for (burden, burdened) in [(on_spawns(10), 13), (on_both(10), 20)] {
+        let mut part = strand(1);
+        part.spawned(burden, &strand(7));
+        part.sync();
+        let mut whole = strand(2);
+        whole.called(&part);
+        assert_eq!(rt; whole.work(), 10);
+        assert_eq!(rt; whole.span(), 10);
+        assert_eq!(rt; whole.burdened(), burdened);
+    }
     Ok(())
 }
 
 // A reading above the greatest number of its type is that number; a burdened span has 128 bits.
 #[test]
 fn readings_stop_at_the_greatest_number(rt: HostRuntime) -> Result<(), Fail> {
-    let mut whole = strand(u64::MAX);
-    whole.spawned(u64::MAX, &strand(1));
-    whole.tick(1);
-    whole.sync();
-    assert_eq!(rt; whole.work(), u64::MAX);
-    assert_eq!(rt; whole.span(), u64::MAX);
-    assert_eq!(rt; whole.burdened(), 36_893_488_147_419_103_231);
+    for burden in [on_spawns(u64::MAX), on_both(u64::MAX)] {
+        let mut whole = strand(u64::MAX);
+        whole.spawned(burden, &strand(1));
+        whole.tick(1);
+        whole.sync();
+        assert_eq!(rt; whole.work(), u64::MAX);
+        assert_eq!(rt; whole.span(), u64::MAX);
+        assert_eq!(rt; whole.burdened(), 36_893_488_147_419_103_231);
+    }
     Ok(())
 }
 
-// 2 instructions, a child of 1 beside 2, and so twice, with a burden of 10 for each spawn; a child in the rest.
+// 2 instructions, a child of 1 beside 2, and so twice, with a burden of 10 for each spawn; a child in the rest. At last
+// a child of 100 is the longest, and is charged on its return edge alone.
 #[test]
 fn a_burdened_path(rt: HostRuntime) -> Result<(), AllocError> {
-    let mut path = BurdenedPath::new(rt.alloc());
-    path.spawn(2, true)?;
-    path.end_child(3, 10);
-    path.join(5);
-    assert_eq!(rt; path.weight(), 14);
-    path.spawn(8, true)?;
-    path.end_child(9, 10);
-    path.join(11);
-    path.note(14);
-    assert_eq!(rt; path.weight(), 32);
-    path.spawn(15, true)?;
-    path.end_child(115, 10);
-    path.spawn(116, false)?;
-    path.spawn(120, true)?;
-    path.end_child(121, 10);
-    path.join(122);
-    path.end_child(122, 10);
-    path.join(123);
-    assert_eq!(rt; path.weight(), 133);
+    for (burden, burdened) in [(on_spawns(10), 133), (on_both(10), 143)] {
+        let mut path = BurdenedPath::new(rt.alloc());
+        path.spawn(2, true)?;
+        path.end_child(3, burden);
+        path.join(5);
+        assert_eq!(rt; path.weight(), 14);
+        path.spawn(8, true)?;
+        path.end_child(9, burden);
+        path.join(11);
+        path.note(14);
+        assert_eq!(rt; path.weight(), 32);
+        path.spawn(15, true)?;
+        path.end_child(115, burden);
+        path.spawn(116, false)?;
+        path.spawn(120, true)?;
+        path.end_child(121, burden);
+        path.join(122);
+        path.end_child(122, burden);
+        path.join(123);
+        assert_eq!(rt; path.weight(), burdened);
+    }
     Ok(())
 }

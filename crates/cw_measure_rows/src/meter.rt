@@ -1,5 +1,6 @@
 //! All measures of small runs, told instruction by instruction, by hand.
 
+use crate::burdens::{on_both, on_spawns};
 use cw_meter::{Measures, Meter, Readings};
 use cw_regions::RegionRow;
 use cw_sites::table::SiteRow;
@@ -52,7 +53,7 @@ fn readings(work: u64, span: u64, burdened: u128) -> Readings {
 // Five instructions one after another, the last of them the return.
 #[test]
 fn a_serial_run(rt: HostRuntime) -> Result<(), AllocError> {
-    let mut meter = Meter::new(rt.alloc(), 100)?;
+    let mut meter = Meter::new(rt.alloc(), on_spawns(100))?;
     meter.give_back(4)?;
     let all = meter.finish(rt.alloc(), 5, 2, 0)?;
     assert_eq!(rt; all.measure, readings(5, 5, 5));
@@ -66,7 +67,7 @@ fn a_serial_run(rt: HostRuntime) -> Result<(), AllocError> {
 // A child of 3 instructions beside a rest of 3, one before and three after: on a tie the child is on the path.
 #[test]
 fn a_child_as_long_as_the_rest(rt: HostRuntime) -> Result<(), AllocError> {
-    let mut meter = Meter::new(rt.alloc(), 10)?;
+    let mut meter = Meter::new(rt.alloc(), on_spawns(10))?;
     meter.spawn(0, 1)?;
     meter.give_back(3)?;
     meter.sync(7)?;
@@ -81,56 +82,60 @@ fn a_child_as_long_as_the_rest(rt: HostRuntime) -> Result<(), AllocError> {
 // A call of site 1 spawns, at site 2, one that spawns at site 2 again; both call at site 3 beside it.
 #[test]
 fn a_nest_of_spawns(rt: HostRuntime) -> Result<(), AllocError> {
-    let mut meter = Meter::new(rt.alloc(), 100)?;
-    meter.call(0, 1)?;
-    meter.spawn(1, 2)?;
-    meter.spawn(2, 2)?;
-    meter.give_back(3)?;
-    meter.call(4, 3)?;
-    meter.give_back(5)?;
-    meter.sync(6)?;
-    meter.give_back(7)?;
-    meter.call(8, 3)?;
-    meter.give_back(9)?;
-    meter.sync(10)?;
-    meter.give_back(11)?;
-    meter.give_back(12)?;
-    let all = meter.finish(rt.alloc(), 13, 4, 0)?;
-    assert_eq!(rt; all.measure, readings(13, 10, 110));
-    assert_eq!(rt; site_of(&all, 0), Some(site(1, 2, 2, 13, 10)));
-    assert_eq!(rt; site_of(&all, 1), Some(site(1, 4, 3, 11, 8)));
-    assert_eq!(rt; site_of(&all, 2), Some(site(2, 5, 4, 6, 5)));
-    assert_eq!(rt; site_of(&all, 3), Some(site(2, 2, 1, 2, 2)));
+    for (burden, burdened) in [(on_spawns(100), 110), (on_both(100), 210)] {
+        let mut meter = Meter::new(rt.alloc(), burden)?;
+        meter.call(0, 1)?;
+        meter.spawn(1, 2)?;
+        meter.spawn(2, 2)?;
+        meter.give_back(3)?;
+        meter.call(4, 3)?;
+        meter.give_back(5)?;
+        meter.sync(6)?;
+        meter.give_back(7)?;
+        meter.call(8, 3)?;
+        meter.give_back(9)?;
+        meter.sync(10)?;
+        meter.give_back(11)?;
+        meter.give_back(12)?;
+        let all = meter.finish(rt.alloc(), 13, 4, 0)?;
+        assert_eq!(rt; all.measure, readings(13, 10, burdened));
+        assert_eq!(rt; site_of(&all, 0), Some(site(1, 2, 2, 13, 10)));
+        assert_eq!(rt; site_of(&all, 1), Some(site(1, 4, 3, 11, 8)));
+        assert_eq!(rt; site_of(&all, 2), Some(site(2, 5, 4, 6, 5)));
+        assert_eq!(rt; site_of(&all, 3), Some(site(2, 2, 1, 2, 2)));
+    }
     Ok(())
 }
 
 // The same, with the rest beside each spawned call run apart, by a meter that knows its site and the burden alone.
 #[test]
 fn rests_that_ran_apart(rt: HostRuntime) -> Result<(), AllocError> {
-    let mut meter = Meter::new(rt.alloc(), 100)?;
-    meter.call(0, 1)?;
-    let mut outer = Meter::apart(rt.alloc(), meter.site(), 100);
-    meter.spawn(1, 2)?;
-    let mut inner = Meter::apart(rt.alloc(), meter.site(), 100);
-    meter.spawn(2, 2)?;
-    meter.give_back(3)?;
-    inner.call(0, 3)?;
-    inner.give_back(1)?;
-    meter.rest(4, inner, 2)?;
-    meter.sync(6)?;
-    meter.give_back(7)?;
-    outer.call(0, 3)?;
-    outer.give_back(1)?;
-    meter.rest(8, outer, 2)?;
-    meter.sync(10)?;
-    meter.give_back(11)?;
-    meter.give_back(12)?;
-    let all = meter.finish(rt.alloc(), 13, 4, 0)?;
-    assert_eq!(rt; all.measure, readings(13, 10, 110));
-    assert_eq!(rt; site_of(&all, 0), Some(site(1, 2, 2, 13, 10)));
-    assert_eq!(rt; site_of(&all, 1), Some(site(1, 4, 3, 11, 8)));
-    assert_eq!(rt; site_of(&all, 2), Some(site(2, 5, 4, 6, 5)));
-    assert_eq!(rt; site_of(&all, 3), Some(site(2, 2, 1, 2, 2)));
+    for (burden, burdened) in [(on_spawns(100), 110), (on_both(100), 210)] {
+        let mut meter = Meter::new(rt.alloc(), burden)?;
+        meter.call(0, 1)?;
+        let mut outer = Meter::apart(rt.alloc(), meter.site(), burden);
+        meter.spawn(1, 2)?;
+        let mut inner = Meter::apart(rt.alloc(), meter.site(), burden);
+        meter.spawn(2, 2)?;
+        meter.give_back(3)?;
+        inner.call(0, 3)?;
+        inner.give_back(1)?;
+        meter.rest(4, inner, 2)?;
+        meter.sync(6)?;
+        meter.give_back(7)?;
+        outer.call(0, 3)?;
+        outer.give_back(1)?;
+        meter.rest(8, outer, 2)?;
+        meter.sync(10)?;
+        meter.give_back(11)?;
+        meter.give_back(12)?;
+        let all = meter.finish(rt.alloc(), 13, 4, 0)?;
+        assert_eq!(rt; all.measure, readings(13, 10, burdened));
+        assert_eq!(rt; site_of(&all, 0), Some(site(1, 2, 2, 13, 10)));
+        assert_eq!(rt; site_of(&all, 1), Some(site(1, 4, 3, 11, 8)));
+        assert_eq!(rt; site_of(&all, 2), Some(site(2, 5, 4, 6, 5)));
+        assert_eq!(rt; site_of(&all, 3), Some(site(2, 2, 1, 2, 2)));
+    }
     Ok(())
 }
 
@@ -139,10 +144,10 @@ fn rests_that_ran_apart(rt: HostRuntime) -> Result<(), AllocError> {
 #[test]
 fn a_rest_inside_its_own_site_and_tag(rt: HostRuntime) -> Result<(), AllocError> {
     for apart in [false, true] {
-        let mut meter = Meter::new(rt.alloc(), 10)?;
+        let mut meter = Meter::new(rt.alloc(), on_spawns(10))?;
         meter.begin_region(0, 0)?;
         meter.call(1, 1)?;
-        let mut rest = Meter::apart(rt.alloc(), meter.site(), 10);
+        let mut rest = Meter::apart(rt.alloc(), meter.site(), on_spawns(10));
         meter.spawn(2, 2)?;
         meter.give_back(6)?;
         if apart {
@@ -174,43 +179,47 @@ fn a_rest_inside_its_own_site_and_tag(rt: HostRuntime) -> Result<(), AllocError>
 // A scope ends with a child of 5 instructions unjoined, beside which one more ran.
 #[test]
 fn a_scope_joins_at_its_end(rt: HostRuntime) -> Result<(), AllocError> {
-    let mut meter = Meter::new(rt.alloc(), 100)?;
-    meter.begin(0)?;
-    meter.spawn(1, 1)?;
-    meter.give_back(6)?;
-    meter.end(8)?;
-    meter.give_back(11)?;
-    let all = meter.finish(rt.alloc(), 12, 2, 0)?;
-    assert_eq!(rt; all.measure, readings(12, 11, 107));
-    assert_eq!(rt; site_of(&all, 0), Some(site(1, 7, 6, 12, 11)));
-    assert_eq!(rt; site_of(&all, 1), Some(site(1, 5, 5, 5, 5)));
+    for (burden, burdened) in [(on_spawns(100), 107), (on_both(100), 111)] {
+        let mut meter = Meter::new(rt.alloc(), burden)?;
+        meter.begin(0)?;
+        meter.spawn(1, 1)?;
+        meter.give_back(6)?;
+        meter.end(8)?;
+        meter.give_back(11)?;
+        let all = meter.finish(rt.alloc(), 12, 2, 0)?;
+        assert_eq!(rt; all.measure, readings(12, 11, burdened));
+        assert_eq!(rt; site_of(&all, 0), Some(site(1, 7, 6, 12, 11)));
+        assert_eq!(rt; site_of(&all, 1), Some(site(1, 5, 5, 5, 5)));
+    }
     Ok(())
 }
 
 // A scope with a child of its own stands beside a child of the block round it, which joins later.
 #[test]
 fn a_scope_beside_a_child(rt: HostRuntime) -> Result<(), AllocError> {
-    let mut meter = Meter::new(rt.alloc(), 10)?;
-    meter.spawn(0, 1)?;
-    meter.give_back(1)?;
-    meter.begin(2)?;
-    meter.spawn(3, 2)?;
-    meter.give_back(4)?;
-    meter.end(5)?;
-    meter.sync(6)?;
-    meter.give_back(7)?;
-    let all = meter.finish(rt.alloc(), 8, 3, 0)?;
-    assert_eq!(rt; all.measure, readings(8, 7, 26));
-    assert_eq!(rt; site_of(&all, 0), Some(site(1, 6, 6, 8, 7)));
-    assert_eq!(rt; site_of(&all, 1), Some(site(1, 1, 0, 1, 1)));
-    assert_eq!(rt; site_of(&all, 2), Some(site(1, 1, 1, 1, 1)));
+    for (burden, burdened) in [(on_spawns(10), 26), (on_both(10), 27)] {
+        let mut meter = Meter::new(rt.alloc(), burden)?;
+        meter.spawn(0, 1)?;
+        meter.give_back(1)?;
+        meter.begin(2)?;
+        meter.spawn(3, 2)?;
+        meter.give_back(4)?;
+        meter.end(5)?;
+        meter.sync(6)?;
+        meter.give_back(7)?;
+        let all = meter.finish(rt.alloc(), 8, 3, 0)?;
+        assert_eq!(rt; all.measure, readings(8, 7, burdened));
+        assert_eq!(rt; site_of(&all, 0), Some(site(1, 6, 6, 8, 7)));
+        assert_eq!(rt; site_of(&all, 1), Some(site(1, 1, 0, 1, 1)));
+        assert_eq!(rt; site_of(&all, 2), Some(site(1, 1, 1, 1, 1)));
+    }
     Ok(())
 }
 
 // A region of tag 0 has 8 instructions inside, one of tag 1 in it 4, and in that lies one of tag 0 again.
 #[test]
 fn regions_inside_one_another(rt: HostRuntime) -> Result<(), AllocError> {
-    let mut meter = Meter::new(rt.alloc(), 100)?;
+    let mut meter = Meter::new(rt.alloc(), on_spawns(100))?;
     meter.begin_region(0, 0)?;
     meter.begin_region(3, 1)?;
     meter.begin_region(5, 0)?;
@@ -229,31 +238,35 @@ fn regions_inside_one_another(rt: HostRuntime) -> Result<(), AllocError> {
 // A region ends with a child of 4 instructions unjoined.
 #[test]
 fn a_region_joins_at_its_end(rt: HostRuntime) -> Result<(), AllocError> {
-    let mut meter = Meter::new(rt.alloc(), 50)?;
-    meter.begin_region(0, 0)?;
-    meter.spawn(1, 1)?;
-    meter.give_back(5)?;
-    meter.end(6)?;
-    meter.give_back(7)?;
-    let all = meter.finish(rt.alloc(), 8, 2, 1)?;
-    assert_eq!(rt; all.measure, readings(8, 8, 54));
-    assert_eq!(rt; region_of(&all, 0), Some(region(5, 5, 51)));
+    for (burden, burdened, inside) in [(on_spawns(50), 54, 51), (on_both(50), 58, 55)] {
+        let mut meter = Meter::new(rt.alloc(), burden)?;
+        meter.begin_region(0, 0)?;
+        meter.spawn(1, 1)?;
+        meter.give_back(5)?;
+        meter.end(6)?;
+        meter.give_back(7)?;
+        let all = meter.finish(rt.alloc(), 8, 2, 1)?;
+        assert_eq!(rt; all.measure, readings(8, 8, burdened));
+        assert_eq!(rt; region_of(&all, 0), Some(region(5, 5, inside)));
+    }
     Ok(())
 }
 
 // A loop's first function spawns a half of 4 instructions and calls one of 2 in place beside it.
 #[test]
 fn a_loop_by_halves(rt: HostRuntime) -> Result<(), AllocError> {
-    let mut meter = Meter::new(rt.alloc(), 7)?;
-    meter.begin(0)?;
-    meter.spawn_half(1)?;
-    meter.give_back(5)?;
-    meter.begin(6)?;
-    meter.give_back(8)?;
-    meter.give_back(9)?;
-    meter.give_back(10)?;
-    let all = meter.finish(rt.alloc(), 11, 1, 0)?;
-    assert_eq!(rt; all.measure, readings(11, 8, 14));
-    assert_eq!(rt; site_of(&all, 0), Some(site(1, 11, 8, 11, 8)));
+    for (burden, burdened) in [(on_spawns(7), 14), (on_both(7), 15)] {
+        let mut meter = Meter::new(rt.alloc(), burden)?;
+        meter.begin(0)?;
+        meter.spawn_half(1)?;
+        meter.give_back(5)?;
+        meter.begin(6)?;
+        meter.give_back(8)?;
+        meter.give_back(9)?;
+        meter.give_back(10)?;
+        let all = meter.finish(rt.alloc(), 11, 1, 0)?;
+        assert_eq!(rt; all.measure, readings(11, 8, burdened));
+        assert_eq!(rt; site_of(&all, 0), Some(site(1, 11, 8, 11, 8)));
+    }
     Ok(())
 }

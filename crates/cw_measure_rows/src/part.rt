@@ -1,29 +1,34 @@
 //! Small parts of a run: how joined parts come out and what they show, by hand.
 
+use crate::burdens::{on_both, on_spawns};
 use cw_measure::Measure;
 use cw_model::limits::MOST_LIMIT;
 use cw_model::monoid::Monoid;
+use cw_model::syntax::Reduction;
+use cw_model::total::Total;
 use cw_model::trap::Trap;
 use cw_part::{Outcome, Part, Read};
 use cw_reduce::Views;
 use std::alloc::{AllocError, Global};
 
-// What is read of a piece of so much work that prints a line and adds to reducer 0.
-fn read(alloc: Global, work: u64, line: i64, sum: i64) -> Result<Read, AllocError> {
+// What is read of a piece of so much work that prints a line and tells reducer 0, which sums, and reducer 1, which keeps
+// the greatest.
+fn read(alloc: Global, work: u64, line: i64, told: i64) -> Result<Read, AllocError> {
     let mut views = Views::new(alloc);
     views.print(line)?;
-    views.add(0, sum)?;
+    views.tell(0, Reduction::Sum, told)?;
+    views.tell(1, Reduction::Max, told)?;
     let mut measure = Measure::new();
     measure.tick(work);
     Ok(Read { views, measure })
 }
 
-fn ran(alloc: Global, limit: u64, work: u64, line: i64, sum: i64) -> Result<Part, AllocError> {
-    let read = read(alloc, work, line, sum)?;
+fn ran(alloc: Global, limit: u64, work: u64, line: i64, told: i64) -> Result<Part, AllocError> {
+    let read = read(alloc, work, line, told)?;
     Ok(Part::new(limit.min(MOST_LIMIT), Outcome::Completed(read)))
 }
 
-// Lines in order, sums and work added, and the lesser limit.
+// Lines in order, totals joined and work added, and the lesser limit.
 #[test]
 fn parts_that_ran(rt: HostRuntime) -> Result<(), AllocError> {
     let alloc = rt.alloc();
@@ -34,7 +39,8 @@ fn parts_that_ran(rt: HostRuntime) -> Result<(), AllocError> {
     match whole.into_outcome() {
         Outcome::Completed(read) => {
             assert_eq!(rt; read.views.lines(), [1, 2].as_slice());
-            assert_eq!(rt; read.views.sum(0), -2);
+            assert_eq!(rt; read.views.total(0, Reduction::Sum), Total::Sum(-2));
+            assert_eq!(rt; read.views.total(1, Reduction::Max), Total::Max(Some(5)));
             assert_eq!(rt; read.measure.work(), 7);
         }
         _ => assert!(rt; false),
@@ -96,20 +102,23 @@ fn a_call_and_what_follows(rt: HostRuntime) -> Result<(), AllocError> {
     Ok(())
 }
 
-// A spawned child of 5 instructions beside a rest of 4, with a burden of 100 on the way past it: span 5, with burdens 104.
+// A spawned child of 5 instructions beside a rest of 4, with a burden of 100 on the way past it, or on both ways: span 5,
+// with burdens 104 or 105.
 #[test]
 fn a_child_beside_its_rest(rt: HostRuntime) -> Result<(), AllocError> {
     let alloc = rt.alloc();
-    let child = ran(alloc, 50, 5, 1, 0)?.into_child(100);
-    let rest = ran(alloc, 50, 4, 2, 0)?;
-    let whole = Part::unit(alloc).join(child)?.join(rest)?;
-    match whole.into_outcome() {
-        Outcome::Completed(read) => {
-            assert_eq!(rt; read.measure.work(), 9);
-            assert_eq!(rt; read.measure.span(), 5);
-            assert_eq!(rt; read.measure.burdened(), 104);
+    for (burden, burdened) in [(on_spawns(100), 104), (on_both(100), 105)] {
+        let child = ran(alloc, 50, 5, 1, 0)?.into_child(burden);
+        let rest = ran(alloc, 50, 4, 2, 0)?;
+        let whole = Part::unit(alloc).join(child)?.join(rest)?;
+        match whole.into_outcome() {
+            Outcome::Completed(read) => {
+                assert_eq!(rt; read.measure.work(), 9);
+                assert_eq!(rt; read.measure.span(), 5);
+                assert_eq!(rt; read.measure.burdened(), burdened);
+            }
+            _ => assert!(rt; false),
         }
-        _ => assert!(rt; false),
     }
     Ok(())
 }

@@ -1,7 +1,9 @@
-//! Sums, lines and views of small pieces, and what joined pieces show, by hand.
+//! Sums, greatest numbers, lines and views of small pieces, and what joined pieces show, by hand.
 
 use cw_model::monoid::Monoid;
-use cw_reduce::{Lines, Sum, Views};
+use cw_model::syntax::Reduction;
+use cw_model::total::Total;
+use cw_reduce::{Lines, Max, Sum, Views};
 use std::alloc::AllocError;
 
 // A sum goes past 64 bits and comes back below 0.
@@ -20,6 +22,35 @@ fn a_sum_past_64_bits(rt: HostRuntime) -> Result<(), AllocError> {
     Ok(())
 }
 
+// The greatest number of two pieces, of which either may have none; none is less than the least number.
+#[test]
+fn the_greatest_of_two_pieces(rt: HostRuntime) -> Result<(), AllocError> {
+    let cases: [([i64; 2], [i64; 2], i64); 4] = [
+        ([-9, -3], [-5, -7], -3),
+        ([4, 4], [-1, 9], 9),
+        ([7, 7], [7, 7], 7),
+        ([i64::MIN, i64::MIN], [i64::MIN, i64::MIN], i64::MIN),
+    ];
+    for (ours, theirs, greatest) in cases {
+        let left = greatest_of(&ours);
+        let right = greatest_of(&theirs);
+        assert_eq!(rt; left.join(right)?.value(), Some(greatest));
+        let left = greatest_of(&ours).join(Max::unit(rt.alloc()))?;
+        assert_eq!(rt; left.value(), Some(ours[0].max(ours[1])));
+        let right = Max::unit(rt.alloc()).join(greatest_of(&theirs))?;
+        assert_eq!(rt; right.value(), Some(theirs[0].max(theirs[1])));
+    }
+    assert_eq!(rt; Max::new().join(Max::unit(rt.alloc()))?.value(), None);
+    Ok(())
+}
+
+fn greatest_of(numbers: &[i64; 2]) -> Max {
+    let mut greatest = Max::new();
+    greatest.raise(numbers[0]);
+    greatest.raise(numbers[1]);
+    greatest
+}
+
 // The lines of the left piece stand first.
 #[test]
 fn lines_in_order(rt: HostRuntime) -> Result<(), AllocError> {
@@ -34,24 +65,30 @@ fn lines_in_order(rt: HostRuntime) -> Result<(), AllocError> {
     Ok(())
 }
 
-// Views with sums of different reducers, the fewer on either side; a reducer without a sum has 0.
+// Views with totals of different reducers, the fewer on either side; a reducer that was told nothing has 0, or none.
 #[test]
 fn views_of_two_pieces(rt: HostRuntime) -> Result<(), AllocError> {
     let alloc = rt.alloc();
     let mut left = Views::new(alloc);
-    left.add(0, 5)?;
+    left.tell(0, Reduction::Sum, 5)?;
+    left.tell(4, Reduction::Max, -8)?;
     left.print(1)?;
     let mut right = Views::new(alloc);
     right.print(2)?;
-    right.add(2, -7)?;
-    right.add(0, 4)?;
+    right.tell(2, Reduction::Sum, -7)?;
+    right.tell(0, Reduction::Sum, 4)?;
+    right.tell(3, Reduction::Max, -2)?;
+    right.tell(3, Reduction::Max, -6)?;
     let mut last = Views::unit(alloc);
-    last.add(1, 3)?;
+    last.tell(1, Reduction::Sum, 3)?;
+    last.tell(4, Reduction::Max, -7)?;
     let whole = left.join(right)?.join(last)?;
-    assert_eq!(rt; whole.sum(0), 9);
-    assert_eq!(rt; whole.sum(1), 3);
-    assert_eq!(rt; whole.sum(2), -7);
-    assert_eq!(rt; whole.sum(3), 0);
+    for (reducer, sum) in [(0, 9), (1, 3), (2, -7), (5, 0)] {
+        assert_eq!(rt; whole.total(reducer, Reduction::Sum), Total::Sum(sum));
+    }
+    for (reducer, greatest) in [(3, Some(-2)), (4, Some(-7)), (5, None)] {
+        assert_eq!(rt; whole.total(reducer, Reduction::Max), Total::Max(greatest));
+    }
     assert_eq!(rt; whole.lines(), [1, 2].as_slice());
     Ok(())
 }

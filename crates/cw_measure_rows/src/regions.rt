@@ -1,5 +1,6 @@
 //! The rows of tags of small runs, whole and with a piece that ran apart, by hand.
 
+use crate::burdens::on_spawns;
 use cw_measure::BurdenedPath;
 use cw_regions::{RegionRow, RegionTable};
 use std::alloc::{AllocError, Global};
@@ -40,7 +41,7 @@ fn two_executions(rt: HostRuntime) -> Result<(), AllocError> {
         burdened.note(begin);
         table.begin(0, begin, path, burdened.weight())?;
         burdened.spawn(begin + 1, true)?;
-        burdened.end_child(begin + 2, 10);
+        burdened.end_child(begin + 2, on_spawns(10));
         burdened.join(begin + 4);
         table.end(0, begin + 4, path + 3, burdened.weight())?;
     }

@@ -2,8 +2,8 @@
 
 mod arrays;
 
-use cw_code::code::{BlockKind, Callee, Code, Func, Instr, Site, UnaryOperator};
-use cw_model::syntax::{CallKind, Name, Operator};
+use cw_code::code::{BlockKind, Callee, Code, Func, Instr, Reducer, Site, UnaryOperator};
+use cw_model::syntax::{CallKind, Name, Operator, Reduction};
 use cw_verify::verify::verify;
 use std::alloc::{AllocError, Global};
 
@@ -49,6 +49,18 @@ fn add_site(
     Ok(())
 }
 
+// A reducer, the next one.
+fn add_reducer(
+    alloc: Global,
+    code: &mut Code,
+    name: &[u8],
+    how: Reduction,
+) -> Result<(), AllocError> {
+    let name = Name::new(alloc, name)?;
+    code.reducers.push(Reducer { name, how })?;
+    Ok(())
+}
+
 // Code with nothing in it.
 fn no_code(alloc: Global) -> Code {
     Code {
@@ -67,7 +79,7 @@ fn no_code(alloc: Global) -> Code {
 // function 2 in place and spawned.
 fn code_of_none(alloc: Global) -> Result<Code, AllocError> {
     let mut code = no_code(alloc);
-    code.reducers.push(Name::new(alloc, b"")?)?;
+    add_reducer(alloc, &mut code, b"", Reduction::Sum)?;
     code.tags.push(Name::new(alloc, b"")?)?;
     add_site(alloc, &mut code, 1, CallKind::Plain, 1)?;
     add_site(alloc, &mut code, 2, CallKind::Spawned, 1)?;
@@ -167,15 +179,17 @@ fn reducers(rt: HostRuntime) -> Result<(), AllocError> {
     let cases: [(&[&[u8]], u8); 5] = [
         (&[b"a"], 0),
         (&[b"a", b"b", b"ab"], 0),
-        // two of one name
+        // two of one name, whichever way they reduce
         (&[b"a", b"a"], 6),
         (&[b"b", b"ab", b"a", b"ab"], 6),
         (&[b"a", b"b", b"c", b"c"], 6),
     ];
     for (names, number) in cases {
         let mut code = no_code(alloc);
+        let mut how = Reduction::Sum;
         for name in names {
-            code.reducers.push(Name::new(alloc, *name)?)?;
+            add_reducer(alloc, &mut code, *name, how)?;
+            how = Reduction::Max;
         }
         let gives = [Instr::Push(1), Instr::ReturnValue];
         place(&mut code, on_integers(true, 1, 1), &gives)?;
@@ -221,8 +235,8 @@ fn operands(rt: HostRuntime) -> Result<(), AllocError> {
         (&[one, one, plus, end], 0),
         (&[Instr::Unary(UnaryOperator::Not, 1), end], 6),
         (&[Instr::Print, one, end], 6),
-        (&[Instr::AddTo(0), one, end], 6),
-        (&[one, Instr::Print, one, Instr::AddTo(0), one, end], 0),
+        (&[Instr::Reduce(0), one, end], 6),
+        (&[one, Instr::Print, one, Instr::Reduce(0), one, end], 0),
         // an argument missing
         (&[called(1, 1, None), one, end], 6),
         (&[one, called(1, 1, None), one, end], 0),
@@ -258,8 +272,8 @@ fn names(rt: HostRuntime) -> Result<(), AllocError> {
         (&[called(2, 3, None), one, end], 0),
         (&[called(2, 3, Some(1)), one, end], 6),
         // a reducer and a tag that are not there, never reached too
-        (&[one, Instr::AddTo(1), one, end], 6),
-        (&[one, end, Instr::AddTo(1)], 6),
+        (&[one, Instr::Reduce(1), one, end], 6),
+        (&[one, end, Instr::Reduce(1)], 6),
         (
             &[Instr::Open(BlockKind::Region(0)), Instr::Close, one, end],
             0,

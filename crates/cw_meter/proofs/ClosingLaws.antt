@@ -1,6 +1,7 @@
 -- A part of a run ends, and the tables are told of it.
 use Rattle.std.specs.Prelude.{◌≡◌, ℕ, ◌≤◌, Bool, true, false, List, [], ◌∷◌, Option, Some, None, refl}
 use Rattle.std.proofs.Common.{sym, ◌∙◌, subst}
+use Rattle.cw_model.specs.declared.burden.Burden.{Burden}
 use Rattle.cw_model.specs.declared.limits.TheConstants.{MOST_LIMIT, MOST_BURDEN}
 use Rattle.cw_model.specs.Trees.{Mark, Invocation, Execution, Event, Series, Fork, tree_of}
 use Rattle.cw_measure.specs.declared.burdened_path.BurdenedPath.{BurdenedPath}
@@ -27,7 +28,7 @@ use Rattle.cw_meter.proofs.Counting.{counted_closed, small_tags}
 use Rattle.cw_meter.proofs.TableLaws.{tables_told, tags_closed, told_spawned, sites_since, path_since, told_small, told_fits, path_told, with_tables, with_regions}
 
 -- what tables tell where a part with this mark ends, told at its events
-abbrev Ended : (t new : Tables) (count burden : ℕ) (tags : Tags) (from : Origin) (os : List Open) (es : List Event) → Open → Type 0
+abbrev Ended : (t new : Tables) (count : ℕ) (burden : Burden) (tags : Tags) (from : Origin) (os : List Open) (es : List Event) → Open → Type 0
 Ended t new count burden tags from os es o = TablesTell burden tags from count (o ∷ os) es t → TablesTell burden tags from count os (closed o es) new
 
 -- a part is known by what it is
@@ -46,7 +47,7 @@ goes_on mark before es b e = e ∙ sym (spawned_append false before (Series (mar
 has_now : (mark : Option Mark) (before es : List Event) → true ≡ has_spawned (closed (record { spawned = true; mark = mark; outer = before }) es)
 has_now mark before es = sym (spawned_append false before (Fork (marked mark (tree_of es)) ∷ []))
 
-joined_now : (burden : ℕ) (tags : Tags) (from : Origin) (count : ℕ) (os : List Open) (es : List Event) (t : Tables) → t.spawned ≡ false → TablesTell burden tags from count os es t → has_spawned es ≡ false
+joined_now : (burden : Burden) (tags : Tags) (from : Origin) (count : ℕ) (os : List Open) (es : List Event) (t : Tables) → t.spawned ≡ false → TablesTell burden tags from count os es t → has_spawned es ≡ false
 joined_now burden tags from count os es t e h = sym h.spawned_is ∙ e
 
 -- a call in place ends
@@ -68,12 +69,12 @@ call_closed t s p count part leaves notes e = λ burden tags from o os es is joi
     }))
 
 -- the path of a spawned part that ends
-child_path : (burden : ℕ) (tags : Tags) (from : Origin) (count : ℕ) (mark : Option Mark) (before : List Event) (os : List Open) (es : List Event) (t : Tables) (p : BurdenedPath) → EndsChildWeight t.path p count t.burden → t.spawned ≡ false → count ≤ MOST_LIMIT → burden ≤ MOST_BURDEN → TablesTell burden tags from count (opened true mark before os) es t → TellsWeight burden os (closed (record { spawned = true; mark = mark; outer = before }) es) p
+child_path : (burden : Burden) (tags : Tags) (from : Origin) (count : ℕ) (mark : Option Mark) (before : List Event) (os : List Open) (es : List Event) (t : Tables) (p : BurdenedPath) → EndsChildWeight t.path p count t.burden → t.spawned ≡ false → count ≤ MOST_LIMIT → burden.charge ≤ MOST_BURDEN → TablesTell burden tags from count (opened true mark before os) es t → TellsWeight burden os (closed (record { spawned = true; mark = mark; outer = before }) es) p
 child_path burden tags from count mark before os es t p ends joined small light h =
     let here = opened true mark before os in
     let o : Open = record { spawned = true; mark = mark; outer = before } in
     let P : List Event → Type 0 = λ x. TellsWeight burden os (closed o x) p in
-    let E : ℕ → Type 0 = λ x. EndsChildWeight t.path p count x in
+    let E : Burden → Type 0 = λ x. EndsChildWeight t.path p count x in
     subst P h.all (subst E h.burden_is ends o os h.told h.since (path_since burden tags from count here es t h) (told_fits burden tags from count here es t h small light) refl (told_spawned burden tags from count here es t h ∙ joined) h.path)
 
 pub spawned_call_closed : (t : Tables) (s : SiteTable) (p : BurdenedPath) (count : ℕ) (part : Part) → EndsChild t.sites s count part.site → EndsChildWeight t.path p count t.burden → part.kind ≡ kind.SpawnedCall → Closes t (with_tables t s p true) count part

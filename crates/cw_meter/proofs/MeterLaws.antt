@@ -2,6 +2,7 @@
 use Rattle.std.specs.Prelude.{◌≡◌, ℕ, ◌+◌, ◌≤◌, ◌<◌, Bool, false, List, [], ◌∷◌, ◌++◌, length, reverse, Option, Some, refl}
 use Rattle.std.proofs.Common.{sym, ◌∙◌, ap, subst, arith}
 use Rattle.std.proofs.lemmas.List.{reverse-append}
+use Rattle.cw_model.specs.declared.burden.Burden.{Burden}
 use Rattle.cw_model.specs.declared.limits.TheConstants.{MOST_LIMIT, MOST_BURDEN}
 use Rattle.cw_model.specs.Trees.{Mark, Invocation, Execution, Event, Work, Join}
 use Rattle.cw_model.specs.Rows.{is_site}
@@ -61,7 +62,7 @@ no_parts : (from : Origin) (tags : Tags) (o : Open) (os : List Open) (parts : Li
 no_parts from tags o os parts e h = let P : List Part → Type 0 = λ x. AreParts from tags (o ∷ os) (reverse x) in subst P e h
 
 -- a run begins
-pub tables_start : (burden : ℕ) (empty s : SiteTable) (p : BurdenedPath) (r : RegionTable) → sites.Tells 0 (λ q. 0) [] [] empty → Enters empty s 0 0 → ((b : ℕ) → TellsWeight b [] [] p) → StartsRegions r → StartsTables burden (record { sites = s; path = p; regions = r; burden = burden; spawned = false })
+pub tables_start : (burden : Burden) (empty s : SiteTable) (p : BurdenedPath) (r : RegionTable) → sites.Tells 0 (λ q. 0) [] [] empty → Enters empty s 0 0 → ((b : Burden) → TellsWeight b [] [] p) → StartsRegions r → StartsTables burden (record { sites = s; path = p; regions = r; burden = burden; spawned = false })
 tables_start burden empty s p r told enters weighs starts = λ tags.
     let t : Tables = record { sites = s; path = p; regions = r; burden = burden; spawned = false } in
     let mark : Option Mark = Some (Invocation 0) in
@@ -77,7 +78,7 @@ tables_start burden empty s p r told enters weighs starts = λ tags.
       spawned_is = refl;
     })
 
-pub meter_starts : (burden : ℕ) (m : Meter) → StartsTables burden m.tables → m.parts.items ≡ record { kind = kind.Call; site = 0; spawned = false } ∷ [] → Starts burden m
+pub meter_starts : (burden : Burden) (m : Meter) → StartsTables burden m.tables → m.parts.items ≡ record { kind = kind.Call; site = 0; spawned = false } ∷ [] → Starts burden m
 meter_starts burden m starts e = λ tags. record {
   told_open = main_open;
   told = [];
@@ -88,7 +89,7 @@ meter_starts burden m starts e = λ tags. record {
 }
 
 -- a part begins
-part_stacked : (burden : ℕ) (tags : Tags) (from : Origin) (count : ℕ) (spawned : Bool) (mark : Option Mark) (os : List Open) (es : List Event) (old mid : Meter) (k : PartKind) → Stacks old mid k → IsOfKind tags (record { spawned = spawned; mark = mark; outer = ticked es }) k → TablesTell burden tags from count os es old.tables → AreParts from tags os (reverse old.parts.items) → AreParts from tags (opened spawned mark (ticked es) os) (reverse mid.parts.items)
+part_stacked : (burden : Burden) (tags : Tags) (from : Origin) (count : ℕ) (spawned : Bool) (mark : Option Mark) (os : List Open) (es : List Event) (old mid : Meter) (k : PartKind) → Stacks old mid k → IsOfKind tags (record { spawned = spawned; mark = mark; outer = ticked es }) k → TablesTell burden tags from count os es old.tables → AreParts from tags os (reverse old.parts.items) → AreParts from tags (opened spawned mark (ticked es) os) (reverse mid.parts.items)
 part_stacked burden tags from count spawned mark os es old mid k stacks is h parts =
     parts_pushed from tags (record { spawned = spawned; mark = mark; outer = ticked es }) os (part_in k old.tables) old.parts.items mid.parts.items stacks.pushed (record { kind = is; site = h.sites.here_is; spawned = h.spawned_is ∙ sym (has_spawned-work es 1) }) parts
 
@@ -144,7 +145,7 @@ meter_syncs old new count joins e = λ burden tags from os es small light h.
     }
 
 -- the innermost part ends
-pub part_closed : (old : Meter) (left : List Part) (part : Part) (t : Tables) (count : ℕ) → Closes old.tables t count part → old.parts.items ≡ left ++ part ∷ [] → (burden : ℕ) (tags : Tags) (from : Origin) (o : Open) (os : List Open) (es : List Event) → old.tables.spawned ≡ false → AreParts from tags (o ∷ os) (reverse old.parts.items) → count ≤ MOST_LIMIT → burden ≤ MOST_BURDEN → TablesTell burden tags from count (o ∷ os) es old.tables → TablesTell burden tags from count os (closed o es) t × AreParts from tags os (reverse left)
+pub part_closed : (old : Meter) (left : List Part) (part : Part) (t : Tables) (count : ℕ) → Closes old.tables t count part → old.parts.items ≡ left ++ part ∷ [] → (burden : Burden) (tags : Tags) (from : Origin) (o : Open) (os : List Open) (es : List Event) → old.tables.spawned ≡ false → AreParts from tags (o ∷ os) (reverse old.parts.items) → count ≤ MOST_LIMIT → burden.charge ≤ MOST_BURDEN → TablesTell burden tags from count (o ∷ os) es old.tables → TablesTell burden tags from count os (closed o es) t × AreParts from tags os (reverse left)
 part_closed old left part t count closes e = λ burden tags from o os es joined parts small light h.
     let a = parts_popped from tags o os part old.parts.items left e parts in (closes burden tags from o os es a.0 joined small light h, a.1)
 
@@ -155,7 +156,7 @@ none_of (p ∷ parts) e = absurd (omega arith)
 pub nothing_closed : (old new : Meter) (count : ℕ) → length old.parts.items ≡ 0 → ClosesPart old new count
 nothing_closed old new count e = λ burden tags from o os es joined parts small light h. absurd (no_parts from tags o os old.parts.items (none_of old.parts.items e) parts)
 
-ended_in : (old mid new : Meter) (count : ℕ) → JoinsBlock old mid count → mid.tables.spawned ≡ false → mid.parts.items ≡ old.parts.items → ClosesPart mid new count → (burden : ℕ) (tags : Tags) (from : Origin) (o : Open) (os : List Open) (es : List Event) (opens : List Open) (events : List Event) → count < MOST_LIMIT → burden ≤ MOST_BURDEN → AreOpenAlike (o ∷ os) opens → AreAlike es events → TablesTell burden tags from count opens events old.tables → AreParts from tags opens (reverse old.parts.items) → Meters burden tags from (count + 1) os (ticked (closed o es)) new
+ended_in : (old mid new : Meter) (count : ℕ) → JoinsBlock old mid count → mid.tables.spawned ≡ false → mid.parts.items ≡ old.parts.items → ClosesPart mid new count → (burden : Burden) (tags : Tags) (from : Origin) (o : Open) (os : List Open) (es : List Event) (opens : List Open) (events : List Event) → count < MOST_LIMIT → burden.charge ≤ MOST_BURDEN → AreOpenAlike (o ∷ os) opens → AreAlike es events → TablesTell burden tags from count opens events old.tables → AreParts from tags opens (reverse old.parts.items) → Meters burden tags from (count + 1) os (ticked (closed o es)) new
 ended_in old mid new count joins joined e closes burden tags from o os es [] events small light alike_open alike h parts = absurd alike_open
 ended_in old mid new count joins joined e closes burden tags from o os es (p ∷ ps) events small light alike_open alike h parts =
     let within : count ≤ MOST_LIMIT = omega arith in
@@ -173,7 +174,7 @@ pub meter_ends : (old mid new : Meter) (count : ℕ) → JoinsBlock old mid coun
 meter_ends old mid new count joins joined e closes = λ burden tags from o os es series small light h.
     ended_in old mid new count joins joined e closes burden tags from o os es h.told_open h.told small light h.open_alike h.alike h.tables h.parts
 
-returned_in : (old mid new : Meter) (count : ℕ) → JoinsBlock old mid count → mid.tables.spawned ≡ false → mid.parts.items ≡ old.parts.items → ClosesPart mid new (count + 1) → (burden : ℕ) (tags : Tags) (from : Origin) (o : Open) (os : List Open) (es : List Event) (opens : List Open) (events : List Event) → count < MOST_LIMIT → burden ≤ MOST_BURDEN → AreOpenAlike (o ∷ os) opens → AreAlike es events → TablesTell burden tags from count opens events old.tables → AreParts from tags opens (reverse old.parts.items) → Meters burden tags from (count + 1) os (closed o (synced es)) new
+returned_in : (old mid new : Meter) (count : ℕ) → JoinsBlock old mid count → mid.tables.spawned ≡ false → mid.parts.items ≡ old.parts.items → ClosesPart mid new (count + 1) → (burden : Burden) (tags : Tags) (from : Origin) (o : Open) (os : List Open) (es : List Event) (opens : List Open) (events : List Event) → count < MOST_LIMIT → burden.charge ≤ MOST_BURDEN → AreOpenAlike (o ∷ os) opens → AreAlike es events → TablesTell burden tags from count opens events old.tables → AreParts from tags opens (reverse old.parts.items) → Meters burden tags from (count + 1) os (closed o (synced es)) new
 returned_in old mid new count joins joined e closes burden tags from o os es [] events small light alike_open alike h parts = absurd alike_open
 returned_in old mid new count joins joined e closes burden tags from o os es (p ∷ ps) events small light alike_open alike h parts =
     let before : count ≤ MOST_LIMIT = omega arith in

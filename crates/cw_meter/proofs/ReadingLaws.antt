@@ -2,6 +2,8 @@
 use Rattle.std.specs.Prelude.{◌≡◌, ℕ, zero, suc, ◌+◌, ◌≤◌, ◌<◌, false, List, [], ◌∷◌, ◌++◌, length, Some, slice_get, unwrap_or, refl}
 use Rattle.std.proofs.Common.{sym, ◌∙◌, ap, subst, length-append, arith}
 use Rattle.std.proofs.lemmas.Option.{slice_get_within}
+use Rattle.cw_model.specs.Burdens.{no_burden}
+use Rattle.cw_model.specs.declared.burden.Burden.{Burden}
 use Rattle.cw_model.specs.declared.limits.TheConstants.{MOST_LIMIT, MOST_BURDEN}
 use Rattle.cw_model.specs.Syntax.{Name}
 use Rattle.cw_model.specs.Trees.{Tree, Leaf, Seq, Marked, Invocation, Event, Series, normal, tree_of, span}
@@ -89,11 +91,11 @@ same_region : (row : region.RegionRow) (a b : model.RegionRow) → b ≡ a → r
 same_region row a b e h = let P : model.RegionRow → Type 0 = λ x. regions.IsRow row x in subst P (sym e) h
 
 -- all that is read of a run that has been told
-measures_told : (burden count sites : ℕ) (by_number : Tags) (names : List Name) (t : Tables) (whole : Tree) (es : List Event) (all : Measures) → count ≤ MOST_LIMIT → burden ≤ MOST_BURDEN → HasNames by_number names → AreTold burden by_number Main count [] es t → has_spawned es ≡ false → ReadSame whole (tree_of es) → all.measure.work ≡ count → ReadsPath t.sites all.measure.span → ReadsWeight t.path all.measure.burdened → ListsSites t sites all.sites.items → ListsRegions t (length names) all.regions.items → AreMeasures burden sites names whole all
+measures_told : (burden : Burden) (count sites : ℕ) (by_number : Tags) (names : List Name) (t : Tables) (whole : Tree) (es : List Event) (all : Measures) → count ≤ MOST_LIMIT → burden.charge ≤ MOST_BURDEN → HasNames by_number names → AreTold burden by_number Main count [] es t → has_spawned es ≡ false → ReadSame whole (tree_of es) → all.measure.work ≡ count → ReadsPath t.sites all.measure.span → ReadsWeight t.path all.measure.burdened → ListsSites t sites all.sites.items → ListsRegions t (length names) all.regions.items → AreMeasures burden sites names whole all
 measures_told burden count most by_number names t whole es all small light named a n r work path heavy rows tags = record {
   measure = record {
     work = work ∙ sym a.counted.work ∙ sym r.same_work;
-    span = path 0 0 nothing_open [] es a.sites ∙ span_is es t.sites n a.sites ∙ sym (r.same_span 0);
+    span = path 0 0 nothing_open [] es a.sites ∙ span_is es t.sites n a.sites ∙ sym (r.same_span no_burden);
     burdened = heavy burden es n a.path ∙ sym (r.same_span burden);
   };
   sites = record {

@@ -1,6 +1,7 @@
 -- The rest of a block ran apart, with a meter of its own.
 use Rattle.std.specs.Prelude.{◌≡◌, ℕ, ◌+◌, ◌≤◌, Bool, true, false, not, ◌||◌, List, [], ◌∷◌, ◌++◌, reverse, refl}
 use Rattle.std.proofs.Common.{sym, ◌∙◌, ap, subst, arith}
+use Rattle.cw_model.specs.declared.burden.Burden.{Burden}
 use Rattle.cw_model.specs.declared.limits.TheConstants.{MOST_LIMIT}
 use Rattle.cw_measure.specs.declared.burdened_path.BurdenedPath.{BurdenedPath}
 use Rattle.cw_measure.specs.OpenParts.{Open, has_spawned, no_joins}
@@ -27,7 +28,7 @@ use Rattle.cw_meter.proofs.Counting.{counted_rest, small_run, fits_run, small_ta
 use Rattle.cw_meter.proofs.TableLaws.{tables_told}
 
 -- a rest begins
-pub rest_tables_start : (burden site : ℕ) (s : SiteTable) (p : BurdenedPath) (r : RegionTable) → sites.Tells site (λ q. 0) [] [] s → ((b : ℕ) → TellsWeight b [] [] p) → StartsRegions r → StartsTablesOfRest burden site (record { sites = s; path = p; regions = r; burden = burden; spawned = false })
+pub rest_tables_start : (burden : Burden) (site : ℕ) (s : SiteTable) (p : BurdenedPath) (r : RegionTable) → sites.Tells site (λ q. 0) [] [] s → ((b : Burden) → TellsWeight b [] [] p) → StartsRegions r → StartsTablesOfRest burden site (record { sites = s; path = p; regions = r; burden = burden; spawned = false })
 rest_tables_start burden site s p r told weighs starts = λ tags.
     let t : Tables = record { sites = s; path = p; regions = r; burden = burden; spawned = false } in
     let along : Readings burden = record { path = path_in 0 site; burdened = weight_in burden; path_is = path_meters 0 site; burdened_is = weight_meters burden } in
@@ -40,7 +41,7 @@ rest_tables_start burden site s p r told weighs starts = λ tags.
       spawned_is = refl;
     })
 
-pub meter_rest_starts : (burden site : ℕ) (m : Meter) → StartsTablesOfRest burden site m.tables → m.parts.items ≡ [] → StartsRest burden site m
+pub meter_rest_starts : (burden : Burden) (site : ℕ) (m : Meter) → StartsTablesOfRest burden site m.tables → m.parts.items ≡ [] → StartsRest burden site m
 meter_rest_starts burden site m starts e = λ tags. record {
   told_open = [];
   told = [];

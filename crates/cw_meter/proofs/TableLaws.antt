@@ -1,6 +1,7 @@
 -- The tables of a run are told of it together.
 use Rattle.std.specs.Prelude.{◌≡◌, ℕ, ◌+◌, ◌-◌, ◌≤◌, Bool, true, false, not, List, [], ◌∷◌, ◌++◌, Option, Some, None, refl}
 use Rattle.std.proofs.Common.{sym, ◌∙◌, ap, subst, arith}
+use Rattle.cw_model.specs.declared.burden.Burden.{Burden}
 use Rattle.cw_model.specs.declared.limits.TheConstants.{MOST_LIMIT, MOST_BURDEN}
 use Rattle.cw_model.specs.Trees.{Mark, Invocation, Execution, Event, Work, Series, Fork, Join}
 use Rattle.cw_measure.specs.declared.burdened_path.BurdenedPath.{BurdenedPath}
@@ -45,20 +46,20 @@ since_join b (Series t ∷ fs) k e s = absurd s
 since_join b (Fork t ∷ fs) k e s = absurd s
 
 -- the tags, as the run goes on
-tags_ticked : (burden : ℕ) (tags : Tags) (from : Origin) (os : List Open) (es : List Event) (r : RegionTable) (k : ℕ) → TellsTags burden tags from os es r → TellsTags burden tags from os (es ++ Work k ∷ []) r
+tags_ticked : (burden : Burden) (tags : Tags) (from : Origin) (os : List Open) (es : List Event) (r : RegionTable) (k : ℕ) → TellsTags burden tags from os es r → TellsTags burden tags from os (es ++ Work k ∷ []) r
 tags_ticked burden tags from os es r k h = record { along = h.along; path_is = h.path_is; burdened_is = h.burdened_is; tells = (regions_need_no_call burden h.along tags nothing_open os r).work es k h.tells }
 
-tags_joined : (burden : ℕ) (tags : Tags) (from : Origin) (os : List Open) (es : List Event) (r : RegionTable) → TellsTags burden tags from os es r → TellsTags burden tags from os (es ++ Join ∷ []) r
+tags_joined : (burden : Burden) (tags : Tags) (from : Origin) (os : List Open) (es : List Event) (r : RegionTable) → TellsTags burden tags from os es r → TellsTags burden tags from os (es ++ Join ∷ []) r
 tags_joined burden tags from os es r h = record { along = h.along; path_is = h.path_is; burdened_is = h.burdened_is; tells = (regions_need_no_call burden h.along tags nothing_open os r).join es h.tells }
 
-pub tags_opened : (burden : ℕ) (tags : Tags) (from : Origin) (spawned : Bool) (mark : Option Mark) (os : List Open) (es : List Event) (r : RegionTable) → IsNoExecution mark → TellsTags burden tags from os es r → TellsTags burden tags from (opened spawned mark es os) [] r
+pub tags_opened : (burden : Burden) (tags : Tags) (from : Origin) (spawned : Bool) (mark : Option Mark) (os : List Open) (es : List Event) (r : RegionTable) → IsNoExecution mark → TellsTags burden tags from os es r → TellsTags burden tags from (opened spawned mark es os) [] r
 tags_opened burden tags from spawned mark os es r quiet h = record { along = h.along; path_is = h.path_is; burdened_is = h.burdened_is; tells = (regions_need_no_call burden h.along tags nothing_open os r).begins (record { spawned = spawned; mark = mark; outer = es }) quiet h.tells }
 
-pub tags_closed : (burden : ℕ) (tags : Tags) (from : Origin) (spawned : Bool) (mark : Option Mark) (before : List Event) (os : List Open) (es : List Event) (r : RegionTable) → IsNoExecution mark → TellsTags burden tags from (opened spawned mark before os) es r → TellsTags burden tags from os (closed (record { spawned = spawned; mark = mark; outer = before }) es) r
+pub tags_closed : (burden : Burden) (tags : Tags) (from : Origin) (spawned : Bool) (mark : Option Mark) (before : List Event) (os : List Open) (es : List Event) (r : RegionTable) → IsNoExecution mark → TellsTags burden tags from (opened spawned mark before os) es r → TellsTags burden tags from os (closed (record { spawned = spawned; mark = mark; outer = before }) es) r
 tags_closed burden tags from spawned mark before os es r quiet h = record { along = h.along; path_is = h.path_is; burdened_is = h.burdened_is; tells = (regions_need_no_call burden h.along tags nothing_open os r).ends (record { spawned = spawned; mark = mark; outer = before }) es quiet h.tells }
 
 -- whether what has been told has spawned
-pub told_spawned : (burden : ℕ) (tags : Tags) (from : Origin) (count : ℕ) (os : List Open) (es : List Event) (t : Tables) (h : TablesTell burden tags from count os es t) → has_spawned h.told ≡ t.spawned
+pub told_spawned : (burden : Burden) (tags : Tags) (from : Origin) (count : ℕ) (os : List Open) (es : List Event) (t : Tables) (h : TablesTell burden tags from count os es t) → has_spawned h.told ≡ t.spawned
 told_spawned burden tags from count os es t h =
     sym (has_spawned_since h.told h.since (count - work_in os h.told) h.waits.instructions) ∙ ap has_spawned_of h.all ∙ sym h.spawned_is
   where
@@ -66,7 +67,7 @@ told_spawned burden tags from count os es t h =
     has_spawned_of x = has_spawned x
 
 -- an instruction, and a join of a block that has spawned nothing, need no call
-pub tables_ticked : (burden : ℕ) (tags : Tags) (from : Origin) (count : ℕ) (os : List Open) (es : List Event) (t : Tables) → TablesTell burden tags from count os es t → TablesTell burden tags from (count + 1) os (ticked es) t
+pub tables_ticked : (burden : Burden) (tags : Tags) (from : Origin) (count : ℕ) (os : List Open) (es : List Event) (t : Tables) → TablesTell burden tags from count os es t → TablesTell burden tags from (count + 1) os (ticked es) t
 tables_ticked burden tags from count os es t h = record {
   told = h.told;
   since = h.since ++ Work 1 ∷ [];
@@ -84,7 +85,7 @@ tables_ticked burden tags from count os es t h = record {
   spawned_is = h.spawned_is ∙ sym (has_spawned-work es 1);
 }
 
-pub tables_unspawned : (burden : ℕ) (tags : Tags) (from : Origin) (count : ℕ) (os : List Open) (es : List Event) (t : Tables) → t.spawned ≡ false → TablesTell burden tags from count os es t → TablesTell burden tags from count os (es ++ Join ∷ []) t
+pub tables_unspawned : (burden : Burden) (tags : Tags) (from : Origin) (count : ℕ) (os : List Open) (es : List Event) (t : Tables) → t.spawned ≡ false → TablesTell burden tags from count os es t → TablesTell burden tags from count os (es ++ Join ∷ []) t
 tables_unspawned burden tags from count os es t e h = record {
   told = h.told;
   since = h.since ++ Join ∷ [];
@@ -102,7 +103,7 @@ tables_unspawned burden tags from count os es t e h = record {
 }
 
 -- what has all been told tells
-pub tables_told : (burden : ℕ) (tags : Tags) (from : Origin) (count : ℕ) (os : List Open) (es : List Event) (t : Tables) → AreTold burden tags from count os es t → TablesTell burden tags from count os es t
+pub tables_told : (burden : Burden) (tags : Tags) (from : Origin) (count : ℕ) (os : List Open) (es : List Event) (t : Tables) → AreTold burden tags from count os es t → TablesTell burden tags from count os es t
 tables_told burden tags from count os es t h = record {
   told = es;
   since = [];
@@ -117,19 +118,19 @@ tables_told burden tags from count os es t h = record {
 }
 
 -- what each table is owed
-pub sites_since : (burden : ℕ) (tags : Tags) (from : Origin) (count : ℕ) (os : List Open) (es : List Event) (t : Tables) (h : TablesTell burden tags from count os es t) → Since t.sites.noted count h.told h.since
+pub sites_since : (burden : Burden) (tags : Tags) (from : Origin) (count : ℕ) (os : List Open) (es : List Event) (t : Tables) (h : TablesTell burden tags from count os es t) → Since t.sites.noted count h.told h.since
 sites_since burden tags from count os es t h = let P : ℕ → Type 0 = λ x. Since x count h.told h.since in subst P (sym h.sites.noted_is) h.waits
 
-pub path_since : (burden : ℕ) (tags : Tags) (from : Origin) (count : ℕ) (os : List Open) (es : List Event) (t : Tables) (h : TablesTell burden tags from count os es t) → Since t.path.noted count h.told h.since
+pub path_since : (burden : Burden) (tags : Tags) (from : Origin) (count : ℕ) (os : List Open) (es : List Event) (t : Tables) (h : TablesTell burden tags from count os es t) → Since t.path.noted count h.told h.since
 path_since burden tags from count os es t h = let P : ℕ → Type 0 = λ x. Since x count h.told h.since in subst P (sym h.path.noted_is) h.waits
 
-pub told_small : (burden : ℕ) (tags : Tags) (from : Origin) (count : ℕ) (os : List Open) (es : List Event) (t : Tables) (h : TablesTell burden tags from count os es t) → count ≤ MOST_LIMIT → Small nothing_open os (h.told ++ h.since)
+pub told_small : (burden : Burden) (tags : Tags) (from : Origin) (count : ℕ) (os : List Open) (es : List Event) (t : Tables) (h : TablesTell burden tags from count os es t) → count ≤ MOST_LIMIT → Small nothing_open os (h.told ++ h.since)
 told_small burden tags from count os es t h small = let P : List Event → Type 0 = λ x. Small nothing_open os x in subst P (sym h.all) (small_run burden from count os es small h.counted)
 
-pub told_fits : (burden : ℕ) (tags : Tags) (from : Origin) (count : ℕ) (os : List Open) (es : List Event) (t : Tables) (h : TablesTell burden tags from count os es t) → count ≤ MOST_LIMIT → burden ≤ MOST_BURDEN → FitsRun burden os (h.told ++ h.since)
+pub told_fits : (burden : Burden) (tags : Tags) (from : Origin) (count : ℕ) (os : List Open) (es : List Event) (t : Tables) (h : TablesTell burden tags from count os es t) → count ≤ MOST_LIMIT → burden.charge ≤ MOST_BURDEN → FitsRun burden os (h.told ++ h.since)
 told_fits burden tags from count os es t h small light = let P : List Event → Type 0 = λ x. FitsRun burden os x in subst P (sym h.all) (fits_run burden from count os es small light h.counted)
 
-pub path_told : (burden : ℕ) (tags : Tags) (from : Origin) (count : ℕ) (os : List Open) (es : List Event) (t : Tables) (p : BurdenedPath) → NotesWeight t.path p count → count ≤ MOST_LIMIT → burden ≤ MOST_BURDEN → TablesTell burden tags from count os es t → TellsWeight burden os es p
+pub path_told : (burden : Burden) (tags : Tags) (from : Origin) (count : ℕ) (os : List Open) (es : List Event) (t : Tables) (p : BurdenedPath) → NotesWeight t.path p count → count ≤ MOST_LIMIT → burden.charge ≤ MOST_BURDEN → TablesTell burden tags from count os es t → TellsWeight burden os es p
 path_told burden tags from count os es t p notes small light h =
     let P : List Event → Type 0 = λ x. TellsWeight burden os x p in
     subst P h.all (notes burden os h.told h.since (path_since burden tags from count os es t h) (told_fits burden tags from count os es t h small light) h.path)
@@ -174,7 +175,7 @@ not_twice true = refl
 not_twice false = refl
 
 -- a spawned part begins, by a table's own rule
-spawned_path : (burden : ℕ) (tags : Tags) (from : Origin) (count : ℕ) (os : List Open) (es : List Event) (t : Tables) (p : BurdenedPath) (mark : Option Mark) → SpawnsWeight t.path p count (not t.spawned) → count ≤ MOST_LIMIT → burden ≤ MOST_BURDEN → TablesTell burden tags from count os es t → TellsWeight burden (opened true mark es os) [] p
+spawned_path : (burden : Burden) (tags : Tags) (from : Origin) (count : ℕ) (os : List Open) (es : List Event) (t : Tables) (p : BurdenedPath) (mark : Option Mark) → SpawnsWeight t.path p count (not t.spawned) → count ≤ MOST_LIMIT → burden.charge ≤ MOST_BURDEN → TablesTell burden tags from count os es t → TellsWeight burden (opened true mark es os) [] p
 spawned_path burden tags from count os es t p mark spawns small light h =
     let P : List Event → Type 0 = λ x. TellsWeight burden (opened true mark x os) [] p in
     subst P h.all (spawns burden mark os h.told h.since (path_since burden tags from count os es t h) (told_fits burden tags from count os es t h small light) (told_spawned burden tags from count os es t h ∙ sym (not_twice t.spawned)) h.path)

@@ -1,5 +1,6 @@
 -- What a meter tells of a run so far, and what each call on it does.
 use Rattle.std.specs.Prelude.{◌≡◌, ℕ, ◌+◌, ◌*◌, ◌≤◌, ◌<◌, Bool, true, false, List, [], ◌∷◌, ◌++◌, length, reverse, Option, Some, None}
+use Rattle.cw_model.specs.declared.burden.Burden.{Burden}
 use Rattle.cw_model.specs.declared.limits.TheConstants.{MOST_LIMIT, MOST_BURDEN}
 use Rattle.cw_model.specs.Trees.{Mark, Execution, Event, Work, Join}
 use Rattle.cw_measure.specs.OpenParts.{Open, closed, has_spawned, no_joins, Since, work_in}
@@ -18,18 +19,18 @@ use Rattle.cw_meter.specs.Parts.{AreParts}
 
 -- the numbers of a run of so many instructions: each part began by an instruction, but for those that were open as the
 -- meter began
-pub record IsCounted (burden : ℕ) (from : Origin) (count : ℕ) (os : List Open) (es : List Event) : Type 0 where
+pub record IsCounted (burden : Burden) (from : Origin) (count : ℕ) (os : List Open) (es : List Event) : Type 0 where
   pub work : work_in os es ≡ count
   pub calls : (site : ℕ) → calls_in site os es ≤ count + given_open from
   pub opened : length os ≤ count + given_open from
-  pub burdened : burdened_work_in burden os es ≤ count * (burden + 1)
+  pub burdened : burdened_work_in burden os es ≤ count * (burden.charge + 1)
 
 -- nothing is open round a whole run
 abbrev pub nothing_open : ℕ → ℕ
 nothing_open number = 0
 
 -- a region table tells of a run so far, whose paths are read as the other tables read them
-pub record TellsTags (burden : ℕ) (tags : Tags) (from : Origin) (os : List Open) (es : List Event) (table : RegionTable)
+pub record TellsTags (burden : Burden) (tags : Tags) (from : Origin) (os : List Open) (es : List Event) (table : RegionTable)
     : Type 0 where
   pub along : Readings burden
   pub path_is : (qs : List Open) (fs : List Event) → along.path qs fs ≡ path_in 0 (base_of from) qs fs
@@ -37,7 +38,7 @@ pub record TellsTags (burden : ℕ) (tags : Tags) (from : Origin) (os : List Ope
   pub tells : TellsRegions burden along tags nothing_open os es table
 
 -- the tables have been told of all of a run so far
-pub record AreTold (burden : ℕ) (tags : Tags) (from : Origin) (count : ℕ) (os : List Open) (es : List Event)
+pub record AreTold (burden : Burden) (tags : Tags) (from : Origin) (count : ℕ) (os : List Open) (es : List Event)
     (t : Tables) : Type 0 where
   pub sites : sites.Tells (base_of from) nothing_open os es t.sites
   pub path : TellsWeight burden os es t.path
@@ -47,7 +48,7 @@ pub record AreTold (burden : ℕ) (tags : Tags) (from : Origin) (count : ℕ) (o
   pub spawned_is : t.spawned ≡ has_spawned es
 
 -- the same, but that what came last in the block need not have been told
-pub record TablesTell (burden : ℕ) (tags : Tags) (from : Origin) (count : ℕ) (os : List Open) (es : List Event)
+pub record TablesTell (burden : Burden) (tags : Tags) (from : Origin) (count : ℕ) (os : List Open) (es : List Event)
     (t : Tables) : Type 0 where
   pub told : List Event
   pub since : List Event
@@ -61,7 +62,7 @@ pub record TablesTell (burden : ℕ) (tags : Tags) (from : Origin) (count : ℕ)
   pub spawned_is : t.spawned ≡ has_spawned es
 
 -- a meter tells of a run so far: its tables tell of one that is alike, and the parts that are open there are kept
-pub record Meters (burden : ℕ) (tags : Tags) (from : Origin) (count : ℕ) (os : List Open) (es : List Event) (m : Meter)
+pub record Meters (burden : Burden) (tags : Tags) (from : Origin) (count : ℕ) (os : List Open) (es : List Event) (m : Meter)
     : Type 0 where
   pub told_open : List Open
   pub told : List Event
@@ -83,54 +84,54 @@ abbrev pub begun : (spawned : Bool) → Option Mark → List Event → List Open
 begun spawned mark es os = record { spawned = spawned; mark = mark; outer = ticked es } ∷ os
 
 -- what a meter tells goes from one run so far to another, where an instruction more is within the greatest limit
-abbrev pub Tells : (old new : Meter) → (count : ℕ) → (burden : ℕ) → Tags → (from : Origin) → (os os' : List Open)
+abbrev pub Tells : (old new : Meter) → (count : ℕ) → Burden → Tags → (from : Origin) → (os os' : List Open)
     → (es es' : List Event) → Type 0
 Tells old new count burden tags from os os' es es' =
-    count < MOST_LIMIT → burden ≤ MOST_BURDEN → Meters burden tags from count os es old
+    count < MOST_LIMIT → burden.charge ≤ MOST_BURDEN → Meters burden tags from count os es old
     → Meters burden tags from (count + 1) os' es' new
 
 -- the meter of a rest that begins in an invocation of this site, whatever else is open round it
-abbrev pub StartsRest : (burden site : ℕ) → Meter → Type 0
+abbrev pub StartsRest : Burden → (site : ℕ) → Meter → Type 0
 StartsRest burden site m = (tags : Tags) → Meters burden tags (Rest site) 0 [] [] m
 
 -- the meter of a run that begins
-abbrev pub Starts : (burden : ℕ) → Meter → Type 0
+abbrev pub Starts : Burden → Meter → Type 0
 Starts burden m = (tags : Tags) → Meters burden tags Main 0 main_open [] m
 
 -- a call, a scope, a cut, or half of a loop begins
 abbrev pub Begins : (old new : Meter) → (count : ℕ) → (spawned : Bool) → Option Mark → Type 0
 Begins old new count spawned mark =
-    (burden : ℕ) (tags : Tags) (from : Origin) (os : List Open) (es : List Event)
+    (burden : Burden) (tags : Tags) (from : Origin) (os : List Open) (es : List Event)
     → Tells old new count burden tags from os (begun spawned mark es os) es []
 
 -- a region begins
 abbrev pub BeginsRegion : (old new : Meter) → (count tag : ℕ) → Type 0
 BeginsRegion old new count tag =
-    (burden : ℕ) (tags : Tags) (from : Origin) (os : List Open) (es : List Event) → tag < tags.count
+    (burden : Burden) (tags : Tags) (from : Origin) (os : List Open) (es : List Event) → tag < tags.count
     → Tells old new count burden tags from os (begun false (Some (Execution (tags.name tag))) es os) es []
 
 -- a scope, a cut or a region joins and ends, and its end is an instruction of the block round it
 abbrev pub Ends : (old new : Meter) → (count : ℕ) → Type 0
 Ends old new count =
-    (burden : ℕ) (tags : Tags) (from : Origin) (o : Open) (os : List Open) (es : List Event) → o.spawned ≡ false
+    (burden : Burden) (tags : Tags) (from : Origin) (o : Open) (os : List Open) (es : List Event) → o.spawned ≡ false
     → Tells old new count burden tags from (o ∷ os) os es (ticked (closed o es))
 
 -- a call joins and ends, by an instruction of its own
 abbrev pub Returns : (old new : Meter) → (count : ℕ) → Type 0
 Returns old new count =
-    (burden : ℕ) (tags : Tags) (from : Origin) (o : Open) (os : List Open) (es : List Event)
+    (burden : Burden) (tags : Tags) (from : Origin) (o : Open) (os : List Open) (es : List Event)
     → Tells old new count burden tags from (o ∷ os) os es (closed o (synced es))
 
 -- the block that runs joins
 abbrev pub Syncs : (old new : Meter) → (count : ℕ) → Type 0
 Syncs old new count =
-    (burden : ℕ) (tags : Tags) (from : Origin) (os : List Open) (es : List Event)
+    (burden : Burden) (tags : Tags) (from : Origin) (os : List Open) (es : List Event)
     → Tells old new count burden tags from os os es (synced es)
 
 -- an instruction that begins, ends and joins nothing needs no call
 abbrev pub InstructionsNeedNoCall : Type 0
 InstructionsNeedNoCall =
-    (m : Meter) (count burden : ℕ) (tags : Tags) (from : Origin) (os : List Open) (es : List Event)
+    (m : Meter) (count : ℕ) (burden : Burden) (tags : Tags) (from : Origin) (os : List Open) (es : List Event)
     → Tells m m count burden tags from os os es (ticked es)
 
 -- the rest of the block that runs was run apart, up to its join, by a strand with a meter of its own, as so many
@@ -138,15 +139,15 @@ InstructionsNeedNoCall =
 -- told goes on by the rest's events and instructions
 abbrev pub Rests : (old rest new : Meter) → (count cost : ℕ) → Type 0
 Rests old rest new count cost =
-    (burden : ℕ) (tags : Tags) (from : Origin) (os : List Open) (es fs : List Event) → count + cost ≤ MOST_LIMIT
-    → burden ≤ MOST_BURDEN → no_joins fs ≡ true
+    (burden : Burden) (tags : Tags) (from : Origin) (os : List Open) (es fs : List Event) → count + cost ≤ MOST_LIMIT
+    → burden.charge ≤ MOST_BURDEN → no_joins fs ≡ true
     → Meters burden tags from count os es old → Meters burden tags (Rest (here_in (base_of from) os)) cost [] fs rest
     → Meters burden tags from (count + cost) os (es ++ fs) new
 
 -- the site of the innermost invocation, which a rest of the block that runs is told
 abbrev pub IsHere : Meter → (site : ℕ) → Type 0
 IsHere m site =
-    (burden : ℕ) (tags : Tags) (from : Origin) (count : ℕ) (os : List Open) (es : List Event)
+    (burden : Burden) (tags : Tags) (from : Origin) (count : ℕ) (os : List Open) (es : List Event)
     → Meters burden tags from count os es m → site ≡ here_in (base_of from) os
 
 -- whether the innermost of the open parts was spawned; none where nothing is open
@@ -156,5 +157,5 @@ innermost (o ∷ os) = Some o.spawned
 
 abbrev pub IsInnermost : Meter → Option Bool → Type 0
 IsInnermost m spawned =
-    (burden : ℕ) (tags : Tags) (from : Origin) (count : ℕ) (os : List Open) (es : List Event)
+    (burden : Burden) (tags : Tags) (from : Origin) (count : ℕ) (os : List Open) (es : List Event)
     → Meters burden tags from count os es m → spawned ≡ innermost os

@@ -1,5 +1,6 @@
 -- What the parts of a call on a meter do.
 use Rattle.std.specs.Prelude.{◌≡◌, ℕ, ◌≤◌, false, List, [], ◌∷◌, ◌++◌, length, reverse, Some, slice_get}
+use Rattle.cw_model.specs.declared.burden.Burden.{Burden}
 use Rattle.cw_model.specs.declared.limits.TheConstants.{MOST_LIMIT, MOST_BURDEN}
 use Rattle.cw_model.specs.Trees.{Event, Join}
 use Rattle.cw_measure.specs.OpenParts.{Open, closed}
@@ -28,15 +29,15 @@ pub record Stacks (old new : Meter) (kind : PartKind) : Type 0 where
 -- the block that runs joins
 abbrev pub JoinsBlock : (old new : Meter) → (count : ℕ) → Type 0
 JoinsBlock old new count =
-    (burden : ℕ) (tags : Tags) (from : Origin) (os : List Open) (es : List Event)
+    (burden : Burden) (tags : Tags) (from : Origin) (os : List Open) (es : List Event)
     → TellOf old.tables new.tables count burden tags from os os es (es ++ Join ∷ [])
 
 -- the innermost part ends, whose block has joined, and is kept no more
 abbrev pub ClosesPart : (old new : Meter) → (count : ℕ) → Type 0
 ClosesPart old new count =
-    (burden : ℕ) (tags : Tags) (from : Origin) (o : Open) (os : List Open) (es : List Event)
+    (burden : Burden) (tags : Tags) (from : Origin) (o : Open) (os : List Open) (es : List Event)
     → old.tables.spawned ≡ false
-    → AreParts from tags (o ∷ os) (reverse old.parts.items) → count ≤ MOST_LIMIT → burden ≤ MOST_BURDEN
+    → AreParts from tags (o ∷ os) (reverse old.parts.items) → count ≤ MOST_LIMIT → burden.charge ≤ MOST_BURDEN
     → TablesTell burden tags from count (o ∷ os) es old.tables
     → TablesTell burden tags from count os (closed o es) new.tables × AreParts from tags os (reverse new.parts.items)
 

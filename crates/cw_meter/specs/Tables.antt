@@ -1,5 +1,6 @@
 -- What each call on the tables of a run does.
 use Rattle.std.specs.Prelude.{◌≡◌, ℕ, ◌+◌, ◌≤◌, ◌<◌, Bool, true, false, List, [], ◌∷◌, ◌++◌, Option, Some}
+use Rattle.cw_model.specs.declared.burden.Burden.{Burden}
 use Rattle.cw_model.specs.declared.limits.TheConstants.{MOST_LIMIT, MOST_BURDEN}
 use Rattle.cw_model.specs.Trees.{Mark, Execution, Event, Join}
 use Rattle.cw_measure.specs.OpenParts.{Open, closed, no_joins}
@@ -12,21 +13,21 @@ use Rattle.cw_meter.specs.Meters.{AreTold, IsCounted, TablesTell}
 use Rattle.cw_meter.specs.Parts.{IsPart}
 
 -- what tables tell goes from one run so far to another, within the greatest limit
-abbrev pub TellOf : (old new : Tables) → (count burden : ℕ) → Tags → (from : Origin) → (os os' : List Open)
+abbrev pub TellOf : (old new : Tables) → (count : ℕ) → Burden → Tags → (from : Origin) → (os os' : List Open)
     → (es es' : List Event) → Type 0
 TellOf old new count burden tags from os os' es es' =
-    count ≤ MOST_LIMIT → burden ≤ MOST_BURDEN → TablesTell burden tags from count os es old
+    count ≤ MOST_LIMIT → burden.charge ≤ MOST_BURDEN → TablesTell burden tags from count os es old
     → TablesTell burden tags from count os' es' new
 
 -- the tables of a run that begins
-abbrev pub StartsTables : (burden : ℕ) → Tables → Type 0
+abbrev pub StartsTables : Burden → Tables → Type 0
 StartsTables burden t = (tags : Tags) → TablesTell burden tags Main 0 main_open [] t
 
 -- all of a run so far is told
 abbrev pub Settles : (old new : Tables) → (count : ℕ) → Type 0
 Settles old new count =
-    (burden : ℕ) (tags : Tags) (from : Origin) (os : List Open) (es : List Event) → count ≤ MOST_LIMIT
-    → burden ≤ MOST_BURDEN
+    (burden : Burden) (tags : Tags) (from : Origin) (os : List Open) (es : List Event) → count ≤ MOST_LIMIT
+    → burden.charge ≤ MOST_BURDEN
     → TablesTell burden tags from count os es old → AreTold burden tags from count os es new
 
 -- one more part is open
@@ -36,39 +37,39 @@ opened spawned mark es os = record { spawned = spawned; mark = mark; outer = es 
 -- a part that is no region begins after these events, where its numbers are those of a run
 abbrev pub Opens : (old new : Tables) → (count : ℕ) → (spawned : Bool) → Option Mark → Type 0
 Opens old new count spawned mark =
-    (burden : ℕ) (tags : Tags) (from : Origin) (os : List Open) (es : List Event)
+    (burden : Burden) (tags : Tags) (from : Origin) (os : List Open) (es : List Event)
     → IsCounted burden from count (opened spawned mark es os) []
     → TellOf old new count burden tags from os (opened spawned mark es os) es []
 
 -- a region begins after these events
 abbrev pub OpensRegion : (old new : Tables) → (count tag : ℕ) → Type 0
 OpensRegion old new count tag =
-    (burden : ℕ) (tags : Tags) (from : Origin) (os : List Open) (es : List Event) → tag < tags.count
+    (burden : Burden) (tags : Tags) (from : Origin) (os : List Open) (es : List Event) → tag < tags.count
     → IsCounted burden from count (opened false (Some (Execution (tags.name tag))) es os) []
     → TellOf old new count burden tags from os (opened false (Some (Execution (tags.name tag))) es os) es []
 
 -- the block that runs joins, which has spawned
 abbrev pub JoinsSpawned : (old new : Tables) → (count : ℕ) → Type 0
 JoinsSpawned old new count =
-    (burden : ℕ) (tags : Tags) (from : Origin) (os : List Open) (es : List Event) → old.spawned ≡ true
+    (burden : Burden) (tags : Tags) (from : Origin) (os : List Open) (es : List Event) → old.spawned ≡ true
     → TellOf old new count burden tags from os os es (es ++ Join ∷ [])
 
 -- the innermost part ends, whose block has joined, and of which this is kept
 abbrev pub Closes : (old new : Tables) → (count : ℕ) → Part → Type 0
 Closes old new count part =
-    (burden : ℕ) (tags : Tags) (from : Origin) (o : Open) (os : List Open) (es : List Event)
+    (burden : Burden) (tags : Tags) (from : Origin) (o : Open) (os : List Open) (es : List Event)
     → IsPart from tags o os part → old.spawned ≡ false
     → TellOf old new count burden tags from (o ∷ os) os es (closed o es)
 
 -- the tables of a rest that begins in an invocation of this site
-abbrev pub StartsTablesOfRest : (burden site : ℕ) → Tables → Type 0
+abbrev pub StartsTablesOfRest : Burden → (site : ℕ) → Tables → Type 0
 StartsTablesOfRest burden site t = (tags : Tags) → TablesTell burden tags (Rest site) 0 [] [] t
 
 -- the tables of the rest of the block that runs are taken in, which ran apart up to its join: all is told to both
 abbrev pub TakesIn : (old rest new : Tables) → Type 0
 TakesIn old rest new =
-    (burden : ℕ) (tags : Tags) (from : Origin) (count cost : ℕ) (os : List Open) (es fs : List Event)
-    → count + cost ≤ MOST_LIMIT → burden ≤ MOST_BURDEN
+    (burden : Burden) (tags : Tags) (from : Origin) (count cost : ℕ) (os : List Open) (es fs : List Event)
+    → count + cost ≤ MOST_LIMIT → burden.charge ≤ MOST_BURDEN
     → no_joins fs ≡ true → AreTold burden tags from count os es old
     → AreTold burden tags (Rest (here_in (base_of from) os)) cost [] fs rest
     → AreTold burden tags from (count + cost) os (es ++ fs) new

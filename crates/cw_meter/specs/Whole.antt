@@ -1,5 +1,6 @@
 -- What a meter says of a whole run.
 use Rattle.std.specs.Prelude.{◌≡◌, ℕ, ◌≤◌, List, [], ◌∷◌, length, Some, slice_get}
+use Rattle.cw_model.specs.declared.burden.Burden.{Burden}
 use Rattle.cw_model.specs.declared.limits.TheConstants.{MOST_LIMIT, MOST_BURDEN}
 use Rattle.cw_model.specs.Syntax.{Name}
 use Rattle.cw_model.specs.Trees.{Tree, Marked, Invocation, Event, Series, normal, tree_of, work, span, burdened_span}
@@ -16,7 +17,7 @@ use Rattle.cw_meter.specs.Origins.{Main}
 use Rattle.cw_meter.specs.Meters.{Meters}
 
 -- work, span and burdened span are those of a tree
-pub record AreReadings (burden : ℕ) (t : Tree) (r : Readings) : Type 0 where
+pub record AreReadings (burden : Burden) (t : Tree) (r : Readings) : Type 0 where
   pub work : r.work ≡ work t
   pub span : r.span ≡ span t
   pub burdened : r.burdened ≡ burdened_span burden t
@@ -27,7 +28,7 @@ pub record AreSiteRows (count : ℕ) (t : Tree) (rows : List SiteRow) : Type 0 w
   pub are : (site : ℕ) (row : SiteRow) → slice_get rows site ≡ Some row → sites.IsRow row (site_row site t)
 
 -- the rows of tags, by their places, are those of a tree
-pub record AreRegionRows (burden : ℕ) (tags : List Name) (t : Tree) (rows : List RegionRow) : Type 0 where
+pub record AreRegionRows (burden : Burden) (tags : List Name) (t : Tree) (rows : List RegionRow) : Type 0 where
   pub as_many : length rows ≡ length tags
   pub are : (k : ℕ) (row : RegionRow) (tag : Name) → slice_get rows k ≡ Some row → slice_get tags k ≡ Some tag
       → regions.IsRow row (region_row burden tag t)
@@ -38,7 +39,7 @@ pub record HasNames (tags : Tags) (names : List Name) : Type 0 where
   pub are : (k : ℕ) (tag : Name) → slice_get names k ≡ Some tag → tags.name k ≡ tag
 
 -- all that is counted is that of a tree
-pub record AreMeasures (burden count : ℕ) (names : List Name) (t : Tree) (all : Measures) : Type 0 where
+pub record AreMeasures (burden : Burden) (count : ℕ) (names : List Name) (t : Tree) (all : Measures) : Type 0 where
   pub measure : AreReadings burden t all.measure
   pub sites : AreSiteRows count t all.sites.items
   pub regions : AreRegionRows burden names t all.regions.items
@@ -46,7 +47,7 @@ pub record AreMeasures (burden count : ℕ) (names : List Name) (t : Tree) (all 
 -- a meter, at the end of a run, says what is read off the tree of the run
 abbrev pub Reads : Meter → (count sites tags : ℕ) → Measures → Type 0
 Reads m count sites tags all =
-    (burden : ℕ) (by_number : Tags) (names : List Name) (es : List Event) → count ≤ MOST_LIMIT → burden ≤ MOST_BURDEN
+    (burden : Burden) (by_number : Tags) (names : List Name) (es : List Event) → count ≤ MOST_LIMIT → burden.charge ≤ MOST_BURDEN
     → HasNames by_number names → length names ≡ tags
     → Meters burden by_number Main count [] (Series (Marked (Invocation 0) (tree_of es)) ∷ []) m
     → AreMeasures burden sites names (normal (Marked (Invocation 0) (tree_of es))) all

@@ -9,6 +9,7 @@ ghost use Rattle.cw_meter.specs.Whole.{Reads};
 
 use crate::parts::{Part, PartKind};
 use crate::tables::Tables;
+use cw_model::burden::Burden;
 use cw_regions::RegionRow;
 use cw_sites::table::SiteRow;
 use std::alloc::{AllocError, Global};
@@ -20,7 +21,7 @@ pub struct Readings {
     pub work: u64,
     /// The weight of a heaviest path, in instructions.
     pub span: u64,
-    /// The weight of a heaviest path with a burden for each spawn whose continuation it goes along, in instructions.
+    /// The weight of a heaviest path with what it is charged at each fork that it runs through, in instructions.
     pub burdened: u128,
 }
 
@@ -56,9 +57,9 @@ fn is_spawned(kind: PartKind) -> bool
 }
 
 impl Meter {
-    /// The meter of a run that begins, in the call of `main` by the run itself; `burden` is the cost of a spawn in
-    /// instructions. An error where memory runs out.
-    pub fn new(alloc: Global, burden: u64) -> Result<Meter, AllocError>
+    /// The meter of a run that begins, in the call of `main` by the run itself; `burden` is what is charged for a
+    /// spawn. An error where memory runs out.
+    pub fn new(alloc: Global, burden: Burden) -> Result<Meter, AllocError>
         ensures { IfOk result (λ m. Starts burden m) }
     {
         let tables = Tables::new(alloc, burden)?;
@@ -73,7 +74,7 @@ impl Meter {
 
     /// The meter of a rest that was handed out at a spawn, with the site that its spawner was in (`site`) and the run's
     /// burden; of the parts that are open round it nothing else is known. Takes no memory.
-    pub fn apart(alloc: Global, site: u32, burden: u64) -> Meter
+    pub fn apart(alloc: Global, site: u32, burden: Burden) -> Meter
         ensures { StartsRest burden site result }
     {
         Meter {

@@ -8,6 +8,7 @@ ghost use Rattle.cw_meter.specs.declared.parts.PartKind.TheVariants.{Call, Half,
 
 use crate::parts::{Part, PartKind};
 use cw_measure::BurdenedPath;
+use cw_model::burden::Burden;
 use cw_regions::{RegionRow, RegionTable};
 use cw_sites::table::{SiteRow, SiteTable, sum_of};
 use std::alloc::{AllocError, Global};
@@ -21,15 +22,15 @@ pub struct Tables {
     pub sites: SiteTable,
     pub path: BurdenedPath,
     pub regions: RegionTable,
-    /// The cost of a spawn, in instructions.
-    pub burden: u64,
+    /// What is charged for a spawn.
+    pub burden: Burden,
     /// Whether the block that runs has spawned since its last join.
     pub spawned: bool,
 }
 
 impl Tables {
     /// The tables of a run that begins, in the call of `main` by the run itself. An error where memory runs out.
-    pub fn new(alloc: Global, burden: u64) -> Result<Tables, AllocError>
+    pub fn new(alloc: Global, burden: Burden) -> Result<Tables, AllocError>
         ensures { IfOk result (λ t. StartsTables burden t) }
     {
         let mut sites = SiteTable::new(alloc, 0);
@@ -44,7 +45,7 @@ impl Tables {
     }
 
     /// The tables of a rest that begins in an invocation of this site. Takes no memory.
-    pub fn apart(alloc: Global, site: u32, burden: u64) -> Tables
+    pub fn apart(alloc: Global, site: u32, burden: Burden) -> Tables
         ensures { StartsTablesOfRest burden site result }
     {
         Tables {

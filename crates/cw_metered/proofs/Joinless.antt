@@ -80,7 +80,7 @@ pub stays_joinless : (code : Code) (s : State) (o : Option Instr) → Joinless s
 stays_joinless code s o h come = acts_by code s (λ j turn w. is_first s.around && j ≡ false → After w) (record {
   stuck = λ j turn e. tt;
   stops = λ j turn trap line lines e. tt;
-  local = λ place operands slots arrays lines additions e. grown s.around s.trace.events (works 1) h refl;
+  local = λ place operands slots arrays lines updates e. grown s.around s.trace.events (works 1) h refl;
   enters = λ entering e. grown s.around s.trace.events (works 1) h refl;
   opens = λ operands arrays tag cut e. grown s.around s.trace.events (works 1) h refl;
   syncs = λ e. inner s.around s.trace.events (synced s.trace).events e h;

@@ -2,6 +2,7 @@
 use Rattle.std.proofs.Common.{◌≡◌, ℕ, zero, suc, ◌+◌, ◌≤◌, ◌<◌, ℤ, Bool, true, false, nat_lt, if◌then◌else◌, Option, Some, List, [], ◌∷◌, length, refl, sym, ap, ◌∙◌, subst, inl, inr, arith}
 use Rattle.std.specs.Prelude.{◌&&◌, slice_get}
 use Rattle.std.proofs.lemmas.Bool.Decides.{nat_tests}
+use Rattle.cw_model.specs.declared.burden.Burden.{Burden}
 use Rattle.cw_model.specs.declared.limits.TheConstants.{MOST_LIMIT}
 use Rattle.cw_model.specs.Frames.{no_frame}
 use Rattle.cw_model.specs.Trees.{Event}
@@ -120,9 +121,9 @@ module _ (quiet : InstructionsNeedNoCall) (code : Code) (keep : CallsKeep code) 
   out_here : (job out : Job) (s : State) (count : ℕ) (outs : List Job) → IsStrandOf code job (Waits s count (out ∷ outs)) → out.extent ≡ ToJoin
   out_here job out s count outs h = ap (λ (j : Job). j.extent) h.2.0.same
 
-  module _ (burden : ℕ) where
+  module _ (burden : Burden) where
     pub starting : (from : Origin) (job : Job) (m : Meter) → StartsFrom from burden m → TellsAll code burden from (Going (job_start job) 0 []) m
-    starting from job m starts = λ g e. let P : ℕ → Type 0 = λ x. Meters x g.tags from 0 (first_open from) [] m in subst P (sym e) (starts g.tags)
+    starting from job m starts = λ g e. let P : Burden → Type 0 = λ x. Meters x g.tags from 0 (first_open from) [] m in subst P (sym e) (starts g.tags)
 
     pub advancing : (from : Origin) (job : Job) (s s' : State) (count : ℕ) (outs : List Job) (m m' : Meter) → job.before + (count + 1) ≤ job.limit → job.limit ≤ MOST_LIMIT → step code s ≡ On s' → IsToldOf m m' count (slice_get code.instrs s.place) → TellsAll code burden from (Going s count outs) m → TellsAll code burden from (goes_on (turn code s) s s' job.limit job.before (count + 1) outs) m'
     advancing from job s s' count outs m m' le small e told h = λ g b.

@@ -59,7 +59,7 @@ module _ (quiet : InstructionsNeedNoCall) (code : Code) (g : Gauge code) (from :
     tells (instr.Open kind) e = block_begins kind e
     tells instr.Close e = block_ends e
     tells instr.Print e = ticks e
-    tells (instr.AddTo k) e = ticks e
+    tells (instr.Reduce k) e = ticks e
     tells instr.ReturnValue e = call_ends e
     tells instr.Return e = call_ends e
 

@@ -1,5 +1,6 @@
 -- Strands with meters.
 use Rattle.std.specs.Prelude.{◌≡◌, ℕ, ◌+◌, ◌≤◌, ℤ, Bool, true, false, List, [], ◌∷◌, length, Option, Some, slice_get}
+use Rattle.cw_model.specs.declared.burden.Burden.{Burden}
 use Rattle.cw_model.specs.declared.limits.TheConstants.{MOST_LIMIT}
 use Rattle.cw_model.specs.Frames.{no_frame}
 use Rattle.cw_model.specs.Trees.{Marked, Invocation, normal, tree_of}
@@ -29,7 +30,7 @@ IsFrom (Rest site) WholeCall = ⊥
 IsFrom (Rest site) ToJoin = Unit {0}
 
 -- a meter begins
-abbrev pub StartsFrom : Origin → (burden : ℕ) → Meter → Type 0
+abbrev pub StartsFrom : Origin → Burden → Meter → Type 0
 StartsFrom from burden m = (tags : Tags) → Meters burden tags from 0 (first_open from) [] m
 
 -- the site of the innermost invocation at a state
@@ -45,11 +46,11 @@ TellsStrand code g from (Waits s count outs) m =
 TellsStrand code g from (Halted e outs) m = Unit {0}
 
 -- by whichever numbers of the code's tags
-abbrev pub TellsAll : (code : Code) → (burden : ℕ) → Origin → Strand → Meter → Type 0
+abbrev pub TellsAll : (code : Code) → Burden → Origin → Strand → Meter → Type 0
 TellsAll code burden from strand m = (g : Gauge code) → g.burden ≡ burden → TellsStrand code g from strand m
 
 -- what the effect of a rest carries of its measures: a meter that tells of what the effect shows
-abbrev pub CountsEffect : (code : Code) → (burden site : ℕ) → Effect → Meter → Type 0
+abbrev pub CountsEffect : (code : Code) → Burden → (site : ℕ) → Effect → Meter → Type 0
 CountsEffect code burden site (Joined frame t cost) m =
     (g : Gauge code) → g.burden ≡ burden → Meters g.burden g.tags (Rest site) cost [] t.events m
 CountsEffect code burden site (Ended v arrays t cost) m = Unit {0}
@@ -60,12 +61,12 @@ CountsEffect code burden site Memory m = Unit {0}
 -- an effect with a meter means a job that was handed out with a burden and a site. It is said of these values alone, so
 -- that whatever carries
 -- them from one worker to another can keep it
-pub record MeansMeasured (code : Code) (job : Job) (burden site : ℕ) (e : Effect) (m : Meter) : Type 0 where
+pub record MeansMeasured (code : Code) (job : Job) (burden : Burden) (site : ℕ) (e : Effect) (m : Meter) : Type 0 where
   pub means : JobMeaning code job e
   pub counts : CountsEffect code burden site e m
 
 -- the calls on a strand and on its meter keep what the meter tells
-pub record MetersKeep (code : Code) (burden : ℕ) : Type 0 where
+pub record MetersKeep (code : Code) (burden : Burden) : Type 0 where
   pub starting : (from : Origin) (job : Job) (m : Meter) → StartsFrom from burden m
       → TellsAll code burden from (Going (job_start job) 0 []) m
   -- an instruction, of which the meter is told
@@ -99,10 +100,10 @@ pub record MetersKeep (code : Code) (burden : ℕ) : Type 0 where
       → TellsAll code burden Main (Going s count outs) m → Meters g.burden g.tags Main (count + 1) [] (whole t) m'
 
 abbrev pub CallsKeepMeters : Type 0
-CallsKeepMeters = (code : Code) (burden : ℕ) → MetersKeep code burden
+CallsKeepMeters = (code : Code) (burden : Burden) → MetersKeep code burden
 
 -- what a strand with a meter may come to: one rule for each step that it goes on by
-pub data Metered (code : Code) (burden : ℕ) : (from : Origin) (job : Job) → Strand → Meter → Type 0 where
+pub data Metered (code : Code) (burden : Burden) : (from : Origin) (job : Job) → Strand → Meter → Type 0 where
   Started : (from : Origin) (job : Job) (m : Meter) → IsFrom from job.extent → job.before ≤ job.limit
       → job.limit ≤ MOST_LIMIT → StartsFrom from burden m
       → Metered code burden from job (Going (job_start job) 0 []) m
@@ -123,14 +124,14 @@ pub data Metered (code : Code) (burden : ℕ) : (from : Origin) (job : Job) → 
 -- whatever is handed out, got back, or run apart and given, in whatever order and however deep: the strand is one of
 -- the serial run, and its meter tells of
 -- that run
-pub record StrandsTell (code : Code) (burden : ℕ) : Type 0 where
+pub record StrandsTell (code : Code) (burden : Burden) : Type 0 where
   pub serial : (from : Origin) (job : Job) (strand : Strand) (m : Meter) → Metered code burden from job strand m
       → IsStrandOf code job strand
   pub told : (from : Origin) (job : Job) (strand : Strand) (m : Meter) → Metered code burden from job strand m
       → TellsAll code burden from strand m
 
 abbrev pub MetersTellStrands : Type 0
-MetersTellStrands = (code : Code) (burden : ℕ) → StrandsTell code burden
+MetersTellStrands = (code : Code) (burden : Burden) → StrandsTell code burden
 
 -- the sites of the rests that are out at open parts, the newest first: each is the site that its spawner is in
 abbrev pub site_if : (spawned : Bool) → ℕ → List ℕ → List ℕ

@@ -55,7 +55,7 @@ pay_ends {done = done} {trapped = trapped} cost left go f = by_test (nat_lt left
 
 -- the trace of a piece that stands as one part
 abbrev pub one_part : (Tree → Event) → Trace → Trace
-one_part part t = record { lines = t.lines; additions = t.additions; events = part (tree_of t.events) ∷ [] }
+one_part part t = record { lines = t.lines; updates = t.updates; events = part (tree_of t.events) ∷ [] }
 
 pub one_ends : {A : Type 0} {done : A → ℕ → Trace → Type 0} {trapped : Trap → ℕ → List ℤ → Type 0} {o : Outcome A} (part : Tree → Event) →
     Ends (λ a left t. done a left (one_part part t)) trapped o → Ends done trapped (joined_up part o)

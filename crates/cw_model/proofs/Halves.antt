@@ -107,7 +107,7 @@ module _ (body inner : ℤ → Frame → Piece Frame) (is_body : IsBody body inn
     as_many : length turns ≡ n
     in_order : TurnsLead inner from frame turns frame'
     same_lines : t.lines ≡ lines_of turns
-    same_additions : t.additions ≡ additions_of turns
+    same_additions : t.updates ≡ additions_of turns
     cost : left ≡ left' + 11 * n + spent turns
     parts : (events : List Event) (b : Tree) → PartsAre events (Leaf leaf_end) b → PartsAre (t.events ++ events) (turns_tree (trees_of turns)) b
 
@@ -123,7 +123,7 @@ module _ (body inner : ℤ → Frame → Piece Frame) (is_body : IsBody body inn
         as_many = ap (λ n. suc n) r.as_many;
         in_order = one_turn e r.in_order;
         same_lines = ap (λ xs. t.lines ++ xs) r.same_lines;
-        same_additions = ap (λ xs. t.additions ++ xs) r.same_additions;
+        same_additions = ap (λ xs. t.updates ++ xs) r.same_additions;
         cost = omega (arith, r.cost, is_body.spends from frame frame' (left - turn_start) left' t e, sum_by-cons (λ (turn : Turn). turn.given - turn.left) turn r.turns);
         parts = λ events b h. parts_works turn_start (parts_series (same (tree_of t.events)) (parts_works turn_end (r.parts events b h)));
       }
@@ -191,7 +191,7 @@ module _ (body inner : ℤ → Frame → Piece Frame) (is_body : IsBody body inn
       as_many : length turns ≡ n
       in_order : TurnsLead inner from frame turns frame'
       same_lines : t.lines ≡ lines_of turns
-      same_additions : t.additions ≡ additions_of turns
+      same_additions : t.updates ≡ additions_of turns
       cost : left ≡ left' + cost_at depth grain k q n + spent turns
       tree : Regrouped (tree_of t.events) (loop_tree depth grain k q (trees_of turns))
 
@@ -223,7 +223,7 @@ module _ (body inner : ℤ → Frame → Piece Frame) (is_body : IsBody body inn
           as_many = length-append r.turns s.turns ∙ omega (arith, r.as_many, s.as_many);
           in_order = leads-append r.in_order (rw r.as_many s.in_order);
           same_lines = shown_by_both (λ turn. turn.trace.lines) r.turns s.turns t.lines u.lines r.same_lines s.same_lines;
-          same_additions = shown_by_both (λ turn. turn.trace.additions) r.turns s.turns t.additions u.additions r.same_additions s.same_additions;
+          same_additions = shown_by_both (λ turn. turn.trace.updates) r.turns s.turns t.updates u.updates r.same_additions s.same_additions;
           cost = cost_of_both left left1 left2 (node_start k q) (node_call k) (node_end q)
               (cost_at depth grain k q (n / 2)) (cost_at depth grain k q (n - n / 2)) (cost_at (suc depth) grain k q n)
               (spent r.turns) (spent s.turns) (spent (r.turns ++ s.turns))
@@ -266,7 +266,7 @@ module _ (body inner : ℤ → Frame → Piece Frame) (is_body : IsBody body inn
           as_many = r.as_many;
           in_order = r.in_order;
           same_lines = append-nil t.lines ∙ r.same_lines;
-          same_additions = append-nil t.additions ∙ r.same_additions;
+          same_additions = append-nil t.updates ∙ r.same_additions;
           cost = omega (arith, r.cost, cost_of_leaf k q n (inner_nodes (suc depth) grain n) (nodes_of_leaf depth grain n is_leaf));
           tree = rw (tree_of_leaf depth grain k q n (trees_of r.turns) (length-map r.turns _ ∙ r.as_many) is_leaf)
               (further (tree_of_parts parts) (nothing_after _));

@@ -6,7 +6,7 @@ use Rattle.cw_model.specs.declared.token.Token.{Token}
 use Rattle.cw_model.specs.declared.token.Kind.{Kind}
 use Rattle.cw_model.specs.Syntax.{Name, Stmt, Block, Reducer, Function, Program}
 use Rattle.cw_model.specs.Sites.{CallSite, sites_in, sites_in_block, are_numbered, call_sites}
-use Rattle.cw_model.specs.Grammar.{ReadsAssigned, value, ReadsNamed, assign, assign_element, add, ReadsDeclared, ReadsStmt, begins, ReadsStmtBy, declare, named, sync, when, choose, repeat, loop, scope, cut, region, print, give, ReadsBlock, braces, ReadsStmts, one_more, ReadsFunction, function, ReadsItems, no_item, one_reducer, one_function, Derives}
+use Rattle.cw_model.specs.Grammar.{ReadsAssigned, value, ReadsNamed, assign, assign_element, add, raise, ReadsDeclared, ReadsStmt, begins, ReadsStmtBy, declare, named, sync, when, choose, repeat, loop, scope, cut, region, print, give, ReadsBlock, braces, ReadsStmts, one_more, ReadsFunction, function, ReadsItems, no_item, one_reducer, one_function, Derives}
 use Rattle.cw_model.specs.Grammar as grammar
 
 -- numbered from one number up to another
@@ -55,6 +55,7 @@ module _ (text : List ℕ) where
   by_name n m line k t ts rest s (assign read) = assigned n m line _ ts rest s read
   by_name n m line k t ts rest s (assign_element i u v e w) = none n
   by_name n m line k t ts rest s (add read end) = none n
+  by_name n m line k t ts rest s (raise u read end) = none n
   by_name n m line k t ts rest s (grammar.call read end) = one n _ refl
 
   mutual

@@ -1,10 +1,12 @@
 -- The span that is computed is that of a heaviest path.
 use Rattle.std.proofs.Common.{◌≡◌, ℕ, ◌+◌, ◌*◌, ◌≤◌, List, [], ◌∷◌, arith, refl, ap, ⊎_elim}
 use Rattle.std.proofs.lemmas.Bool.{cases_lt}
+use Rattle.cw_model.specs.declared.burden.Burden.{Burden}
+use Rattle.cw_model.specs.Burdens.{at_child, at_rest}
 use Rattle.cw_model.specs.Trees.{Mark, Tree, Leaf, Seq, Par, Marked, burdened_span}
-use Rattle.cw_model.specs.Dag.{Place, Here, First, Second, weight_at, rests_entered, IsWalk, IsPath, walk_weight, path_weight, IsBurdenedSpan}
+use Rattle.cw_model.specs.Dag.{Place, Here, First, Second, weight_at, rests_entered, children_entered, charged, IsWalk, IsPath, walk_weight, path_weight, IsBurdenedSpan}
 
-module _ (burden : ℕ) where
+module _ (burden : Burden) where
   -- a walk through a part of a tree, of the same weight
   record Part (part : Tree) (p : Place) (weight : ℕ) : Type 0 where
     qs : List Place
@@ -17,7 +19,7 @@ module _ (burden : ℕ) where
   second_part a b p (First q ∷ qs) walk = absurd walk.0
   second_part a b p (Second q ∷ qs) walk =
       let r = second_part a b q qs walk.1 in
-      record { qs = q ∷ r.qs; walks = (walk.0, r.walks); same = ap (λ w. weight_at b p + burden * rests_entered b p q + w) r.same }
+      record { qs = q ∷ r.qs; walks = (walk.0, r.walks); same = ap (λ w. weight_at b p + charged burden (rests_entered b p q) (children_entered b p q) + w) r.same }
 
   child_part : (a b : Tree) (p : Place) (qs : List Place) → IsWalk (Par a b) (First p) qs → Part a p (walk_weight burden (Par a b) (First p) qs)
   child_part a b p [] walk = record { qs = []; walks = walk; same = refl }
@@ -25,7 +27,7 @@ module _ (burden : ℕ) where
   child_part a b p (Second q ∷ qs) walk = absurd walk.0
   child_part a b p (First q ∷ qs) walk =
       let r = child_part a b q qs walk.1 in
-      record { qs = q ∷ r.qs; walks = (walk.0, r.walks); same = ap (λ w. weight_at a p + burden * rests_entered a p q + w) r.same }
+      record { qs = q ∷ r.qs; walks = (walk.0, r.walks); same = ap (λ w. weight_at a p + charged burden (rests_entered a p q) (children_entered a p q) + w) r.same }
 
   rest_part : (a b : Tree) (p : Place) (qs : List Place) → IsWalk (Par a b) (Second p) qs → Part b p (walk_weight burden (Par a b) (Second p) qs)
   rest_part a b p [] walk = record { qs = []; walks = walk; same = refl }
@@ -33,13 +35,13 @@ module _ (burden : ℕ) where
   rest_part a b p (First q ∷ qs) walk = absurd walk.0
   rest_part a b p (Second q ∷ qs) walk =
       let r = rest_part a b q qs walk.1 in
-      record { qs = q ∷ r.qs; walks = (walk.0, r.walks); same = ap (λ w. weight_at b p + burden * rests_entered b p q + w) r.same }
+      record { qs = q ∷ r.qs; walks = (walk.0, r.walks); same = ap (λ w. weight_at b p + charged burden (rests_entered b p q) (children_entered b p q) + w) r.same }
 
   marked_part : (mark : Mark) (t : Tree) (p : Place) (qs : List Place) → IsWalk (Marked mark t) p qs → Part t p (walk_weight burden (Marked mark t) p qs)
   marked_part mark t p [] walk = record { qs = []; walks = walk; same = refl }
   marked_part mark t p (q ∷ qs) walk =
       let r = marked_part mark t q qs walk.1 in
-      record { qs = q ∷ r.qs; walks = (walk.0, r.walks); same = ap (λ w. weight_at t p + burden * rests_entered t p q + w) r.same }
+      record { qs = q ∷ r.qs; walks = (walk.0, r.walks); same = ap (λ w. weight_at t p + charged burden (rests_entered t p q) (children_entered t p q) + w) r.same }
 
   -- a walk through a series is a walk through its first part and a path of its second
   record Both (a b : Tree) (p : Place) (weight : ℕ) : Type 0 where
@@ -86,25 +88,25 @@ module _ (burden : ℕ) where
   in_second a b p [] walk = record { qs = []; walks = walk; same = refl }
   in_second a b p (q ∷ qs) walk =
       let r = in_second a b q qs walk.1 in
-      record { qs = Second q ∷ r.qs; walks = (walk.0, r.walks); same = ap (λ w. weight_at b p + burden * rests_entered b p q + w) r.same }
+      record { qs = Second q ∷ r.qs; walks = (walk.0, r.walks); same = ap (λ w. weight_at b p + charged burden (rests_entered b p q) (children_entered b p q) + w) r.same }
 
   in_child : (a b : Tree) (p : Place) (qs : List Place) → IsWalk a p qs → Part (Par a b) (First p) (walk_weight burden a p qs)
   in_child a b p [] walk = record { qs = []; walks = walk; same = refl }
   in_child a b p (q ∷ qs) walk =
       let r = in_child a b q qs walk.1 in
-      record { qs = First q ∷ r.qs; walks = (walk.0, r.walks); same = ap (λ w. weight_at a p + burden * rests_entered a p q + w) r.same }
+      record { qs = First q ∷ r.qs; walks = (walk.0, r.walks); same = ap (λ w. weight_at a p + charged burden (rests_entered a p q) (children_entered a p q) + w) r.same }
 
   in_rest : (a b : Tree) (p : Place) (qs : List Place) → IsWalk b p qs → Part (Par a b) (Second p) (walk_weight burden b p qs)
   in_rest a b p [] walk = record { qs = []; walks = walk; same = refl }
   in_rest a b p (q ∷ qs) walk =
       let r = in_rest a b q qs walk.1 in
-      record { qs = Second q ∷ r.qs; walks = (walk.0, r.walks); same = ap (λ w. weight_at b p + burden * rests_entered b p q + w) r.same }
+      record { qs = Second q ∷ r.qs; walks = (walk.0, r.walks); same = ap (λ w. weight_at b p + charged burden (rests_entered b p q) (children_entered b p q) + w) r.same }
 
   in_marked : (mark : Mark) (t : Tree) (p : Place) (qs : List Place) → IsWalk t p qs → Part (Marked mark t) p (walk_weight burden t p qs)
   in_marked mark t p [] walk = record { qs = []; walks = walk; same = refl }
   in_marked mark t p (q ∷ qs) walk =
       let r = in_marked mark t q qs walk.1 in
-      record { qs = q ∷ r.qs; walks = (walk.0, r.walks); same = ap (λ w. weight_at t p + burden * rests_entered t p q + w) r.same }
+      record { qs = q ∷ r.qs; walks = (walk.0, r.walks); same = ap (λ w. weight_at t p + charged burden (rests_entered t p q) (children_entered t p q) + w) r.same }
 
   in_both : (a b : Tree) (p : Place) (first : List Place) (q : Place) (second : List Place) → IsWalk a p first → IsPath b q second → Part (Seq a b) (First p) (walk_weight burden a p first + path_weight burden b q second)
   in_both a b p [] q second walk path =
@@ -134,13 +136,13 @@ module _ (burden : ℕ) where
       ⊎_elim
       (λ lt. let r = in_rest child rest g.p g.qs g.path.1 in record { p = Second g.p; qs = r.qs; path = (g.path.0, r.walks); same = omega (arith, r.same, g.same) })
       (λ le. let r = in_child child rest f.p f.qs f.path.1 in record { p = First f.p; qs = r.qs; path = (f.path.0, r.walks); same = omega (arith, r.same, f.same) })
-      (cases_lt (burdened_span burden child) (burden + burdened_span burden rest))
+      (cases_lt (at_child burden + burdened_span burden child) (at_rest burden + burdened_span burden rest))
   heavy (Marked mark t) =
       let f = heavy t in
       let r = in_marked mark t f.p f.qs f.path.1 in
       record { p = f.p; qs = r.qs; path = (f.path.0, r.walks); same = omega (arith, r.same, f.same) }
 
-pub span_holds : (burden : ℕ) (t : Tree) → IsBurdenedSpan burden t (burdened_span burden t)
+pub span_holds : (burden : Burden) (t : Tree) → IsBurdenedSpan burden t (burdened_span burden t)
 span_holds burden t =
     let f = heavy burden t in
     record { path = (f.p, f.qs, f.path, f.same); heaviest = at_most burden t }

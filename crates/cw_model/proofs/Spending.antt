@@ -10,7 +10,7 @@ use Rattle.cw_model.specs.declared.limits.TheConstants.{MOST_DEPTH}
 use Rattle.cw_model.specs.Trees.{Execution, Tree, Marked, Event, Work, Series, Fork, Join, works, tree_of, work}
 use Rattle.cw_model.specs.declared.syntax.CallKind.{CallKind}
 use Rattle.cw_model.specs.declared.syntax.CallKind.TheVariants.{Plain, Spawned}
-use Rattle.cw_model.specs.Syntax.{Name, Expr, Stmt, Declare, DeclareArray, Assign, AssignElement, AddTo, Call, Start, Begin, Sync, If, IfElse, While, For, Scope, Cut, Region, Print, Return, Block, End, Then, Param, Function}
+use Rattle.cw_model.specs.Syntax.{Name, Expr, Stmt, Declare, DeclareArray, Assign, AssignElement, Reduce, Call, Start, Begin, Sync, If, IfElse, While, For, Scope, Cut, Region, Print, Return, Block, End, Then, Param, Function}
 use Rattle.cw_model.specs.Frames.{Frame, no_frame, leave, inside_loop, new_array, new_int}
 use Rattle.cw_model.specs.Expressions.{Evaluated, Gives, Traps, evaluate}
 use Rattle.cw_model.specs.Outcome.{Trace, shows, Outcome, Done, Trapped, Over, then_do, Piece, ◌>>=◌, gives, show, pay, pay_for, joined_up, as_one}
@@ -145,9 +145,9 @@ module _ (fs : List Function) (calls : Calls) (spend : (entry : Entry) (f : Func
     spends_stmt (DeclareArray a e) line frame = spends_then (spends_value _ line) (λ v. spends_nothing _)
     spends_stmt (Assign x e) line frame = spends_then (spends_value _ line) (λ v. spends_then (spends_pay 1) (λ _. spends_nothing _))
     spends_stmt (AssignElement a i e) line frame = spends_then (spends_value _ line) (λ i. spends_then (spends_value _ line) (λ v. spends_nothing _))
-    spends_stmt (AddTo s e) line frame =
+    spends_stmt (Reduce how s e) line frame =
         spends_then (spends_value _ line) (λ v. spends_then (spends_pay 1) (λ _.
-        spends_then (spends_in_view (record { lines = []; additions = (s, v) ∷ []; events = [] }) refl) (λ _. spends_nothing (Normal frame))))
+        spends_then (spends_in_view (record { lines = []; updates = (s, v) ∷ []; events = [] }) refl) (λ _. spends_nothing (Normal frame))))
     spends_stmt (Call kind site target callee es) line frame =
         spends_then (spends_arguments (function_named callee fs).params es frame line no_frame) (λ given. spends_then (spends_pay 1) (λ _.
         spends_then (spends_as_one (call_event kind site) (call_is_work kind site) (spend Deeper (function_named callee fs) given line)) (λ returned. spends_nothing _)))
@@ -183,7 +183,7 @@ module _ (fs : List Function) (calls : Calls) (spend : (entry : Entry) (f : Func
         spends_onward way _ (λ frame'. spends_then (spends_pay 1) (λ _. spends_nothing _))))
     spends_stmt (Print e) line frame =
         spends_then (spends_value _ line) (λ v. spends_then (spends_pay 1) (λ _.
-        spends_then (spends_in_view (record { lines = v ∷ []; additions = []; events = [] }) refl) (λ _. spends_nothing (Normal frame))))
+        spends_then (spends_in_view (record { lines = v ∷ []; updates = []; events = [] }) refl) (λ _. spends_nothing (Normal frame))))
     spends_stmt (Return None) line frame = spends_then spends_join (λ _. spends_then (spends_pay 1) (λ _. spends_nothing (ByReturn None frame)))
     spends_stmt (Return (Some e)) line frame =
         spends_then (spends_value _ line) (λ v. spends_then spends_join (λ _. spends_then (spends_pay 1) (λ _. spends_nothing (ByReturn (Some v) frame))))

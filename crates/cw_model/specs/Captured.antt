@@ -1,6 +1,6 @@
 -- The names that the body of a loop takes from outside.
 use Rattle.std.specs.Prelude.{List, [], ◌∷◌, ◌++◌, Some, None}
-use Rattle.cw_model.specs.Syntax.{Name, Expr, Number, Variable, Element, Length, Negative, Not, Binary, Stmt, Declare, DeclareArray, Assign, AssignElement, AddTo, Call, Start, Begin, Sync, If, IfElse, While, For, Scope, Cut, Region, Print, Return, Block, End, Then}
+use Rattle.cw_model.specs.Syntax.{Name, Expr, Number, Variable, Element, Length, Negative, Not, Binary, Stmt, Declare, DeclareArray, Assign, AssignElement, Reduce, Call, Start, Begin, Sync, If, IfElse, While, For, Scope, Cut, Region, Print, Return, Block, End, Then}
 use Rattle.cw_model.specs.Names.{new_names}
 
 -- the names that stand alone in an expression
@@ -25,7 +25,7 @@ abbrev mutual
   read_in (DeclareArray a e) = read_by e
   read_in (Assign x e) = read_by e
   read_in (AssignElement a i e) = read_by i ++ read_by e
-  read_in (AddTo s e) = read_by e
+  read_in (Reduce how s e) = read_by e
   read_in (Call kind site target callee es) = read_by_all es
   read_in (Start kind callee es) = read_by_all es
   read_in (Begin callee from to captured over) = read_by from ++ (read_by to ++ captured)

@@ -1,5 +1,7 @@
 -- The strand dag of a tree: its vertices are the leaves by place, and span is the weight of a heaviest path.
 use Rattle.std.specs.Prelude.{ℕ, ◌+◌, ◌*◌, ◌≤◌, ◌≡◌, List, [], ◌∷◌}
+use Rattle.cw_model.specs.declared.burden.Burden.{Burden}
+use Rattle.cw_model.specs.Burdens.{at_child, at_rest, no_burden}
 use Rattle.cw_model.specs.Trees.{Tree, Leaf, Seq, Par, Marked}
 
 -- the way down to a leaf: into the first or the second part of each series and each fork on it
@@ -62,6 +64,14 @@ rests_begun (Par child rest) (Second p) = rests_begun rest p + 1
 rests_begun (Marked mark t) p = rests_begun t p
 rests_begun _ _ = 0
 
+-- of how many spawned parts a first leaf is the first
+abbrev pub children_begun : Tree → Place → ℕ
+children_begun (Seq a b) (First p) = children_begun a p
+children_begun (Par child rest) (First p) = children_begun child p + 1
+children_begun (Par child rest) (Second p) = children_begun rest p
+children_begun (Marked mark t) p = children_begun t p
+children_begun _ _ = 0
+
 -- how many rests an edge goes into: it is the continuation edge of so many spawns
 abbrev pub rests_entered : Tree → Place → Place → ℕ
 rests_entered (Seq a b) (First p) (First q) = rests_entered a p q
@@ -72,6 +82,16 @@ rests_entered (Par child rest) (Second p) (Second q) = rests_entered rest p q
 rests_entered (Marked mark t) p q = rests_entered t p q
 rests_entered _ _ _ = 0
 
+-- how many spawned parts an edge goes into; a path that goes into one leaves it by its return edge
+abbrev pub children_entered : Tree → Place → Place → ℕ
+children_entered (Seq a b) (First p) (First q) = children_entered a p q
+children_entered (Seq a b) (First p) (Second q) = children_begun b q
+children_entered (Seq a b) (Second p) (Second q) = children_entered b p q
+children_entered (Par child rest) (First p) (First q) = children_entered child p q
+children_entered (Par child rest) (Second p) (Second q) = children_entered rest p q
+children_entered (Marked mark t) p q = children_entered t p q
+children_entered _ _ _ = 0
+
 -- from a leaf along edges through these leaves to a last leaf
 abbrev pub IsWalk : Tree → Place → List Place → Type 0
 IsWalk t p [] = IsLast t p
@@ -81,20 +101,25 @@ IsWalk t p (q ∷ qs) = HasEdge t p q × IsWalk t q qs
 abbrev pub IsPath : Tree → Place → List Place → Type 0
 IsPath t p qs = IsFirst t p × IsWalk t p qs
 
--- the leaves of a walk, and a burden for each rest that it goes into
-abbrev pub walk_weight : ℕ → Tree → Place → List Place → ℕ
-walk_weight burden t p [] = weight_at t p
-walk_weight burden t p (q ∷ qs) = weight_at t p + burden * rests_entered t p q + walk_weight burden t q qs
+-- what is charged for so many rests and so many spawned parts that a path runs through
+abbrev pub charged : Burden → (rests children : ℕ) → ℕ
+charged burden rests children = at_rest burden * rests + at_child burden * children
 
--- the leaves of a path, and a burden for each rest that it runs through
-abbrev pub path_weight : ℕ → Tree → Place → List Place → ℕ
-path_weight burden t p qs = burden * rests_begun t p + walk_weight burden t p qs
+-- the leaves of a walk, and what is charged for each rest and each spawned part that it goes into
+abbrev pub walk_weight : Burden → Tree → Place → List Place → ℕ
+walk_weight burden t p [] = weight_at t p
+walk_weight burden t p (q ∷ qs) =
+    weight_at t p + charged burden (rests_entered t p q) (children_entered t p q) + walk_weight burden t q qs
+
+-- the leaves of a path, and what is charged for each rest and each spawned part that it runs through
+abbrev pub path_weight : Burden → Tree → Place → List Place → ℕ
+path_weight burden t p qs = charged burden (rests_begun t p) (children_begun t p) + walk_weight burden t p qs
 
 -- some path weighs so much, and no path weighs more
-pub record IsBurdenedSpan (burden : ℕ) (t : Tree) (s : ℕ) : Type 0 where
+pub record IsBurdenedSpan (burden : Burden) (t : Tree) (s : ℕ) : Type 0 where
   pub path : (p : Place) × (qs : List Place) × IsPath t p qs × (path_weight burden t p qs ≡ s)
   pub heaviest : (p : Place) (qs : List Place) → IsPath t p qs → path_weight burden t p qs ≤ s
 
--- the same with no burden
+-- the same with nothing charged
 abbrev pub IsSpan : Tree → ℕ → Type 0
-IsSpan t s = IsBurdenedSpan 0 t s
+IsSpan t s = IsBurdenedSpan no_burden t s

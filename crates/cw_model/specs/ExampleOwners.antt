@@ -1,7 +1,8 @@
 -- Worked examples of ownership: programs that break one rule each, and some that keep it narrowly.
 use Rattle.std.specs.Prelude.{◌≡◌, ℕ, [], ◌∷◌}
 use Rattle.cw_model.specs.declared.syntax.CallKind.TheVariants.{Plain}
-use Rattle.cw_model.specs.Syntax.{Variable, Element, Length, Negative, Not, Stmt, Declare, DeclareArray, Assign, AssignElement, AddTo, Start, Begin, Sync, If, IfElse, While, For, Scope, Cut, Region, Print, Block, End, Then, Program}
+use Rattle.cw_model.specs.declared.syntax.Reduction.TheVariants.{Sum}
+use Rattle.cw_model.specs.Syntax.{Variable, Element, Length, Negative, Not, Stmt, Declare, DeclareArray, Assign, AssignElement, Reduce, Start, Begin, Sync, If, IfElse, While, For, Scope, Cut, Region, Print, Block, End, Then, Program}
 use Rattle.cw_model.specs.Ownership.{ownership_faults}
 use Rattle.cw_model.specs.Examples.{IsAccepted, BreaksOwnership}
 use Rattle.cw_model.specs.ExamplePrograms.{a, b, f, g, h, i, j, l, n, p, q, r, s, t, v, x, y, z, main, number, plus, int_param, array_param, int_function, void_function, of_functions, on_line, block, give, call, call_into, spawn, spawn_into, main_of, alone, same_function, with_sum, followed_by, in_every_block, once_in_every_block}
@@ -51,7 +52,7 @@ pub record TakenExamples : Type 0 where
   pub index_written : IsRefused (AssignElement b (Variable x) (number 1))
   pub value_of_an_element : IsRefused (AssignElement b (number 0) (Variable x))
   pub element_written : IsRefused (AssignElement a (number 0) (number 1))
-  pub addition : IsRefused (AddTo s (Variable x))
+  pub addition : IsRefused (Reduce Sum s (Variable x))
   pub argument : IsRefused (call 3 f (Variable x ∷ []))
   pub argument_beside_a_free_one : IsRefused (call 3 q (Variable x ∷ Variable b ∷ []))
   pub second_argument : IsRefused (call 3 h (Variable b ∷ Variable a ∷ []))

@@ -3,7 +3,8 @@ use Rattle.std.specs.Prelude.{ℕ, pos, zero, suc, true, false, List, [], ◌∷
 use Rattle.cw_model.specs.declared.syntax.Operator.{Operator}
 use Rattle.cw_model.specs.declared.syntax.Operator.TheVariants.{Less, Plus, Minus, Times, Divide}
 use Rattle.cw_model.specs.declared.syntax.CallKind.TheVariants.{Plain, Spawned}
-use Rattle.cw_model.specs.Syntax.{Name, Expr, Number, Variable, Element, Length, Negative, Binary, Stmt, Declare, DeclareArray, Assign, AssignElement, AddTo, Call, Sync, If, IfElse, While, For, Scope, Cut, Region, Print, Return, Block, End, Then, Param, Function, Program}
+use Rattle.cw_model.specs.declared.syntax.Reduction.TheVariants.{Sum, Max}
+use Rattle.cw_model.specs.Syntax.{Name, Expr, Number, Variable, Element, Length, Negative, Binary, Stmt, Declare, DeclareArray, Assign, AssignElement, Reduce, Call, Sync, If, IfElse, While, For, Scope, Cut, Region, Print, Return, Block, End, Then, Param, Function, Program}
 
 -- names, by how they are spelled
 
@@ -215,18 +216,29 @@ print_program = of_functions (
 
 -- with one reducer
 abbrev pub with_sum : List Function → Program
-with_sum functions = record { reducers = record { name = s; line = 1 } ∷ []; functions = functions }
+with_sum functions = record { reducers = record { name = s; how = Sum; line = 1 } ∷ []; functions = functions }
 
 -- a loop with grain 2 that adds its variable to a sum
 abbrev pub sum_program : ℕ → ℕ → Program
 sum_program from to =
     with_sum (main_of
-    (For i i i (number from) (number to) 2 [] (block (AddTo s (Variable i) ∷ [])) ∷ give (number 0) ∷ []) ∷ [])
+    (For i i i (number from) (number to) 2 [] (block (Reduce Sum s (Variable i) ∷ [])) ∷ give (number 0) ∷ []) ∷ [])
+
+-- with one reducer that keeps the greatest
+abbrev pub with_greatest : List Function → Program
+with_greatest functions = record { reducers = record { name = s; how = Max; line = 1 } ∷ []; functions = functions }
+
+-- a loop with grain 2 that tells a reducer its variable times 3 less the variable
+abbrev pub greatest_program : ℕ → ℕ → Program
+greatest_program from to =
+    with_greatest (main_of
+    (For i i i (number from) (number to) 2 []
+    (block (Reduce Max s (Binary Times (Variable i) (minus (number 3) (Variable i))) ∷ [])) ∷ give (number 0) ∷ []) ∷ [])
 
 -- the greatest number is added to a sum twice
 abbrev pub large_sum_program : Program
 large_sum_program = with_sum (
-    void_function add [] (block (AddTo s (number 9223372036854775807) ∷ []))
+    void_function add [] (block (Reduce Sum s (number 9223372036854775807) ∷ []))
     ∷ main_of (spawn 1 add [] ∷ spawn 2 add [] ∷ Sync ∷ give (number 0) ∷ [])
     ∷ [])
 

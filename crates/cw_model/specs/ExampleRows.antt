@@ -2,11 +2,12 @@
 use Rattle.std.specs.Prelude.{◌≡◌, [], ◌∷◌, ◌++◌, codes}
 use Rattle.cw_model.specs.declared.limits.TheConstants.{USUAL_LIMIT, USUAL_BURDEN}
 use Rattle.cw_model.specs.declared.syntax.Operator.TheVariants.{Less}
+use Rattle.cw_model.specs.Burdens.{no_burden}
 use Rattle.cw_model.specs.Syntax.{Variable, Binary, Declare, If, Region, Print, For, Sync, End, Program}
 use Rattle.cw_model.specs.Answers.{OverLimit}
 use Rattle.cw_model.specs.Report.{Check, Run, Scale, Sites, report_text, csv_field, csv_line, tags_of, parallelism}
-use Rattle.cw_model.specs.Examples.{serial, Scales, Attributes}
-use Rattle.cw_model.specs.ExamplePrograms.{f, i, n, p, r, t, main, number, minus, int_param, int_function, void_function, of_functions, block, give, call, call_into, spawn, main_of, alone, first_program, idle_and, once_in_every_block}
+use Rattle.cw_model.specs.Examples.{serial, Scales, ScalesBoth, Attributes}
+use Rattle.cw_model.specs.ExamplePrograms.{f, i, n, p, r, t, v, main, number, minus, int_param, int_function, void_function, of_functions, block, give, call, call_into, spawn, main_of, alone, first_program, fib_program, greatest_program, idle_and, once_in_every_block}
 
 -- a region in a recursion
 abbrev pub nested_region_program : Program
@@ -74,6 +75,15 @@ pub record RowExamples : Type 0 where
       Scales two_executions_program [] 10 (codes ",14,12,1.166,32,0.437" ∷ codes "t,8,6,1.333,26,0.307" ∷ [])
   -- the longer side is the child, with a burden for each of its rests: 1 + (1 + 10 + 2 + 10 + 1 beside 10 + 1) + 1
   pub burdens_of_a_child : Scales spawning_child_program [] 10 (codes ",9,8,1.125,26,0.346" ∷ [])
+  -- each child is charged, too, so that a path runs through each: 1 + (10 + 1 + 11 + 2 + 11 + 1 beside 10 + 1) + 1
+  pub burdens_of_both_edges : ScalesBoth spawning_child_program [] 10 (codes ",9,8,1.125,38,0.236" ∷ [])
+  pub return_edges_of_a_recursion : ScalesBoth fib_program (4 ∷ []) 100 (codes ",120,67,1.791,367,0.326" ∷ [])
+  pub return_edges_in_a_region :
+      ScalesBoth (of_functions (
+      void_function p (int_param v ∷ []) (block (Print (Variable v) ∷ []))
+      ∷ main_of (Region r (block (spawn 1 p (number 1 ∷ []) ∷ Print (number 2) ∷ [])) ∷ give (number 0) ∷ []) ∷ [])) [] 10
+      (codes ",11,9,1.222,19,0.578" ∷ codes "r,7,5,1.400,15,0.466" ∷ [])
+  pub rows_of_a_greatest : Scales (greatest_program 0 4) [] 0 (codes ",122,74,1.648,74,1.648" ∷ [])
   pub two_tags :
       Scales two_tags_program [] 0
       (codes ",10,10,1.000,10,1.000" ∷ codes "t,6,6,1.000,6,1.000" ∷ codes "r,2,2,1.000,2,1.000" ∷ [])
@@ -103,12 +113,12 @@ pub record RowExamples : Type 0 where
 
 -- whole texts
 pub record TextExamples : Type 0 where
-  pub check : report_text Check first_program 0 OverLimit ≡ codes "ok" ++ 10 ∷ []
-  pub run : report_text Run first_program 0 (serial first_program [] USUAL_LIMIT) ≡ codes "return 1" ++ 10 ∷ []
-  pub scale : report_text Scale first_program 0 (serial first_program [] USUAL_LIMIT)
+  pub check : report_text Check first_program no_burden OverLimit ≡ codes "ok" ++ 10 ∷ []
+  pub run : report_text Run first_program no_burden (serial first_program [] USUAL_LIMIT) ≡ codes "return 1" ++ 10 ∷ []
+  pub scale : report_text Scale first_program no_burden (serial first_program [] USUAL_LIMIT)
       ≡ codes "tag,work,span,parallelism,burdened_span,burdened_parallelism"
       ++ 10 ∷ (codes ",9,9,1.000,9,1.000" ++ 10 ∷ [])
-  pub sites : report_text Sites first_program 0 (serial first_program [] USUAL_LIMIT)
+  pub sites : report_text Sites first_program no_burden (serial first_program [] USUAL_LIMIT)
       ≡ codes "site,kind,line,callee,calls,own_work,own_span,work,span"
       ++ 10 ∷ (codes "0,root,1,main,1,7,7,9,9" ++ 10 ∷ (codes "1,spawn,1,f,1,2,2,2,2" ++ 10 ∷ []))
   pub plain_fields : csv_line (codes "a" ∷ [] ∷ codes "b_1" ∷ []) ≡ codes "a,,b_1" ++ 10 ∷ []

@@ -3,7 +3,8 @@ use Rattle.std.specs.Prelude.{◌≡◌, ℕ, zero, suc, List, [], ◌∷◌, �
 use Rattle.cw_model.specs.declared.token.Kind.TheVariants as kind
 use Rattle.cw_model.specs.declared.syntax.CallKind.TheVariants.{Spawned}
 use Rattle.cw_model.specs.declared.syntax.Operator.TheVariants.{Times}
-use Rattle.cw_model.specs.Syntax.{Expr, Variable, Element, Length, Negative, Not, Binary, Stmt, Declare, DeclareArray, Assign, AssignElement, AddTo, Start, Begin, Sync, If, IfElse, While, For, Scope, Cut, Region, Print, Return, Block, End, Then, Program}
+use Rattle.cw_model.specs.declared.syntax.Reduction.TheVariants.{Sum}
+use Rattle.cw_model.specs.Syntax.{Expr, Variable, Element, Length, Negative, Not, Binary, Stmt, Declare, DeclareArray, Assign, AssignElement, Reduce, Start, Begin, Sync, If, IfElse, While, For, Scope, Cut, Region, Print, Return, Block, End, Then, Program}
 use Rattle.cw_model.specs.Captured.{captured}
 use Rattle.cw_model.specs.Sites.{sites_in_block}
 use Rattle.cw_model.specs.Sizes.{token_faults, declaring_lines_in, regions_in_block, loops_in_block, limit_faults, static_size, block_size, program_faults}
@@ -72,9 +73,9 @@ pub record DeclarationSizeExamples : Type 0 where
   pub most_functions : limit_faults (of_functions (replicate 1024 (int_function f 7 [] End))) ≡ []
   pub functions : limit_faults (of_functions (replicate 1025 (int_function f 7 [] End))) ≡ 7 ∷ []
   pub most_reducers :
-      limit_faults (record { reducers = replicate 32 (record { name = s; line = 7 }); functions = [] }) ≡ []
+      limit_faults (record { reducers = replicate 32 (record { name = s; how = Sum; line = 7 }); functions = [] }) ≡ []
   pub reducers :
-      limit_faults (record { reducers = replicate 33 (record { name = s; line = 7 }); functions = [] }) ≡ 7 ∷ []
+      limit_faults (record { reducers = replicate 33 (record { name = s; how = Sum; line = 7 }); functions = [] }) ≡ 7 ∷ []
   pub most_tags : limit_faults (of_functions (int_function f 1 [] (tagged 64 1 End) ∷ [])) ≡ []
   pub tags : limit_faults (of_functions (int_function f 1 [] (tagged 65 1 End) ∷ [])) ≡ 65 ∷ []
   -- tags of all functions are counted together
@@ -114,7 +115,7 @@ pub record InstructionSizeExamples : Type 0 where
   pub declaration : Takes (Declare x (Variable y)) 2
   pub new_array : Takes (DeclareArray x (Length b)) 2
   pub assignment : Takes (Assign x (Negative (number 1))) 3
-  pub addition : Takes (AddTo s (Not (number 1))) 3
+  pub addition : Takes (Reduce Sum s (Not (number 1))) 3
   pub operator : Takes (Print (Binary Times (number 1) (number 2))) 4
   pub element : Takes (Print (Element b (number 0))) 3
   pub element_written : Takes (AssignElement b (number 0) (number 1)) 3
@@ -135,12 +136,12 @@ pub record InstructionSizeExamples : Type 0 where
       53
   pub loop_of_two_captured :
       Takes (For i i i (number 0) (number 1) 64 []
-      (block (AddTo s (plus (Variable x) (plus (Variable i) (Variable y))) ∷ []))) 50
+      (block (Reduce Sum s (plus (Variable x) (plus (Variable i) (Variable y))) ∷ []))) 50
   pub shifted_print : Takes (Print shifted) 5
   pub shifted_declaration : Takes (Declare x shifted) 5
   pub shifted_new_array : Takes (DeclareArray x shifted) 5
   pub shifted_assignment : Takes (Assign x (Negative shifted)) 6
-  pub shifted_addition : Takes (AddTo s (Not shifted)) 6
+  pub shifted_addition : Takes (Reduce Sum s (Not shifted)) 6
   pub shifted_operands : Takes (Print (plus shifted shifted)) 10
   pub shifted_index : Takes (Print (Element b shifted)) 6
   pub shifted_target : Takes (AssignElement a (Variable i) (number 1)) 5

@@ -3,7 +3,8 @@ use Rattle.std.specs.Prelude.{◌≡◌, ℕ, zero, suc, pos, List, [], ◌∷�
 use Rattle.cw_model.specs.declared.trap.Trap.TheVariants as trap
 use Rattle.cw_model.specs.declared.syntax.CallKind.TheVariants.{Plain, Spawned}
 use Rattle.cw_model.specs.declared.syntax.Operator.TheVariants.{Equal, Less, AtMost, Times, Divide}
-use Rattle.cw_model.specs.Syntax.{Variable, Element, Length, Negative, Not, Binary, Stmt, Declare, DeclareArray, Assign, AssignElement, AddTo, Start, Begin, Sync, If, IfElse, While, For, Scope, Cut, Region, Print, Return, Block, End, Then, Function, Program}
+use Rattle.cw_model.specs.declared.syntax.Reduction.TheVariants.{Sum, Max}
+use Rattle.cw_model.specs.Syntax.{Variable, Element, Length, Negative, Not, Binary, Stmt, Declare, DeclareArray, Assign, AssignElement, Reduce, Start, Begin, Sync, If, IfElse, While, For, Scope, Cut, Region, Print, Return, Block, End, Then, Function, Program}
 use Rattle.cw_model.specs.Captured.{captured}
 use Rattle.cw_model.specs.Trees.{Tree, Leaf, Seq, Par}
 use Rattle.cw_model.specs.Loops.{loop_tree, inner_nodes, loop_cost}
@@ -13,7 +14,7 @@ use Rattle.cw_model.specs.Meaning.{Returned, Deeper}
 use Rattle.cw_model.specs.Meaning as meaning
 use Rattle.cw_model.specs.Answers.{TrappedAt}
 use Rattle.cw_model.specs.Examples.{serial, Writes, Scales, Attributes, TrapsAt, IsOver, Costs}
-use Rattle.cw_model.specs.ExamplePrograms.{a, b, f, g, h, i, j, l, n, p, r, s, t, v, x, y, z, main, number, plus, minus, int_param, array_param, int_function, void_function, of_functions, on_line, block, give, call, call_into, spawn, spawn_into, main_of, alone, with_sum, least, in_every_block}
+use Rattle.cw_model.specs.ExamplePrograms.{a, b, f, g, h, i, j, l, n, p, r, s, t, v, x, y, z, main, number, plus, minus, int_param, array_param, int_function, void_function, of_functions, on_line, block, give, call, call_into, spawn, spawn_into, main_of, alone, with_sum, with_greatest, greatest_program, least, in_every_block}
 
 -- a declaration in a line, and its value printed
 abbrev pub declared_and_printed : ℕ → Block
@@ -99,14 +100,30 @@ pub record EffectExamples : Type 0 where
       [] 17 (codes "9" ∷ codes "return 3" ∷ [])
   pub sums_of_two_reducers :
       Writes (record {
-        reducers = (record { name = s; line = 1 }) ∷ (record { name = t; line = 1 }) ∷ [];
+        reducers = (record { name = s; how = Sum; line = 1 }) ∷ (record { name = t; how = Sum; line = 1 }) ∷ [];
         functions = main_of
-            (AddTo t (number 1) ∷ AddTo s (number 2) ∷ AddTo t (number 3) ∷ give (number 0) ∷ []) ∷ [];
+            (Reduce Sum t (number 1) ∷ Reduce Sum s (number 2) ∷ Reduce Sum t (number 3) ∷ give (number 0) ∷ []) ∷ [];
       })
       [] 1000
       (codes "sum s = 2" ∷ codes "sum t = 4" ∷ codes "return 0" ∷ [])
+  pub greatest : Costs (greatest_program 0 4) [] 122 (codes "max s = 2" ∷ codes "return 0" ∷ [])
+  pub greatest_of_nothing : Writes (greatest_program 5 3) [] 1000 (codes "max s = none" ∷ codes "return 0" ∷ [])
+  pub greatest_below_zero :
+      Writes (with_greatest (main_of
+      (Reduce Max s (Negative (number 5)) ∷ Reduce Max s (Negative (number 3)) ∷ Reduce Max s (Negative (number 4))
+      ∷ give (number 0) ∷ []) ∷ [])) [] 1000
+      (codes "max s = -3" ∷ codes "return 0" ∷ [])
+  pub totals_of_both_kinds :
+      Writes (record {
+        reducers = (record { name = s; how = Max; line = 1 }) ∷ (record { name = t; how = Sum; line = 1 }) ∷ [];
+        functions = main_of
+            (Reduce Sum t (number 1) ∷ Reduce Max s (number 2) ∷ Reduce Sum t (number 3) ∷ Reduce Max s (number 1)
+            ∷ give (number 0) ∷ []) ∷ [];
+      })
+      [] 1000
+      (codes "max s = 2" ∷ codes "sum t = 4" ∷ codes "return 0" ∷ [])
   pub sums_after_printed_lines :
-      Writes (with_sum (main_of (Print (number 1) ∷ AddTo s (number 2) ∷ Print (number 3) ∷ give (number 0) ∷ []) ∷ []))
+      Writes (with_sum (main_of (Print (number 1) ∷ Reduce Sum s (number 2) ∷ Print (number 3) ∷ give (number 0) ∷ []) ∷ []))
       [] 1000
       (codes "1" ∷ codes "3" ∷ codes "sum s = 2" ∷ codes "return 0" ∷ [])
   pub arguments_of_main :
@@ -157,7 +174,7 @@ pub record CostExamples : Type 0 where
       Costs (alone (Declare x (number 0) ∷ Assign x (number 5) ∷ give (Variable x) ∷ [])) [] 6 (codes "return 5" ∷ [])
   pub new_array : Costs (alone (DeclareArray a (number 1) ∷ give (number 0) ∷ [])) [] 4 (codes "return 0" ∷ [])
   pub addition :
-      Costs (with_sum (main_of (AddTo s (number 5) ∷ give (number 0) ∷ []) ∷ [])) [] 4
+      Costs (with_sum (main_of (Reduce Sum s (number 5) ∷ give (number 0) ∷ []) ∷ [])) [] 4
       (codes "sum s = 5" ∷ codes "return 0" ∷ [])
   pub test_that_fails :
       Costs (alone (If (number 0) (block (Print (number 1) ∷ [])) ∷ give (number 0) ∷ [])) [] 4 (codes "return 0" ∷ [])
@@ -299,7 +316,7 @@ abbrev pub capture_program : (grain : ℕ) → Program
 capture_program grain = with_sum (main_of (
     Declare a (number 2) ∷ Declare b (number 3)
     ∷ For i i i (number 0) (number 2) grain []
-    (block (AddTo s (plus (Binary Times (Variable a) (Variable i)) (Variable b)) ∷ []))
+    (block (Reduce Sum s (plus (Binary Times (Variable a) (Variable i)) (Variable b)) ∷ []))
     ∷ give (number 0) ∷ []) ∷ [])
 
 -- a loop of one turn whose body is a loop with an outer integer as its bound
@@ -424,7 +441,7 @@ pub record CaptureExamples : Type 0 where
   pub no_name : captured i (block (Print (number 1) ∷ Sync ∷ Return None ∷ [])) ≡ []
   pub no_array : captured i (block (Print (Length a) ∷ AssignElement a (number 0) (Element b (number 0)) ∷ [])) ≡ []
   pub no_variable : captured i (block (Print (Variable i) ∷ [])) ≡ []
-  pub no_target : captured i (block (Assign y (number 0) ∷ call_into y 1 f [] ∷ AddTo s (number 0) ∷ [])) ≡ []
+  pub no_target : captured i (block (Assign y (number 0) ∷ call_into y 1 f [] ∷ Reduce Sum s (number 0) ∷ [])) ≡ []
   pub own_integer : captured i (block (Declare x (number 0) ∷ Print (Variable x) ∷ [])) ≡ []
   pub own_array : captured i (block (DeclareArray z (number 1) ∷ call 1 g (Variable z ∷ []) ∷ [])) ≡ []
   pub own_variable :
@@ -445,7 +462,7 @@ pub record CaptureExamples : Type 0 where
   pub assigned : CapturesX (Assign y (Variable x))
   pub index_written : CapturesX (AssignElement b (Variable x) (number 0))
   pub value_of_an_element : CapturesX (AssignElement b (number 0) (Variable x))
-  pub added : CapturesX (AddTo s (Variable x))
+  pub added : CapturesX (Reduce Sum s (Variable x))
   pub second_argument : CapturesX (call 1 f (number 0 ∷ Variable x ∷ []))
   pub test_of_if : CapturesX (If (Variable x) End)
   pub test_of_if_else : CapturesX (IfElse (Variable x) End End)

@@ -1,9 +1,10 @@
 -- Worked examples of names and types: programs that break one rule each, and some that keep it narrowly.
 use Rattle.std.specs.Prelude.{false, [], ◌∷◌, None}
 use Rattle.cw_model.specs.declared.syntax.CallKind.TheVariants.{Plain}
-use Rattle.cw_model.specs.Syntax.{Variable, Element, Length, Negative, Not, Stmt, Declare, DeclareArray, Assign, AssignElement, AddTo, Start, Begin, If, IfElse, While, For, Scope, Cut, Print, Return, Block, End, Then, Function, Program}
+use Rattle.cw_model.specs.declared.syntax.Reduction.TheVariants.{Sum, Max}
+use Rattle.cw_model.specs.Syntax.{Variable, Element, Length, Negative, Not, Stmt, Declare, DeclareArray, Assign, AssignElement, Reduce, Start, Begin, If, IfElse, While, For, Scope, Cut, Print, Return, Block, End, Then, Function, Program}
 use Rattle.cw_model.specs.Examples.{IsAccepted, BreaksTypes}
-use Rattle.cw_model.specs.ExamplePrograms.{a, b, f, g, h, i, l, q, r, s, t, v, x, y, main, number, plus, int_param, array_param, int_function, void_function, of_functions, on_line, block, give, call, call_into, main_of, alone, same_function, with_sum, once_in_every_block}
+use Rattle.cw_model.specs.ExamplePrograms.{a, b, f, g, h, i, l, q, r, s, t, v, x, y, main, number, plus, int_param, array_param, int_function, void_function, of_functions, on_line, block, give, call, call_into, main_of, alone, same_function, with_sum, with_greatest, once_in_every_block}
 
 -- int f(int v) { return v; } void g(int a[]) { } void h() { } int q(int v, int b[]) { return v; } before main
 abbrev pub with_callees : Function → Program
@@ -62,12 +63,18 @@ pub record WriteTypeExamples : Type 0 where
   pub element_of_an_integer_written : IsMistyped (AssignElement x (number 0) (number 1))
   pub unknown_index_written : IsMistyped (AssignElement a (Variable y) (number 1))
   pub unknown_value_of_an_element : IsMistyped (AssignElement a (number 0) (Variable y))
-  pub sum_of_a_variable : IsMistyped (AddTo x (number 1))
-  pub sum_of_a_function : IsMistyped (AddTo f (number 1))
-  pub unknown_addition : IsMistyped (AddTo s (Variable y))
+  pub sum_of_a_variable : IsMistyped (Reduce Sum x (number 1))
+  pub greatest_of_a_variable : IsMistyped (Reduce Max x (number 1))
+  pub greatest_of_a_sum : IsMistyped (Reduce Max s (number 1))
+  pub sum_of_a_greatest :
+      BreaksTypes (with_greatest (main_of (Reduce Sum s (number 1) ∷ give (number 0) ∷ []) ∷ [])) (1 ∷ [])
+  pub greatest_of_a_greatest :
+      BreaksTypes (with_greatest (main_of (Reduce Max s (number 1) ∷ give (number 0) ∷ []) ∷ [])) []
+  pub sum_of_a_function : IsMistyped (Reduce Sum f (number 1))
+  pub unknown_addition : IsMistyped (Reduce Sum s (Variable y))
   pub every_write :
       IsFine (Scope
-      (on_line 4 (Assign x (number 1) ∷ AssignElement a (Variable x) (Length a) ∷ AddTo s (Variable x) ∷ [])))
+      (on_line 4 (Assign x (number 1) ∷ AssignElement a (Variable x) (Length a) ∷ Reduce Sum s (Variable x) ∷ [])))
 
 -- calls
 pub record CallTypeExamples : Type 0 where
@@ -211,35 +218,35 @@ pub record GlobalTypeExamples : Type 0 where
       (2 ∷ 4 ∷ [])
   pub two_reducers_of_one_name :
       BreaksTypes (record {
-        reducers = (record { name = s; line = 1 }) ∷ (record { name = t; line = 2 })
-            ∷ (record { name = s; line = 3 }) ∷ [];
+        reducers = (record { name = s; how = Sum; line = 1 }) ∷ (record { name = t; how = Sum; line = 2 })
+            ∷ (record { name = s; how = Sum; line = 3 }) ∷ [];
         functions = main_of (give (number 0) ∷ []) ∷ [];
       })
       (3 ∷ [])
   -- of a function and a reducer of one name the later breaks the rule
   pub function_before_its_reducer :
       BreaksTypes (record {
-        reducers = (record { name = f; line = 3 }) ∷ [];
+        reducers = (record { name = f; how = Sum; line = 3 }) ∷ [];
         functions = int_function f 2 [] (block (give (number 0) ∷ [])) ∷ main_of (give (number 0) ∷ [])
             ∷ [];
       })
       (3 ∷ [])
   pub reducer_before_its_function :
       BreaksTypes (record {
-        reducers = (record { name = main; line = 1 }) ∷ [];
+        reducers = (record { name = main; how = Sum; line = 1 }) ∷ [];
         functions = int_function main 2 [] (block (give (number 0) ∷ [])) ∷ [];
       })
       (2 ∷ [])
   pub reducer_of_the_second_name :
       BreaksTypes (record {
-        reducers = (record { name = main; line = 9 }) ∷ [];
+        reducers = (record { name = main; how = Sum; line = 9 }) ∷ [];
         functions = int_function f 2 [] (block (give (number 0) ∷ [])) ∷ main_of (give (number 0) ∷ [])
             ∷ [];
       })
       (9 ∷ [])
   pub reducer_for_main :
       BreaksTypes (record {
-        reducers = (record { name = main; line = 3 }) ∷ [];
+        reducers = (record { name = main; how = Sum; line = 3 }) ∷ [];
         functions = int_function f 2 [] (block (give (number 0) ∷ [])) ∷ [];
       })
       (1 ∷ [])

@@ -4,7 +4,8 @@ use Rattle.cw_model.specs.declared.trap.Trap.{Trap}
 use Rattle.cw_model.specs.declared.trap.Trap.TheVariants as trap
 use Rattle.cw_model.specs.declared.syntax.Operator.{Operator}
 use Rattle.cw_model.specs.declared.syntax.Operator.TheVariants.{Equal, Unequal, Less, AtMost, Greater, AtLeast, Plus, Minus, Times, Divide, Modulo}
-use Rattle.cw_model.specs.Syntax.{Expr, Variable, Element, Length, Negative, Not, Binary, Stmt, Declare, DeclareArray, AssignElement, AddTo, If, IfElse, While, For, Cut, Region, Print, End, Then, Program}
+use Rattle.cw_model.specs.declared.syntax.Reduction.TheVariants.{Sum}
+use Rattle.cw_model.specs.Syntax.{Expr, Variable, Element, Length, Negative, Not, Binary, Stmt, Declare, DeclareArray, AssignElement, Reduce, If, IfElse, While, For, Cut, Region, Print, End, Then, Program}
 use Rattle.cw_model.specs.Ints.{Value, trap_number, natural}
 use Rattle.cw_model.specs.Meaning.{new_length}
 use Rattle.cw_model.specs.Examples.{TrapsAt, IsOver, Costs}
@@ -93,7 +94,7 @@ pub record TrapExamples : Type 0 where
   pub initializer : TrapsWithin (Declare x (of_two Divide 1 0)) 5 trap.DivisionByZero 2
   pub length_below_0 : TrapsWithin (DeclareArray b (below_0 1)) 5 trap.BadLength 2
   pub length_too_great : TrapsWithin (DeclareArray b (number 16777217)) 4 trap.BadLength 2
-  pub addition : TrapsWithin (AddTo s (of_two Divide 1 0)) 5 trap.DivisionByZero 2
+  pub addition : TrapsWithin (Reduce Sum s (of_two Divide 1 0)) 5 trap.DivisionByZero 2
   pub argument : TrapsWithin (call 1 f (of_two Divide 1 0 ∷ [])) 5 trap.DivisionByZero 2
   pub result : TrapsWithin (give (of_two Divide 1 0)) 5 trap.DivisionByZero 2
   pub test_of_if : TrapsWithin (If (of_two Divide 1 0) (on_line 4 (Print (number 1) ∷ []))) 5 trap.DivisionByZero 2

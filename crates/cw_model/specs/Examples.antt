@@ -7,6 +7,8 @@ use Rattle.cw_model.specs.declared.token.Token.{Token}
 use Rattle.cw_model.specs.declared.token.Kind.{Kind}
 use Rattle.cw_model.specs.declared.token.Kind.TheVariants as kind
 use Rattle.cw_model.specs.declared.syntax.Operator.TheVariants.{Divide, Modulo}
+use Rattle.cw_model.specs.declared.total.Total.{Total}
+use Rattle.cw_model.specs.Burdens.{no_burden, on_spawns, on_both}
 use Rattle.cw_model.specs.Syntax.{Negative, Declare, Sync, Scope, If, Region, For, End, Program}
 use Rattle.cw_model.specs.Lines.{lowest}
 use Rattle.cw_model.specs.Trees.{Leaf, Seq, Par, Marked, Invocation, work}
@@ -31,17 +33,22 @@ serial program args limit = serial_answer program (naturals args) limit
 
 -- a run writes these lines
 abbrev pub Writes : Program → (args : List ℕ) → (limit : ℕ) → List (List ℕ) → Type 0
-Writes program args limit texts = report_text Run program USUAL_BURDEN (serial program args limit) ≡ lines texts
+Writes program args limit texts = report_text Run program (on_spawns USUAL_BURDEN) (serial program args limit) ≡ lines texts
 
 -- the scale report has these rows
 abbrev pub Scales : Program → (args : List ℕ) → (burden : ℕ) → List (List ℕ) → Type 0
 Scales program args burden rows =
-    report_text Scale program burden (serial program args USUAL_LIMIT) ≡ scale_header ++ lines rows
+    report_text Scale program (on_spawns burden) (serial program args USUAL_LIMIT) ≡ scale_header ++ lines rows
+
+-- the same where return edges are charged, too
+abbrev pub ScalesBoth : Program → (args : List ℕ) → (burden : ℕ) → List (List ℕ) → Type 0
+ScalesBoth program args burden rows =
+    report_text Scale program (on_both burden) (serial program args USUAL_LIMIT) ≡ scale_header ++ lines rows
 
 -- the sites report has these rows
 abbrev pub Attributes : Program → (args : List ℕ) → List (List ℕ) → Type 0
 Attributes program args rows =
-    report_text Sites program USUAL_BURDEN (serial program args USUAL_LIMIT) ≡ sites_header ++ lines rows
+    report_text Sites program (on_spawns USUAL_BURDEN) (serial program args USUAL_LIMIT) ≡ sites_header ++ lines rows
 
 -- it traps, having printed nothing
 abbrev pub TrapsAt : Program → (args : List ℕ) → (limit : ℕ) → Trap → (line : ℕ) → Type 0
@@ -107,9 +114,9 @@ pub record CallExamples : Type 0 where
   pub division_by_0_after_print : serial example.division_after_print (0 ∷ []) USUAL_LIMIT
       ≡ TrappedAt trap.DivisionByZero 1 (pos 1 ∷ [])
   pub division_by_0_after_print_shows : Writes example.division_after_print (0 ∷ []) USUAL_LIMIT (codes "1" ∷ [])
-  pub over_shows_no_line : report_text Run example.fib_program 0 (serial example.fib_program (4 ∷ []) 119) ≡ []
-  pub over_shows_no_scale : report_text Scale example.fib_program 0 (serial example.fib_program (4 ∷ []) 119) ≡ []
-  pub over_shows_no_site : report_text Sites example.fib_program 0 (serial example.fib_program (4 ∷ []) 119) ≡ []
+  pub over_shows_no_line : report_text Run example.fib_program no_burden (serial example.fib_program (4 ∷ []) 119) ≡ []
+  pub over_shows_no_scale : report_text Scale example.fib_program no_burden (serial example.fib_program (4 ∷ []) 119) ≡ []
+  pub over_shows_no_site : report_text Sites example.fib_program no_burden (serial example.fib_program (4 ∷ []) 119) ≡ []
   pub prints : Writes example.print_program [] USUAL_LIMIT (codes "1" ∷ codes "2" ∷ codes "3" ∷ codes "return 0" ∷ [])
   pub prints_scale : Scales example.print_program [] 0 (codes ",15,10,1.500,10,1.500" ∷ [])
   pub large_sum : Writes example.large_sum_program [] USUAL_LIMIT
@@ -143,11 +150,11 @@ pub record CallExamples : Type 0 where
       (codes ",11,9,1.222,18,0.611" ∷ codes "r,7,5,1.400,14,0.500" ∷ [])
   -- of a child and a rest of one span the child is chosen
   pub tie : Attributes example.tie_program [] (codes "0,root,1,main,1,6,4,8,6" ∷ codes "1,spawn,1,f,1,2,2,2,2" ∷ [])
-  pub accepted : report_text Check example.first_program 0 OverLimit ≡ lines (codes "ok" ∷ [])
+  pub accepted : report_text Check example.first_program no_burden OverLimit ≡ lines (codes "ok" ∷ [])
   -- an accepted report of the scale or the sites shows nothing of a trap
-  pub trap_scale : report_text Scale example.division_program 0 (serial example.division_program (0 ∷ []) USUAL_LIMIT)
+  pub trap_scale : report_text Scale example.division_program no_burden (serial example.division_program (0 ∷ []) USUAL_LIMIT)
       ≡ []
-  pub trap_sites : report_text Sites example.division_program 0 (serial example.division_program (0 ∷ []) USUAL_LIMIT)
+  pub trap_sites : report_text Sites example.division_program no_burden (serial example.division_program (0 ∷ []) USUAL_LIMIT)
       ≡ []
 
 -- arrays, cuts and loops
@@ -288,7 +295,7 @@ pub record LimitExamples : Type 0 where
 -- strand trees
 pub record TreeExamples : Type 0 where
   -- three prints, of which two are spawned
-  pub prints : (value : ℤ) × (printed sums : List ℤ) × (serial example.print_program [] USUAL_LIMIT ≡ Ended value printed sums
+  pub prints : (value : ℤ) × (printed : List ℤ) × (totals : List Total) × (serial example.print_program [] USUAL_LIMIT ≡ Ended value printed totals
       (Marked (Invocation 0) (Seq (Leaf 2) (Seq (Par (Marked (Invocation 1) (Leaf 3)) (Seq (Leaf 2) (Par (Marked (Invocation 2) (Leaf 3)) (Leaf 2)))) (Leaf 3)))))
   -- a plain call stands where it was made
   pub call_between : serial

@@ -11,6 +11,8 @@ use Rattle.cw_model.specs.Syntax as tree
 use Rattle.cw_model.specs.declared.syntax.Operator.{Operator}
 use Rattle.cw_model.specs.declared.syntax.Operator.TheVariants as operator
 use Rattle.cw_model.specs.declared.syntax.CallKind.TheVariants.{Plain, Spawned}
+use Rattle.cw_model.specs.declared.syntax.Reduction.{Reduction}
+use Rattle.cw_model.specs.declared.syntax.Reduction.TheVariants.{Sum, Max}
 use Rattle.cw_model.specs.Syntax.{Name, Expr, Stmt, Block, Param, Function, Reducer, Program}
 
 -- the text of a token
@@ -168,7 +170,10 @@ pub data ReadsNamed (text : List ℕ) : ℕ → Kind → Token → List Token �
       ReadsNamed text n kind.LeftBracket t ts (tree.AssignElement (name_of text t) i e) n rest
   add : {n : ℕ} {t u : Token} {ts rest : List Token} {e : Expr} →
       ReadsWhole text ts e (u ∷ rest) → u.kind ≡ kind.Semicolon
-      → ReadsNamed text n kind.AddAssign t ts (tree.AddTo (name_of text t) e) n rest
+      → ReadsNamed text n kind.AddAssign t ts (tree.Reduce Sum (name_of text t) e) n rest
+  raise : {n : ℕ} {t u v : Token} {ts rest : List Token} {e : Expr} →
+      u.kind ≡ kind.Assign → ReadsWhole text ts e (v ∷ rest) → v.kind ≡ kind.Semicolon
+      → ReadsNamed text n kind.Max t (u ∷ ts) (tree.Reduce Max (name_of text t) e) n rest
   call : {n : ℕ} {t u : Token} {ts rest : List Token} {es : List Expr} →
       ReadsArguments text ts es (u ∷ rest) → u.kind ≡ kind.Semicolon →
       ReadsNamed text n kind.LeftParen t ts (tree.Call Plain n None (name_of text t) es) (suc n) rest
@@ -289,13 +294,19 @@ pub data ReadsFunction (text : List ℕ) : ℕ → List Token → Function → �
       ReadsFunction text n (t ∷ f ∷ u ∷ ts)
       (record { name = name_of text f; line = f.line; gives_int = gives; params = ps; body = b }) m rest
 
+-- how a reducer reduces, by the word in its declaration
+abbrev pub reduction_of : Kind → Option Reduction
+reduction_of kind.Sum = Some Sum
+reduction_of kind.Max = Some Max
+reduction_of _ = None
+
 -- items up to the end of the source: its reducers and its functions, each in their order
 pub data ReadsItems (text : List ℕ) : ℕ → List Token → List Reducer → List Function → Type 0 where
   no_item : {n : ℕ} → ReadsItems text n [] [] []
-  one_reducer : {n : ℕ} {t u s v : Token} {ts : List Token} {rs : List Reducer} {fs : List Function} →
-      t.kind ≡ kind.Reducer → u.kind ≡ kind.Sum → s.kind ≡ kind.Name → v.kind ≡ kind.Semicolon
+  one_reducer : {n : ℕ} {t u s v : Token} {how : Reduction} {ts : List Token} {rs : List Reducer} {fs : List Function} →
+      t.kind ≡ kind.Reducer → reduction_of u.kind ≡ Some how → s.kind ≡ kind.Name → v.kind ≡ kind.Semicolon
       → ReadsItems text n ts rs fs →
-      ReadsItems text n (t ∷ u ∷ s ∷ v ∷ ts) (record { name = name_of text s; line = t.line } ∷ rs) fs
+      ReadsItems text n (t ∷ u ∷ s ∷ v ∷ ts) (record { name = name_of text s; how = how; line = t.line } ∷ rs) fs
   one_function : {n m : ℕ} {ts us : List Token} {f : Function} {rs : List Reducer} {fs : List Function} →
       ReadsFunction text n ts f m us → ReadsItems text m us rs fs → ReadsItems text n ts rs (f ∷ fs)
 

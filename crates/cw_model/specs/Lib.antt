@@ -9,6 +9,7 @@ pub mod Ints
 pub mod Frames
 pub mod Expressions
 pub mod Captured
+pub mod Burdens
 pub mod Trees
 pub mod Dag
 pub mod Outcome

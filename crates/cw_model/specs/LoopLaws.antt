@@ -54,7 +54,7 @@ lines_of turns = flat_map (λ turn. turn.trace.lines) turns
 
 -- what turns added to reducers, in order
 abbrev pub additions_of : List Turn → List (Name × ℤ)
-additions_of turns = flat_map (λ turn. turn.trace.additions) turns
+additions_of turns = flat_map (λ turn. turn.trace.updates) turns
 
 -- the tree of each turn
 abbrev pub trees_of : List Turn → List Tree
@@ -68,7 +68,7 @@ pub record RunsAsPlain (inner : ℤ → Frame → Piece Frame) (grain k q n : �
   pub as_many : length turns ≡ n
   pub in_order : TurnsLead inner from frame turns frame'
   pub same_lines : t.lines ≡ lines_of turns
-  pub same_additions : t.additions ≡ additions_of turns
+  pub same_additions : t.updates ≡ additions_of turns
   pub cost : left ≡ left' + loop_cost grain k q n + spent turns
   pub tree : normal (tree_of t.events) ≡ normal (loop_tree (suc n) grain k q (trees_of turns))
 

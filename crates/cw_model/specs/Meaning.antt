@@ -5,7 +5,7 @@ use Rattle.cw_model.specs.declared.limits.TheConstants.{MOST_ELEMENTS, MOST_DEPT
 use Rattle.cw_model.specs.Ints.{Result, Value, Fails, is_zero, natural}
 use Rattle.cw_model.specs.declared.syntax.CallKind.{CallKind}
 use Rattle.cw_model.specs.declared.syntax.CallKind.TheVariants.{Plain, Spawned}
-use Rattle.cw_model.specs.Syntax.{Name, Expr, Variable, Stmt, Declare, DeclareArray, Assign, AssignElement, AddTo, Call, Start, Begin, Sync, If, IfElse, While, For, Scope, Cut, Region, Print, Return, Block, End, Then, Param, Function}
+use Rattle.cw_model.specs.Syntax.{Name, Expr, Variable, Stmt, Declare, DeclareArray, Assign, AssignElement, Reduce, Call, Start, Begin, Sync, If, IfElse, While, For, Scope, Cut, Region, Print, Return, Block, End, Then, Param, Function}
 use Rattle.cw_model.specs.Names.{same_name}
 use Rattle.cw_model.specs.Captured.{captured}
 use Rattle.cw_model.specs.Frames.{Frame, no_frame, int_of, array_of, set_int, set_array, new_int, new_array, inside_loop, leave, set_result}
@@ -165,10 +165,10 @@ abbrev mutual
     at ← pay_for (dearer (index_cost frame a) (evaluate i frame)) line
     v ← pay_for (and_then (evaluate e frame) (written (array_of frame a) at)) line
     going (set_array a (slice_set (array_of frame a) (natural at) v) frame)
-  run (AddTo s e) line fs calls frame = do
+  run (Reduce how s e) line fs calls frame = do
     v ← pay_for (evaluate e frame) line
     _ ← pay 1
-    _ ← show (record { lines = []; additions = (s, v) ∷ []; events = [] })
+    _ ← show (record { lines = []; updates = (s, v) ∷ []; events = [] })
     going frame
   run (Call kind site target callee es) line fs calls frame = do
     let f = function_named callee fs
@@ -247,7 +247,7 @@ abbrev mutual
   run (Print e) line fs calls frame = do
     v ← pay_for (evaluate e frame) line
     _ ← pay 1
-    _ ← show (record { lines = v ∷ []; additions = []; events = [] })
+    _ ← show (record { lines = v ∷ []; updates = []; events = [] })
     going frame
   run (Return None) line fs calls frame = do
     _ ← show (shows (Join ∷ []))

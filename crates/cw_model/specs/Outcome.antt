@@ -8,21 +8,21 @@ use Rattle.cw_model.specs.Expressions.{Evaluated, Gives, Traps}
 -- what a run shows: the values printed, the additions to reducers and the events
 pub record Trace : Type 0 where
   pub lines : List ℤ
-  pub additions : List (Name × ℤ)
+  pub updates : List (Name × ℤ)
   pub events : List Event
 
 -- nothing shown
 abbrev pub quiet : Trace
-quiet = record { lines = []; additions = []; events = [] }
+quiet = record { lines = []; updates = []; events = [] }
 
 -- these events alone
 abbrev pub shows : List Event → Trace
-shows events = record { lines = []; additions = []; events = events }
+shows events = record { lines = []; updates = []; events = events }
 
 -- one trace and then another
 abbrev pub joined : Trace → Trace → Trace
 joined t u =
-    record { lines = t.lines ++ u.lines; additions = t.additions ++ u.additions; events = t.events ++ u.events }
+    record { lines = t.lines ++ u.lines; updates = t.updates ++ u.updates; events = t.events ++ u.events }
 
 -- a piece is done, with what is left of the budget; or it trapped, in a line and with the values printed before;
 -- or its cost passed the budget
@@ -71,7 +71,7 @@ pay_for (Traps trap cost) line = λ left. if nat_lt left cost then Over else Tra
 -- the events of an outcome stand in its place as one event, made of their tree
 abbrev pub joined_up : {A : Type 0} → (Tree → Event) → Outcome A → Outcome A
 joined_up part (Done a left t) =
-    Done a left (record { lines = t.lines; additions = t.additions; events = part (tree_of t.events) ∷ [] })
+    Done a left (record { lines = t.lines; updates = t.updates; events = part (tree_of t.events) ∷ [] })
 joined_up part (Trapped trap line lines) = Trapped trap line lines
 joined_up part Over = Over
 

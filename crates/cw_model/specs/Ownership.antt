@@ -2,7 +2,7 @@
 use Rattle.std.specs.Prelude.{◌≡◌, ℕ, ◌+◌, ◌==◌, Bool, true, false, not, ◌&&◌, ◌||◌, if◌then◌else◌, List, [], ◌∷◌, ◌++◌, Option, Some, None, map, filter, flat_map, Contains}
 use Rattle.std.specs.List.{list_any, list_all}
 use Rattle.cw_model.specs.declared.syntax.CallKind.TheVariants.{Spawned}
-use Rattle.cw_model.specs.Syntax.{Name, Expr, Number, Variable, Element, Length, Negative, Not, Binary, Stmt, Declare, DeclareArray, Assign, AssignElement, AddTo, Call, Start, Begin, Sync, If, IfElse, While, For, Scope, Cut, Region, Print, Return, Block, End, Then, Param, Function, Program}
+use Rattle.cw_model.specs.Syntax.{Name, Expr, Number, Variable, Element, Length, Negative, Not, Binary, Stmt, Declare, DeclareArray, Assign, AssignElement, Reduce, Call, Start, Begin, Sync, If, IfElse, While, For, Scope, Cut, Region, Print, Return, Block, End, Then, Param, Function, Program}
 use Rattle.cw_model.specs.Names.{same_name, is_among, differ}
 use Rattle.cw_model.specs.Meaning.{function_named}
 use Rattle.cw_model.specs.Lines.{unless}
@@ -201,7 +201,7 @@ abbrev mutual
   owner_faults fs around known depth taken line (AssignElement a i e) =
       unless (may_read around taken i && may_read around taken e && are_free taken (a ∷ []) && may_index around a i)
       line
-  owner_faults fs around known depth taken line (AddTo s e) = unless (may_read around taken e) line
+  owner_faults fs around known depth taken line (Reduce how s e) = unless (may_read around taken e) line
   -- no array is passed twice
   owner_faults fs around known depth taken line (Call kind site target f es) =
       unless (list_all (λ e. may_read around taken e) es

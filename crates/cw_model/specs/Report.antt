@@ -1,7 +1,12 @@
 -- The texts that are reported, byte by byte.
-use Rattle.std.specs.Prelude.{ℕ, ◌+◌, ◌*◌, ◌/◌, ◌%◌, zero, suc, ◌==◌, ◌||◌, Bool, if◌then◌else◌, ℤ, List, [], ◌∷◌, ◌++◌, flat_map, codes, decimal}
+use Rattle.std.specs.Prelude.{ℕ, ◌+◌, ◌*◌, ◌/◌, ◌%◌, zero, suc, ◌==◌, ◌||◌, Bool, if◌then◌else◌, ℤ, List, [], ◌∷◌, ◌++◌, Option, Some, None, flat_map, codes, decimal}
 use Rattle.std.specs.List.{list_any}
 use Rattle.std.specs.Fmt.{signed_decimal}
+use Rattle.cw_model.specs.declared.burden.Burden.{Burden}
+use Rattle.cw_model.specs.declared.syntax.Reduction.{Reduction}
+use Rattle.cw_model.specs.declared.syntax.Reduction.TheVariants as reduction
+use Rattle.cw_model.specs.declared.total.Total.{Total}
+use Rattle.cw_model.specs.declared.total.Total.TheVariants as total
 use Rattle.cw_model.specs.declared.syntax.CallKind.TheVariants.{Plain, Spawned}
 use Rattle.cw_model.specs.Syntax.{Name, Stmt, If, IfElse, While, For, Scope, Cut, Region, Block, End, Then, Reducer, Program}
 use Rattle.cw_model.specs.Names.{new_names}
@@ -48,16 +53,28 @@ check_text = codes "ok" ++ end_of_line
 abbrev pub value_line : ℤ → List ℕ
 value_line v = signed_decimal v ++ end_of_line
 
--- the sum of each reducer on a line
-abbrev pub sum_lines : List Reducer → List ℤ → List ℕ
-sum_lines [] sums = []
-sum_lines (r ∷ rs) [] = []
-sum_lines (r ∷ rs) (v ∷ vs) = codes "sum " ++ (r.name ++ (codes " = " ++ (value_line v ++ sum_lines rs vs)))
+-- how a reducer reduces, as its declaration says it
+abbrev pub reduction_word : Reduction → List ℕ
+reduction_word reduction.Sum = codes "sum "
+reduction_word reduction.Max = codes "max "
 
--- of a plain run: the printed lines, the sums and the value; before a trap the printed lines alone
+-- a total on a line
+abbrev pub total_line : Total → List ℕ
+total_line (total.Sum v) = value_line v
+total_line (total.Max None) = codes "none" ++ end_of_line
+total_line (total.Max (Some v)) = value_line v
+
+-- the total of each reducer on a line
+abbrev pub total_lines : List Reducer → List Total → List ℕ
+total_lines [] totals = []
+total_lines (r ∷ rs) [] = []
+total_lines (r ∷ rs) (v ∷ vs) =
+    reduction_word r.how ++ (r.name ++ (codes " = " ++ (total_line v ++ total_lines rs vs)))
+
+-- of a plain run: the printed lines, the totals and the value; before a trap the printed lines alone
 abbrev pub run_text : Program → Answer → List ℕ
-run_text program (Ended v lines sums t) =
-    flat_map value_line lines ++ (sum_lines program.reducers sums ++ (codes "return " ++ value_line v))
+run_text program (Ended v lines totals t) =
+    flat_map value_line lines ++ (total_lines program.reducers totals ++ (codes "return " ++ value_line v))
 run_text program (TrappedAt trap line lines) = flat_map value_line lines
 run_text program OverLimit = []
 
@@ -106,12 +123,12 @@ abbrev pub tags_of : Program → List Name
 tags_of program = new_names (flat_map (λ f. tags_in_block f.body) program.functions) []
 
 -- the row of a tag
-abbrev pub region_line : ℕ → Tree → Name → List ℕ
+abbrev pub region_line : Burden → Tree → Name → List ℕ
 region_line burden t tag = let row = region_row burden tag t in scale_line tag row.work row.span row.burdened
 
 -- the whole program, with an empty tag, and then each tag of the source
-abbrev pub scale_text : Program → ℕ → Answer → List ℕ
-scale_text program burden (Ended v lines sums t) =
+abbrev pub scale_text : Program → Burden → Answer → List ℕ
+scale_text program burden (Ended v lines totals t) =
     scale_header
     ++ (scale_line [] (work t) (span t) (burdened_span burden t)
     ++ flat_map (region_line burden t) (tags_of program))
@@ -137,13 +154,13 @@ site_line t s =
 
 -- the root, and then each call statement
 abbrev pub sites_text : Program → Answer → List ℕ
-sites_text program (Ended v lines sums t) =
+sites_text program (Ended v lines totals t) =
     sites_header ++ flat_map (site_line t) (root_site program ∷ call_sites program)
 sites_text program (TrappedAt trap line lines) = []
 sites_text program OverLimit = []
 
 -- the text of a report
-abbrev pub report_text : Mode → Program → (burden : ℕ) → Answer → List ℕ
+abbrev pub report_text : Mode → Program → Burden → Answer → List ℕ
 report_text Check program burden answer = check_text
 report_text Run program burden answer = run_text program answer
 report_text Scale program burden answer = scale_text program burden answer

@@ -1,5 +1,6 @@
 -- Site rows and region rows: what is read off a tree for each call site and each tag.
 use Rattle.std.specs.Prelude.{ℕ, ◌+◌, ◌==◌, nat_le, nat_lt, ◌&&◌, Bool, true, false, if◌then◌else◌, List, [], ◌∷◌, ◌++◌, sum_by, filter}
+use Rattle.cw_model.specs.declared.burden.Burden.{Burden}
 use Rattle.cw_model.specs.Syntax.{Name}
 use Rattle.cw_model.specs.Names.{same_name}
 use Rattle.cw_model.specs.Trees.{Mark, Invocation, Execution, Tree, Leaf, Seq, Par, Marked, work, span, burdened_span}
@@ -77,7 +78,7 @@ pub record RegionRow : Type 0 where
   pub burdened : ℕ
 
 -- the row of a tag in the tree of a run
-abbrev pub region_row : ℕ → Name → Tree → RegionRow
+abbrev pub region_row : Burden → Name → Tree → RegionRow
 region_row burden tag t = record {
   work = sum_by work (outermost (is_tag tag) t);
   span = sum_by span (outermost (is_tag tag) t);

@@ -4,7 +4,7 @@ use Rattle.cw_model.specs.declared.token.Token.{Token}
 use Rattle.cw_model.specs.declared.token.Kind.{Kind}
 use Rattle.cw_model.specs.declared.token.Kind.TheVariants as kind
 use Rattle.cw_model.specs.declared.limits.TheConstants.{MOST_OPEN_BRACKETS, MOST_TOKENS_IN_A_ROW, MOST_FUNCTIONS, MOST_REDUCERS, MOST_PARAMETERS, MOST_DECLARED, MOST_TAG_BYTES, MOST_TAGS, MOST_LOOPS, MOST_INSTRUCTIONS, MOST_CALL_STATEMENTS}
-use Rattle.cw_model.specs.Syntax.{Name, Expr, Number, Variable, Element, Length, Negative, Not, Binary, Stmt, Declare, DeclareArray, Assign, AssignElement, AddTo, Call, Start, Begin, Sync, If, IfElse, While, For, Scope, Cut, Region, Print, Return, Block, End, Then, Param, Function, Program}
+use Rattle.cw_model.specs.Syntax.{Name, Expr, Number, Variable, Element, Length, Negative, Not, Binary, Stmt, Declare, DeclareArray, Assign, AssignElement, Reduce, Call, Start, Begin, Sync, If, IfElse, While, For, Scope, Cut, Region, Print, Return, Block, End, Then, Param, Function, Program}
 use Rattle.cw_model.specs.Names.{is_among}
 use Rattle.cw_model.specs.Captured.{captured}
 use Rattle.cw_model.specs.Meaning.{function_named}
@@ -150,7 +150,7 @@ abbrev mutual
   stmt_size fs over (DeclareArray a e) = size_of over e + 1
   stmt_size fs over (Assign x e) = size_of over e + 1
   stmt_size fs over (AssignElement a i e) = (if is_among a over then 2 else 0) + size_of over i + size_of over e + 1
-  stmt_size fs over (AddTo s e) = size_of over e + 1
+  stmt_size fs over (Reduce how s e) = size_of over e + 1
   stmt_size fs over (Call kind site target f es) = arguments_size over (function_named f fs).params es + 1
   stmt_size fs over (Start kind f es) = arguments_size over (function_named f fs).params es + 1
   stmt_size fs over (Begin f from to names arrays) = size_of over from + size_of over to + length names + 1

@@ -2,6 +2,7 @@
 use Rattle.std.specs.Prelude.{ℕ, ℤ, Bool, List, Option}
 use Rattle.cw_model.specs.declared.syntax.Operator.{Operator}
 use Rattle.cw_model.specs.declared.syntax.CallKind.{CallKind}
+use Rattle.cw_model.specs.declared.syntax.Reduction.{Reduction}
 
 -- a name by its bytes
 abbrev pub Name : Type 0
@@ -24,7 +25,8 @@ mutual
     DeclareArray : Name → Expr → Stmt
     Assign : Name → Expr → Stmt
     AssignElement : Name → Expr → Expr → Stmt
-    AddTo : Name → Expr → Stmt
+    -- a value is told to a reducer; typing asks that the reducer reduces so
+    Reduce : (how : Reduction) (reducer : Name) → Expr → Stmt
     -- call statements are numbered from 1 by place: each is a site
     Call : (kind : CallKind) (site : ℕ) (target : Option Name) (callee : Name) → List Expr → Stmt
     -- a call by the function that a loop was lowered to of itself: with no site and no depth of its own
@@ -61,9 +63,10 @@ pub record Function : Type 0 where
   pub params : List Param
   pub body : Block
 
--- a reducer that sums, with the line of its first token
+-- a reducer, with how it reduces and the line of its first token
 pub record Reducer : Type 0 where
   pub name : Name
+  pub how : Reduction
   pub line : ℕ
 
 -- a source: its reducers and its functions, each in their order

@@ -16,6 +16,7 @@ keywords =
     (codes "return", kind.Return) ∷ (codes "print", kind.Print) ∷ (codes "len", kind.Len) ∷ (codes "cut", kind.Cut)
     ∷ (codes "at", kind.At) ∷
     (codes "as", kind.As) ∷ (codes "region", kind.Region) ∷ (codes "reducer", kind.Reducer) ∷ (codes "sum", kind.Sum)
+    ∷ (codes "max", kind.Max)
     ∷ (codes "grain", kind.Grain) ∷
     (codes "over", kind.Over) ∷ (codes "cilk_spawn", kind.Spawn) ∷ (codes "cilk_sync", kind.Sync)
     ∷ (codes "cilk_scope", kind.Scope) ∷

@@ -1,6 +1,7 @@
 -- What the normal form of a tree keeps, and which trees have the same one.
 use Rattle.std.specs.Prelude.{◌≡◌, ℕ, ◌+◌, sum_by}
 use Rattle.std.specs.List.{range_with_len}
+use Rattle.cw_model.specs.declared.burden.Burden.{Burden}
 use Rattle.cw_model.specs.Syntax.{Name}
 use Rattle.cw_model.specs.Trees.{Mark, Tree, Leaf, Seq, Par, Marked, work, span, burdened_span}
 use Rattle.cw_model.specs.Rows.{site_row, region_row}
@@ -22,9 +23,9 @@ pub data Regrouped : Tree → Tree → Type 0 where
 -- all that is read off two trees is the same: work, burdened spans, and the rows of every site and every region
 pub record ReadSame (t u : Tree) : Type 0 where
   pub same_work : work t ≡ work u
-  pub same_span : (burden : ℕ) → burdened_span burden t ≡ burdened_span burden u
+  pub same_span : (burden : Burden) → burdened_span burden t ≡ burdened_span burden u
   pub same_site_row : (site : ℕ) → site_row site t ≡ site_row site u
-  pub same_region_row : (burden : ℕ) (tag : Name) → region_row burden tag t ≡ region_row burden tag u
+  pub same_region_row : (burden : Burden) (tag : Name) → region_row burden tag t ≡ region_row burden tag u
 
 -- the own work of the sites below a number adds up to the work of a tree, and their own span to its span
 pub record SitesAddUp (count : ℕ) (t : Tree) : Type 0 where

@@ -1,5 +1,7 @@
 -- The strand tree of a run, and the events that it is made of.
 use Rattle.std.specs.Prelude.{ℕ, zero, suc, ◌+◌, max, List, [], ◌∷◌}
+use Rattle.cw_model.specs.declared.burden.Burden.{Burden}
+use Rattle.cw_model.specs.Burdens.{at_child, at_rest, no_burden}
 use Rattle.cw_model.specs.Syntax.{Name}
 
 -- what a part of a tree is: a run of a call statement, or of a region
@@ -46,16 +48,17 @@ work (Seq a b) = work a + work b
 work (Par child rest) = work child + work rest
 work (Marked mark t) = work t
 
--- the weight of a heaviest path, with a burden for each rest that it goes into
-abbrev pub burdened_span : ℕ → Tree → ℕ
+-- the weight of a heaviest path, with what it is charged at each fork that it runs through
+abbrev pub burdened_span : Burden → Tree → ℕ
 burdened_span burden (Leaf k) = k
 burdened_span burden (Seq a b) = burdened_span burden a + burdened_span burden b
-burdened_span burden (Par child rest) = max (burdened_span burden child) (burden + burdened_span burden rest)
+burdened_span burden (Par child rest) =
+    max (at_child burden + burdened_span burden child) (at_rest burden + burdened_span burden rest)
 burdened_span burden (Marked mark t) = burdened_span burden t
 
 -- the weight of a heaviest path
 abbrev pub span : Tree → ℕ
-span t = burdened_span 0 t
+span t = burdened_span no_burden t
 
 -- a strand before a tree in normal form
 abbrev pub leaf_before : ℕ → Tree → Tree

@@ -3,7 +3,9 @@ use Rattle.std.specs.Prelude.{◌≡◌, ℕ, Bool, true, false, not, ◌&&◌, 
 use Rattle.std.specs.List.{list_any, list_all}
 use Rattle.cw_model.specs.declared.limits.TheConstants.{MOST_GRAIN}
 use Rattle.cw_model.specs.Lines.{unless}
-use Rattle.cw_model.specs.Syntax.{Name, Expr, Number, Variable, Element, Length, Negative, Not, Binary, Stmt, Declare, DeclareArray, Assign, AssignElement, AddTo, Call, Start, Begin, Sync, If, IfElse, While, For, Scope, Cut, Region, Print, Return, Block, End, Then, Param, Function, Program}
+use Rattle.cw_model.specs.declared.syntax.Reduction.{Reduction}
+use Rattle.cw_model.specs.declared.syntax.Reduction.TheVariants.{Sum, Max}
+use Rattle.cw_model.specs.Syntax.{Name, Expr, Number, Variable, Element, Length, Negative, Not, Binary, Stmt, Declare, DeclareArray, Assign, AssignElement, Reduce, Call, Start, Begin, Sync, If, IfElse, While, For, Scope, Cut, Region, Print, Return, Block, End, Then, Param, Function, Reducer, Program}
 use Rattle.cw_model.specs.Names.{same_name, is_among, differ}
 use Rattle.cw_model.specs.Answers.{main_name}
 
@@ -70,9 +72,25 @@ is_call known target None es = false
 is_call known target (Some f) es =
     is_target known f target && are_arguments known f.params es && not (same_name f.name main_name)
 
--- a reducer of the program
-abbrev pub is_reducer : Program → Name → Bool
-is_reducer program s = is_among s (map (λ r. r.name) program.reducers)
+-- the first reducer of a name, if there is one
+abbrev pub reducer_called : Name → List Reducer → Option Reducer
+reducer_called s [] = None
+reducer_called s (r ∷ rs) = if same_name s r.name then Some r else reducer_called s rs
+
+-- one way to reduce is another
+abbrev pub same_reduction : Reduction → Reduction → Bool
+same_reduction Sum Sum = true
+same_reduction Max Max = true
+same_reduction _ _ = false
+
+-- there is a reducer, and it reduces so
+abbrev pub reduces_so : Reduction → Option Reducer → Bool
+reduces_so how None = false
+reduces_so how (Some r) = same_reduction how r.how
+
+-- a reducer of the program, which reduces so
+abbrev pub is_reducer : Program → Reduction → Name → Bool
+is_reducer program how s = reduces_so how (reducer_called s program.reducers)
 
 abbrev mutual
   -- a return, or an if with two branches that surely return
@@ -131,7 +149,7 @@ abbrev mutual
   faults_in program returns known line (Assign x e) = unless (is_int known x && is_fine known e) line
   faults_in program returns known line (AssignElement a i e) =
       unless (is_array known a && is_fine known i && is_fine known e) line
-  faults_in program returns known line (AddTo s e) = unless (is_reducer program s && is_fine known e) line
+  faults_in program returns known line (Reduce how s e) = unless (is_reducer program how s && is_fine known e) line
   faults_in program returns known line (Call kind site target f es) =
       unless (is_call known target (called f program.functions) es) line
   -- no source has one

@@ -1,6 +1,7 @@
 //! The laws of the definitions: each function has one as its contract, and does nothing.
 
 ghost use Rattle.std.specs.Prelude.{◌<◌, ◌≡◌, true, ℕ};
+ghost use Rattle.cw_model.specs.declared.burden.Burden.{Burden};
 ghost use Rattle.cw_model.specs.Dag.{IsBurdenedSpan, IsSpan};
 ghost use Rattle.cw_model.specs.SiteLaw.{SitesAreNumbered};
 ghost use Rattle.cw_model.specs.LoopLaws.{ForsAreByHalves, ForsHaveBodies, LoopsRunAsPlain, LoopsTrapAsPlain, LoopWorkAddsUp, LoopsAreDeepEnough};
@@ -12,7 +13,7 @@ ghost use Rattle.cw_model.specs.WorkLaw.{CallsTakeTheirWork};
 
 /// The burdened span of a tree is the weight of a heaviest path, at every burden, and so is its span without a burden.
 pub fn span_is_heaviest()
-    ensures burdened { (burden : ℕ) (t : Tree) → IsBurdenedSpan burden t (burdened_span burden t) }
+    ensures burdened { (burden : Burden) (t : Tree) → IsBurdenedSpan burden t (burdened_span burden t) }
     ensures plain { (t : Tree) → IsSpan t (span t) }
 {}
 

@@ -1,6 +1,7 @@
 //! What the language means, what is counted, and worked examples that compute.
 #![tactic(auto)]
 
+pub mod burden;
 pub mod examples;
 pub mod laws;
 pub mod limits;
@@ -9,4 +10,5 @@ pub mod syntax;
 #[cfg(test)]
 mod tests;
 pub mod token;
+pub mod total;
 pub mod trap;

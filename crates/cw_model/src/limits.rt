@@ -57,7 +57,7 @@ pub const MOST_DEPTH: usize = 10_000;
 /// Instructions that a run may be given: 2^62.
 pub const MOST_LIMIT: u64 = 4_611_686_018_427_387_904;
 
-/// Instructions that a spawn may be burdened with.
+/// Instructions that a charged edge of a spawn may be burdened with.
 pub const MOST_BURDEN: u64 = 1_000_000_000;
 
 /// Instructions that a run is given where no limit is.

@@ -53,6 +53,15 @@ pub enum Operator {
     Modulo,
 }
 
+/// How a reducer makes one total of the values that the parts of a run tell it.
+#[derive(Clone, Copy, Debug, PartialEq, Eq)]
+pub enum Reduction {
+    /// The sum of the values.
+    Sum,
+    /// The greatest of the values, where there is one.
+    Max,
+}
+
 /// Whether a call may run beside what follows it.
 #[derive(Clone, Copy, Debug, PartialEq, Eq)]
 pub enum CallKind {

@@ -21,6 +21,7 @@ pub enum Kind {
     Region,
     Reducer,
     Sum,
+    Max,
     Grain,
     Over,
     Spawn,

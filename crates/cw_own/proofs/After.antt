@@ -3,7 +3,7 @@ use Rattle.std.proofs.Common.{◌≡◌, ℕ, pos, ◌+◌, ◌≤◌, ◌==◌,
 use Rattle.std.specs.List.{list_all}
 use Rattle.std.proofs.lemmas.Bool.Decides.{nat_tests}
 use Rattle.cw_model.specs.declared.syntax.CallKind.TheVariants.{Plain, Spawned}
-use Rattle.cw_model.specs.Syntax.{Name, Param, Function, Program, Expr, Number, Variable, Element, Length, Negative, Not, Binary, Stmt, Declare, DeclareArray, Assign, AssignElement, AddTo, Call, Start, Begin, Sync, If, IfElse, While, For, Scope, Cut, Region, Print, Return, Block, End, Then}
+use Rattle.cw_model.specs.Syntax.{Name, Param, Function, Program, Expr, Number, Variable, Element, Length, Negative, Not, Binary, Stmt, Declare, DeclareArray, Assign, AssignElement, Reduce, Call, Start, Begin, Sync, If, IfElse, While, For, Scope, Cut, Region, Print, Return, Block, End, Then}
 use Rattle.cw_model.specs.Lines.{unless}
 use Rattle.cw_model.specs.Names.{same_name, is_among}
 use Rattle.cw_model.specs.Answers.{main_name}
@@ -218,7 +218,7 @@ known_next lists locals (Declare x e) = sym (known_int locals x)
 known_next lists locals (DeclareArray a e) = sym (known_array locals a)
 known_next lists locals (Assign x e) = refl
 known_next lists locals (AssignElement x i e) = refl
-known_next lists locals (AddTo x e) = refl
+known_next lists locals (Reduce how x e) = refl
 known_next lists locals (Call kind site target f es) = refl
 known_next lists locals (Start kind f es) = refl
 known_next lists locals (Begin f from to captured over) = refl
@@ -241,7 +241,7 @@ knows_next program returns known locals line (DeclareArray x e) k fine =
     knows_array known locals x (fresh_name program known locals x k (both_right (is_fine known e) (is_new program known x) (kept (is_fine known e && is_new program known x) line fine))) k
 knows_next program returns known locals line (Assign x e) k fine = k
 knows_next program returns known locals line (AssignElement x i e) k fine = k
-knows_next program returns known locals line (AddTo x e) k fine = k
+knows_next program returns known locals line (Reduce how x e) k fine = k
 knows_next program returns known locals line (Call kind site target f es) k fine = k
 knows_next program returns known locals line (Start kind f es) k fine = k
 knows_next program returns known locals line (Begin f from to captured over) k fine = k
@@ -362,7 +362,7 @@ mutual
   after_stmt program lists returns known locals depth outside line (DeclareArray x e) taken here cuts k steady top fine h = holds_push_array locals depth outside taken here cuts x h
   after_stmt program lists returns known locals depth outside line (Assign x e) taken here cuts k steady top fine h = h
   after_stmt program lists returns known locals depth outside line (AssignElement x i e) taken here cuts k steady top fine h = h
-  after_stmt program lists returns known locals depth outside line (AddTo x e) taken here cuts k steady top fine h = h
+  after_stmt program lists returns known locals depth outside line (Reduce how x e) taken here cuts k steady top fine h = h
   after_stmt program lists returns known locals depth outside line (Call Plain site target f es) taken here cuts k steady top fine h = h
   after_stmt program lists returns known locals depth outside line (Call Spawned site target f es) taken here cuts k steady top fine h =
       holds_call known locals depth outside program.functions target f es taken here cuts k (kept (is_call known target (called f program.functions) es) line fine) h

@@ -1,7 +1,7 @@
 -- The end of a block, by names and by slots.
 use Rattle.std.proofs.Common.{◌≡◌, ℕ, ◌≤◌, nat_lt, Bool, true, false, not, ◌&&◌, ◌||◌, if◌then◌else◌, [], ◌∷◌, ◌++◌, length, refl, sym, arith, length-append}
 use Rattle.std.proofs.lemmas.Bool.Decides.{nat_tests}
-use Rattle.cw_model.specs.Syntax.{Name, Program, Declare, DeclareArray, Assign, AssignElement, AddTo, Call, Start, Begin, Sync, If, IfElse, While, For, Scope, Cut, Region, Print, Return, Block, End, Then}
+use Rattle.cw_model.specs.Syntax.{Name, Program, Declare, DeclareArray, Assign, AssignElement, Reduce, Call, Start, Begin, Sync, If, IfElse, While, For, Scope, Cut, Region, Print, Return, Block, End, Then}
 use Rattle.cw_model.specs.Lines.{unless}
 use Rattle.cw_model.specs.Names.{same_name, is_among}
 use Rattle.cw_model.specs.Typing.{Known, Returns, is_new, is_fine, surely_returns, ends_block, faults_in, faults_in_block}
@@ -84,9 +84,9 @@ drop_block program returns known locals (Then line (Assign x e) b) P row k fine 
 drop_block program returns known locals (Then line (AssignElement x i e) b) P row k fine s =
     drop_block program returns known locals b P row k
     (right_none (unless (not (surely_returns (AssignElement x i e)) || ends_block b) line) _ (right_none (faults_in program returns known line (AssignElement x i e)) _ fine)) s
-drop_block program returns known locals (Then line (AddTo x e) b) P row k fine s =
+drop_block program returns known locals (Then line (Reduce how x e) b) P row k fine s =
     drop_block program returns known locals b P row k
-    (right_none (unless (not (surely_returns (AddTo x e)) || ends_block b) line) _ (right_none (faults_in program returns known line (AddTo x e)) _ fine)) s
+    (right_none (unless (not (surely_returns (Reduce how x e)) || ends_block b) line) _ (right_none (faults_in program returns known line (Reduce how x e)) _ fine)) s
 drop_block program returns known locals (Then line (Call kind site target f es) b) P row k fine s =
     drop_block program returns known locals b P row k
     (right_none (unless (not (surely_returns (Call kind site target f es)) || ends_block b) line) _ (right_none (faults_in program returns known line (Call kind site target f es)) _ fine)) s

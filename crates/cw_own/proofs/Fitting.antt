@@ -7,7 +7,7 @@ use Rattle.cw_model.specs.Lines.{unless}
 use Rattle.cw_model.specs.Syntax as model
 use Rattle.cw_model.specs.Sizes.{limit_faults, function_limits, lines_beyond}
 use Rattle.cw_model.specs.lemmas.Kept.{both_left, both_right, left_none, right_none, kept}
-use Rattle.cw_tree.specs.Resolved.{Use, Argument, Int, Array, Stmt, Declare, DeclareArray, Assign, AssignElement, AddTo, Call, Sync, If, IfElse, While, For, Scope, Cut, Region, Print, Return, Block, End, Then, Function, Resolved, plain, plain_function}
+use Rattle.cw_tree.specs.Resolved.{Use, Argument, Int, Array, Stmt, Declare, DeclareArray, Assign, AssignElement, Reduce, Call, Sync, If, IfElse, While, For, Scope, Cut, Region, Print, Return, Block, End, Then, Function, Resolved, plain, plain_function}
 use Rattle.cw_tree.specs.Bounds.{Counts, is_below, fits_expr, fits_argument, fits_target, fits_head, fits_parts, fits_stmt, fits_block, fits_function, counts_of, is_fitting}
 use Rattle.cw_own.specs.Bounds.{is_small, small_argument, small_target, small_stmt, small_block, small_function}
 
@@ -52,7 +52,7 @@ mutual
   stmt_small n (DeclareArray u e) few h = array_small n u few (both_left (is_below n.arrays u) (fits_expr n e) h)
   stmt_small n (Assign u e) few h = refl
   stmt_small n (AssignElement u i e) few h = refl
-  stmt_small n (AddTo s e) few h = refl
+  stmt_small n (Reduce how s e) few h = refl
   stmt_small n (Call kind site target f es) few h =
       both (small_target target) (list_all small_argument es)
       (target_small n target few (both_left (fits_target n target) (nat_lt f.index n.functions) (both_left (fits_target n target && nat_lt f.index n.functions) (list_all (fits_argument n) es) h)))

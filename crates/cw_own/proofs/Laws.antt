@@ -1,7 +1,7 @@
 -- What is taken after a statement is what it takes where nothing is taken before it, and what it keeps of what was taken.
 use Rattle.std.proofs.Common.{◌≡◌, ℕ, Bool, true, false, not, ◌&&◌, ◌||◌, List, [], ◌∷◌, ◌==◌, Option, Some, None, refl, sym, ap, ◌∙◌}
 use Rattle.cw_model.specs.declared.syntax.CallKind.TheVariants.{Plain, Spawned}
-use Rattle.cw_tree.specs.Resolved.{Use, Argument, Int, Array, Stmt, Declare, DeclareArray, Assign, AssignElement, AddTo, Call, Sync, If, IfElse, While, For, Scope, Cut, Region, Print, Return, Block, End, Then}
+use Rattle.cw_tree.specs.Resolved.{Use, Argument, Int, Array, Stmt, Declare, DeclareArray, Assign, AssignElement, Reduce, Call, Sync, If, IfElse, While, For, Scope, Cut, Region, Print, Return, Block, End, Then}
 use Rattle.cw_own.specs.Sets.{Slots, with_slot, Row, no_local, with_int, with_array, either_row, both_rows}
 use Rattle.cw_own.specs.Taken.{with_target, with_arrays, known_after, after, after_all, gain, cuts_after, cuts_after_all}
 use Rattle.cw_own.proofs.Words.{and_all, two_steps, two_ways, turn_adds, masked}
@@ -112,7 +112,7 @@ mutual
   stmt_acts known (DeclareArray u e) = all_stays
   stmt_acts known (Assign u e) = all_stays
   stmt_acts known (AssignElement u i e) = all_stays
-  stmt_acts known (AddTo s e) = all_stays
+  stmt_acts known (Reduce how s e) = all_stays
   stmt_acts known (Call Plain site target f es) = all_stays
   stmt_acts known (Call Spawned site target f es) = one_after_another (with_target target) (with_arrays es) (target_acts target) (arrays_act es)
   stmt_acts known Sync = none_stays no_local
@@ -161,7 +161,7 @@ mutual
   no_more (DeclareArray u e) cuts k h = h
   no_more (Assign u e) cuts k h = h
   no_more (AssignElement u i e) cuts k h = h
-  no_more (AddTo s e) cuts k h = h
+  no_more (Reduce how s e) cuts k h = h
   no_more (Call kind site target f es) cuts k h = h
   no_more Sync cuts k h = h
   no_more (If e b) cuts k h = h

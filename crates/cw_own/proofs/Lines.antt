@@ -3,7 +3,7 @@ use Rattle.std.proofs.Common.{◌≡◌, ℕ, suc, ◌+◌, nat_le, Bool, true, 
 use Rattle.std.specs.List.{list_all}
 use Rattle.std.proofs.lemmas.Slice.Eq.{bytes_eq-Decides}
 use Rattle.cw_model.specs.declared.limits.TheConstants.{MOST_GRAIN}
-use Rattle.cw_model.specs.Syntax.{Name, Program, Expr, Stmt, Declare, DeclareArray, Assign, AssignElement, AddTo, Call, Start, Begin, Sync, If, IfElse, While, For, Scope, Cut, Region, Print, Return, Block, End, Then}
+use Rattle.cw_model.specs.Syntax.{Name, Program, Expr, Stmt, Declare, DeclareArray, Assign, AssignElement, Reduce, Call, Start, Begin, Sync, If, IfElse, While, For, Scope, Cut, Region, Print, Return, Block, End, Then}
 use Rattle.cw_model.specs.Lines.{unless, lowest}
 use Rattle.cw_model.specs.lemmas.Lowest.{lowest-append, lowest-swap}
 use Rattle.cw_model.specs.Names.{same_name, is_among, differ}
@@ -86,7 +86,7 @@ int_stays x locals (Then line (Declare y e) b) h = stays_more x y locals.ints (a
 int_stays x locals (Then line (DeclareArray y e) b) h = int_stays x (spec.with_array y locals) b h
 int_stays x locals (Then line (Assign v e) b) h = int_stays x locals b h
 int_stays x locals (Then line (AssignElement v i e) b) h = int_stays x locals b h
-int_stays x locals (Then line (AddTo v e) b) h = int_stays x locals b h
+int_stays x locals (Then line (Reduce how v e) b) h = int_stays x locals b h
 int_stays x locals (Then line (Call kind site target f es) b) h = int_stays x locals b h
 int_stays x locals (Then line (Start kind f es) b) h = int_stays x locals b h
 int_stays x locals (Then line (Begin f from to captured over) b) h = int_stays x locals b h
@@ -107,7 +107,7 @@ array_stays x locals (Then line (Declare y e) b) h = array_stays x (spec.with_in
 array_stays x locals (Then line (DeclareArray y e) b) h = stays_more x y locals.arrays (all_locals (spec.with_array y locals) b).arrays h (array_stays x (spec.with_array y locals) b (in_push x y locals.arrays h))
 array_stays x locals (Then line (Assign v e) b) h = array_stays x locals b h
 array_stays x locals (Then line (AssignElement v i e) b) h = array_stays x locals b h
-array_stays x locals (Then line (AddTo v e) b) h = array_stays x locals b h
+array_stays x locals (Then line (Reduce how v e) b) h = array_stays x locals b h
 array_stays x locals (Then line (Call kind site target f es) b) h = array_stays x locals b h
 array_stays x locals (Then line (Start kind f es) b) h = array_stays x locals b h
 array_stays x locals (Then line (Begin f from to captured over) b) h = array_stays x locals b h
@@ -168,7 +168,7 @@ names_next program returns known locals line (Declare x e) names k fine n = name
 names_next program returns known locals line (DeclareArray x e) names k fine n = names_with_array locals x names (fresh_at program known locals x e line k fine) n
 names_next program returns known locals line (Assign v e) names k fine n = n
 names_next program returns known locals line (AssignElement v i e) names k fine n = n
-names_next program returns known locals line (AddTo v e) names k fine n = n
+names_next program returns known locals line (Reduce how v e) names k fine n = n
 names_next program returns known locals line (Call kind site target f es) names k fine n = n
 names_next program returns known locals line (Start kind f es) names k fine n = n
 names_next program returns known locals line (Begin f from to captured over) names k fine n = n
@@ -188,7 +188,7 @@ rounds_next locals (Declare x e) around l r = rounds_int locals around l x r
 rounds_next locals (DeclareArray x e) around l r = rounds_array locals around l x r
 rounds_next locals (Assign v e) around l r = r
 rounds_next locals (AssignElement v i e) around l r = r
-rounds_next locals (AddTo v e) around l r = r
+rounds_next locals (Reduce how v e) around l r = r
 rounds_next locals (Call kind site target f es) around l r = r
 rounds_next locals (Start kind f es) around l r = r
 rounds_next locals (Begin f from to captured over) around l r = r
@@ -266,7 +266,7 @@ left_same program lists returns known locals line (DeclareArray x e) b taken t d
     ap (λ ls. ls ++ left_taken declared taken) (left_array x (length locals.arrays) (all_locals (spec.with_array x locals) b) taken t line (array_apart e'.known (all_locals (spec.with_array x locals) b) x e'.knows stays.there) (stays.slot ∙ slot_new x locals.arrays f.no_array (itself x)) s)
 left_same program lists returns known locals line (Assign x v) b taken t declared k fine e' s = refl
 left_same program lists returns known locals line (AssignElement x i v) b taken t declared k fine e' s = refl
-left_same program lists returns known locals line (AddTo x v) b taken t declared k fine e' s = refl
+left_same program lists returns known locals line (Reduce how x v) b taken t declared k fine e' s = refl
 left_same program lists returns known locals line (Call kind site target f es) b taken t declared k fine e' s = refl
 left_same program lists returns known locals line (Start kind f es) b taken t declared k fine e' s = refl
 left_same program lists returns known locals line (Begin f from to captured over) b taken t declared k fine e' s = refl
@@ -382,8 +382,8 @@ mutual
       (read_same known locals around l taken t e k (both_right (is_array known a && is_fine known i) (is_fine known e) all) r s))
       (free_same known locals taken t a k array s))
       (index_same known locals around l a i k array index r))
-  stmt_lines program lists returns known names locals depth outside around l line (AddTo a e) taken here cuts k n steady top r fine h =
-      one_rule _ _ line (read_same known locals around l taken (taken_rows outside here cuts) e k (both_right (is_reducer program a) (is_fine known e) (kept (is_reducer program a && is_fine known e) line fine)) r (sees locals depth outside taken here cuts h))
+  stmt_lines program lists returns known names locals depth outside around l line (Reduce how a e) taken here cuts k n steady top r fine h =
+      one_rule _ _ line (read_same known locals around l taken (taken_rows outside here cuts) e k (both_right (is_reducer program how a) (is_fine known e) (kept (is_reducer program how a && is_fine known e) line fine)) r (sees locals depth outside taken here cuts h))
   stmt_lines program lists returns known names locals depth outside around l line (Call kind site target f es) taken here cuts k n steady top r fine h =
       one_rule _ _ line (call_same known locals around l taken (taken_rows outside here cuts) program.functions target f es k (kept (is_call known target (called f program.functions) es) line fine) r (sees locals depth outside taken here cuts h))
   stmt_lines program lists returns known names locals depth outside around l line (Start kind f es) taken here cuts k n steady top r fine h = cc

@@ -1,6 +1,6 @@
 -- What surely returns leaves nothing taken, and stands in no sync block inside a function.
 use Rattle.std.proofs.Common.{◌≡◌, ℕ, Bool, true, false, not, ◌&&◌, ◌||◌, [], Some, None, refl, ap, ◌∙◌}
-use Rattle.cw_model.specs.Syntax.{Program, Stmt, Declare, DeclareArray, Assign, AssignElement, AddTo, Call, Start, Begin, Sync, If, IfElse, While, For, Scope, Cut, Region, Print, Return, Block, End, Then}
+use Rattle.cw_model.specs.Syntax.{Program, Stmt, Declare, DeclareArray, Assign, AssignElement, Reduce, Call, Start, Begin, Sync, If, IfElse, While, For, Scope, Cut, Region, Print, Return, Block, End, Then}
 use Rattle.cw_model.specs.Lines.{unless}
 use Rattle.cw_model.specs.Typing.{Known, Nowhere, is_fine, declares, surely_returns, block_returns, ends_block, faults_in, faults_in_block}
 use Rattle.cw_model.specs.lemmas.Kept.{both_left, both_right, left_none, right_none}
@@ -25,7 +25,7 @@ mutual
   none_after lists locals known here (DeclareArray x e) h = cc
   none_after lists locals known here (Assign x e) h = cc
   none_after lists locals known here (AssignElement x i e) h = cc
-  none_after lists locals known here (AddTo x e) h = cc
+  none_after lists locals known here (Reduce how x e) h = cc
   none_after lists locals known here (Call kind site target f es) h = cc
   none_after lists locals known here (Start kind f es) h = cc
   none_after lists locals known here (Begin f from to captured over) h = cc
@@ -59,7 +59,7 @@ mutual
   not_returning program known line (DeclareArray x e) h = refl
   not_returning program known line (Assign x e) h = refl
   not_returning program known line (AssignElement x i e) h = refl
-  not_returning program known line (AddTo x e) h = refl
+  not_returning program known line (Reduce how x e) h = refl
   not_returning program known line (Call kind site target f es) h = refl
   not_returning program known line (Start kind f es) h = refl
   not_returning program known line (Begin f from to captured over) h = refl

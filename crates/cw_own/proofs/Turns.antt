@@ -2,7 +2,7 @@
 use Rattle.std.proofs.Common.{◌≡◌, ℕ, zero, suc, List, [], ◌∷◌, ◌++◌, length, drop, map, slice_set, refl, ap, ◌∙◌}
 use Rattle.cw_own.specs.declared.row.Row as code
 use Rattle.cw_own.specs.Sets.{Row, row_of}
-use Rattle.cw_tree.specs.Resolved.{Stmt, Declare, DeclareArray, Assign, AssignElement, AddTo, Call, Sync, If, IfElse, While, For, Scope, Cut, Region, Print, Return}
+use Rattle.cw_tree.specs.Resolved.{Stmt, Declare, DeclareArray, Assign, AssignElement, Reduce, Call, Sync, If, IfElse, While, For, Scope, Cut, Region, Print, Return}
 use Rattle.cw_own.specs.Taken.{Taken, taken_after, left_by}
 use Rattle.cw_own.specs.Rules.{seen_by}
 
@@ -39,7 +39,7 @@ left_is known (Declare u e) taken = refl
 left_is known (DeclareArray u e) taken = refl
 left_is known (Assign u e) taken = refl
 left_is known (AssignElement u i e) taken = refl
-left_is known (AddTo l e) taken = refl
+left_is known (Reduce how l e) taken = refl
 left_is known (Call kind site target f es) taken = refl
 left_is known Sync taken = refl
 left_is known (If e b) taken = refl

@@ -3,7 +3,7 @@ use Rattle.std.specs.Prelude.{ℕ, ◌==◌, Bool, true, false, not, ◌&&◌, �
 use Rattle.std.specs.List.{list_all}
 use Rattle.cw_model.specs.Lines.{unless}
 use Rattle.cw_model.specs.Ownership.{Closing, Joins, Leaves}
-use Rattle.cw_tree.specs.Resolved.{Use, Expr, Number, Variable, Element, Length, Negative, Not, Binary, Argument, Int, Array, Stmt, Declare, DeclareArray, Assign, AssignElement, AddTo, Call, Sync, If, IfElse, While, For, Scope, Cut, Region, Print, Return, Head, Block, End, Then, Function}
+use Rattle.cw_tree.specs.Resolved.{Use, Expr, Number, Variable, Element, Length, Negative, Not, Binary, Argument, Int, Array, Stmt, Declare, DeclareArray, Assign, AssignElement, Reduce, Call, Sync, If, IfElse, While, For, Scope, Cut, Region, Print, Return, Head, Block, End, Then, Function}
 use Rattle.cw_own.specs.declared.around.Loop as code
 use Rattle.cw_own.specs.Sets.{Slots, no_slot, with_slot, slots_of, Row, no_local, with_int, either_row, row_of}
 use Rattle.cw_own.specs.Taken.{Taken, nothing, int_taken, array_taken, inside, inside_cut, joined, with_parts, known_after, taken_after, taken_after_all, gain, with_params}
@@ -113,7 +113,7 @@ keeps around taken (DeclareArray u e) = may_read around taken e
 keeps around taken (Assign u e) = may_read around taken e && may_write around taken u.slot
 keeps around taken (AssignElement u i e) =
     may_read around taken i && may_read around taken e && not (array_taken taken u.slot) && may_index around u.slot i
-keeps around taken (AddTo s e) = may_read around taken e
+keeps around taken (Reduce how s e) = may_read around taken e
 keeps around taken (Call kind site target f es) =
     list_all (may_give around taken) es && may_target around taken target && passed_once no_slot es
 keeps around taken Sync = true

@@ -188,7 +188,7 @@ fn after(known: &Row, stmt: &Stmt, here: Row, gains: &mut Gains) -> Row
         | Stmt::DeclareArray(_, _)
         | Stmt::Assign(_, _)
         | Stmt::AssignElement(_, _, _)
-        | Stmt::AddTo(_, _)
+        | Stmt::Reduce(_, _, _)
         | Stmt::Print(_) => here,
     }
 }
@@ -206,7 +206,7 @@ fn after_other(known: &Row, stmt: &Stmt, here: Row, gains: &mut Gains) -> Row
         | Stmt::DeclareArray(_, _)
         | Stmt::Assign(_, _)
         | Stmt::AssignElement(_, _, _)
-        | Stmt::AddTo(_, _)
+        | Stmt::Reduce(_, _, _)
         | Stmt::Call(_)
         | Stmt::Sync
         | Stmt::If(_, _)

@@ -181,7 +181,7 @@ pub fn keeps(around: &Option<Loop>, taken: &Taken, stmt: &Stmt) -> bool
                 && !taken.has_array(used.slot)
                 && may_index(around, used.slot, i)
         }
-        Stmt::AddTo(_, e) => may_read(around, taken, e),
+        Stmt::Reduce(_, _, e) => may_read(around, taken, e),
         Stmt::Call(call) => {
             may_give(around, taken, &call.arguments)
                 && may_target(around, taken, &call.target)

@@ -59,7 +59,7 @@ fn seen_by(known: &Row, taken: Taken, stmt: &Stmt, rest: &mut Turns<'_>) -> Take
         | Stmt::DeclareArray(_, _)
         | Stmt::Assign(_, _)
         | Stmt::AssignElement(_, _, _)
-        | Stmt::AddTo(_, _)
+        | Stmt::Reduce(_, _, _)
         | Stmt::Call(_)
         | Stmt::Sync
         | Stmt::If(_, _)
@@ -182,7 +182,7 @@ fn note_other(
         | Stmt::DeclareArray(_, _)
         | Stmt::Assign(_, _)
         | Stmt::AssignElement(_, _, _)
-        | Stmt::AddTo(_, _)
+        | Stmt::Reduce(_, _, _)
         | Stmt::Call(_)
         | Stmt::Sync
         | Stmt::If(_, _)
@@ -304,7 +304,7 @@ fn note_within(
         | Stmt::DeclareArray(_, _)
         | Stmt::Assign(_, _)
         | Stmt::AssignElement(_, _, _)
-        | Stmt::AddTo(_, _)
+        | Stmt::Reduce(_, _, _)
         | Stmt::Print(_) => taken,
     }
 }

@@ -4,15 +4,17 @@ use Rattle.std.proofs.lemmas.List.{append-nil, length-append}
 use Rattle.cw_model.specs.declared.token.Token.{Token}
 use Rattle.cw_model.specs.declared.token.Kind.{Kind}
 use Rattle.cw_model.specs.declared.token.Kind.TheVariants as kind
+use Rattle.cw_model.specs.declared.syntax.Reduction.{Reduction}
+use Rattle.cw_model.specs.declared.syntax.Reduction.TheVariants.{Sum, Max}
 use Rattle.cw_model.specs.Syntax.{Block, Param, Reducer, Function, Program}
 use Rattle.cw_model.specs.Grammar as grammar
-use Rattle.cw_model.specs.Grammar.{name_of, gives_int_of, ReadsParams, ReadsFunction, ReadsItems, Derives, HasSyntaxFault, CanBegin, first_line}
+use Rattle.cw_model.specs.Grammar.{name_of, gives_int_of, reduction_of, ReadsParams, ReadsFunction, ReadsItems, Derives, HasSyntaxFault, CanBegin, first_line}
 use Rattle.cw_parse.specs.declared.marks.Mark.TheVariants as mark
 use Rattle.cw_parse.specs.Reading.{Read, Reader, by_first}
 use Rattle.cw_parse.specs.Parsed.{HasOneTree}
-use Rattle.cw_parse.specs.Parts.{list, param, lines, reducer, function, Item, Sum, Code, item, Items, put_item, items, whole}
-use Rattle.cw_parse.proofs.Reader.{Front, Stuck, IsUnique, SomeText, tok, done, bind_ok, bind_err, ok_is}
-use Rattle.cw_parse.proofs.Exact.{Exact, Branch, First, any, any_stops, mark as token_of, same_exact, fewer_exact, first_exact, at_first}
+use Rattle.cw_parse.specs.Parts.{list, param, lines, reduction, reducer, function, Item, Total, Code, item, Items, put_item, items, whole}
+use Rattle.cw_parse.proofs.Reader.{Front, Stuck, IsUnique, SomeText, Done, tok, done, bind_ok, bind_err, ok_is}
+use Rattle.cw_parse.proofs.Exact.{Exact, Branch, First, any, any_stops, mark as token_of, same_exact, fewer_exact, first_exact, at_first, done_exact}
 use Rattle.cw_parse.proofs.Pieces.{Piece, ◌>>>◌, expect, give}
 use Rattle.cw_parse.proofs.Lists.{params_exact}
 use Rattle.cw_parse.proofs.Blocks.{Lines, lines_exact}
@@ -29,8 +31,8 @@ module _ (text : List ℕ) where
   abbrev made : Token → Bool → List Param → Block → Function
   made f gives ps b = record { name = name_of text f; line = f.line; gives_int = gives; params = ps; body = b }
 
-  abbrev summed : Token → Token → Reducer
-  summed t s = record { name = name_of text s; line = t.line }
+  abbrev summed : Token → Token → Reduction → Reducer
+  summed t s how = record { name = name_of text s; how = how; line = t.line }
 
   abbrev function_piece : {U : Type 0} {n : ℕ} → Bool → ℕ → Piece U n any (Function × ℕ)
   function_piece gives site =
@@ -39,36 +41,73 @@ module _ (text : List ℕ) where
   abbrev code_piece : {U : Type 0} {n : ℕ} → Bool → ℕ → Piece U n any (Item × ℕ)
   code_piece gives site = function_piece gives site >>> λ f. give (Code f.0, f.1)
 
-  abbrev reducer_piece : {U : Type 0} {n : ℕ} → Token → Piece U n any Reducer
-  reducer_piece t = expect mark.Sum >>> λ _. expect mark.Name >>> λ s. expect mark.Semicolon >>> λ _. give (summed t s)
+  abbrev WordBy : Token → Kind → List Token → Reduction → List Token → Type 0
+  WordBy u kind.Sum = Done Sum
+  WordBy u kind.Max = Done Max
+  WordBy u _ = λ ts how rest. ⊥
 
-  abbrev sum_piece : {U : Type 0} {n : ℕ} → Token → ℕ → Piece U n any (Item × ℕ)
-  sum_piece t site = reducer_piece t >>> λ r. give (Sum r, site)
+  word_branch : (U : Type 0) (n : ℕ) (u : Token) (k : Kind) → Branch U n (WordBy u k) any u (reduction u k)
+  word_branch U n u kind.Sum = inl (done_exact U n Sum)
+  word_branch U n u kind.Max = inl (done_exact U n Max)
+  word_branch U n u _ = inr (record { stops = λ ts. refl; never = λ ts a rest d. d })
+
+  some_word : SomeText (First WordBy)
+  some_word = record { text = token_of kind.Sum ∷ []; value = Sum; reads = λ after. at_first WordBy (token_of kind.Sum) kind.Sum refl after Sum after done }
+
+  pub word_exact : (U : Type 0) (n : ℕ) → Exact U n (First WordBy) any (by_first reduction)
+  word_exact U n = fewer_exact U n (suc n) (First WordBy) any (by_first reduction) (omega arith) (first_exact U n WordBy any reduction some_word (word_branch U n))
+
+  abbrev word_piece : {U : Type 0} {n : ℕ} → Piece U n any Reduction
+  word_piece {U} {n} = record { rel = First WordBy; read = by_first reduction; exact = word_exact U n }
+
+  word_into : (u : Token) (k : Kind) → u.kind ≡ k → (ts : List Token) (how : Reduction) (rest : List Token) → WordBy u k ts how rest → (reduction_of u.kind ≡ Some how) × (ts ≡ rest)
+  word_into u kind.Sum is ts how rest done = (ap reduction_of is, refl)
+  word_into u kind.Max is ts how rest done = (ap reduction_of is, refl)
+  word_into u _ is ts how rest d = absurd d
+
+  word_out : (u : Token) (k : Kind) → u.kind ≡ k → (ts : List Token) (how : Reduction) → reduction_of k ≡ Some how → First WordBy (u ∷ ts) how ts
+  word_out u kind.Sum is ts Sum e = at_first WordBy u kind.Sum is ts Sum ts done
+  word_out u kind.Sum is ts Max e = absurd cc
+  word_out u kind.Max is ts Max e = at_first WordBy u kind.Max is ts Max ts done
+  word_out u kind.Max is ts Sum e = absurd cc
+  word_out u _ is ts how e = absurd cc
+
+  abbrev reducer_piece : {U : Type 0} {n : ℕ} → Token → Piece U n any Reducer
+  reducer_piece t = word_piece >>> λ how. expect mark.Name >>> λ s. expect mark.Semicolon >>> λ _. give (summed t s how)
+
+  abbrev total_piece : {U : Type 0} {n : ℕ} → Token → ℕ → Piece U n any (Item × ℕ)
+  total_piece t site = reducer_piece t >>> λ r. give (Total r, site)
 
   abbrev ItemBy : ℕ → Token → Kind → List Token → Item × ℕ → List Token → Type 0
-  ItemBy site t kind.Reducer = (sum_piece {U = Unit {0}} {n = 0} t site).rel
+  ItemBy site t kind.Reducer = (total_piece {U = Unit {0}} {n = 0} t site).rel
   ItemBy site t kind.Int = (code_piece {U = Unit {0}} {n = 0} true site).rel
   ItemBy site t kind.Void = (code_piece {U = Unit {0}} {n = 0} false site).rel
   ItemBy site t _ = λ ts y rest. ⊥
 
   item_branch : (U : Type 0) (n : ℕ) (site : ℕ) (t : Token) (k : Kind) → Branch U n (ItemBy site t k) any t (item text n site t k)
   unfolding item reducer function
-  item_branch U n site t kind.Reducer = inl (sum_piece {U = U} {n = n} t site).exact
+  item_branch U n site t kind.Reducer = inl (total_piece {U = U} {n = n} t site).exact
   item_branch U n site t kind.Int = inl (code_piece {U = U} {n = n} true site).exact
   item_branch U n site t kind.Void = inl (code_piece {U = U} {n = n} false site).exact
   item_branch U n site t _ = inr (record { stops = λ ts. refl; never = λ ts a rest d. d })
 
   -- one item
   pub data One (site : ℕ) : List Token → Item × ℕ → List Token → Type 0 where
-    sum : {t u s v : Token} {ts : List Token} → t.kind ≡ kind.Reducer → u.kind ≡ kind.Sum → s.kind ≡ kind.Name → v.kind ≡ kind.Semicolon →
-        One site (t ∷ u ∷ s ∷ v ∷ ts) (Sum (summed t s), site) ts
+    total : {t u s v : Token} {how : Reduction} {ts : List Token} → t.kind ≡ kind.Reducer → reduction_of u.kind ≡ Some how → s.kind ≡ kind.Name → v.kind ≡ kind.Semicolon →
+        One site (t ∷ u ∷ s ∷ v ∷ ts) (Total (summed t s how), site) ts
     code : {m : ℕ} {ts rest : List Token} {f : Function} → ReadsFunction text site ts f m rest → One site ts (Code f, m) rest
 
   code_into : {site : ℕ} {t : Token} (gives : Bool) → gives_int_of t.kind ≡ Some gives → {us : List Token} {y : Item × ℕ} {rest : List Token} → (code_piece {U = Unit {0}} {n = 0} gives site).rel us y rest → One site (t ∷ us) y rest
   code_into gives g (f, us, (x, vs, tok i, (u, ws, tok i', (ps, xs, r, (o, zs, tok i'', (b, cs, q, done))))), done) = code (grammar.function g i i' r (grammar.braces i'' q))
 
+  total_into : {site : ℕ} {t u s v : Token} {how : Reduction} {us zs ts : List Token} → t.kind ≡ kind.Reducer → us ≡ u ∷ zs →
+      (reduction_of u.kind ≡ Some how) × (zs ≡ s ∷ v ∷ ts) → s.kind ≡ kind.Name → v.kind ≡ kind.Semicolon →
+      {r : Reducer} {vs : List Token} → Done (summed t s how) ts r vs → {y : Item × ℕ} {rest : List Token} → Done (Total r, site) vs y rest → One site (t ∷ us) y rest
+  total_into is parts (word, after) i i' done done = rw (parts, after) (total is word i i')
+
   item_into : (site : ℕ) (t : Token) (k : Kind) → t.kind ≡ k → (us : List Token) (y : Item × ℕ) (rest : List Token) → ItemBy site t k us y rest → One site (t ∷ us) y rest
-  item_into site t kind.Reducer is us y rest (r, vs, (u, ws, tok i, (s, xs, tok i', (v, zs, tok i'', done))), done) = sum is i i' i''
+  item_into site t kind.Reducer is us y rest (r, vs, (how, ws, (u, zs, parts, d), (s, xs, tok i', (v, as', tok i'', e))), e') =
+      total_into is parts (word_into u u.kind refl zs how ws d) i' i'' e e'
   item_into site t kind.Int is us y rest d = code_into true (ap gives_int_of is) d
   item_into site t kind.Void is us y rest d = code_into false (ap gives_int_of is) d
   item_into site t _ is us y rest d = absurd d
@@ -82,15 +121,16 @@ module _ (text : List ℕ) where
   code_out site t _ is gives e us y rest d = absurd cc
 
   item_out : {site : ℕ} {ts : List Token} {y : Item × ℕ} {rest : List Token} → One site ts y rest → First (ItemBy site) ts y rest
-  item_out {site} (sum {t = t} {u = u} {s = s} {v = v} {ts = ts} is i i' i'') =
-      at_first (ItemBy site) t kind.Reducer is (u ∷ s ∷ v ∷ ts) (Sum (summed t s), site) ts (summed t s, ts, (u, s ∷ v ∷ ts, tok i, (s, v ∷ ts, tok i', (v, ts, tok i'', done))), done)
+  item_out {site} (total {t = t} {u = u} {s = s} {v = v} {how = how} {ts = ts} is i i' i'') =
+      at_first (ItemBy site) t kind.Reducer is (u ∷ s ∷ v ∷ ts) (Total (summed t s how), site) ts
+      (summed t s how, ts, (how, s ∷ v ∷ ts, word_out u u.kind refl (s ∷ v ∷ ts) how i, (s, v ∷ ts, tok i', (v, ts, tok i'', done))), done)
   item_out {site} (code {m = m} {rest = rest} (grammar.function {t = t} {f = f} {u = u} {ts = ts} {us = us} {gives = gives} {ps = ps} {b = b} g i i' r (grammar.braces {t = o} {ts = vs} i'' q))) =
       code_out site t t.kind refl gives g (f ∷ u ∷ ts) (Code (made f gives ps b), m) rest
       ((made f gives ps b, m), rest, (f, u ∷ ts, tok i, (u, ts, tok i', (ps, o ∷ vs, r, (o, vs, tok i'', ((b, m), rest, q, done))))), done)
 
   some_item : (site : ℕ) → SomeText (First (ItemBy site))
   some_item site =
-      let x = (sum_piece {U = Unit {0}} {n = 0} (token_of kind.Reducer) site).exact.some in
+      let x = (total_piece {U = Unit {0}} {n = 0} (token_of kind.Reducer) site).exact.some in
       record { text = token_of kind.Reducer ∷ x.text; value = x.value; reads = λ after. at_first (ItemBy site) (token_of kind.Reducer) kind.Reducer refl (x.text ++ after) x.value after (x.reads after) }
 
   pub one_exact : (U : Type 0) (n : ℕ) (site : ℕ) → Exact U n (One site) any (by_first (item text n site))
@@ -109,11 +149,11 @@ module _ (text : List ℕ) where
 
   split : {site : ℕ} {ts : List Token} {rs : List Reducer} {fs : List Function} → ReadsItems text site ts rs fs → Split site ts (rs, fs)
   split grammar.no_item = nothing
-  split {site} (grammar.one_reducer {t = t} {s = s} {ts = ts} {rs = rs} {fs = fs} i i' i'' i''' q) = one_more {xs = (rs, fs)} (Sum (summed t s), site) ts (sum i i' i'' i''') q
+  split {site} (grammar.one_reducer {t = t} {s = s} {how = how} {ts = ts} {rs = rs} {fs = fs} i i' i'' i''' q) = one_more {xs = (rs, fs)} (Total (summed t s how), site) ts (total i i' i'' i''') q
   split (grammar.one_function {m = m} {us = us} {f = f} {rs = rs} {fs = fs} r q) = one_more {xs = (rs, fs)} (Code f, m) us (code r) q
 
   join : {site : ℕ} {ts : List Token} {y : Item × ℕ} {us : List Token} (xs : Items) → One site ts y us → Its y.1 us xs → Its site ts (put_item y.0 xs)
-  join xs (sum i i' i'' i''') q = grammar.one_reducer i i' i'' i''' q
+  join xs (total i i' i'' i''') q = grammar.one_reducer i i' i'' i''' q
   join xs (code r) q = grammar.one_function r q
 
   one_unique : (site : ℕ) → IsUnique (One site) any
@@ -123,7 +163,7 @@ module _ (text : List ℕ) where
   one_front site ts y us r = (one_exact (Unit {0}) (len ts) site).stable ts y us (omega arith) r
 
   none_of_none : {site : ℕ} {ts : List Token} {y : Item × ℕ} {us : List Token} → One site ts y us → ts ≡ [] → ⊥
-  none_of_none (sum i i' i'' i''') e = cc
+  none_of_none (total i i' i'' i''') e = cc
   none_of_none (code (grammar.function g i i' r q)) e = cc
 
   one_eats : (site : ℕ) (ts : List Token) (y : Item × ℕ) (us : List Token) → One site ts y us → len us < len ts

@@ -15,7 +15,7 @@ use Rattle.cw_parse.proofs.Pieces.{Marked, expect}
 use Rattle.cw_parse.proofs.Expressions.{expr_exact}
 use Rattle.cw_parse.proofs.Lists.{arguments_exact, params_exact}
 use Rattle.cw_parse.proofs.Openings.{OpeningBy, opening_branch}
-use Rattle.cw_parse.proofs.Items.{One, sum, code, one_exact}
+use Rattle.cw_parse.proofs.Items.{One, total, code, one_exact}
 use Rattle.cw_parse.proofs.Blocks.{Lined, lined, lines_exact, line_exact}
 
 marked_less : (m : Mark) {ts : List Token} {t : Token} {us : List Token} → Marked m ts t us → len us < len ts
@@ -60,6 +60,7 @@ module _ (text : List ℕ) where
   named_room (grammar.ReadsNamed.assign r) = assigned_room r
   named_room (grammar.ReadsNamed.assign_element r i i' r' i'') = let l = expr_less r in let l' = expr_less r' in omega arith
   named_room (grammar.ReadsNamed.add r i) = let l = expr_less r in omega arith
+  named_room (grammar.ReadsNamed.raise i r i') = let l = expr_less r in omega arith
   named_room (grammar.ReadsNamed.call r i) = let l = arguments_less r in omega arith
 
   declared_less : {x : Name} {ts rest : List Token} {s : Stmt} → ReadsDeclared text x ts s rest → len rest ≤ len ts
@@ -123,7 +124,7 @@ module _ (text : List ℕ) where
   parameters_less {ts} {us} {ps} r = shorter ts ps us ((params_exact text (Unit {0}) (len ts)).stable ts ps us (omega arith) r)
 
   one_room : {site : ℕ} {ts : List Token} {y : Item × ℕ} {us : List Token} → One text site ts y us → y.1 + len us ≤ site + len ts
-  one_room (sum i1 i2 i3 i4) = omega arith
+  one_room (total i1 i2 i3 i4) = omega arith
   one_room (code (grammar.function g i i' r q)) = let l = parameters_less r in let h = block_room q in omega arith
 
   -- an item that was read

@@ -6,6 +6,8 @@ use Rattle.cw_model.specs.declared.token.Kind.TheVariants as kind
 use Rattle.cw_model.specs.Syntax as tree
 use Rattle.cw_model.specs.declared.syntax.CallKind.{CallKind}
 use Rattle.cw_model.specs.declared.syntax.CallKind.TheVariants.{Plain, Spawned}
+use Rattle.cw_model.specs.declared.syntax.Reduction.{Reduction}
+use Rattle.cw_model.specs.declared.syntax.Reduction.TheVariants.{Sum, Max}
 use Rattle.cw_model.specs.Syntax.{Name, Expr, Stmt, Block}
 use Rattle.cw_model.specs.Grammar as grammar
 use Rattle.cw_model.specs.Grammar.{name_of, ReadsWhole, ReadsArguments, ReadsMoreNames, ReadsCall, ReadsGrain, ReadsOver, ReadsHead, ReadsAssigned, ReadsNamed, ReadsDeclared, ReadsReturned, ReadsStmtBy, Head}
@@ -98,10 +100,17 @@ module _ (text : List ℕ) where
   abbrev element_piece : {U : Type 0} {n : ℕ} (site : ℕ) (x : Name) → Piece U n any (Stmt × ℕ)
   element_piece site x = expr_before text mark.RightBracket refl (λ i. expect mark.Assign >>> λ _. ended_piece site (λ e. tree.AssignElement x i e))
 
+  abbrev told_piece : {U : Type 0} {n : ℕ} (site : ℕ) (how : Reduction) (s : Name) → Piece U n any (Stmt × ℕ)
+  told_piece site how s = ended_piece site (λ e. tree.Reduce how s e)
+
+  abbrev raise_piece : {U : Type 0} {n : ℕ} (site : ℕ) (s : Name) → Piece U n any (Stmt × ℕ)
+  raise_piece site s = expect mark.Assign >>> λ _. told_piece site Max s
+
   abbrev NamedBy : (site : ℕ) (t u : Token) → Kind → List Token → Stmt × ℕ → List Token → Type 0
   NamedBy site t u kind.Assign = (assigned_piece {U = Unit {0}} {n = 0} site (name_of text t)).rel
   NamedBy site t u kind.LeftBracket = (element_piece {U = Unit {0}} {n = 0} site (name_of text t)).rel
-  NamedBy site t u kind.AddAssign = (ended_piece {U = Unit {0}} {n = 0} site (λ e. tree.AddTo (name_of text t) e)).rel
+  NamedBy site t u kind.AddAssign = (told_piece {U = Unit {0}} {n = 0} site Sum (name_of text t)).rel
+  NamedBy site t u kind.Max = (raise_piece {U = Unit {0}} {n = 0} site (name_of text t)).rel
   NamedBy site t u kind.LeftParen = (called_piece {U = Unit {0}} {n = 0} Plain site None t).rel
   NamedBy site t u _ = λ ts y rest. ⊥
 
@@ -109,7 +118,8 @@ module _ (text : List ℕ) where
   unfolding named_stmt assigned element_assigned
   named_branch U n site t u kind.Assign = inl (assigned_piece {U = U} {n = n} site (name_of text t)).exact
   named_branch U n site t u kind.LeftBracket = inl (element_piece {U = U} {n = n} site (name_of text t)).exact
-  named_branch U n site t u kind.AddAssign = inl (ended_piece {U = U} {n = n} site (λ e. tree.AddTo (name_of text t) e)).exact
+  named_branch U n site t u kind.AddAssign = inl (told_piece {U = U} {n = n} site Sum (name_of text t)).exact
+  named_branch U n site t u kind.Max = inl (raise_piece {U = U} {n = n} site (name_of text t)).exact
   named_branch U n site t u kind.LeftParen = inl (called_exact U n Plain site None t)
   named_branch U n site t u _ = inr (record { stops = λ ts. refl; never = λ ts a rest d. d })
 
@@ -119,7 +129,7 @@ module _ (text : List ℕ) where
 
   some_named : (site : ℕ) (t : Token) → SomeText (First (NamedBy site t))
   some_named site t =
-      let x = some_ended site (λ e. tree.AddTo (name_of text t) e) in
+      let x = some_ended site (λ e. tree.Reduce Sum (name_of text t) e) in
       record { text = token_of kind.AddAssign ∷ x.text; value = x.value; reads = λ after. at_first (NamedBy site t) (token_of kind.AddAssign) kind.AddAssign refl (x.text ++ after) x.value after (x.reads after) }
 
   pub named_exact : (U : Type 0) (n : ℕ) (site : ℕ) (t : Token) → Exact U n (First (NamedBy site t)) any (by_first (named_stmt text n site t))
@@ -200,6 +210,7 @@ module _ (text : List ℕ) where
   named_into site t u kind.Assign ts y rest d = grammar.ReadsNamed.assign (assigned_into site (name_of text t) ts y rest d)
   named_into site t u kind.LeftBracket ts y rest (i, us, r, (v, vs, tok is, (w, ws, tok is', (e, xs, r', (z, zs, tok is'', done))))) = grammar.ReadsNamed.assign_element r is is' r' is''
   named_into site t u kind.AddAssign ts y rest (e, us, r, (v, vs, tok is, done)) = grammar.ReadsNamed.add r is
+  named_into site t u kind.Max ts y rest (v, vs, tok i, (e, us, r, (w, ws, tok is, done))) = grammar.ReadsNamed.raise i r is
   named_into site t u kind.LeftParen ts y rest (es, ws, r, (v, zs, tok is, done)) = rw add-one (grammar.ReadsNamed.call r is)
   named_into site t u _ ts y rest d = absurd d
 
@@ -208,6 +219,7 @@ module _ (text : List ℕ) where
   named_out u (grammar.ReadsNamed.assign_element {u = v} {v = w} {w = z} {us = us} {rest = rest} {i = i} {e = e} r is is' r' is'') =
       (i, v ∷ w ∷ us, r, (v, w ∷ us, tok is, (w, us, tok is', (e, z ∷ rest, r', (z, rest, tok is'', done)))))
   named_out u (grammar.ReadsNamed.add {u = v} {rest = rest} {e = e} r is) = (e, v ∷ rest, r, (v, rest, tok is, done))
+  named_out u (grammar.ReadsNamed.raise {u = w} {v = v} {ts = ts} {rest = rest} {e = e} i r is) = (w, ts, tok i, (e, v ∷ rest, r, (v, rest, tok is, done)))
   named_out u (grammar.ReadsNamed.call {u = v} {rest = rest} {es = es} r is) = (es, v ∷ rest, r, (v, rest, tok is, done_next))
 
   declared_into : (site : ℕ) (x : Name) (u : Token) (k : Kind) → u.kind ≡ k → (ts : List Token) (y : Stmt × ℕ) (rest : List Token) → DeclaredBy site x u k ts y rest → ReadsDeclared text x (u ∷ ts) y.0 rest × (y.1 ≡ site)

@@ -8,7 +8,7 @@ use Rattle.cw_model.specs.Syntax.{Reducer, Function}
 use Rattle.cw_parse.specs.declared.stop.Stop.{Stop}
 use Rattle.cw_parse.specs.declared.stop.Stop.TheVariants as stop
 use Rattle.cw_parse.specs.Reading.{Read, Reader, ◌>>=◌, Fails, by_first}
-use Rattle.cw_parse.specs.Parts.{Item, Sum, Code, Items, put_item, push_item, item, items, whole}
+use Rattle.cw_parse.specs.Parts.{Item, Total, Code, Items, put_item, push_item, item, items, whole}
 
 -- items in front of others
 abbrev pub together : Items → Items → Items
@@ -19,7 +19,7 @@ abbrev pub with_items : Items → Read Items → Read Items
 with_items xs read = read >>= λ y. Ok (together xs y.0, y.1)
 
 item_push : (xs : Items) (x : Item) (ys : Items) → together (push_item xs x) ys ≡ together xs (put_item x ys)
-item_push xs (Sum r) ys = ap (λ rs. (rs, xs.1 ++ ys.1)) (append_assoc xs.0 (r ∷ []) ys.0)
+item_push xs (Total r) ys = ap (λ rs. (rs, xs.1 ++ ys.1)) (append_assoc xs.0 (r ∷ []) ys.0)
 item_push xs (Code f) ys = ap (λ fs. (xs.0 ++ ys.0, fs)) (append_assoc xs.1 (f ∷ []) ys.1)
 
 regroup : (xs : Items) (x : Item) (read : Read Items) → with_items xs (read >>= λ y. Ok (put_item x y.0, y.1)) ≡ with_items (push_item xs x) read

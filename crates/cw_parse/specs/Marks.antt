@@ -13,7 +13,6 @@ is_mark mark.Int kind.Int = true
 is_mark mark.Else kind.Else = true
 is_mark mark.At kind.At = true
 is_mark mark.As kind.As = true
-is_mark mark.Sum kind.Sum = true
 is_mark mark.Grain kind.Grain = true
 is_mark mark.Over kind.Over = true
 is_mark mark.Spawn kind.Spawn = true

@@ -8,6 +8,8 @@ use Rattle.cw_model.specs.Syntax as tree
 use Rattle.cw_model.specs.declared.syntax.Operator.{Operator}
 use Rattle.cw_model.specs.declared.syntax.CallKind.{CallKind}
 use Rattle.cw_model.specs.declared.syntax.CallKind.TheVariants.{Plain, Spawned}
+use Rattle.cw_model.specs.declared.syntax.Reduction.{Reduction}
+use Rattle.cw_model.specs.declared.syntax.Reduction.TheVariants.{Sum, Max}
 use Rattle.cw_model.specs.Syntax.{Name, Expr, Stmt, Block, Param, Function, Reducer}
 use Rattle.cw_model.specs.Grammar.{name_of, infix_of, Head}
 use Rattle.cw_parse.specs.declared.marks.Mark.{Mark}
@@ -189,11 +191,17 @@ element_assigned text n site x ts =
     expr text n ts >>= λ i. marked mark.RightBracket i.1 >>= λ u. marked mark.Assign u.1 >>= λ v. ended text n site
     (λ e. tree.AssignElement x i.0 e) v.1
 
+-- what a reducer is told, up to the semicolon
+abbrev pub told : List ℕ → ℕ → ℕ → Reduction → Name → Reader (Stmt × ℕ)
+told text n site how s ts = ended text n site (λ e. tree.Reduce how s e) ts
+
 -- what follows the name at the front of a statement, after a second token of this kind
 unfoldable pub named_stmt : List ℕ → ℕ → ℕ → Token → Token → Kind → Reader (Stmt × ℕ)
 named_stmt text n site t u kind.Assign ts = assigned text n site (name_of text t) ts
 named_stmt text n site t u kind.LeftBracket ts = element_assigned text n site (name_of text t) ts
-named_stmt text n site t u kind.AddAssign ts = ended text n site (λ e. tree.AddTo (name_of text t) e) ts
+named_stmt text n site t u kind.AddAssign ts = told text n site Sum (name_of text t) ts
+named_stmt text n site t u kind.Max ts =
+    marked mark.Assign ts >>= λ v. told text n site Max (name_of text t) v.1
 named_stmt text n site t u kind.LeftParen ts = called text n Plain site None t ts
 named_stmt text n site t u _ ts = Err (length (u ∷ ts))
 
@@ -415,14 +423,20 @@ param text ts = marked mark.Int ts >>= λ t. marked mark.Name t.1 >>= λ x. behi
 
 -- a reducer or a function
 pub data Item : Type 0 where
-  Sum : Reducer → Item
+  Total : Reducer → Item
   Code : Function → Item
+
+-- how a reducer reduces, by a word of this kind
+abbrev pub reduction : Token → Kind → Reader Reduction
+reduction u kind.Sum ts = Ok (Sum, ts)
+reduction u kind.Max ts = Ok (Max, ts)
+reduction u _ ts = Err (length (u ∷ ts))
 
 -- a reducer after its first token
 unfoldable pub reducer : List ℕ → Token → Reader Reducer
 reducer text t ts =
-    marked mark.Sum ts >>= λ u. marked mark.Name u.1 >>= λ s. marked mark.Semicolon s.1 >>= λ v. Ok
-    (record { name = name_of text s.0; line = t.line }, v.1)
+    by_first reduction ts >>= λ u. marked mark.Name u.1 >>= λ s. marked mark.Semicolon s.1 >>= λ v. Ok
+    (record { name = name_of text s.0; how = u.0; line = t.line }, v.1)
 
 -- a function after its first token, and the number of the next call statement
 unfoldable pub function : List ℕ → ℕ → Bool → ℕ → Reader (Function × ℕ)
@@ -436,7 +450,7 @@ function text n gives site ts =
 
 -- an item after a first token of this kind, and the number of the next call statement
 unfoldable pub item : List ℕ → ℕ → ℕ → Token → Kind → Reader (Item × ℕ)
-item text n site t kind.Reducer ts = reducer text t ts >>= λ x. Ok ((Sum x.0, site), x.1)
+item text n site t kind.Reducer ts = reducer text t ts >>= λ x. Ok ((Total x.0, site), x.1)
 item text n site t kind.Int ts = function text n true site ts >>= λ x. Ok ((Code x.0.0, x.0.1), x.1)
 item text n site t kind.Void ts = function text n false site ts >>= λ x. Ok ((Code x.0.0, x.0.1), x.1)
 item text n site t _ ts = Err (length (t ∷ ts))
@@ -447,12 +461,12 @@ Items = List Reducer × List Function
 
 -- one more item in front
 abbrev pub put_item : Item → Items → Items
-put_item (Sum r) xs = (r ∷ xs.0, xs.1)
+put_item (Total r) xs = (r ∷ xs.0, xs.1)
 put_item (Code f) xs = (xs.0, f ∷ xs.1)
 
 -- one more item behind others
 abbrev pub push_item : Items → Item → Items
-push_item xs (Sum r) = (xs.0 ++ r ∷ [], xs.1)
+push_item xs (Total r) = (xs.0 ++ r ∷ [], xs.1)
 push_item xs (Code f) = (xs.0, xs.1 ++ f ∷ [])
 
 -- the items up to the end of the source, in at most so many steps

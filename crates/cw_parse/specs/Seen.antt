@@ -37,7 +37,7 @@ opening_of (opening.Region tag) = part.Region tag
 
 -- a reducer or a function
 abbrev pub item_of : Item → part.Item
-item_of (item.Sum r) = part.Sum (reducer_of r)
+item_of (item.Total r) = part.Total (reducer_of r)
 item_of (item.Code f) = part.Code (function_of f)
 
 -- a name beside what an expression stands for

@@ -6,7 +6,7 @@ ghost use Rattle.cw_model.specs.Syntax as model;
 ghost use Rattle.cw_tree.specs.SyntaxView.{param_of, function_of, reducer_of, numbered};
 ghost use Rattle.cw_parse.specs.Seen.{item_of, items_of, IsPushed};
 ghost use Rattle.cw_parse.specs.Reading.{Gives, Parses, by_first};
-ghost use Rattle.cw_parse.specs.Parts.{array, single, behind_name, param, reducer, function, item, whole};
+ghost use Rattle.cw_parse.specs.Parts.{array, single, behind_name, param, reduction, reducer, function, item, whole};
 
 use crate::expr::name_of;
 use crate::input::{Read, Reading};
@@ -14,6 +14,7 @@ use crate::list::{Part, list};
 use crate::marks::{Mark, expect, past};
 use crate::stmt::lines;
 use crate::stop::Stop;
+use cw_model::syntax::Reduction;
 use cw_model::token::{Kind, Token};
 use cw_tree::syntax::{Ast, Function, Name, Param, Reducer};
 
@@ -75,16 +76,31 @@ impl Part for Param {
     }
 }
 
+// How a reducer reduces, by its word.
+fn reduction(tokens: &[Token]) -> Read<'_, Reduction>
+    ensures { Parses (λ x. x) result (by_first reduction tokens.now) }
+{
+    match tokens {
+        [] => Err(Stop::At(0)),
+        [word, rest @ ..] => match word.kind {
+            Kind::Sum => Ok((Reduction::Sum, rest)),
+            Kind::Max => Ok((Reduction::Max, rest)),
+            _ => Err(Stop::At(tokens.len())),
+        },
+    }
+}
+
 // A reducer after its first token.
 #[tactic(auto, unfolding(crate::specs::Parts::reducer))]
 fn reducer<'a>(reading: Reading<'_>, first: Token, tokens: &'a [Token]) -> Read<'a, Reducer>
     ensures { Parses reducer_of result (reducer reading.entry.text.now first tokens.now) }
 {
-    let (_, rest) = expect(Mark::Sum, tokens)?;
+    let (how, rest) = reduction(tokens)?;
     let (found, rest) = expect(Mark::Name, rest)?;
     let (_, rest) = expect(Mark::Semicolon, rest)?;
     let reducer = Reducer {
         name: name_of(reading, found)?,
+        how,
         line: first.line,
     };
     Ok((reducer, rest))
@@ -120,7 +136,7 @@ fn function<'a>(
 // A reducer or a function.
 #[derive(Drop)]
 enum Item {
-    Sum(Reducer),
+    Total(Reducer),
     Code(Function),
 }
 
@@ -139,7 +155,7 @@ fn next_item<'a>(
     match first.kind {
         Kind::Reducer => {
             let (found, rest) = reducer(reading, first, tokens)?;
-            Ok(((Item::Sum(found), site), rest))
+            Ok(((Item::Total(found), site), rest))
         }
         Kind::Int => {
             let ((found, site), rest) = function(reading, true, site, tokens)?;
@@ -171,7 +187,7 @@ fn push(mut ast: Ast, found: Item) -> Result<Ast, Stop>
         (λ e. e ≡ Memory) }
 {
     match found {
-        Item::Sum(reducer) => ast.reducers.push(reducer)?,
+        Item::Total(reducer) => ast.reducers.push(reducer)?,
         Item::Code(function) => ast.functions.push(function)?,
     }
     Ok(ast)

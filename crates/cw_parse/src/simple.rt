@@ -3,14 +3,14 @@
 ghost use Rattle.std.specs.Prelude.{◌≡◌, ◌+◌, ◌<◌, ◌^◌};
 ghost use Rattle.cw_tree.specs.SyntaxView.{numbered, stmt_of};
 ghost use Rattle.cw_parse.specs.Reading.{Parses, by_first};
-ghost use Rattle.cw_parse.specs.Parts.{is_call, called, call, assigned, element_assigned, named_stmt, declared_as, declared, returned, printed, simple};
+ghost use Rattle.cw_parse.specs.Parts.{is_call, called, call, assigned, element_assigned, told, named_stmt, declared_as, declared, returned, printed, simple};
 
 use crate::expr::{expr, name_of};
 use crate::input::{Read, Reading};
 use crate::list::list;
 use crate::marks::{Mark, expect, past};
 use crate::stop::Stop;
-use cw_model::syntax::CallKind;
+use cw_model::syntax::{CallKind, Reduction};
 use cw_model::token::{Kind, Token};
 use cw_tree::syntax::{Call, Name, Stmt};
 
@@ -114,6 +114,23 @@ fn element_assigned<'a>(
     Ok(((Stmt::AssignElement(array, index, value), site), rest))
 }
 
+// What a reducer is told, up to the semicolon.
+fn told<'a>(
+    reading: Reading<'_>,
+    depth: usize,
+    site: u32,
+    how: Reduction,
+    reducer: Name,
+    tokens: &'a [Token],
+) -> Read<'a, (Stmt, u32)>
+    ensures { Parses (numbered stmt_of) result
+        (told reading.entry.text.now depth site how reducer tokens.now) }
+{
+    let (value, rest) = expr(reading, depth, tokens)?;
+    let (_, rest) = expect(Mark::Semicolon, rest)?;
+    Ok(((Stmt::Reduce(how, reducer, value), site), rest))
+}
+
 // What follows the name at the front of a statement, after the token behind the name.
 #[tactic(auto, unfolding(crate::specs::Parts::named_stmt))]
 fn named_after<'a>(
@@ -134,9 +151,11 @@ fn named_after<'a>(
             element_assigned(reading, depth, site, name_of(reading, first)?, tokens)
         }
         Kind::AddAssign => {
-            let (value, rest) = expr(reading, depth, tokens)?;
-            let (_, rest) = expect(Mark::Semicolon, rest)?;
-            Ok(((Stmt::AddTo(name_of(reading, first)?, value), site), rest))
+            told(reading, depth, site, Reduction::Sum, name_of(reading, first)?, tokens)
+        }
+        Kind::Max => {
+            let (_, rest) = expect(Mark::Assign, tokens)?;
+            told(reading, depth, site, Reduction::Max, name_of(reading, first)?, rest)
         }
         Kind::LeftParen => called(reading, depth, CallKind::Plain, site, None, first, tokens),
         _ => Err(Stop::At(tokens.len() + 1)),

@@ -6,7 +6,7 @@ use Rattle.cw_model.specs.declared.syntax.CallKind.TheVariants.{Plain, Spawned}
 use Rattle.cw_model.specs.Captured.{captured}
 use Rattle.cw_model.specs.Ints.{Result, Value, Fails, is_zero, natural}
 use Rattle.cw_model.specs.declared.limits.TheConstants.{MOST_DEPTH}
-use Rattle.cw_model.specs.Syntax.{Stmt, Declare, DeclareArray, Assign, AssignElement, AddTo, Call, Start, Begin, Sync, If, IfElse, While, For, Scope, Cut, Region, Print, Return, Block, End, Then, Function}
+use Rattle.cw_model.specs.Syntax.{Stmt, Declare, DeclareArray, Assign, AssignElement, Reduce, Call, Start, Begin, Sync, If, IfElse, While, For, Scope, Cut, Region, Print, Return, Block, End, Then, Function}
 use Rattle.cw_model.specs.Trees.{Mark, Invocation, Execution, works}
 use Rattle.cw_model.specs.Frames.{Frame, no_frame, leave, inside_loop, new_int}
 use Rattle.cw_model.specs.Expressions.{Evaluated, done_at, evaluate}
@@ -129,7 +129,7 @@ module _ (fs : List Function) (most : ℕ) (calls other : Calls) (agree : (entry
     agree_stmt (DeclareArray a e) line frame = agree_alone (DeclareArray a e) line frame refl
     agree_stmt (Assign x e) line frame = agree_alone (Assign x e) line frame refl
     agree_stmt (AssignElement a i e) line frame = agree_alone (AssignElement a i e) line frame refl
-    agree_stmt (AddTo s e) line frame = agree_alone (AddTo s e) line frame refl
+    agree_stmt (Reduce how s e) line frame = agree_alone (Reduce how s e) line frame refl
     agree_stmt (Call kind site target callee es) line frame =
         agree_then OfFrame OfStatement (suc most) (agree_itself OfFrame (suc most) (runs_arguments (function_named callee fs).params es frame line no_frame)) (λ given.
         agree_later OfNothing OfStatement most (runs_pay 1) leaves_pay (λ _.

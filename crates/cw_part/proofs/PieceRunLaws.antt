@@ -7,7 +7,7 @@ use Rattle.cw_model.specs.declared.syntax.CallKind.TheVariants.{Plain, Spawned}
 use Rattle.cw_model.specs.Captured.{captured}
 use Rattle.cw_model.specs.Ints.{is_zero, natural}
 use Rattle.cw_model.specs.declared.limits.TheConstants.{MOST_DEPTH}
-use Rattle.cw_model.specs.Syntax.{Expr, Stmt, Declare, DeclareArray, Assign, AssignElement, AddTo, Call, Start, Begin, Sync, If, IfElse, While, For, Scope, Cut, Region, Print, Return, Block, End, Then, Param, Function}
+use Rattle.cw_model.specs.Syntax.{Expr, Stmt, Declare, DeclareArray, Assign, AssignElement, Reduce, Call, Start, Begin, Sync, If, IfElse, While, For, Scope, Cut, Region, Print, Return, Block, End, Then, Param, Function}
 use Rattle.cw_model.specs.Trees.{Mark, Invocation, Execution, Join, works}
 use Rattle.cw_model.specs.Frames.{Frame, no_frame, leave, inside_loop, new_array, new_int}
 use Rattle.cw_model.specs.Expressions.{Evaluated, Gives, Traps, evaluate}
@@ -192,9 +192,9 @@ module _ (fs : List Function) (calls : Calls) (runs : (entry : Entry) (f : Funct
     runs_stmt (DeclareArray a e) line frame = after_value OfStatement _ line (λ v. runs_nothing OfStatement _)
     runs_stmt (Assign x e) line frame = after_value OfStatement _ line (λ v. after_pay OfStatement 1 (λ _. runs_nothing OfStatement _))
     runs_stmt (AssignElement a i e) line frame = after_value OfStatement _ line (λ i. after_value OfStatement _ line (λ v. runs_nothing OfStatement _))
-    runs_stmt (AddTo s e) line frame =
+    runs_stmt (Reduce how s e) line frame =
         after_value OfStatement _ line (λ v. after_pay OfStatement 1
-        (λ _. runs_then OfNothing OfStatement (runs_free (record { lines = []; additions = (s, v) ∷ []; events = [] }) refl) (λ _. runs_nothing OfStatement (Normal frame))))
+        (λ _. runs_then OfNothing OfStatement (runs_free (record { lines = []; updates = (s, v) ∷ []; events = [] }) refl) (λ _. runs_nothing OfStatement (Normal frame))))
     runs_stmt (Call kind site target callee es) line frame =
         runs_then OfFrame OfStatement (runs_arguments (function_named callee fs).params es frame line no_frame) (λ given. after_pay OfStatement 1
         (λ _. runs_then OfCall OfStatement (runs_called kind site (runs Deeper (function_named callee fs) given line)) (λ returned. runs_nothing OfStatement _)))
@@ -228,7 +228,7 @@ module _ (fs : List Function) (calls : Calls) (runs : (entry : Entry) (f : Funct
         runs_onward exit _ (λ frame'. after_pay OfStatement 1 (λ _. runs_nothing OfStatement _))))
     runs_stmt (Print e) line frame =
         after_value OfStatement _ line (λ v. after_pay OfStatement 1
-        (λ _. runs_then OfNothing OfStatement (runs_free (record { lines = v ∷ []; additions = []; events = [] }) refl) (λ _. runs_nothing OfStatement (Normal frame))))
+        (λ _. runs_then OfNothing OfStatement (runs_free (record { lines = v ∷ []; updates = []; events = [] }) refl) (λ _. runs_nothing OfStatement (Normal frame))))
     runs_stmt (Return None) line frame = runs_then OfNothing OfStatement runs_join (λ _. after_pay OfStatement 1 (λ _. runs_nothing OfStatement (ByReturn None frame)))
     runs_stmt (Return (Some e)) line frame =
         after_value OfStatement _ line (λ v. runs_then OfNothing OfStatement runs_join (λ _. after_pay OfStatement 1 (λ _. runs_nothing OfStatement (ByReturn (Some v) frame))))

@@ -38,7 +38,7 @@ cost_inside false (Some mark) t = omega arith
 
 -- traces make a monoid
 abbrev trace_with : List ℤ → List (Name × ℤ) → List Event → Trace
-trace_with l a e = record { lines = l; additions = a; events = e }
+trace_with l a e = record { lines = l; updates = a; events = e }
 
 same_trace : {l l' : List ℤ} {a a' : List (Name × ℤ)} {e e' : List Event} → l ≡ l' → a ≡ a' → e ≡ e' → trace_with l a e ≡ trace_with l' a' e'
 same_trace h i j = cc
@@ -46,10 +46,10 @@ same_trace h i j = cc
 pub traces_are_lawful : IsLawful Trace traces
 traces_are_lawful = record {
   none_first = λ a. refl;
-  none_last = λ a. same_trace (append_all a.lines) (append_all a.additions) (append_all a.events);
+  none_last = λ a. same_trace (append_all a.lines) (append_all a.updates) (append_all a.events);
   regroup = λ a b c.
       same_trace (append_further a.lines b.lines c.lines)
-      (append_further a.additions b.additions c.additions) (append_further a.events b.events c.events);
+      (append_further a.updates b.updates c.updates) (append_further a.events b.events c.events);
   no_work = refl;
   above_first = λ a b. let e = cost_both a b in omega arith;
   above_second = λ a b. let e = cost_both a b in omega arith;

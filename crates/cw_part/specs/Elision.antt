@@ -2,6 +2,10 @@
 use Rattle.std.specs.Prelude.{◌≡◌, ℕ, suc, ℤ, ◌<◌, ◌≤◌, ◌^◌, ◌==◌, nat_lt, min, if◌then◌else◌, List, [], ◌∷◌, map, ◌⊎◌}
 use Rattle.std.specs.Int.{int_wrap, w128}
 use Rattle.std.specs.Int.RustNames.{FitsSigned}
+use Rattle.cw_model.specs.declared.burden.Burden.{Burden}
+use Rattle.cw_model.specs.declared.syntax.Reduction.{Reduction}
+use Rattle.cw_model.specs.declared.total.Total.{Total}
+use Rattle.cw_model.specs.declared.total.Total.TheVariants as total
 use Rattle.cw_model.specs.declared.trap.Trap.{Trap}
 use Rattle.cw_model.specs.Syntax.{Name, Program}
 use Rattle.cw_model.specs.Names.{same_name}
@@ -9,14 +13,14 @@ use Rattle.cw_model.specs.Frames.{no_frame}
 use Rattle.cw_model.specs.Trees.{Tree}
 use Rattle.cw_model.specs.Outcome.{Trace, Done, Piece}
 use Rattle.cw_model.specs.Meaning.{Returned, Deeper, function_named, call}
-use Rattle.cw_model.specs.Answers.{Answer, Ended, TrappedAt, OverLimit, answer_of, sum_to, main_name, main_frame, serial_answer}
+use Rattle.cw_model.specs.Answers.{Answer, Ended, TrappedAt, OverLimit, answer_of, total_to, main_name, main_frame, serial_answer}
 use Rattle.cw_measure.specs.Measured.{most, ReadsTree}
-use Rattle.cw_reduce.specs.Shown.{sum_of}
-use Rattle.cw_reduce.specs.Words.{word_of}
+use Rattle.cw_reduce.specs.Held.{as_total}
+use Rattle.cw_reduce.specs.Shown.{held_of}
 use Rattle.cw_part.specs.declared.read.Read.{Read}
 use Rattle.cw_part.specs.Parts.{Came, Completed, Trapped, Over, Memory}
 use Rattle.cw_part.specs.RunParts.{RunPart}
-use Rattle.cw_part.specs.Runs.{Run, serial, added, IsJoinedOf}
+use Rattle.cw_part.specs.Runs.{Run, Numbering, serial, told, IsJoinedOf}
 use Rattle.cw_part.specs.PieceRuns.{OfCall, Exit, IsRunOf, HasRun, outcome_with}
 
 -- main on its arguments, at depth 1, with no more calls inside one another than the limit allows
@@ -25,17 +29,17 @@ elision program args limit =
     let main = function_named main_name program.functions in
     call (suc limit) 0 program.functions Deeper main (main_frame main.params args no_frame) main.line
 
--- what is read of a part tells an end: the printed lines, the sums of what was added to each reducer, and the readings
+-- what is read of a part tells an end: the printed lines, the totals of what each reducer was told, and the readings
 -- of the tree
-pub record TellsEnd (burden : ℕ) (number : Name → ℕ) (program : Program) (args : List ℤ) (limit : ℕ)
-    (lines sums : List ℤ) (tree : Tree) (a : Read) : Type 0 where
+pub record TellsEnd (burden : Burden) (numbering : Numbering) (program : Program) (args : List ℤ) (limit : ℕ)
+    (lines : List ℤ) (totals : List Total) (tree : Tree) (a : Read) : Type 0 where
   pub returned : Returned
   pub left : ℕ
   pub trace : Trace
   pub ends : elision program args limit limit ≡ Done returned left trace
   pub printed : a.views.lines ≡ lines
-  pub summed : sums ≡ map (λ r. sum_to r.name trace.additions) program.reducers
-  pub kept : (reducer : ℕ) → sum_of a.views.sums reducer ≡ added number reducer trace.additions
+  pub reduced : totals ≡ map (λ r. total_to r.how r.name trace.updates) program.reducers
+  pub kept : (reducer : ℕ) → held_of a.views.totals reducer ≡ told numbering reducer trace.updates
   pub measured : ReadsTree burden a.measure tree
 
 -- and a trap: the lines printed before it, and its cost, which is the least limit that it comes within
@@ -48,14 +52,14 @@ pub record TellsStop (program : Program) (args : List ℤ) (limit : ℕ) (trap :
       → serial_answer program args left ≡ (if nat_lt left cost then OverLimit else TrappedAt trap line lines)
 
 -- how a part came out tells an answer of a program within a limit
-pub data TellsAnswer (burden : ℕ) (number : Name → ℕ) (program : Program) (args : List ℤ) (limit : ℕ) : Answer
+pub data TellsAnswer (burden : Burden) (numbering : Numbering) (program : Program) (args : List ℤ) (limit : ℕ) : Answer
     → Came Read → Type 0 where
-  EndedSo : (value : ℤ) (lines sums : List ℤ) (tree : Tree) (a : Read)
-      → TellsEnd burden number program args limit lines sums tree a
-      → TellsAnswer burden number program args limit (Ended value lines sums tree) (Completed a)
+  EndedSo : (value : ℤ) (lines : List ℤ) (totals : List Total) (tree : Tree) (a : Read)
+      → TellsEnd burden numbering program args limit lines totals tree a
+      → TellsAnswer burden numbering program args limit (Ended value lines totals tree) (Completed a)
   TrappedSo : (trap : Trap) (line : ℕ) (lines : List ℤ) (a : Read) → TellsStop program args limit trap line lines a
-      → TellsAnswer burden number program args limit (TrappedAt trap line lines) (Trapped trap line a)
-  OverSo : TellsAnswer burden number program args limit OverLimit Over
+      → TellsAnswer burden numbering program args limit (TrappedAt trap line lines) (Trapped trap line a)
+  OverSo : TellsAnswer burden numbering program args limit OverLimit Over
 
 -- the elision of a program is a run of a frame within each limit
 abbrev pub ElisionIsARun : Type 0
@@ -73,21 +77,29 @@ RunGivesTheAnswers =
 -- memory was refused
 abbrev pub PiecesAreTheElision : Type 0
 PiecesAreTheElision =
-    (burden : ℕ) (number : Name → ℕ) (program : Program) (args : List ℤ) (limit : ℕ) (run : Run) (exit : Exit OfCall)
-    (p : RunPart)
-    → burden < 2 ^ 64 → IsRunOf OfCall limit (elision program args limit) run exit
-    → IsJoinedOf burden number limit 0 run p
+    (burden : Burden) (numbering : Numbering) (program : Program) (args : List ℤ) (limit : ℕ)
+    (run : Run) (exit : Exit OfCall) (p : RunPart)
+    → burden.charge < 2 ^ 64 → IsRunOf OfCall limit (elision program args limit) run exit
+    → IsJoinedOf burden numbering limit 0 run p
     → (p.limit ≡ limit)
-    × ((p.came ≡ Memory) ⊎ TellsAnswer burden number program args limit (serial_answer program args limit) p.came)
+    × ((p.came ≡ Memory)
+      ⊎ TellsAnswer burden numbering program args limit (serial_answer program args limit) p.came)
 
--- each addition fits 128 bits
+-- each value that a reducer was told fits 128 bits
 abbrev pub AllFit : List (Name × ℤ) → Type 0
 AllFit [] = Unit {0}
-AllFit (addition ∷ more) = FitsSigned w128 addition.1 × AllFit more
+AllFit (update ∷ more) = FitsSigned w128 update.1 × AllFit more
 
--- where the number of a reducer is that of no other name, what is added to it is its sum, as far as that fits 128 bits
-abbrev pub AdditionsAreSums : Type 0
-AdditionsAreSums =
-    (number : Name → ℕ) (reducer : Name) (additions : List (Name × ℤ))
-    → ((x : Name) → (number x == number reducer) ≡ same_name reducer x) → AllFit additions
-    → added number (number reducer) additions ≡ word_of (int_wrap w128 (sum_to reducer additions))
+-- a total as far as it fits 128 bits
+abbrev pub wrapped : Total → Total
+wrapped (total.Sum v) = total.Sum (int_wrap w128 v)
+wrapped (total.Max v) = total.Max v
+
+-- where the number of a reducer is that of no other name, what is held of it reads as its total, as far as a sum fits
+-- 128 bits
+abbrev pub UpdatesAreTotals : Type 0
+UpdatesAreTotals =
+    (numbering : Numbering) (how : Reduction) (reducer : Name) (updates : List (Name × ℤ))
+    → numbering.how (numbering.number reducer) ≡ how
+    → ((x : Name) → (numbering.number x == numbering.number reducer) ≡ same_name reducer x) → AllFit updates
+    → as_total how (told numbering (numbering.number reducer) updates) ≡ wrapped (total_to how reducer updates)

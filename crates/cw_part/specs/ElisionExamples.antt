@@ -17,7 +17,7 @@ abbrev pub join : Run → Run
 join rest = Shows (shows (Join ∷ [])) rest
 
 abbrev pub print : ℤ → Run → Run
-print v rest = Shows (record { lines = v ∷ []; additions = []; events = [] }) rest
+print v rest = Shows (record { lines = v ∷ []; updates = []; events = [] }) rest
 
 abbrev pub child : (site : ℕ) → (inner rest : Run) → Run
 child site inner rest = Inside true (Some (Invocation site)) inner rest

@@ -1,5 +1,5 @@
 -- What is read of a part of a run: its views and its measure.
-use Rattle.std.specs.Prelude.{ℕ}
+use Rattle.cw_model.specs.declared.burden.Burden.{Burden}
 use Rattle.cw_reduce.specs.Shown.{nothing_shown, shown_joined}
 use Rattle.cw_measure.specs.Measured.{nothing, joined, after_child, after_part}
 use Rattle.cw_part.specs.declared.read.Read.{Read}
@@ -15,7 +15,7 @@ read_joined a b = record { views = shown_joined a.views b.views; measure = joine
 
 -- what is read of a spawned child, as a piece of the block that spawned it: its views as they are, its measure as that
 -- of one child
-abbrev pub child_read : (burden : ℕ) → Read → Read
+abbrev pub child_read : Burden → Read → Read
 child_read burden a = record { views = a.views; measure = after_child burden a.measure nothing }
 
 -- and of a call, as a piece of the block that made it

@@ -1,4 +1,5 @@
 -- Parts of runs: how each came out, and the limit of its work.
+use Rattle.cw_model.specs.declared.burden.Burden.{Burden}
 use Rattle.cw_model.specs.declared.limits.TheConstants.{MOST_LIMIT}
 use Rattle.std.specs.Prelude.{◌≡◌, ℕ, nat_lt, min, false, refl}
 use Rattle.std.proofs.Common.{◌∙◌}
@@ -34,7 +35,7 @@ run_joined p q = record {
 }
 
 -- a spawned child's part, as a piece of the block that spawned it
-abbrev pub as_child : (burden : ℕ) → RunPart → RunPart
+abbrev pub as_child : Burden → RunPart → RunPart
 as_child burden p = record {
   limit = p.limit;
   came = seen (child_read burden) p.came;

@@ -1,13 +1,15 @@
 -- The run of a frame, step by step, and the parts of pieces that it may be cut into.
 use Rattle.std.specs.Prelude.{◌≡◌, ℕ, ℤ, ◌+◌, ◌-◌, ◌<◌, ◌≤◌, ◌==◌, ◌^◌, nat_lt, min, Bool, true, false, if◌then◌else◌, List, [], ◌∷◌, Option, ◌⊎◌}
+use Rattle.cw_model.specs.declared.burden.Burden.{Burden}
+use Rattle.cw_model.specs.declared.syntax.Reduction.{Reduction}
 use Rattle.cw_model.specs.declared.trap.Trap.{Trap}
 use Rattle.cw_model.specs.Syntax.{Name}
 use Rattle.cw_model.specs.Trees.{Mark, tree_of, work}
 use Rattle.cw_model.specs.Outcome.{Trace, quiet, joined}
 use Rattle.cw_measure.specs.Measured.{most, Measures}
 use Rattle.cw_measure.specs.OpenParts.{marked, part_of}
-use Rattle.cw_reduce.specs.Shown.{sum_of}
-use Rattle.cw_reduce.specs.Words.{Word, nothing, plus, word_of}
+use Rattle.cw_reduce.specs.Held.{Held, none_held, one_held, held_joined}
+use Rattle.cw_reduce.specs.Shown.{held_of}
 use Rattle.cw_part.specs.declared.read.Read.{Read}
 use Rattle.cw_part.specs.Parts.{Readings, Came, Completed, Trapped, Over, Memory, followed, seen, over_if}
 use Rattle.cw_part.specs.RunParts.{RunPart, run_joined, as_child, as_call}
@@ -38,7 +40,7 @@ then_run (Inside spawned mark inner rest) later = Inside spawned mark inner (the
 -- the events of a part inside stand as one event, made of their tree
 abbrev pub as_event : (spawned : Bool) → Option Mark → Trace → Trace
 as_event spawned mark t =
-    record { lines = t.lines; additions = t.additions; events = part_of spawned (marked mark (tree_of t.events)) ∷ [] }
+    record { lines = t.lines; updates = t.updates; events = part_of spawned (marked mark (tree_of t.events)) ∷ [] }
 
 -- what goes on where a part inside ran to its end
 abbrev pub goes_on : Came Trace → (Trace → Came Trace) → Came Trace
@@ -56,17 +58,25 @@ serial left (Traps trap line t) = over_if (nat_lt left (cost t)) (Trapped trap l
 serial left (Inside spawned mark inner rest) =
     goes_on (seen (as_event spawned mark) (serial left inner)) (λ t. serial (left - cost t) rest)
 
--- what is added to one reducer, by the number of its name
-abbrev pub added : (number : Name → ℕ) → (reducer : ℕ) → List (Name × ℤ) → Word
-added number reducer [] = nothing
-added number reducer (addition ∷ more) =
-    let rest = added number reducer more in
-    if number addition.0 == reducer then plus (word_of addition.1) rest else rest
+-- the reducers of a run: the number of each name, and how the reducer with a number reduces
+pub record Numbering : Type 0 where
+  pub number : Name → ℕ
+  pub how : ℕ → Reduction
 
--- what is read tells of a trace: its lines, the sum of each reducer, and the measure of its events
-pub record TellsTrace (burden : ℕ) (number : Name → ℕ) (t : Trace) (a : Read) : Type 0 where
+-- what is held of one reducer that reduces so, by the number of its name, of these updates
+abbrev pub told_so : Reduction → (number : Name → ℕ) → (reducer : ℕ) → List (Name × ℤ) → Held
+told_so how number reducer [] = none_held
+told_so how number reducer (update ∷ more) =
+    let rest = told_so how number reducer more in
+    if number update.0 == reducer then held_joined (one_held how update.1) rest else rest
+
+abbrev pub told : Numbering → (reducer : ℕ) → List (Name × ℤ) → Held
+told numbering reducer updates = told_so (numbering.how reducer) numbering.number reducer updates
+
+-- what is read tells of a trace: its lines, what is held of each reducer, and the measure of its events
+pub record TellsTrace (burden : Burden) (numbering : Numbering) (t : Trace) (a : Read) : Type 0 where
   pub lines : a.views.lines ≡ t.lines
-  pub sums : (reducer : ℕ) → sum_of a.views.sums reducer ≡ added number reducer t.additions
+  pub totals : (reducer : ℕ) → held_of a.views.totals reducer ≡ told numbering reducer t.updates
   pub measure : Measures burden a.measure t.events
 
 -- what is read of a trap tells the lines before it, and the work
@@ -75,11 +85,12 @@ pub record TellsTrap (t : Trace) (a : Read) : Type 0 where
   pub work : a.measure.work ≡ min most (cost t)
 
 -- how a part came out tells how a run did
-pub data TellsCame (burden : ℕ) (number : Name → ℕ) : Came Trace → Came Read → Type 0 where
-  RanAlike : (t : Trace) (a : Read) → TellsTrace burden number t a → TellsCame burden number (Completed t) (Completed a)
+pub data TellsCame (burden : Burden) (numbering : Numbering) : Came Trace → Came Read → Type 0 where
+  RanAlike : (t : Trace) (a : Read) → TellsTrace burden numbering t a
+      → TellsCame burden numbering (Completed t) (Completed a)
   TrappedAlike : (trap : Trap) (line : ℕ) (t : Trace) (a : Read) → TellsTrap t a
-      → TellsCame burden number (Trapped trap line t) (Trapped trap line a)
-  OverAlike : TellsCame burden number Over Over
+      → TellsCame burden numbering (Trapped trap line t) (Trapped trap line a)
+  OverAlike : TellsCame burden numbering Over Over
 
 -- what is counted before a later piece is no more than what was before the first one and what that spent, where it ran
 -- to its end
@@ -94,28 +105,28 @@ IsCountedAfter before Memory between = Unit {0}
 -- limit with that cost before it, or memory was refused to it; it was cut, and the pieces of what came first and of
 -- what came later
 -- were joined; or a part at its beginning, a spawned child or a call, was joined of pieces of its own
-pub data IsJoinedOf (burden : ℕ) (number : Name → ℕ) (limit : ℕ) : (before : ℕ) → Run → RunPart → Type 0 where
+pub data IsJoinedOf (burden : Burden) (numbering : Numbering) (limit : ℕ) : (before : ℕ) → Run → RunPart → Type 0 where
   Alone : (before left : ℕ) (run : Run) (p : RunPart) → p.limit ≡ limit → left ≤ limit → limit ≤ before + left
-      → TellsCame burden number (serial left run) p.came → IsJoinedOf burden number limit before run p
+      → TellsCame burden numbering (serial left run) p.came → IsJoinedOf burden numbering limit before run p
   Refused : (before : ℕ) (run : Run) (p : RunPart) → p.limit ≡ limit → p.came ≡ Memory
-      → IsJoinedOf burden number limit before run p
+      → IsJoinedOf burden numbering limit before run p
   Cut : (before between : ℕ) (first later : Run) (p q : RunPart) → IsCountedAfter before (serial limit first) between
-      → IsJoinedOf burden number limit before first p → IsJoinedOf burden number limit between later q
-      → IsJoinedOf burden number limit before (then_run first later) (run_joined p q)
+      → IsJoinedOf burden numbering limit before first p → IsJoinedOf burden numbering limit between later q
+      → IsJoinedOf burden numbering limit before (then_run first later) (run_joined p q)
   Apart : (before between : ℕ) (mark : Option Mark) (child rest : Run) (p q : RunPart)
       → IsCountedAfter before (serial limit child) between
-      → IsJoinedOf burden number limit before child p → IsJoinedOf burden number limit between rest q
-      → IsJoinedOf burden number limit before (Inside true mark child rest) (run_joined (as_child burden p) q)
+      → IsJoinedOf burden numbering limit before child p → IsJoinedOf burden numbering limit between rest q
+      → IsJoinedOf burden numbering limit before (Inside true mark child rest) (run_joined (as_child burden p) q)
   Called : (before between : ℕ) (mark : Option Mark) (call rest : Run) (p q : RunPart)
       → IsCountedAfter before (serial limit call) between
-      → IsJoinedOf burden number limit before call p → IsJoinedOf burden number limit between rest q
-      → IsJoinedOf burden number limit before (Inside false mark call rest) (run_joined (as_call p) q)
+      → IsJoinedOf burden numbering limit before call p → IsJoinedOf burden numbering limit between rest q
+      → IsJoinedOf burden numbering limit before (Inside false mark call rest) (run_joined (as_call p) q)
 
 -- however a run is cut at its spawns, and whatever each piece met: the joined part tells of the serial run within the
 -- limit, or
 -- memory was refused
 abbrev pub PiecesAreTheRun : Type 0
 PiecesAreTheRun =
-    (burden : ℕ) (number : Name → ℕ) (limit : ℕ) (run : Run) (p : RunPart) → burden < 2 ^ 64
-    → IsJoinedOf burden number limit 0 run p
-    → (p.limit ≡ limit) × ((p.came ≡ Memory) ⊎ TellsCame burden number (serial limit run) p.came)
+    (burden : Burden) (numbering : Numbering) (limit : ℕ) (run : Run) (p : RunPart) → burden.charge < 2 ^ 64
+    → IsJoinedOf burden numbering limit 0 run p
+    → (p.limit ≡ limit) × ((p.came ≡ Memory) ⊎ TellsCame burden numbering (serial limit run) p.came)

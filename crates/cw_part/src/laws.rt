@@ -1,6 +1,6 @@
 //! The laws of parts: each function has one as its contract, and does nothing.
 
-ghost use Rattle.cw_part.specs.Elision.{AdditionsAreSums, ElisionIsARun, PiecesAreTheElision, RunGivesTheAnswers};
+ghost use Rattle.cw_part.specs.Elision.{ElisionIsARun, PiecesAreTheElision, RunGivesTheAnswers, UpdatesAreTotals};
 ghost use Rattle.cw_part.specs.ElisionExamples.{ElisionExamples};
 ghost use Rattle.cw_part.specs.ModelRuns.{RunsAreTheModels};
 ghost use Rattle.cw_part.specs.PieceRuns.{CallsAreRuns, RunsTellOfPieces};
@@ -54,11 +54,11 @@ pub fn elision_is_a_run()
 {}
 
 /// However the elision's run is cut at its spawns, and in whatever grouping its pieces are joined: the joined part tells
-/// the serial answer within the limit, or memory was refused. At an end it tells the lines, the sums and the readings of
-/// the tree; at a trap the line, the lines before it and its cost.
+/// the serial answer within the limit, or memory was refused. At an end it tells the lines, the totals and the readings
+/// of the tree; at a trap the line, the lines before it and its cost.
 pub fn pieces_are_the_elision()
     ensures answer { PiecesAreTheElision }
-    ensures sums { AdditionsAreSums }
+    ensures totals { UpdatesAreTotals }
 {
     measures_read_trees();
     normal_form_reads_the_same();

@@ -6,6 +6,7 @@ ghost use Rattle.cw_part.specs.Parts.{Completed, has_run, is_above, is_memory, s
 ghost use Rattle.cw_part.specs.Read.{call_read, child_read, readings};
 
 use crate::read::Read;
+use cw_model::burden::Burden;
 use cw_model::monoid::Monoid;
 use cw_model::trap::Trap;
 use std::alloc::AllocError;
@@ -98,7 +99,7 @@ impl Outcome {
     }
 
     /// That of a spawned child, as that of a piece of the block that spawned it.
-    pub fn into_child(self, burden: u64) -> Outcome
+    pub fn into_child(self, burden: Burden) -> Outcome
         ensures { came_of result ≡ seen (child_read burden) (came_of self) }
     {
         match self {

@@ -9,6 +9,7 @@ ghost use Rattle.cw_part.specs.RunParts.{IsMade, as_call, as_child, nothing_part
 
 use crate::outcome::Outcome;
 use crate::read::Read;
+use cw_model::burden::Burden;
 use cw_model::limits::MOST_LIMIT;
 use cw_model::monoid::Monoid;
 use std::alloc::{AllocError, Global};
@@ -65,7 +66,7 @@ impl Part {
     }
 
     /// A spawned child's part, as a piece of the block that spawned it: a child's measure is never joined as it is.
-    pub fn into_child(self, burden: u64) -> Part
+    pub fn into_child(self, burden: Burden) -> Part
         ensures { result ≡ as_child burden self }
     {
         let outcome = self.outcome.into_child(burden);

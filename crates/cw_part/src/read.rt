@@ -3,6 +3,7 @@
 ghost use Rattle.std.specs.Prelude.{◌≡◌, IfOk};
 
 use cw_measure::Measure;
+use cw_model::burden::Burden;
 use cw_model::monoid::Monoid;
 use cw_reduce::Views;
 use std::alloc::{AllocError, Global};
@@ -18,8 +19,8 @@ impl Read {
     ghost use Rattle.cw_part.specs.Read.{call_read, child_read};
 
     /// What is read of a spawned child, as a piece of the block that spawned it: its views as they are, and its measure
-    /// as that of one child, with this burden on the way past it.
-    pub fn into_child(self, burden: u64) -> Read
+    /// as that of one child, with what is charged at the fork.
+    pub fn into_child(self, burden: Burden) -> Read
         ensures { result ≡ child_read burden self }
     {
         let mut measure = Measure::new();

@@ -1,5 +1,5 @@
 -- What a post knows of its strand and of the jobs that it has out.
-use Rattle.std.specs.Prelude.{◌≡◌, List, [], ◌∷◌, map, reverse, Option, Some}
+use Rattle.std.specs.Prelude.{◌≡◌, List, ◌∷◌, map, reverse, Option, Some}
 use Rattle.cw_jobs.specs.declared.effect.Effect.{Effect}
 use Rattle.cw_jobs.specs.declared.job.Job.{Job}
 use Rattle.cw_jobs.specs.Means.{IsMeaningOf}

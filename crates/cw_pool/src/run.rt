@@ -14,6 +14,7 @@ use cw_jobs::effect::Effect;
 use cw_jobs::job::Job;
 use cw_machine::alone::Ended;
 use cw_machine::answering::answer;
+use cw_model::burden::Burden;
 use cw_text::Fault;
 use cw_verify::verified::Verified;
 use cw_yard::seat::{Seat, Yard};
@@ -128,8 +129,8 @@ pub(crate) fn drive<
 
 /// Runs code on these arguments within `n` instructions, with the caller's thread as worker 0 and a thread for each
 /// body: what `run_alone` gives, whatever the bodies and the gate do, and in whatever order workers come to steal.
-/// `burden` is the cost of a spawn in instructions, by which the burdened spans alone are told. Returns once each thread
-/// has ended.
+/// `burden` is what each spawn is charged, by which the burdened spans alone are told. Returns once each thread has
+/// ended.
 ///
 /// The error is `Arguments` exactly where the crew has more than 63 bodies, before anything is made, or as `run_alone`
 /// has it; otherwise that of `run_alone`: `Memory` where memory runs out, in any worker.
@@ -143,7 +144,7 @@ pub fn run<
     code: Arc<Verified>,
     args: &[i64],
     n: u64,
-    burden: u64,
+    burden: Burden,
     crew: Vec<B>,
     gate: Arc<G>,
 ) -> Result<Ended, Fault>

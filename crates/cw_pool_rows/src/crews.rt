@@ -1,8 +1,10 @@
 //! Runs by crews, beside those of one worker.
 
-use crate::gates::{Hand, Holder, idle, serving};
+use crate::gates::{Hand, Holder, Stumbling, idle, serving};
 use crate::programs::{FIB, HALVES, STEPS, TRAPS, code_of};
 use cw_machine::alone::{Ended, run_alone};
+use cw_model::burden::{Burden, Edges};
+use cw_model::total::Total;
 use cw_pool::gate::{Gate, Quiet};
 use cw_pool::run::run;
 use cw_text::Fault;
@@ -13,13 +15,56 @@ use std::thread::Threads;
 
 const MOST: u64 = 1_000_000;
 
+// Both edges of a spawn cost 3.
+const BURDEN: Burden = Burden {
+    charge: 3,
+    edges: Edges::Both,
+};
+
+// A program on its argument, within so many instructions.
+#[derive(Clone, Copy, Debug)]
+struct Run<'a> {
+    source: &'a [u8],
+    arg: i64,
+    n: u64,
+}
+
+// Runs that end, that trap and that pass their limit.
+const RUNS: [Run<'static>; 5] = [
+    Run {
+        source: STEPS,
+        arg: 40,
+        n: MOST,
+    },
+    Run {
+        source: FIB,
+        arg: 11,
+        n: MOST,
+    },
+    Run {
+        source: HALVES,
+        arg: 60,
+        n: MOST,
+    },
+    Run {
+        source: TRAPS,
+        arg: 9,
+        n: MOST,
+    },
+    Run {
+        source: FIB,
+        arg: 11,
+        n: 3000,
+    },
+];
+
 // Whether two runs ended alike, with the same counts everywhere, or failed alike.
 fn is_same(one: &Result<Ended, Fault>, other: &Result<Ended, Fault>) -> bool {
     match (one, other) {
         (Ok(a), Ok(b)) => {
             a.value == b.value
                 && a.lines == b.lines
-                && a.sums == b.sums
+                && a.totals == b.totals
                 && a.measure == b.measure
                 && a.sites == b.sites
                 && a.regions == b.regions
@@ -48,7 +93,7 @@ fn fault_of(run: &Result<Ended, Fault>) -> Option<u8> {
 // What one worker answers.
 fn alone(alloc: Global, source: &[u8], arg: i64, n: u64) -> Result<Result<Ended, Fault>, Fault> {
     let code = code_of(alloc, source)?;
-    Ok(run_alone(alloc, code, &[arg], n, 3))
+    Ok(run_alone(alloc, code, &[arg], n, BURDEN))
 }
 
 // What a crew answers.
@@ -65,7 +110,7 @@ fn together<
     gate: Arc<G>,
 ) -> Result<Result<Ended, Fault>, Fault> {
     let code = code_of(alloc, source)?;
-    Ok(run(&rt, alloc, code, &[arg], n, 3, crew, gate))
+    Ok(run(&rt, alloc, code, &[arg], n, BURDEN, crew, gate))
 }
 
 // Whether 1, 2, 4 and 64 workers answer this.
@@ -88,11 +133,34 @@ fn all_answer<R: Threads + Wait + Copy + Send + Drop + 'static>(
     Ok(true)
 }
 
+// Whether 2, 4 and 8 workers, each held at random, answer this; and whether each crew was held at all.
+fn all_answer_held<R: Threads + Wait + Copy + Send + Drop + 'static>(
+    rt: R,
+    alloc: Global,
+    run: &Run,
+    seed: u64,
+    wanted: &Result<Ended, Fault>,
+) -> Result<bool, Fault> {
+    for bodies in [1usize, 3, 7] {
+        let crew = serving(alloc, rt, bodies)?;
+        let gate = Arc::new(alloc, Stumbling::new(seed))?;
+        let told = Arc::try_clone(&gate)?;
+        let got = together(rt, alloc, run.source, run.arg, run.n, crew, gate)?;
+        if !is_same(&got, wanted) || told.held() == 0 {
+            return Ok(false);
+        }
+    }
+    Ok(true)
+}
+
 #[test]
 fn spawns_and_regions(rt: HostRuntime) -> Result<(), Fail> {
     let wanted = alone(rt.alloc(), FIB, 10, MOST)?;
     assert!(rt; all_answer(rt, rt.alloc(), FIB, 10, MOST, &wanted)?);
     assert_eq!(rt; value_of(&wanted), Some(55));
+    // of 89 leaves each gives 0 or 1, and of the others the root gives most
+    let totals = [Total::Sum(89), Total::Max(Some(55))];
+    assert!(rt; wanted.is_ok_and(|ended| ended.totals.as_slice() == totals.as_slice()));
     Ok(())
 }
 
@@ -174,5 +242,18 @@ fn each_rest_is_run_by_the_other(rt: HostRuntime) -> Result<(), Fail> {
     assert_eq!(rt; value_of(&got), Some(144));
     assert_eq!(rt; told.used_up(), 0);
     assert_eq!(rt; told.all_offered(), 232);
+    Ok(())
+}
+
+// Whatever workers are held, and wherever, they answer what one worker does.
+#[test]
+fn workers_that_are_held_at_random(rt: HostRuntime) -> Result<(), Fail> {
+    let alloc = rt.alloc();
+    for run in &RUNS {
+        let wanted = alone(alloc, run.source, run.arg, run.n)?;
+        for seed in [1u64, 36, 2026] {
+            assert!(rt; all_answer_held(rt, alloc, run, seed, &wanted)?, "{}", seed);
+        }
+    }
     Ok(())
 }

@@ -1,4 +1,4 @@
-//! A gate that holds worker 0, and crews of bodies that serve or return.
+//! Gates that hold workers, and crews of bodies that serve or return.
 
 use cw_pool::crew::{Body, Helper};
 use cw_pool::gate::{Gate, Moment};
@@ -74,6 +74,56 @@ impl Gate for Holder {
                 }
             }
             _ => {}
+        }
+    }
+}
+
+/// A worker stumbles at one of so many moments, and for fewer turns than this.
+const SELDOM: u64 = 4;
+const FEW_TURNS: u64 = 4096;
+
+/// Holds any worker at about every fourth of its moments, for a while: when and how long is told by a small random
+/// generator, whose seed is given.
+#[derive(Drop)]
+pub struct Stumbling {
+    state: AtomicU64,
+    held: AtomicU64,
+}
+
+impl Stumbling {
+    pub fn new(seed: u64) -> Stumbling {
+        Stumbling {
+            state: AtomicU64::new(seed),
+            held: AtomicU64::new(0),
+        }
+    }
+
+    /// How often it has held a worker.
+    pub fn held(&self) -> u64 {
+        self.held.load(Ordering::SeqCst)
+    }
+
+    // The next random number: the state goes on by an odd step, and is mixed.
+    fn next(&self) -> u64 {
+        let state = self
+            .state
+            .fetch_add(0x9E37_79B9_7F4A_7C15, Ordering::SeqCst);
+        let once = (state ^ (state >> 30)).wrapping_mul(0xBF58_476D_1CE4_E5B9);
+        let twice = (once ^ (once >> 27)).wrapping_mul(0x94D0_49BB_1331_11EB);
+        twice ^ (twice >> 31)
+    }
+}
+
+impl Gate for Stumbling {
+    fn turn(&self, _worker: usize, _what: Moment) {
+        let random = self.next();
+        if random % SELDOM == 0 {
+            let turns = self.held.fetch_add(1, Ordering::SeqCst);
+            for _turn in 0..(random >> 32) % FEW_TURNS {
+                if self.held.load(Ordering::SeqCst) < turns {
+                    return;
+                }
+            }
         }
     }
 }

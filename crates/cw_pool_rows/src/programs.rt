@@ -26,9 +26,11 @@ int f(int n) {
 int main(int n) { int r = 0; r = f(n); return r; }
 ";
 
-/// The n-th Fibonacci number, with one spawn of each call but the smallest; prints each 5 that it comes to.
+/// The n-th Fibonacci number, with one spawn of each call but the smallest; counts the smallest, keeps the greatest
+/// number that another one comes to, and prints each 5.
 pub const FIB: &[u8] = b"
 reducer sum leaves;
+reducer max greatest;
 int fib(int n) {
   if (n < 2) { leaves += 1; return n; }
   int x = 0;
@@ -39,6 +41,7 @@ int fib(int n) {
     cilk_sync;
   }
   if (x + y == 5) { print(5); }
+  greatest max= x + y;
   return x + y;
 }
 int main(int n) { int r = 0; r = fib(n); return r; }

@@ -1,3 +1,3 @@
 pub mod IntegerLaws
 pub mod SumLaws
-pub mod ShownAddLaws
+pub mod ShownTellLaws

@@ -3,5 +3,9 @@ pub mod Words
 pub mod WordLaws
 pub mod ListLaws
 pub mod SumsOfIntegers
+pub mod Greatest
+pub mod GreatestLaws
+pub mod Held
+pub mod HeldLaws
 pub mod Shown
 pub mod ShownLaws

@@ -1,40 +1,47 @@
 -- What a piece of a run gives beside its value.
-use Rattle.std.specs.Prelude.{◌≡◌, ℕ, ℤ, ◌+◌, ◌^◌, ◌%◌, ◌==◌, List, [], ◌∷◌, ◌++◌, slice_index_or, if◌then◌else◌}
-use Rattle.cw_reduce.specs.Words.{Word, nothing, plus, word_of}
+use Rattle.std.specs.Prelude.{◌≡◌, ℕ, ℤ, ◌==◌, List, [], ◌∷◌, ◌++◌, None, slice_index_or, if◌then◌else◌}
+use Rattle.cw_model.specs.declared.total.Total.{Total}
+use Rattle.cw_model.specs.declared.total.Total.TheVariants as total
+use Rattle.cw_reduce.specs.Held.{Held, held, none_held, held_joined}
 
--- the sums of the reducers, by their number in the source, and the printed values; a reducer past the end has the sum
--- of nothing
+-- what is held of the reducers, by their number in the source, and the printed values; of a reducer past the end
+-- nothing is held
 pub record Shown : Type 0 where
-  pub sums : List Word
+  pub totals : List Held
   pub lines : List ℤ
 
-abbrev pub sum_of : List Word → ℕ → Word
-sum_of sums reducer = slice_index_or sums reducer nothing
+abbrev pub held_of : List Held → ℕ → Held
+held_of totals reducer = slice_index_or totals reducer none_held
 
--- the sums of two pieces
-abbrev pub sums_joined : List Word → List Word → List Word
-sums_joined [] b = b
-sums_joined (x ∷ a) [] = x ∷ a
-sums_joined (x ∷ a) (y ∷ b) = plus x y ∷ sums_joined a b
+-- the same among totals as they are stored
+abbrev pub total_of : List Total → ℕ → Total
+total_of totals reducer = slice_index_or totals reducer (total.Max None)
+
+-- what is held over two pieces
+abbrev pub totals_joined : List Held → List Held → List Held
+totals_joined [] b = b
+totals_joined (x ∷ a) [] = x ∷ a
+totals_joined (x ∷ a) (y ∷ b) = held_joined x y ∷ totals_joined a b
 
 abbrev pub nothing_shown : Shown
-nothing_shown = record { sums = []; lines = [] }
+nothing_shown = record { totals = []; lines = [] }
 
 abbrev pub shown_joined : Shown → Shown → Shown
-shown_joined a b = record { sums = sums_joined a.sums b.sums; lines = a.lines ++ b.lines }
+shown_joined a b = record { totals = totals_joined a.totals b.totals; lines = a.lines ++ b.lines }
 
--- so much more for one reducer
-abbrev pub Adds : Shown → Shown → (reducer : ℕ) → ℤ → Type 0
-Adds old new reducer n =
-    (q : ℕ) → sum_of new.sums q ≡ (if reducer == q then plus (sum_of old.sums q) (word_of n) else sum_of old.sums q)
-
--- the same of the bits
-abbrev pub AddsBits : List ℕ → List ℕ → (reducer n : ℕ) → Type 0
-AddsBits old new reducer n =
+-- so much more is held of one reducer
+abbrev pub Tells : (old new : List Held) → (reducer : ℕ) → (more : Held) → Type 0
+Tells old new reducer more =
     (q : ℕ)
-    → slice_index_or new q 0
-    ≡ (if reducer == q then (slice_index_or old q 0 + n) % 2 ^ 128 else slice_index_or old q 0)
+    → held_of new q ≡ (if reducer == q then held_joined (held_of old q) more else held_of old q)
 
--- the same bits at each place; past the end there is 0
-abbrev pub SameBits : List ℕ → List ℕ → Type 0
-SameBits old new = (q : ℕ) → slice_index_or new q 0 ≡ slice_index_or old q 0
+-- the same of totals as they are stored
+abbrev pub TellsTotals : (old new : List Total) → (reducer : ℕ) → (more : Total) → Type 0
+TellsTotals old new reducer more =
+    (q : ℕ)
+    → held (total_of new q)
+    ≡ (if reducer == q then held_joined (held (total_of old q)) (held more) else held (total_of old q))
+
+-- the same total at each place
+abbrev pub SameTotals : List Total → List Total → Type 0
+SameTotals old new = (q : ℕ) → total_of new q ≡ total_of old q

@@ -1,42 +1,42 @@
 -- What pieces of a run give makes a monoid.
-use Rattle.std.specs.Prelude.{◌≡◌, ℤ, ◌+◌, List, [], ◌∷◌, refl}
-use Rattle.std.proofs.Common.{◌∙◌, ap, arith}
-use Rattle.cw_reduce.specs.Words.{Word, word, plus}
-use Rattle.cw_reduce.specs.WordLaws.{plus-assoc}
+use Rattle.std.specs.Prelude.{◌≡◌, ℤ, List, [], ◌∷◌, refl}
+use Rattle.std.proofs.Common.{◌∙◌, ap}
 use Rattle.cw_reduce.specs.ListLaws.{append-last, append-regroup}
-use Rattle.cw_reduce.specs.Shown.{Shown, sums_joined, nothing_shown, shown_joined}
+use Rattle.cw_reduce.specs.Held.{Held, held_joined}
+use Rattle.cw_reduce.specs.HeldLaws.{held-assoc, held-comm}
+use Rattle.cw_reduce.specs.Shown.{Shown, totals_joined, nothing_shown, shown_joined}
 
-abbrev shown_with : List Word → List ℤ → Shown
-shown_with s l = record { sums = s; lines = l }
+abbrev shown_with : List Held → List ℤ → Shown
+shown_with s l = record { totals = s; lines = l }
 
-same_shown : {s s' : List Word} {l l' : List ℤ} → s ≡ s' → l ≡ l' → shown_with s l ≡ shown_with s' l'
+same_shown : {s s' : List Held} {l l' : List ℤ} → s ≡ s' → l ≡ l' → shown_with s l ≡ shown_with s' l'
 same_shown e f = cc
 
-sums-last : (a : List Word) → sums_joined a [] ≡ a
-sums-last [] = refl
-sums-last (x ∷ a) = refl
+totals-last : (a : List Held) → totals_joined a [] ≡ a
+totals-last [] = refl
+totals-last (x ∷ a) = refl
 
-sums-assoc : (a b c : List Word) → sums_joined (sums_joined a b) c ≡ sums_joined a (sums_joined b c)
-sums-assoc [] b c = refl
-sums-assoc (x ∷ a) [] c = refl
-sums-assoc (x ∷ a) (y ∷ b) [] = refl
-sums-assoc (x ∷ a) (y ∷ b) (z ∷ c) =
-    ap (λ (w : Word). w ∷ sums_joined (sums_joined a b) c) (plus-assoc x y z)
-    ∙ ap (λ (l : List Word). plus x (plus y z) ∷ l) (sums-assoc a b c)
+totals-assoc : (a b c : List Held) → totals_joined (totals_joined a b) c ≡ totals_joined a (totals_joined b c)
+totals-assoc [] b c = refl
+totals-assoc (x ∷ a) [] c = refl
+totals-assoc (x ∷ a) (y ∷ b) [] = refl
+totals-assoc (x ∷ a) (y ∷ b) (z ∷ c) =
+    ap (λ (h : Held). h ∷ totals_joined (totals_joined a b) c) (held-assoc x y z)
+    ∙ ap (λ (l : List Held). held_joined x (held_joined y z) ∷ l) (totals-assoc a b c)
 
-pub sums-comm : (a b : List Word) → sums_joined a b ≡ sums_joined b a
-sums-comm [] [] = refl
-sums-comm [] (y ∷ b) = refl
-sums-comm (x ∷ a) [] = refl
-sums-comm (x ∷ a) (y ∷ b) =
-    let e : x.bits + y.bits ≡ y.bits + x.bits = omega arith in
-    ap (λ (w : Word). w ∷ sums_joined a b) (ap word e) ∙ ap (λ (l : List Word). plus y x ∷ l) (sums-comm a b)
+pub totals-comm : (a b : List Held) → totals_joined a b ≡ totals_joined b a
+totals-comm [] [] = refl
+totals-comm [] (y ∷ b) = refl
+totals-comm (x ∷ a) [] = refl
+totals-comm (x ∷ a) (y ∷ b) =
+    ap (λ (h : Held). h ∷ totals_joined a b) (held-comm x y)
+    ∙ ap (λ (l : List Held). held_joined y x ∷ l) (totals-comm a b)
 
 pub shown-first : (a : Shown) → shown_joined nothing_shown a ≡ a
 shown-first a = refl
 
 pub shown-last : (a : Shown) → shown_joined a nothing_shown ≡ a
-shown-last a = same_shown (sums-last a.sums) (append-last a.lines)
+shown-last a = same_shown (totals-last a.totals) (append-last a.lines)
 
 pub shown-assoc : (a b c : Shown) → shown_joined (shown_joined a b) c ≡ shown_joined a (shown_joined b c)
-shown-assoc a b c = same_shown (sums-assoc a.sums b.sums c.sums) (append-regroup a.lines b.lines c.lines)
+shown-assoc a b c = same_shown (totals-assoc a.totals b.totals c.totals) (append-regroup a.lines b.lines c.lines)

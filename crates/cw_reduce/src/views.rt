@@ -1,66 +1,67 @@
 //! What a run gives beside its value.
 
-ghost use Rattle.std.specs.Prelude.{◌≡◌, ◌≤◌, ◌++◌, ◌∷◌, ◌<◌, [], length, map, slice_index_or, IfOk, OnOk};
-ghost use Rattle.std.specs.Int.{cast_signed, w128};
-ghost use Rattle.cw_reduce.specs.Shown.{nothing_shown, shown_joined, sum_of, sums_joined, Adds, AddsBits, SameBits};
-ghost use Rattle.cw_reduce.specs.Words.{word};
+ghost use Rattle.std.specs.Prelude.{◌≡◌, ◌≤◌, ◌++◌, ◌∷◌, ◌<◌, [], length, map, IfOk, OnOk};
+ghost use Rattle.cw_reduce.specs.Held.{as_total, held, one_held};
+ghost use Rattle.cw_reduce.specs.Shown.{nothing_shown, shown_joined, held_of, total_of, totals_joined, SameTotals, Tells, TellsTotals};
 
 use crate::lines::Lines;
+use crate::totals::{joined, one_told, read_as};
 use cw_model::monoid::Monoid;
+use cw_model::syntax::Reduction;
+use cw_model::total::Total;
 use std::alloc::{AllocError, Global};
 use std::marker::Model;
 
-/// The sums of the reducers, by their number in the order of the source, and the printed lines. A reducer without a sum
-/// has that of nothing.
+/// The totals of the reducers, by their number in the order of the source, and the printed lines. A reducer without a
+/// total was told nothing.
 #[derive(Debug, Drop)]
 pub struct Views {
-    // In two's complement.
-    sums: Vec<u128>,
+    totals: Vec<Total>,
     lines: Lines,
 }
 
 impl Model for Views {
     ghost use Rattle.std.specs.Prelude.{map};
-    ghost use Rattle.cw_reduce.specs.Words.{word};
+    ghost use Rattle.cw_reduce.specs.Held.{held};
     ghost use Rattle.cw_reduce.specs.Shown.{Shown};
 
     ghost Value = { Shown };
 
-    ghost view = { λ v. record { sums = map word v.sums.items; lines = v.lines } };
+    ghost view = { λ v. record { totals = map held v.totals.items; lines = v.lines } };
 }
 
 impl Views {
-    /// No sums and no lines. Takes no memory.
+    /// No totals and no lines. Takes no memory.
     pub fn new(alloc: Global) -> Views
         ensures { result ≡ nothing_shown }
     {
         Views {
-            sums: Vec::new(alloc),
+            totals: Vec::new(alloc),
             lines: Lines::new(alloc),
         }
     }
 
-    /// So much more for a reducer.
-    pub fn add(&mut self, reducer: u32, n: i64) -> Result<(), AllocError>
-        ensures sums { OnOk result (Adds self.old self.new reducer n) }
+    /// A reducer that reduces so is told a value.
+    pub fn tell(&mut self, reducer: u32, how: Reduction, value: i64) -> Result<(), AllocError>
+        ensures totals { OnOk result (Tells self.old.totals self.new.totals reducer (one_held how value)) }
         ensures lines { OnOk result (self.new.lines ≡ self.old.lines) }
     {
-        add_to(&mut self.sums, reducer, i128::from(n).cast_unsigned())?;
+        tell_total(&mut self.totals, reducer, one_told(how, value))?;
         Ok(())
     }
 
-    /// The sum of a reducer.
-    pub fn sum(&self, reducer: u32) -> i128
-        ensures { result ≡ cast_signed w128 (sum_of self.now.sums reducer).bits }
+    /// The total of a reducer that reduces so.
+    pub fn total(&self, reducer: u32, how: Reduction) -> Total
+        ensures { result ≡ as_total how (held_of self.now.totals reducer) }
     {
-        let bits = bits_at(&self.sums, reducer);
-        bits.cast_signed()
+        let total = total_at(&self.totals, reducer);
+        read_as(how, total)
     }
 
     /// One line more.
     pub fn print(&mut self, value: i64) -> Result<(), AllocError>
         ensures lines { OnOk result (self.new.lines ≡ self.old.lines ++ value ∷ []) }
-        ensures sums { OnOk result (self.new.sums ≡ self.old.sums) }
+        ensures totals { OnOk result (self.new.totals ≡ self.old.totals) }
     {
         self.lines.print(value)?;
         Ok(())
@@ -74,55 +75,55 @@ impl Views {
     }
 }
 
-// The sum at a place; 0 past the end.
-fn bits_at(sums: &Vec<u128>, reducer: u32) -> u128
-    ensures { result ≡ slice_index_or sums.now.items reducer 0 }
+// The total at a place; that of nothing past the end.
+fn total_at(totals: &Vec<Total>, reducer: u32) -> Total
+    ensures { result ≡ total_of totals.now.items reducer }
 {
     let place = reducer as usize;
-    if place < sums.len() { sums[place] } else { 0 }
+    if place < totals.len() { totals[place] } else { Total::Max(None) }
 }
 
 // So much more at a place.
-fn add_to(sums: &mut Vec<u128>, reducer: u32, bits: u128) -> Result<(), AllocError>
-    ensures { OnOk result (AddsBits sums.old.items sums.new.items reducer bits) }
+fn tell_total(totals: &mut Vec<Total>, reducer: u32, more: Total) -> Result<(), AllocError>
+    ensures { OnOk result (TellsTotals totals.old.items totals.new.items reducer more) }
 {
-    reach(sums, reducer)?;
+    reach(totals, reducer)?;
     let place = reducer as usize;
-    sums[place] = sums[place].wrapping_add(bits);
+    totals[place] = joined(totals[place], more);
     Ok(())
 }
 
-// Room for the sum at a place: sums that were missing are 0.
-fn reach(sums: &mut Vec<u128>, reducer: u32) -> Result<(), AllocError>
-    ensures same { OnOk result (SameBits sums.old.items sums.new.items) }
-    ensures within { OnOk result (reducer < length sums.new.items) }
+// Room for the total at a place: totals that were missing are those of nothing.
+fn reach(totals: &mut Vec<Total>, reducer: u32) -> Result<(), AllocError>
+    ensures same { OnOk result (SameTotals totals.old.items totals.new.items) }
+    ensures within { OnOk result (reducer < length totals.new.items) }
 {
     let needed = reducer as usize + 1;
-    if sums.len() < needed {
-        sums.resize(needed, 0)?;
+    if totals.len() < needed {
+        totals.resize(needed, Total::Max(None))?;
     }
     Ok(())
 }
 
-// The sums of both, the fewer added to the more.
-fn join_sums(left: Vec<u128>, right: Vec<u128>) -> Vec<u128>
-    ensures { map word result.items ≡ sums_joined (map word left.items) (map word right.items) }
+// The totals of both, the fewer joined to the more.
+fn join_totals(left: Vec<Total>, right: Vec<Total>) -> Vec<Total>
+    ensures { map held result.items ≡ totals_joined (map held left.items) (map held right.items) }
 {
     if left.len() <= right.len() {
-        add_all(right, &left)
+        join_all(right, &left)
     } else {
-        add_all(left, &right)
+        join_all(left, &right)
     }
 }
 
-// Adds sums to as many or more.
-fn add_all(into: Vec<u128>, from: &Vec<u128>) -> Vec<u128>
+// Joins totals to as many or more.
+fn join_all(into: Vec<Total>, from: &Vec<Total>) -> Vec<Total>
     requires { length from.now.items ≤ length into.items }
-    ensures { map word result.items ≡ sums_joined (map word from.now.items) (map word into.items) }
+    ensures { map held result.items ≡ totals_joined (map held from.now.items) (map held into.items) }
 {
     let mut into = into;
     for i in 0..from.len() {
-        into[i] = from[i].wrapping_add(into[i]);
+        into[i] = joined(from[i], into[i]);
     }
     into
 }
@@ -145,8 +146,8 @@ impl Monoid for Views {
         ensures value { IfOk result (λ whole. whole ≡ shown_joined self right) }
     {
         let lines = self.lines.join(right.lines)?;
-        let sums = join_sums(self.sums, right.sums);
-        Ok(Views { sums, lines })
+        let totals = join_totals(self.totals, right.totals);
+        Ok(Views { totals, lines })
     }
 
     ghost unit_first = { shown-first };

@@ -1,5 +1,6 @@
 -- What a region table tells of a run so far.
 use Rattle.std.specs.Prelude.{◌≡◌, ℕ, ◌<◌, ◌^◌, true, false, List, [], ◌∷◌, ◌++◌, Option, Some, None}
+use Rattle.cw_model.specs.declared.burden.Burden.{Burden}
 use Rattle.cw_model.specs.Syntax.{Name}
 use Rattle.cw_model.specs.Names.{same_name}
 use Rattle.cw_model.specs.Trees.{Mark, Invocation, Execution, Event, Work, Join, tree_of, work, span, burdened_span}
@@ -14,7 +15,7 @@ use Rattle.cw_regions.specs.declared.table.RegionTable.{RegionTable}
 use Rattle.cw_regions.specs.RegionRows.{row_of, work_tally, span_tally, burdened_tally}
 
 -- how the weight of the path that runs is read, in instructions and with burdens
-pub record Readings (burden : ℕ) : Type 0 where
+pub record Readings (burden : Burden) : Type 0 where
   pub path : Reading
   pub burdened : Reading
   pub path_is : Meters span path
@@ -27,20 +28,20 @@ pub record Tags : Type 0 where
   pub differ : (j k : ℕ) → j < count → k < count → same_name (name j) (name k) ≡ true → j ≡ k
 
 -- a row counts the executions of a tag over a run so far
-pub record CountsTag (burden : ℕ) (along : Readings burden) (tag : Name) (busy : ℕ) (os : List Open) (es : List Event)
+pub record CountsTag (burden : Burden) (along : Readings burden) (tag : Name) (busy : ℕ) (os : List Open) (es : List Event)
     (r : Row) : Type 0 where
   pub work_is : Counts work work_in (is_tag tag) busy os es (work_tally r)
   pub span_is : Counts span along.path (is_tag tag) busy os es (span_tally r)
   pub burdened_is : Counts (burdened_span burden) along.burdened (is_tag tag) busy os es (burdened_tally r)
 
 -- a table tells, for each tag, of a run so far; so many executions of each were open round it
-abbrev pub TellsRegions : (burden : ℕ) → Readings burden → Tags → (busy : ℕ → ℕ) → List Open → List Event → RegionTable
+abbrev pub TellsRegions : (burden : Burden) → Readings burden → Tags → (busy : ℕ → ℕ) → List Open → List Event → RegionTable
     → Type 0
 TellsRegions burden along tags busy os es table =
     (k : ℕ) → k < tags.count → CountsTag burden along (tags.name k) (busy k) os es (row_of table.rows k)
 
 -- the numbers of a run fit their types
-pub record SmallRegions (burden : ℕ) (tags : Tags) (busy : ℕ → ℕ) (os : List Open) (es : List Event) : Type 0 where
+pub record SmallRegions (burden : Burden) (tags : Tags) (busy : ℕ → ℕ) (os : List Open) (es : List Event) : Type 0 where
   pub work : work_in os es < 2 ^ 64
   pub burdened : FitsRun burden os es
   pub active : (k : ℕ) → active_in (is_tag (tags.name k)) (busy k) os < 2 ^ 64
@@ -51,12 +52,12 @@ executed tags tag es os = in_series (Some (Execution (tags.name tag))) es os
 
 abbrev pub StartsRegions : RegionTable → Type 0
 StartsRegions table =
-    (burden : ℕ) (along : Readings burden) (tags : Tags) → TellsRegions burden along tags (λ k. 0) [] [] table
+    (burden : Burden) (along : Readings burden) (tags : Tags) → TellsRegions burden along tags (λ k. 0) [] [] table
 
 -- what each call on a table does: it told of a run, and tells of what the run has come to
 abbrev pub BeginsRegion : RegionTable → RegionTable → (tag count path heavy : ℕ) → Type 0
 BeginsRegion old new tag count path heavy =
-    (burden : ℕ) (along : Readings burden) (tags : Tags) (busy : ℕ → ℕ) (os : List Open) (es : List Event)
+    (burden : Burden) (along : Readings burden) (tags : Tags) (busy : ℕ → ℕ) (os : List Open) (es : List Event)
     → tag < tags.count
     → count ≡ work_in os es → path ≡ along.path os es → heavy ≡ along.burdened os es
     → SmallRegions burden tags busy (executed tags tag es os) [] → TellsRegions burden along tags busy os es old
@@ -64,7 +65,7 @@ BeginsRegion old new tag count path heavy =
 
 abbrev pub EndsRegion : RegionTable → RegionTable → (tag count path heavy : ℕ) → Type 0
 EndsRegion old new tag count path heavy =
-    (burden : ℕ) (along : Readings burden) (tags : Tags) (busy : ℕ → ℕ) (os : List Open) (before es : List Event)
+    (burden : Burden) (along : Readings burden) (tags : Tags) (busy : ℕ → ℕ) (os : List Open) (before es : List Event)
     → tag < tags.count
     → count ≡ work_in (executed tags tag before os) es → path ≡ along.path (executed tags tag before os) es
     → heavy ≡ along.burdened (executed tags tag before os) es → has_spawned es ≡ false
@@ -82,7 +83,7 @@ pub record IsRow (row : declared.RegionRow) (of : model.RegionRow) : Type 0 wher
 -- a row that is read once no part is open
 abbrev pub ReadsRegion : RegionTable → (tag : ℕ) → declared.RegionRow → Type 0
 ReadsRegion table tag row =
-    (burden : ℕ) (along : Readings burden) (tags : Tags) (busy : ℕ → ℕ) (es : List Event) → tag < tags.count
+    (burden : Burden) (along : Readings burden) (tags : Tags) (busy : ℕ → ℕ) (es : List Event) → tag < tags.count
     → busy tag ≡ 0
     → TellsRegions burden along tags busy [] es table → IsRow row (region_row burden (tags.name tag) (tree_of es))
 
@@ -93,7 +94,7 @@ IsNoExecution (Some (Invocation site)) = Unit {0}
 IsNoExecution (Some (Execution tag)) = ⊥
 
 -- what goes on, joins, begins and ends without a call of the table
-pub record RegionsNeedNoCall (burden : ℕ) (along : Readings burden) (tags : Tags) (busy : ℕ → ℕ) (os : List Open)
+pub record RegionsNeedNoCall (burden : Burden) (along : Readings burden) (tags : Tags) (busy : ℕ → ℕ) (os : List Open)
     (table : RegionTable) : Type 0 where
   pub work : (es : List Event) (k : ℕ) → TellsRegions burden along tags busy os es table
       → TellsRegions burden along tags busy os (es ++ Work k ∷ []) table
@@ -107,7 +108,7 @@ pub record RegionsNeedNoCall (burden : ℕ) (along : Readings burden) (tags : Ta
 -- and so for every table
 abbrev pub RegionsKeep : Type 0
 RegionsKeep =
-    (burden : ℕ) (along : Readings burden) (tags : Tags) (busy : ℕ → ℕ) (os : List Open) (table : RegionTable)
+    (burden : Burden) (along : Readings burden) (tags : Tags) (busy : ℕ → ℕ) (os : List Open) (table : RegionTable)
     → RegionsNeedNoCall burden along tags busy os table
 
 -- nothing is open round a piece, as far as it is told
@@ -117,6 +118,6 @@ nothing_open tag = 0
 -- a piece that ran apart inside of the open parts is joined on, as further events of the block that runs
 abbrev pub JoinsRegions : RegionTable → (right : RegionTable) → RegionTable → Type 0
 JoinsRegions old right new =
-    (burden : ℕ) (along there : Readings burden) (tags : Tags) (busy : ℕ → ℕ) (os : List Open) (es fs : List Event)
+    (burden : Burden) (along there : Readings burden) (tags : Tags) (busy : ℕ → ℕ) (os : List Open) (es fs : List Event)
     → SmallRegions burden tags busy os (es ++ fs) → TellsRegions burden along tags busy os es old
     → TellsRegions burden there tags nothing_open [] fs right → TellsRegions burden along tags busy os (es ++ fs) new

@@ -79,6 +79,6 @@ pub struct RegionRow {
     pub work: u64,
     /// Their span.
     pub span: u64,
-    /// Their span with a burden for each spawn.
+    /// Their span with what their paths are charged at each fork.
     pub burdened: u128,
 }

@@ -2,11 +2,14 @@
 use Rattle.std.specs.Prelude.{◌≡◌, ℕ, ℤ, List, [], ◌∷◌, ◌++◌, codes, decimal, map, flat_map, Result, Ok, Err, IfOk, OnOk}
 use Rattle.std.specs.Global.{Vec}
 use Rattle.indexmap.specs.IndexMap.{values}
+use Rattle.cw_model.specs.declared.total.Total.{Total}
+use Rattle.cw_model.specs.Syntax as Syntax
 use Rattle.cw_model.specs.Syntax.{Name}
 use Rattle.cw_model.specs.Answers.{main_name}
 use Rattle.cw_model.specs.Sites.{Root, CallSite}
-use Rattle.cw_model.specs.Report.{value_line, sum_lines, csv_line, end_of_line, scale_header, scale_line, sites_header, site_kind_text}
+use Rattle.cw_model.specs.Report.{value_line, reduction_word, total_line, total_lines, csv_line, end_of_line, scale_header, scale_line, sites_header, site_kind_text}
 use Rattle.cw_code.specs.Code.{Code, code_view, site_view, told_sites}
+use Rattle.cw_code.specs.declared.code.Reducer.{Reducer}
 use Rattle.cw_code.specs.declared.code.Site.{Site}
 use Rattle.cw_sites.specs.declared.table.SiteRow.{SiteRow}
 use Rattle.cw_regions.specs.declared.table.RegionRow.{RegionRow}
@@ -34,21 +37,25 @@ abbrev pub trap_line : (number line : ℕ) → List ℕ
 trap_line number line = (codes "trap " ++ decimal number) ++ line_after (codes " line ") line
 
 -- the line of a reducer
-abbrev pub sum_line : Name → ℤ → List ℕ
-sum_line name v = codes "sum " ++ (name ++ (codes " = " ++ value_line v))
+abbrev pub reducer_line : Reducer → Total → List ℕ
+reducer_line r total = reduction_word r.how ++ (r.name ++ (codes " = " ++ total_line total))
 
--- the lines of reducers with these names
-abbrev pub sums_text : List Name → List ℤ → List ℕ
-sums_text names sums = sum_lines (map (λ name. record { name = name; line = 0 }) names) sums
+-- reducers of code, as reports tell them
+abbrev pub told_reducers : List Reducer → List Syntax.Reducer
+told_reducers reducers = map (λ r. record { name = r.name; how = r.how; line = 0 }) reducers
 
--- of a run of code that printed these values, left these sums and ended with this value
-abbrev pub ended_text : Code → (lines sums : List ℤ) → ℤ → List ℕ
-ended_text code lines sums v =
-    flat_map value_line lines ++ (sums_text code.reducers sums ++ (codes "return " ++ value_line v))
+-- the lines of reducers
+abbrev pub totals_text : List Reducer → List Total → List ℕ
+totals_text reducers totals = total_lines (told_reducers reducers) totals
+
+-- of a run of code that printed these values, left these totals and ended with this value
+abbrev pub ended_text : Code → List ℤ → List Total → ℤ → List ℕ
+ended_text code lines totals v =
+    flat_map value_line lines ++ (totals_text code.reducers totals ++ (codes "return " ++ value_line v))
 
 -- the same, of a run as it is handed on
 abbrev pub run_text : Code → Values → List ℕ
-run_text code values = ended_text code values.lines.items values.sums.items values.value
+run_text code values = ended_text code values.lines.items values.totals.items values.value
 
 -- of a run, or of why it has no value: the lines that it printed before a trap
 abbrev pub handed_text : Code → Result Values Fault → List ℕ

@@ -29,8 +29,8 @@ pub fn ok<W: Sink>(to: &mut W) -> Result<(), Fault>
     write_text(to, b"ok\n")
 }
 
-/// Writes the report of a run: the values that it printed, the sum of each reducer of the code, and the
-/// value of `main`, each on a line, or, where it trapped, the values that it printed before. Of any
+/// Writes the report of a run: the values that it printed, the total of each reducer of the code, and
+/// the value of `main`, each on a line, or, where it trapped, the values that it printed before. Of any
 /// other fault nothing is written, and the sink is left alone; the line of the fault itself is for
 /// `write_fault`.
 ///

@@ -1,14 +1,15 @@
 //! The texts of reports, made whole before any byte is written.
 
 ghost use Rattle.std.specs.Prelude.{◌≡◌, IfErr, flat_map};
-ghost use Rattle.cw_model.specs.Report.{value_line};
+ghost use Rattle.cw_model.specs.Report.{reduction_word, total_line, value_line};
 ghost use Rattle.cw_code.specs.Code.{code_view};
 ghost use Rattle.cw_report.specs.Texts.{Grows, Makes};
 ghost use Rattle.cw_report.specs.Texts as texts;
 
-use cw_code::code::Code;
+use cw_code::code::{Code, Reducer};
 use cw_machine::values::Values;
-use cw_model::syntax::Name;
+use cw_model::syntax::Reduction;
+use cw_model::total::Total;
 use cw_text::Fault;
 use itoa::Buffer;
 use std::alloc::Global;
@@ -25,42 +26,74 @@ pub fn printed_text(alloc: Global, values: &[i64]) -> Result<Vec<u8>, Fault>
     Ok(text)
 }
 
-/// What is reported of a run of code that ended: the values that it printed, the sum of each reducer, and its value,
+/// What is reported of a run of code that ended: the values that it printed, the total of each reducer, and its value,
 /// each on a line; the error is `Memory` where there is none for the text.
 pub fn ended_text(alloc: Global, code: &Code, values: &Values) -> Result<Vec<u8>, Fault>
     ensures ok { Makes (texts.run_text (code_view code.now) values.now) result }
     ensures why { IfErr result (λ e. e ≡ Fault.Memory) }
 {
     let mut text = printed_text(alloc, values.lines.as_slice())?;
-    push_sums(&mut text, code.reducers.as_slice(), values.sums.as_slice())?;
+    push_totals(
+        &mut text,
+        code.reducers.as_slice(),
+        values.totals.as_slice(),
+    )?;
     text.extend_from_slice(b"return ")?;
     push_value(&mut text, values.value)?;
     Ok(text)
 }
 
-// Adds a line for each reducer, by its name and its sum.
-fn push_sums(text: &mut Vec<u8>, reducers: &[Name], sums: &[i128]) -> Result<(), Fault>
-    ensures ok { Grows text.old text.new (texts.sums_text reducers.now sums.now) result }
+// Adds a line for each reducer, by how it reduces, its name and its total.
+fn push_totals(text: &mut Vec<u8>, reducers: &[Reducer], totals: &[Total]) -> Result<(), Fault>
+    ensures ok { Grows text.old text.new (texts.totals_text reducers.now totals.now) result }
     ensures why { IfErr result (λ e. e ≡ Fault.Memory) }
 {
-    for (name, sum) in reducers.iter().zip(sums) {
-        push_sum(text, name, *sum)?;
+    for (reducer, total) in reducers.iter().zip(totals) {
+        push_reducer(text, reducer, *total)?;
     }
     Ok(())
 }
 
 // Adds the line of a reducer.
-fn push_sum(text: &mut Vec<u8>, name: &Name, sum: i128) -> Result<(), Fault>
-    ensures ok { Grows text.old text.new (texts.sum_line name.now sum) result }
+fn push_reducer(text: &mut Vec<u8>, reducer: &Reducer, total: Total) -> Result<(), Fault>
+    ensures ok { Grows text.old text.new (texts.reducer_line reducer.now total) result }
     ensures why { IfErr result (λ e. e ≡ Fault.Memory) }
 {
-    let mut buffer = Buffer::new();
-    text.extend_from_slice(b"sum ")?;
-    text.extend_from_slice(name.as_bytes())?;
+    text.extend_from_slice(word_of(reducer.how))?;
+    text.extend_from_slice(reducer.name.as_bytes())?;
     text.extend_from_slice(b" = ")?;
-    text.extend_from_slice(buffer.format(sum).as_bytes())?;
-    text.push(b'\n')?;
+    push_total(text, total)?;
     Ok(())
+}
+
+// How a reducer reduces, with a space behind it.
+fn word_of(how: Reduction) -> &'static [u8]
+    ensures { result.now ≡ reduction_word how }
+{
+    match how {
+        Reduction::Sum => b"sum ",
+        Reduction::Max => b"max ",
+    }
+}
+
+// Adds a total, and the end of its line.
+fn push_total(text: &mut Vec<u8>, total: Total) -> Result<(), Fault>
+    ensures ok { Grows text.old text.new (total_line total) result }
+    ensures why { IfErr result (λ e. e ≡ Fault.Memory) }
+{
+    match total {
+        Total::Sum(sum) => {
+            let mut buffer = Buffer::new();
+            text.extend_from_slice(buffer.format(sum).as_bytes())?;
+            text.push(b'\n')?;
+            Ok(())
+        }
+        Total::Max(Some(value)) => push_value(text, value),
+        Total::Max(None) => {
+            text.extend_from_slice(b"none\n")?;
+            Ok(())
+        }
+    }
 }
 
 // Adds the line of a value.

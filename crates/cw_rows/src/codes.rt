@@ -2,6 +2,7 @@
 
 use cw_code::code::{BlockKind, Callee, Code, Func, Halves, Inner, Instr, UnaryOperator};
 use cw_machine::alone::run_alone;
+use cw_model::burden::{Burden, Edges};
 use cw_model::syntax::{CallKind, Operator};
 use cw_text::Fault;
 use cw_verify::verify::verify;
@@ -145,7 +146,7 @@ const KINDS: [Instr; 30] = [
     Instr::Open(BlockKind::Region(0)),
     Instr::Close,
     Instr::Print,
-    Instr::AddTo(0),
+    Instr::Reduce(0),
     Instr::ReturnValue,
     Instr::Return,
     Instr::Skip(u32::MAX),
@@ -197,6 +198,11 @@ fn code(alloc: Global) -> Result<Code, AllocError> {
     })
 }
 
+const NO_BURDEN: Burden = Burden {
+    charge: 0,
+    edges: Edges::Spawn,
+};
+
 // What came of a code.
 #[derive(Drop, Debug, PartialEq, Eq)]
 enum Came {
@@ -215,7 +221,7 @@ fn run_with(alloc: Global, place: usize, instr: Instr, limit: u64) -> Result<Cam
         *at = instr;
     }
     match verify(alloc, code) {
-        Ok(verified) => match run_alone(alloc, Arc::new(alloc, verified)?, &[], limit, 0) {
+        Ok(verified) => match run_alone(alloc, Arc::new(alloc, verified)?, &[], limit, NO_BURDEN) {
             Ok(ended) => Ok(Came::Ran(Some(ended.value))),
             Err(Fault::OverLimit) | Err(Fault::Trap { .. }) => Ok(Came::Ran(None)),
             Err(_) => Ok(Came::Failed),

@@ -7,6 +7,7 @@ mod fib;
 mod fib_cutoff;
 mod histogram;
 mod later;
+mod longest;
 mod matrix;
 mod mergesort;
 mod mergesort_parallel;
@@ -52,8 +53,9 @@ const EXAMPLES: [Example; 11] = [
 ];
 
 // Those with a parallel loop.
-const WITH_LOOPS: [Example; 7] = [
+const WITH_LOOPS: [Example; 8] = [
     histogram::EXAMPLE,
+    longest::EXAMPLE,
     matrix::EXAMPLE,
     mergesort_parallel::EXAMPLE,
     primes_loop::EXAMPLE,

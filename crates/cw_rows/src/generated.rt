@@ -138,7 +138,7 @@ return x; }";
         Instr::Close,
         Instr::Open(BlockKind::Region(0)),
         Instr::Push(1),
-        Instr::AddTo(1),
+        Instr::Reduce(1),
         Instr::Close,
         Instr::Load(0),
         Instr::ReturnValue,

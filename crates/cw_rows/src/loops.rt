@@ -92,6 +92,20 @@ int main() {
 }
 ";
 
+const GREATEST: &str = "reducer max m; \
+int main() { cilk_for (int i = 0; i < 4; i++) grain 2 { m max= i * (3 - i); } return 0; }";
+
+const GREATEST_OF_NONE: &str = "reducer max m; \
+int main() { cilk_for (int i = 5; i < 3; i++) grain 2 { m max= i * (3 - i); } return 0; }";
+
+// a sum between two that keep the greatest, and numbers below 0
+const BOTH_KINDS: &str = "reducer max top; reducer sum s; reducer max none;
+int main() {
+  cilk_for (int i = 1; i < 8; i++) grain 1 { top max= 0 - i * i; s += i; }
+  return 0;
+}
+";
+
 const DIVIDED: &str = "int main(int z) {
   cilk_for (int i = 0; i < 4; i++) grain 1 {
     print(i);
@@ -125,6 +139,22 @@ fn runs_parallel_loops(rt: HostRuntime) -> Result<(), Fail> {
             "",
         ),
         ("run f", SPAWNING, 0, "sum s = 60\nreturn 1609\n", ""),
+        ("run f --limit 122", GREATEST, 0, "max m = 2\nreturn 0\n", ""),
+        ("run f --limit 121", GREATEST, 4, "", "over limit\n"),
+        (
+            "run f",
+            GREATEST_OF_NONE,
+            0,
+            "max m = none\nreturn 0\n",
+            "",
+        ),
+        (
+            "run f",
+            BOTH_KINDS,
+            0,
+            "max top = -1\nsum s = 28\nmax none = none\nreturn 0\n",
+            "",
+        ),
         ("run f 1", DIVIDED, 0, "0\n1\n2\n7\n3\nreturn 0\n", ""),
     ];
     all_hold(rt, rows)

@@ -58,6 +58,16 @@ const NO_PROGRAMS: &[(&str, &str)] = &[
         "int main() { int x = 0;\nx = g(1); return x; }",
         "refused 3 line 2\n",
     ),
+    // a statement that its reducer does not fit
+    (
+        "reducer sum s;\nint main() {\ns max= 1; return 0; }",
+        "refused 3 line 3\n",
+    ),
+    (
+        "reducer max m;\nint main() {\nm += 1; return 0; }",
+        "refused 3 line 3\n",
+    ),
+    ("reducer sum s;\nint main() { return max; }", "refused 2 line 2\n"),
     (
         "int f(int v) { return v; } int main() { int x = 0; x = cilk_spawn g(1); cilk_sync; return x; }",
         "refused 3 line 1\n",

@@ -36,6 +36,9 @@ int main() { region r { cilk_spawn p(1); print(2); } return 0; }";
 const SUMMED: &[u8] = b"reducer sum s; void add() { s += 9223372036854775807; } \
 int main() { cilk_spawn add(); cilk_spawn add(); cilk_sync; return 0; }";
 
+const GREATEST: &[u8] = b"reducer max m; \
+int main() { cilk_for (int i = 0; i < 4; i++) grain 2 { m max= i * (3 - i); } return 0; }";
+
 const TIED: &[u8] =
     b"int f() { return 0; } int main() { cilk_spawn f(); print(1); cilk_sync; return 0; }";
 
@@ -53,6 +56,13 @@ fn writes_tables(rt: HostRuntime) -> Result<(), Fail> {
             SCALE,
             ",120,67,1.791,254,0.472\n",
         ),
+        // each of the three spawns that the longest path runs through is charged, on whichever side
+        (
+            "scale f 4 --burden 100 --edges both",
+            FIB,
+            SCALE,
+            ",120,67,1.791,367,0.326\n",
+        ),
         // the limit is the work
         (
             "scale f 4 --burden 100 --limit 120",
@@ -66,6 +76,24 @@ fn writes_tables(rt: HostRuntime) -> Result<(), Fail> {
             PRINTED,
             SCALE,
             ",15,10,1.500,10,1.500\n",
+        ),
+        (
+            "scale f --edges=both 1",
+            DIVIDED,
+            SCALE,
+            ",15,13,1.153,15013,0.000\n",
+        ),
+        (
+            "scale f --burden 0",
+            GREATEST,
+            SCALE,
+            ",122,74,1.648,74,1.648\n",
+        ),
+        (
+            "scale f --burden 10 --edges both",
+            TAGGED,
+            SCALE,
+            ",11,9,1.222,19,0.578\nr,7,5,1.400,15,0.466\n",
         ),
         (
             "scale f --burden 10",

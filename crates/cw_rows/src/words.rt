@@ -2,18 +2,20 @@
 
 use crate::program::{answer, asked};
 use cw_cli::{Mode, Options};
+use cw_model::burden::{Burden, Edges};
 use std::test::Fail;
 
 #[test]
 fn reads_requests(rt: HostRuntime) -> Result<(), Fail> {
     let alloc = rt.alloc();
-    for (line, mode, args, limit, burden) in [
+    for (line, mode, args, limit, charge, edges) in [
         (
             "check f.cilk",
             Mode::Check,
             [].as_slice(),
             1_000_000_000,
             15_000,
+            Edges::Spawn,
         ),
         (
             "check -- f.cilk",
@@ -21,6 +23,7 @@ fn reads_requests(rt: HostRuntime) -> Result<(), Fail> {
             [].as_slice(),
             1_000_000_000,
             15_000,
+            Edges::Spawn,
         ),
         (
             "run f.cilk",
@@ -28,6 +31,7 @@ fn reads_requests(rt: HostRuntime) -> Result<(), Fail> {
             [].as_slice(),
             1_000_000_000,
             15_000,
+            Edges::Spawn,
         ),
         (
             "run --limit 9 f.cilk 4 9223372036854775807",
@@ -35,6 +39,7 @@ fn reads_requests(rt: HostRuntime) -> Result<(), Fail> {
             [4, 9223372036854775807].as_slice(),
             9,
             15_000,
+            Edges::Spawn,
         ),
         (
             "run f.cilk 007 --limit 4611686018427387904 00000000000000000000000000000000000012",
@@ -42,6 +47,7 @@ fn reads_requests(rt: HostRuntime) -> Result<(), Fail> {
             [7, 12].as_slice(),
             4_611_686_018_427_387_904,
             15_000,
+            Edges::Spawn,
         ),
         (
             "run --limit=1 -- f.cilk 0",
@@ -49,6 +55,7 @@ fn reads_requests(rt: HostRuntime) -> Result<(), Fail> {
             [0].as_slice(),
             1,
             15_000,
+            Edges::Spawn,
         ),
         (
             "run --burden 0 f.cilk 3",
@@ -56,6 +63,7 @@ fn reads_requests(rt: HostRuntime) -> Result<(), Fail> {
             [3].as_slice(),
             1_000_000_000,
             0,
+            Edges::Spawn,
         ),
         (
             "run f.cilk --burden=1000000000 --limit=7",
@@ -63,6 +71,7 @@ fn reads_requests(rt: HostRuntime) -> Result<(), Fail> {
             [].as_slice(),
             7,
             1_000_000_000,
+            Edges::Spawn,
         ),
         (
             "scale f.cilk",
@@ -70,6 +79,7 @@ fn reads_requests(rt: HostRuntime) -> Result<(), Fail> {
             [].as_slice(),
             1_000_000_000,
             15_000,
+            Edges::Spawn,
         ),
         (
             "scale --burden 0 f.cilk 3 --limit 9",
@@ -77,6 +87,7 @@ fn reads_requests(rt: HostRuntime) -> Result<(), Fail> {
             [3].as_slice(),
             9,
             0,
+            Edges::Spawn,
         ),
         (
             "sites f.cilk 4 --burden=007 -- 5",
@@ -84,6 +95,7 @@ fn reads_requests(rt: HostRuntime) -> Result<(), Fail> {
             [4, 5].as_slice(),
             1_000_000_000,
             7,
+            Edges::Spawn,
         ),
         (
             "greedy 2 f.cilk",
@@ -91,6 +103,7 @@ fn reads_requests(rt: HostRuntime) -> Result<(), Fail> {
             [].as_slice(),
             1_000_000_000,
             15_000,
+            Edges::Spawn,
         ),
         (
             "greedy --limit 9 0001000000 f.cilk 3",
@@ -98,13 +111,30 @@ fn reads_requests(rt: HostRuntime) -> Result<(), Fail> {
             [3].as_slice(),
             9,
             15_000,
+            Edges::Spawn,
+        ),
+        (
+            "scale f.cilk --edges both",
+            Mode::Scale,
+            [].as_slice(),
+            1_000_000_000,
+            15_000,
+            Edges::Both,
+        ),
+        (
+            "run --edges=spawn f.cilk 3 --burden 7",
+            Mode::Run,
+            [3].as_slice(),
+            1_000_000_000,
+            7,
+            Edges::Spawn,
         ),
     ] {
         let asked = asked(alloc, line)?;
         let options = Options {
             mode,
             limit,
-            burden,
+            burden: Burden { charge, edges },
         };
         assert_eq!(rt; asked.file.as_str(), "f.cilk", "{line}");
         assert_eq!(rt; asked.args.as_slice(), args, "{line}");
@@ -127,6 +157,8 @@ const REFUSED: &[(&str, &str)] = &[
     ("run f --burden +0", "arguments\n"),
     ("run f --burden x --limit 9", "arguments\n"),
     ("scale f --burden 1000000001", "arguments\n"),
+    ("scale f --edges rest", "arguments\n"),
+    ("scale f --edges Both", "arguments\n"),
     ("scale f 9223372036854775808", "arguments\n"),
     ("sites f --limit 0", "arguments\n"),
     ("sites f 1 x", "arguments\n"),
@@ -182,6 +214,18 @@ const REFUSED: &[(&str, &str)] = &[
     (
         "greedy 2 f --burden 9",
         "error: unexpected argument '--burden' found\n",
+    ),
+    (
+        "scale f --edges",
+        "error: a value is required for '--edges <E>'",
+    ),
+    (
+        "check f --edges both",
+        "error: unexpected argument '--edges' found\n",
+    ),
+    (
+        "greedy 2 f --edges both",
+        "error: unexpected argument '--edges' found\n",
     ),
     ("scales f", "error: unrecognized subcommand 'scales'\n"),
     ("walk f", "error: unrecognized subcommand 'walk'\n"),
@@ -240,6 +284,11 @@ const HELPED: &[(&str, &str, &str)] = &[
     (
         "--help",
         "Tells how much parallelism a Cilk program",
+        "  --edges   spawn, or both",
+    ),
+    (
+        "--help",
+        "Tells how much parallelism a Cilk program",
         "--version",
     ),
     (
@@ -253,7 +302,10 @@ const HELPED: &[(&str, &str, &str)] = &[
     ("run --help", "Runs a program", "[default: 1000000000]"),
     ("help run", "Runs a program", "--explain tells why"),
     ("scale --help", "Runs a program", "  burdened_parallelism  "),
+    ("run --help", "Runs a program", "'max NAME = none'"),
     ("scale --help", "Runs a program", "[default: 15000]"),
+    ("scale --help", "Runs a program", "[default: spawn]"),
+    ("scale --help", "Runs a program", "--edges <E>"),
     ("scale --help", "Runs a program", "'cilkwork --help'"),
     ("sites --help", "Runs a program", "  own_span  "),
     ("help sites", "Runs a program", "docs/GUIDE.md"),

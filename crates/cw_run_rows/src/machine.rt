@@ -5,10 +5,11 @@ mod measures;
 mod schedules;
 mod strands;
 
-use cw_code::code::{BlockKind, Callee, Code, Func, Instr, Site, UnaryOperator};
+use cw_code::code::{BlockKind, Callee, Code, Func, Instr, Reducer, Site, UnaryOperator};
 use cw_machine::alone::{Ended, run_alone};
 use cw_machine::values::{Values, values_alone};
-use cw_model::syntax::{CallKind, Name, Operator};
+use cw_model::burden::{Burden, Edges};
+use cw_model::syntax::{CallKind, Name, Operator, Reduction};
 use cw_text::Fault;
 use cw_verify::verify::verify;
 use std::alloc::{AllocError, Global};
@@ -71,7 +72,10 @@ fn code_of(alloc: Global, main: &[Instr]) -> Result<Code, AllocError> {
         passed: Vec::new(alloc),
     };
     code.passed.push(Vec::new(alloc))?;
-    code.reducers.push(Name::new(alloc, b"")?)?;
+    code.reducers.push(Reducer {
+        name: Name::new(alloc, b"")?,
+        how: Reduction::Sum,
+    })?;
     code.tags.push(Name::new(alloc, b"")?)?;
     place(&mut code, true, 1, 3, main)?;
     let minus = Instr::Binary(Operator::Minus, 3);
@@ -126,17 +130,25 @@ fn spawned(function: u32, site: u32, target: Option<u32>) -> Instr {
     Instr::Call(CallKind::Spawned, callee(function, site, target))
 }
 
+// So much is charged for each continuation edge.
+pub(crate) fn charged(charge: u64) -> Burden {
+    Burden {
+        charge,
+        edges: Edges::Spawn,
+    }
+}
+
 // A run of main on an argument.
 fn run(alloc: Global, main: &[Instr], arg: i64, limit: u64) -> Result<Ended, Fault> {
     let verified = verify(alloc, code_of(alloc, main)?)?;
-    let ended = run_alone(alloc, Arc::new(alloc, verified)?, &[arg], limit, 0)?;
+    let ended = run_alone(alloc, Arc::new(alloc, verified)?, &[arg], limit, charged(0))?;
     Ok(ended)
 }
 
 // The same with nothing counted.
 fn run_plain(alloc: Global, main: &[Instr], arg: i64, limit: u64) -> Result<Values, Fault> {
     let verified = verify(alloc, code_of(alloc, main)?)?;
-    let values = values_alone(alloc, Arc::new(alloc, verified)?, &[arg], limit, 0)?;
+    let values = values_alone(alloc, Arc::new(alloc, verified)?, &[arg], limit, charged(0))?;
     Ok(values)
 }
 
@@ -371,20 +383,20 @@ fn trapping(rt: HostRuntime) -> Result<(), AllocError> {
 
 // The number of the refusal of a run with these arguments, limit and burden, or 0 where it ends with its value; and the
 // same with nothing counted.
-fn refusals(alloc: Global, args: &[i64], limit: u64, burden: u64) -> Result<(u8, u8), Fault> {
+fn refusals(alloc: Global, args: &[i64], limit: u64, charge: u64) -> Result<(u8, u8), Fault> {
     let main = [
         Instr::Load(0),
         Instr::Push(3),
-        Instr::AddTo(0),
+        Instr::Reduce(0),
         Instr::ReturnValue,
     ];
     let code = Arc::new(alloc, verify(alloc, code_of(alloc, &main)?)?)?;
     let share = Arc::try_clone(&code)?;
-    let measured = match run_alone(alloc, share, args, limit, burden) {
+    let measured = match run_alone(alloc, share, args, limit, charged(charge)) {
         Ok(_) => 0,
         Err(e) => e.number(),
     };
-    let plain = match values_alone(alloc, code, args, limit, burden) {
+    let plain = match values_alone(alloc, code, args, limit, charged(charge)) {
         Ok(_) => 0,
         Err(e) => e.number(),
     };

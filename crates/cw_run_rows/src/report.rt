@@ -2,9 +2,10 @@
 
 mod tables;
 
-use cw_code::code::{Code, Func, Instr, Site};
+use cw_code::code::{Code, Func, Instr, Reducer, Site};
 use cw_machine::values::Values;
-use cw_model::syntax::{CallKind, Name};
+use cw_model::syntax::{CallKind, Name, Reduction};
+use cw_model::total::Total;
 use cw_model::trap::Trap;
 use cw_report::{Counted, Sink, answer, write_fault, write_text};
 use cw_text::{Fault, Place};
@@ -95,15 +96,30 @@ fn names_of(alloc: Global, texts: &[&[u8]]) -> Result<Vec<Name>, Fail> {
     Ok(names)
 }
 
+fn reducers_of(alloc: Global, told: &[(&[u8], Reduction)]) -> Result<Vec<Reducer>, Fail> {
+    let mut reducers = Vec::new(alloc);
+    for (text, how) in told {
+        reducers.push(Reducer {
+            name: Name::new(alloc, text)?,
+            how: *how,
+        })?;
+    }
+    Ok(reducers)
+}
+
 // Code with these reducers and tags and two call sites, whose main stands in line 12.
-fn code_with(alloc: Global, reducers: &[&[u8]], tags: &[&[u8]]) -> Result<Verified, Fail> {
+fn code_with(
+    alloc: Global,
+    reducers: &[(&[u8], Reduction)],
+    tags: &[&[u8]],
+) -> Result<Verified, Fail> {
     let mut code = Code {
         instrs: Vec::from_slice(alloc, &[Instr::Push(3), Instr::ReturnValue])?,
         funcs: Vec::new(alloc),
         main: 0,
         main_line: 12,
         sites: Vec::new(alloc),
-        reducers: names_of(alloc, reducers)?,
+        reducers: reducers_of(alloc, reducers)?,
         tags: names_of(alloc, tags)?,
         passed: Vec::new(alloc),
     };
@@ -126,7 +142,7 @@ fn code_with(alloc: Global, reducers: &[&[u8]], tags: &[&[u8]]) -> Result<Verifi
 // What a run is answered with of code with these reducers.
 fn answered(
     alloc: Global,
-    reducers: &[&[u8]],
+    reducers: &[(&[u8], Reduction)],
     values: &Result<Values, Fault>,
 ) -> Result<Vec<u8>, Fail> {
     let code = code_with(alloc, reducers, &[])?;
@@ -135,12 +151,17 @@ fn answered(
     Ok(sink.into_inner())
 }
 
-// A run that left this value, and printed and added up these.
-fn values_with(alloc: Global, value: i64, lines: &[i64], sums: &[i128]) -> Result<Values, Fail> {
+// A run that left this value, printed these and left these totals.
+fn values_with(
+    alloc: Global,
+    value: i64,
+    lines: &[i64],
+    totals: &[Total],
+) -> Result<Values, Fail> {
     Ok(Values {
         value,
         lines: Vec::from_slice(alloc, lines)?,
-        sums: Vec::from_slice(alloc, sums)?,
+        totals: Vec::from_slice(alloc, totals)?,
     })
 }
 
@@ -167,18 +188,29 @@ fn prints_numbers(rt: HostRuntime) -> Result<(), Fail> {
 }
 
 #[test]
-fn prints_sums_of_more_than_64_bits(rt: HostRuntime) -> Result<(), Fail> {
+fn prints_totals(rt: HostRuntime) -> Result<(), Fail> {
     let alloc = rt.alloc();
     let values = values_with(
         alloc,
         3,
         &[7],
-        &[9223372036854775808, -42535295865117307932921825928971026432],
+        &[
+            Total::Sum(9223372036854775808),
+            Total::Max(Some(-9223372036854775808)),
+            Total::Max(None),
+            Total::Sum(-42535295865117307932921825928971026432),
+        ],
     )?;
-    let text = answered(alloc, &[b"total", b"least"], &Ok(values))?;
+    let reducers: [(&[u8], Reduction); 4] = [
+        (b"total", Reduction::Sum),
+        (b"top", Reduction::Max),
+        (b"none", Reduction::Max),
+        (b"least", Reduction::Sum),
+    ];
+    let text = answered(alloc, &reducers, &Ok(values))?;
     assert_eq!(rt;
         text.as_slice(),
-        b"7\nsum total = 9223372036854775808\nsum least = -42535295865117307932921825928971026432\nreturn 3\n".as_slice()
+        b"7\nsum total = 9223372036854775808\nmax top = -9223372036854775808\nmax none = none\nsum least = -42535295865117307932921825928971026432\nreturn 3\n".as_slice()
     );
     Ok(())
 }

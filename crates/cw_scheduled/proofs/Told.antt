@@ -3,6 +3,8 @@ use Rattle.std.proofs.Common.{◌≡◌, ◌≤◌, ◌<◌, ℕ, ℤ, Bool, tru
 use Rattle.std.specs.Prelude.{IsErrAnd, IsSome, MatchResult, Ok, Err, Result, nat_le, nat_eq, length}
 use Rattle.std.proofs.lemmas.Bool.Decides.{nat_tests}
 use Rattle.cw_model.specs.declared.limits.TheConstants.{MOST_LIMIT, MOST_BURDEN}
+use Rattle.cw_model.specs.declared.total.Total.{Total}
+use Rattle.cw_model.specs.Burdens.{no_burden}
 use Rattle.cw_model.specs.Trees.{Tree}
 use Rattle.cw_model.specs.Answers.{Ended}
 use Rattle.cw_text.specs.declared.fault.Fault.{Fault}
@@ -37,25 +39,25 @@ handed_on Q P e (Ok x) p h = absurd h
 handed_on Q P e (Err x) p h = subst P (sym h) p
 
 -- a schedule is asked for of a run that can be asked for
-pub requested : (code : Code) (args : List ℤ) (n processors : ℕ) → is_asked code args n processors ≡ true → is_request code args n 0 ≡ true
-requested code args n processors h = second_true (is_counted processors) (is_request code args n 0) h
+pub requested : (code : Code) (args : List ℤ) (n processors : ℕ) → is_asked code args n processors ≡ true → is_request code args n no_burden ≡ true
+requested code args n processors h = second_true (is_counted processors) (is_request code args n no_burden) h
 
 -- on one processor or more
 pub has_processor : (code : Code) (args : List ℤ) (n processors : ℕ) → is_asked code args n processors ≡ true → 1 ≤ processors
 has_processor code args n processors h =
     le_of 1 processors (first_true (nat_le 1 processors) (nat_le processors MOST_PROCESSORS)
-    (first_true (is_counted processors) (is_request code args n 0) h))
+    (first_true (is_counted processors) (is_request code args n no_burden) h))
 
 -- within a limit in its range
-pub has_limit : (code : Code) (args : List ℤ) (n : ℕ) → is_request code args n 0 ≡ true → n ≤ MOST_LIMIT
+pub has_limit : (code : Code) (args : List ℤ) (n : ℕ) → is_request code args n no_burden ≡ true → n ≤ MOST_LIMIT
 has_limit code args n h =
     le_of n MOST_LIMIT
-    (first_true (nat_le n MOST_LIMIT) (nat_le 0 MOST_BURDEN)
-    (second_true (nat_le 1 n) (nat_le n MOST_LIMIT && nat_le 0 MOST_BURDEN)
-    (second_true (nat_eq (length args) (main_params code)) (nat_le 1 n && (nat_le n MOST_LIMIT && nat_le 0 MOST_BURDEN)) h)))
+    (first_true (nat_le n MOST_LIMIT) (nat_le no_burden.charge MOST_BURDEN)
+    (second_true (nat_le 1 n) (nat_le n MOST_LIMIT && nat_le no_burden.charge MOST_BURDEN)
+    (second_true (nat_eq (length args) (main_params code)) (nat_le 1 n && (nat_le n MOST_LIMIT && nat_le no_burden.charge MOST_BURDEN)) h)))
 
 -- why a run has no value is why it has no schedule
-pub not_scheduled : (code : Code) (args : List ℤ) (n processors : ℕ) (e : Fault) → is_asked code args n processors ≡ true → IsFailure code args n 0 e → IsNotScheduled code args n processors e
+pub not_scheduled : (code : Code) (args : List ℤ) (n processors : ℕ) (e : Fault) → is_asked code args n processors ≡ true → IsFailure code args n no_burden e → IsNotScheduled code args n processors e
 not_scheduled code args n processors fault.Arguments asked h = ap (λ b. is_counted processors && b) h ∙ none (is_counted processors)
   where
     none : (b : Bool) → (b && false) ≡ false
@@ -73,16 +75,16 @@ not_scheduled code args n processors fault.Code asked h = absurd h
 not_scheduled code args n processors fault.Write asked h = absurd h
 not_scheduled code args n processors fault.Strands asked h = absurd h
 
-same_tree : (v w : ℤ) (lines more sums others : List ℤ) (t u : Tree) → Some (Ended v lines sums t) ≡ Some (Ended w more others u) → t ≡ u
-same_tree v w lines more sums others t u e = cc
+same_tree : (v w : ℤ) (lines more : List ℤ) (totals others : List Total) (t u : Tree) → Some (Ended v lines totals t) ≡ Some (Ended w more others u) → t ≡ u
+same_tree v w lines more totals others t u e = cc
 
 -- a run ends with one tree
 pub one_tree : (code : Code) (args : List ℤ) (n : ℕ) (t u : Tree) → Ends code args n t → Ends code args n u → t ≡ u
 one_tree code args n t u a b =
-    same_tree a.value b.value a.lines b.lines a.sums b.sums t u (sym a.answer ∙ b.answer)
+    same_tree a.value b.value a.lines b.lines a.totals b.totals t u (sym a.answer ∙ b.answer)
 
 pub ends_so : (code : Code) (args : List ℤ) (n : ℕ) (kept : Recorded) (r : Records code args n kept) → Ends code args n r.tree
-ends_so code args n kept r = record { value = r.value; lines = r.lines; sums = r.sums; answer = r.answer }
+ends_so code args n kept r = record { value = r.value; lines = r.lines; totals = r.totals; answer = r.answer }
 
 -- what is kept of the strands of a run is that of the tree that was measured
 pub kept_of : (code : Code) (args : List ℤ) (n : ℕ) (whole : Readings) (kept : Recorded) (m : Measured code args n whole) → Records code args n kept → IsKept m.tree kept

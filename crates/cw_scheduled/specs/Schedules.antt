@@ -1,5 +1,7 @@
 -- What is told of the greedy schedule of a run.
 use Rattle.std.specs.Prelude.{◌≡◌, ◌≤◌, ◌<◌, ℕ, ℤ, Bool, true, false, ◌&&◌, nat_le, List, Some, Result, MatchResult}
+use Rattle.cw_model.specs.declared.total.Total.{Total}
+use Rattle.cw_model.specs.Burdens.{no_burden}
 use Rattle.cw_model.specs.Trees.{Tree, work, span}
 use Rattle.cw_model.specs.Answers.{Ended, TrappedAt, OverLimit}
 use Rattle.cw_text.specs.declared.fault.Fault.{Fault}
@@ -23,14 +25,14 @@ is_counted processors = nat_le 1 processors && nat_le processors MOST_PROCESSORS
 -- the code can be asked for this schedule: as many arguments as its main takes, a limit in its range, and processors in
 -- theirs
 abbrev pub is_asked : Code → List ℤ → (n processors : ℕ) → Bool
-is_asked code args n processors = is_counted processors && is_request code args n 0
+is_asked code args n processors = is_counted processors && is_request code args n no_burden
 
 -- the run ends, with this strand tree
 pub record Ends (code : Code) (args : List ℤ) (n : ℕ) (tree : Tree) : Type 0 where
   pub value : ℤ
   pub lines : List ℤ
-  pub sums : List ℤ
-  pub answer : code_serial code args n ≡ Some (Ended value lines sums tree)
+  pub totals : List Total
+  pub answer : code_serial code args n ≡ Some (Ended value lines totals tree)
 
 -- what was asked for is in range, the run ends, and these are the work and the span of its tree, which has no more
 -- strands than are kept, and the length of its greedy schedule, within its bounds
@@ -47,15 +49,15 @@ pub record Schedules (code : Code) (args : List ℤ) (n p : ℕ) (s : Schedule) 
 
 -- what was asked for is in range, and the run ends within the limit, with a tree of this work and span
 pub record Measured (code : Code) (args : List ℤ) (n : ℕ) (r : Readings) : Type 0 where
-  pub asked : is_request code args n 0 ≡ true
+  pub asked : is_request code args n no_burden ≡ true
   pub tree : Tree
   pub ends : Ends code args n tree
   pub within : work tree ≤ n
-  pub measure : AreReadings 0 tree r
+  pub measure : AreReadings no_burden tree r
 
 -- work and span of a run as the code's meaning gives them, or why there are none
 abbrev pub MeasuresAsCode : Code → List ℤ → (n : ℕ) → Result Readings Fault → Type 0
-MeasuresAsCode code args n result = MatchResult result (Measured code args n) (IsFailure code args n 0)
+MeasuresAsCode code args n result = MatchResult result (Measured code args n) (IsFailure code args n no_burden)
 
 -- what was asked for is in range, and the run ends with more strands than are kept
 pub record HasTooManyStrands (code : Code) (args : List ℤ) (n processors : ℕ) : Type 0 where

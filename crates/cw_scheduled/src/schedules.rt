@@ -7,6 +7,7 @@ ghost use Rattle.cw_scheduled.specs.Schedules as schedules;
 use cw_machine::alone::{main_takes, run_alone};
 use cw_machine::recorded::strands_alone;
 use cw_meter::Readings;
+use cw_model::burden::{Burden, Edges};
 use cw_model::limits::MOST_LIMIT;
 use cw_schedule::schedule::greedy;
 use cw_text::Fault;
@@ -69,7 +70,11 @@ pub fn schedule_alone(
 fn measured(alloc: Global, code: Arc<Verified>, args: &[i64], n: u64) -> Result<Readings, Fault>
     ensures { schedules.MeasuresAsCode (code_view code.value.code) args.now n result }
 {
-    let ended = run_alone(alloc, code, args, n, 0)?;
+    let burden = Burden {
+        charge: 0,
+        edges: Edges::Spawn,
+    };
+    let ended = run_alone(alloc, code, args, n, burden)?;
     Ok(ended.measure)
 }
 

@@ -2,6 +2,7 @@
 use Rattle.std.proofs.Common.{◌≡◌, ℕ, suc, ◌≤◌, List, [], ◌∷◌, length, refl, sym, ap, ◌∙◌, subst, inl, inr, arith}
 use Rattle.std.specs.Prelude.{map, reverse}
 use Rattle.std.proofs.Math.Logic.{∥∥₁_elim, ∥∥₁_map}
+use Rattle.cw_model.specs.declared.burden.Burden.{Burden}
 use Rattle.cw_model.specs.declared.limits.TheConstants.{MOST_BURDEN}
 use Rattle.cw_code.specs.Code.{Code, code_view}
 use Rattle.cw_code.specs.Run.{Taken, Whole, slot_taken, Waiting, Around, Caller, State, passed_by}
@@ -161,7 +162,7 @@ module _ (keep : (code : Code) → CallsKeep code) (self : Strand) (limit : ℕ)
             is = at.1;
             within = omega (arith, before, top, within);
             range = omega (arith, top, range);
-            light = subst (λ b. b ≤ MOST_BURDEN) (sym cut.burden) c.ground.light;
+            light = subst (λ (b : Burden). b.charge ≤ MOST_BURDEN) (sym cut.burden) c.ground.light;
           }
 
 -- for whichever of the definitions its job is

@@ -42,7 +42,7 @@ module _ (b : State) (out : IsOutermost b) (begins : b.trace ≡ quiet) where
 
   trace_flat : (around : List Around) (t : Trace) → trace_under b around t ≡ t
   trace_flat [] t = ap (λ u. joined u t) begins ∙ quiet_joined t
-  trace_flat (a ∷ around) t = ap (λ (u : Trace). record { lines = u.lines ++ t.lines; additions = u.additions ++ t.additions; events = t.events }) begins
+  trace_flat (a ∷ around) t = ap (λ (u : Trace). record { lines = u.lines ++ t.lines; updates = u.updates ++ t.updates; events = t.events }) begins
 
   pub under_flat : (s : State) → under b s ≡ s
   under_flat s =

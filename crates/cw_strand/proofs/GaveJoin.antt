@@ -160,8 +160,8 @@ module _ (self : Strand) (job : Job) (others : List Job) (newest : Newest self j
       shows_now : Shows v (ok_with g sp.others) r.machine (under g.base now)
       shows_now =
           let given = subst (Shows v (ok_with g sp.others) joined.given) (went_under g.base h.state came.frame) (joined.gives v (ok_with g sp.others) sp.out (under g.base h.state) came.frame (waits_under g.base h.state) gives_it) in
-          let taken = subst (λ l. HasTaken joined.given l shown.sums.items r.machine) came.shown_is.lines joined.takes in
-          shows_joined v (ok_with g sp.others) joined.given r.machine shown.sums.items g.base h.state came.frame came.trace taken given came.shown_is.sums
+          let taken = subst (λ l. HasTaken joined.given l shown.totals.items r.machine) came.shown_is.lines joined.takes in
+          shows_joined v (ok_with g sp.others) joined.given r.machine shown.totals.items g.base h.state came.frame came.trace taken given came.shown_is.totals
 
       measured : MeansMeasured code jo p.burden (site_at (origin_of p) h.state.around) (jobs.Joined came.frame came.trace came.cost) shown.meter
       measured = record {

@@ -3,7 +3,6 @@ use Rattle.std.proofs.Common.{◌≡◌, ℕ, ◌+◌, ℤ, true, false, Option,
 use Rattle.std.specs.Prelude.{map, reverse, slice_get}
 use Rattle.std.proofs.Math.Logic.{∥∥₁_elim, ∥∥₁_map}
 use mathlib.Core.HLevel.{⊥_prop}
-use Rattle.cw_model.specs.Syntax.{Name}
 use Rattle.cw_model.specs.Outcome.{Trace}
 use Rattle.cw_code.specs.declared.code.Func.{Func}
 use Rattle.cw_code.specs.Code.{Code, code_view}
@@ -28,13 +27,12 @@ use Rattle.cw_jobs.specs.declared.call.Parts.{Parts}
 use Rattle.cw_jobs.specs.declared.effect.Effect.{Effect}
 use Rattle.cw_jobs.specs.declared.effect.Effect.TheVariants as effect
 use Rattle.cw_jobs.specs.declared.effect.Shown.{Shown}
-use Rattle.cw_jobs.specs.Calls as calls
+use Rattle.cw_jobs.specs.Totals.{HoldsTotals}
 use Rattle.cw_jobs.specs.Jobs.{extent_of, begins_at, AreBlocks}
 use Rattle.cw_jobs.specs.Means.{HasShown, MeansIt, IsMeaningOf}
 use Rattle.cw_machine.specs.declared.run.Run.{Run}
 use Rattle.cw_machine.specs.declared.run.Stop.TheVariants as stop
 use Rattle.cw_machine.specs.Arrays.{Out, IsFit}
-use Rattle.cw_machine.specs.Shows as shows
 use Rattle.cw_machine.specs.Shows.{Shows}
 use Rattle.cw_machine.specs.JobRuns.{ok_of, job_ok, IsBase, HasCome as HasComeTo, CanEnd, EndsJob}
 use Rattle.cw_strand.specs.declared.strand.Lent.{Lent}
@@ -47,19 +45,11 @@ use Rattle.cw_strand.proofs.Course.{ended, arrived, come_alone, come_joins}
 use Rattle.cw_strand.proofs.Ends.{is_nil, no_lent, no_levels}
 use Rattle.cw_strand.proofs.RunsOn.{sound_of}
 
--- the sums of a run are those that an effect tells
-all_fit : (additions : List (Name × ℤ)) → shows.AllFit additions → calls.AllFit additions
-all_fit [] h = tt
-all_fit (a ∷ additions) h = (h.0, all_fit additions h.1)
-
-sums_as : (code : Code) (sums : List ℤ) (additions : List (Name × ℤ)) → shows.HoldsSums code sums additions → calls.HoldsSums code sums additions
-sums_as code sums additions h = record { fit = all_fit additions h.fit; as_many = h.as_many; are = h.are }
-
-shown_as : (code : Code) (r : Run) (cost count : ℕ) (x : Shown) (t : Trace) → IsShown r cost x → cost ≡ count → r.machine.lines.items ≡ t.lines → shows.HoldsSums code r.machine.sums.items t.additions → HasShown code x t count
-shown_as code r cost count x t is e lines sums = record {
+shown_as : (code : Code) (r : Run) (cost count : ℕ) (x : Shown) (t : Trace) → IsShown r cost x → cost ≡ count → r.machine.lines.items ≡ t.lines → HoldsTotals code r.machine.totals.items t.updates → HasShown code x t count
+shown_as code r cost count x t is e lines totals = record {
   cost = is.counted ∙ e;
   lines = ap (λ l. l.items) is.lines ∙ lines;
-  sums = subst (λ l. calls.HoldsSums code l t.additions) (sym (ap (λ l. l.items) is.sums)) (sums_as code r.machine.sums.items t.additions sums);
+  totals = subst (λ l. HoldsTotals code l t.updates) (sym (ap (λ l. l.items) is.totals)) totals;
 }
 
 -- with nothing round its state a strand has nothing out
@@ -114,7 +104,7 @@ module _ (keep : (code : Code) → CallsKeep code) (self : Strand) (limit : ℕ)
         record {
           effect = jobs.Ended x at.arrays at.trace (c.later + 1);
           means = ended code (keep code) j c.state c.later x at.arrays at.trace (subst (λ y. has_come y code c.state ≡ false) (sym c.ground.job.extent) at.before) at.steps (omega (arith, e0, w, jl, jb)) is_of;
-          tells = (c.ground.job.extent ∙ at.is_whole, t.0, shown_as code self.run self.count (c.later + 1) shown at.trace t.1 c.at.0 at.lines at.sums);
+          tells = (c.ground.job.extent ∙ at.is_whole, t.0, shown_as code self.run self.count (c.later + 1) shown at.trace t.1 c.at.0 at.lines at.totals);
           counts = λ g b.
               subst (λ m. Meters g.burden g.tags Main (c.later + 1) [] (whole at.trace) m) (sym t.1.meter)
               (subst (λ n. Meters g.burden g.tags Main n [] (whole at.trace) self.run.meter) c.at.0 (at.tells g b));
@@ -216,7 +206,7 @@ module _ (keep : (code : Code) → CallsKeep code) (self : Strand) (limit : ℕ)
           EndsJob self.run.machine (length (its_parts self).rest.slices.items) frame replaced.items × IsShown r self.count shown
       TellsJoin r _ = ⊥
 
-      join_it : (r : Run) → r.meter ≡ self.run.meter → r.machine.lines.items ≡ self.run.machine.lines.items → r.machine.sums.items ≡ self.run.machine.sums.items → (e : Effect) → TellsJoin r e → (is : IsFit (its_code self)) (j : jobs.Job) → CameTo self limit stop.Joined is j → MeansIt (its_code self) is (its_parts self) e j
+      join_it : (r : Run) → r.meter ≡ self.run.meter → r.machine.lines.items ≡ self.run.machine.lines.items → r.machine.totals.items ≡ self.run.machine.totals.items → (e : Effect) → TellsJoin r e → (is : IsFit (its_code self)) (j : jobs.Job) → CameTo self limit stop.Joined is j → MeansIt (its_code self) is (its_parts self) e j
       join_it r m l u (effect.Ended value shown) t is j c = absurd t
       join_it r m l u (effect.Trapped a n lines cost back) t is j c = absurd t
       join_it r m l u (effect.OverLimit back) t is j c = absurd t
@@ -232,11 +222,11 @@ module _ (keep : (code : Code) → CallsKeep code) (self : Strand) (limit : ℕ)
           record {
             effect = jobs.Joined (standing c.state) c.state.trace c.later;
             means = meaning stay seats is j c;
-            tells = (ends.holds, ends.empty, shown_as code r self.count c.later shown c.state.trace t.1 c.at.0 (l ∙ at.lines) (subst (λ z. shows.HoldsSums code z c.state.trace.additions) (sym u) at.sums));
+            tells = (ends.holds, ends.empty, shown_as code r self.count c.later shown c.state.trace t.1 c.at.0 (l ∙ at.lines) (subst (λ z. HoldsTotals code z c.state.trace.updates) (sym u) at.totals));
             counts = λ g b. subst (λ z. Meters g.burden g.tags (Rest p.site) c.later [] c.state.trace.events z) (sym (t.1.meter ∙ m)) (measured.counts g b);
             homes = (ends.homes, ends.fixed);
           }
 
-      pub join_means : (r : Run) → r.meter ≡ self.run.meter → r.machine.lines.items ≡ self.run.machine.lines.items → r.machine.sums.items ≡ self.run.machine.sums.items → (e : Effect) → TellsJoin r e → IsMeaningOf (its_job self) e
+      pub join_means : (r : Run) → r.meter ≡ self.run.meter → r.machine.lines.items ≡ self.run.machine.lines.items → r.machine.totals.items ≡ self.run.machine.totals.items → (e : Effect) → TellsJoin r e → IsMeaningOf (its_job self) e
       unfolding IsMeaningOf
       join_means r m l u e t = λ is j job. ∥∥₁_map (h.comes is j job) (λ c. join_it r m l u e t is j c)

@@ -103,7 +103,7 @@ module _ (s : State) where
   levels_by code o = acts_by code s (λ j turn w. Moved turn w) (record {
     stuck = λ j turn. tt;
     stops = λ j turn trap line lines. tt;
-    local = λ place operands slots arrays lines additions. refl;
+    local = λ place operands slots arrays lines updates. refl;
     enters = enters;
     opens = λ operands arrays tag cut. refl;
     syncs = refl;

@@ -18,5 +18,5 @@ pub mod Taken
 pub mod Gave
 pub mod GaveTrap
 pub mod GaveJoin
-pub mod Adding
+pub mod Joining
 pub mod Advanced

@@ -36,7 +36,7 @@ pub record Grounded (v : Verified) (is : IsFit v) (p : Parts) (j : jobs.Job) (m 
   pub ground : Ground v is p j
   pub shows : Shows v (ok_with ground []) m (under ground.base (job_start j))
 
-pub grounded : (v : Verified) (is : IsFit v) (p : Parts) (j : jobs.Job) (m : Machine) → IsJob v is p j → p.burden ≤ MOST_BURDEN → HoldsOf v is j p.rest m (job_start j) → Grounded v is p j m
+pub grounded : (v : Verified) (is : IsFit v) (p : Parts) (j : jobs.Job) (m : Machine) → IsJob v is p j → p.burden.charge ≤ MOST_BURDEN → HoldsOf v is j p.rest m (job_start j) → Grounded v is p j m
 grounded v is p j m job light h = at p.extent refl
   where
     at : (x : Extent) → p.extent ≡ x → Grounded v is p j m
@@ -78,7 +78,7 @@ module _ (self : Strand) (keep : (code : Code) → CallsKeep code) (meters : Cal
   abbrev p : Parts
   p = its_parts self
 
-  pub starts : p.burden ≤ MOST_BURDEN → p.before ≤ p.limit → HoldsOf v is j p.rest self.run.machine (job_start j) → StartsFrom (origin_of p) p.burden self.run.meter
+  pub starts : p.burden.charge ≤ MOST_BURDEN → p.before ≤ p.limit → HoldsOf v is j p.rest self.run.machine (job_start j) → StartsFrom (origin_of p) p.burden self.run.meter
       → self.lent.items ≡ [] → self.count ≡ 0 → self.mode ≡ mode.Going → Holds self is j
   starts light low h meter none zero going =
       let g = grounded v is p j self.run.machine job light h in
@@ -119,7 +119,7 @@ begins keep meters job p' self of parts none bare zero going b = record {
     spares = λ k q e. absurd (none_there k q (subst (λ l. slice_get l k ≡ Some q) bare e));
     rests = λ k q e. absurd (none_there k q (subst (λ l. slice_get (reverse l) k ≡ Some q) none e));
     holds = λ is j isj.
-        let light : (its_parts self).burden ≤ MOST_BURDEN = ∥∥₁_elim sound le_prop (λ s. s.light) in
+        let light : (its_parts self).burden.charge ≤ MOST_BURDEN = ∥∥₁_elim sound le_prop (λ s. s.light) in
         let low : (its_parts self).before ≤ (its_parts self).limit = ∥∥₁_elim sound le_prop (λ s. s.within) in
         ∣ starts self keep meters is j isj light low (begun.machine is (its_parts self) j refl isj) begun.meter none zero going ∣₁;
   };

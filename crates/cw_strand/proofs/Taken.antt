@@ -1,13 +1,16 @@
 -- A machine that took in what a rest has shown.
-use Rattle.std.proofs.Common.{◌≡◌, ℕ, ◌+◌, ℤ, ◌+ℤ◌, pos, Bool, true, false, if◌then◌else◌, Some, List, [], ◌∷◌, ◌++◌, length, refl, sym, ap, ◌∙◌, subst, append_assoc}
-use Rattle.std.specs.Prelude.{slice_get}
-use Rattle.std.specs.Int.{w128, int_wrap}
+use Rattle.std.proofs.Common.{◌≡◌, ℤ, ◌+ℤ◌, Bool, true, false, if◌then◌else◌, Option, Some, None, List, [], ◌∷◌, ◌++◌, refl, sym, ap, ◌∙◌, subst, append_assoc, arith}
+use Rattle.std.specs.Int.{int_max, w128}
 use Rattle.std.proofs.Math.IntN.{+ℤ_assoc, +ℤ_comm, +ℤ_idl}
-use Rattle.std.proofs.lemmas.Int.{int_wrap-add_left}
+use Rattle.std.proofs.lemmas.Int.{clamps, int_wrap-add_left, ints}
 use Rattle.std.proofs.lemmas.List.{append-nil}
 use Rattle.cw_model.specs.Syntax.{Name}
 use Rattle.cw_model.specs.Names.{same_name}
-use Rattle.cw_model.specs.Answers.{sum_to}
+use Rattle.cw_model.specs.declared.syntax.Reduction.{Reduction}
+use Rattle.cw_model.specs.declared.syntax.Reduction.TheVariants.{Sum, Max}
+use Rattle.cw_model.specs.declared.total.Total.{Total}
+use Rattle.cw_model.specs.declared.total.Total.TheVariants as total
+use Rattle.cw_model.specs.Answers.{greatest_to, or_greater, sum_to, total_to}
 use Rattle.cw_model.specs.Outcome.{Trace, quiet, joined}
 use Rattle.cw_code.specs.Code.{Code, code_view}
 use Rattle.cw_code.specs.Run.{Around, State}
@@ -17,17 +20,15 @@ use Rattle.cw_strands.specs.Jobs.{Extent, WholeCall, ToJoin, Standing}
 use Rattle.cw_strands.specs.Over.{trace_under, under}
 use Rattle.cw_strands.specs.Strands.{resumed}
 use Rattle.cw_verify.specs.declared.verified.Verified.{Verified}
-use Rattle.cw_jobs.specs.Calls as calls
+use Rattle.cw_jobs.specs.Totals.{greater, joined_total, kept, wrapped, AllFit, HoldsTotals}
 use Rattle.cw_machine.specs.declared.machine.Machine.{Machine}
 use Rattle.cw_machine.specs.Arrays.{Ok}
-use Rattle.cw_machine.specs.Shows as shows
-use Rattle.cw_machine.specs.Shows.{wrapped, Shows}
+use Rattle.cw_machine.specs.Shows.{Shows}
 use Rattle.cw_machine.specs.Stretches.{StandsRound}
-use Rattle.cw_strand.specs.Giving.{AreAdded, HasTaken}
+use Rattle.cw_strand.specs.Giving.{AreJoined, HasTaken}
 
-all_fit : (a b : List (Name × ℤ)) → shows.AllFit a → calls.AllFit b → shows.AllFit (a ++ b)
-all_fit [] [] h k = tt
-all_fit [] (y ∷ b) h k = (k.0, all_fit [] b tt k.1)
+all_fit : (a b : List (Name × ℤ)) → AllFit a → AllFit b → AllFit (a ++ b)
+all_fit [] b h k = k
 all_fit (x ∷ a) b h k = (h.0, all_fit a b h.1 k)
 
 sum_append : (name : Name) (a b : List (Name × ℤ)) → sum_to name (a ++ b) ≡ sum_to name a +ℤ sum_to name b
@@ -42,13 +43,35 @@ wrap_both : (a b : ℤ) → wrapped (wrapped a +ℤ wrapped b) ≡ wrapped (a +�
 wrap_both a b =
     int_wrap-add_left w128 a (wrapped b) ∙ ap wrapped (+ℤ_comm a (wrapped b)) ∙ int_wrap-add_left w128 b a ∙ ap wrapped (+ℤ_comm b a)
 
-sums_both : (code : Code) (old more new : List ℤ) (a b : List (Name × ℤ)) → AreAdded old more new → shows.HoldsSums code old a → calls.HoldsSums code more b → shows.HoldsSums code new (a ++ b)
-sums_both code old more new a b added h k = record {
+max_assoc : (v w u : ℤ) → int_max (int_max v w) u ≡ int_max v (int_max w u)
+max_assoc v w u = omega (arith, ints, clamps)
+
+greater_after : (v : ℤ) (x y : Option ℤ) → greater (Some (or_greater v x)) y ≡ Some (or_greater v (greater x y))
+greater_after v None y = refl
+greater_after v (Some w) None = refl
+greater_after v (Some w) (Some u) = ap (λ z. Some z) (max_assoc v w u)
+
+greatest_append : (name : Name) (a b : List (Name × ℤ)) → greatest_to name (a ++ b) ≡ greater (greatest_to name a) (greatest_to name b)
+greatest_append name [] b = refl
+greatest_append name (x ∷ a) b = at (same_name name x.0) (greatest_append name a b)
+  where
+    at : (c : Bool) → greatest_to name (a ++ b) ≡ greater (greatest_to name a) (greatest_to name b)
+        → (if c then Some (or_greater x.1 (greatest_to name (a ++ b))) else greatest_to name (a ++ b)) ≡ greater (if c then Some (or_greater x.1 (greatest_to name a)) else greatest_to name a) (greatest_to name b)
+    at true h = ap (λ z. Some (or_greater x.1 z)) h ∙ sym (greater_after x.1 (greatest_to name a) (greatest_to name b))
+    at false h = h
+
+-- what a reducer comes to over two pieces
+total_append : (how : Reduction) (name : Name) (a b : List (Name × ℤ)) → joined_total (kept (total_to how name a)) (kept (total_to how name b)) ≡ kept (total_to how name (a ++ b))
+total_append Sum name a b = ap (λ z. total.Sum z) (wrap_both (sum_to name a) (sum_to name b) ∙ ap wrapped (sym (sum_append name a b)))
+total_append Max name a b = ap (λ z. total.Max z) (sym (greatest_append name a b))
+
+totals_both : (code : Code) (old more new : List Total) (a b : List (Name × ℤ)) → AreJoined old more new → HoldsTotals code old a → HoldsTotals code more b → HoldsTotals code new (a ++ b)
+totals_both code old more new a b joined h k = record {
   fit = all_fit a b h.fit k.fit;
-  as_many = added.as_many ∙ h.as_many;
-  are = λ i name e.
-      added.each i (wrapped (sum_to name a)) (wrapped (sum_to name b)) (h.are i name e) (k.are i name e)
-      ∙ ap (λ z. Some z) (wrap_both (sum_to name a) (sum_to name b) ∙ ap wrapped (sym (sum_append name a b)));
+  as_many = joined.as_many ∙ h.as_many;
+  are = λ i r e.
+      joined.each i (kept (total_to r.how r.name a)) (kept (total_to r.how r.name b)) (h.are i r e) (k.are i r e)
+      ∙ ap (λ z. Some z) (total_append r.how r.name a b);
 }
 
 -- what a state has shown may be told otherwise
@@ -59,9 +82,9 @@ good_with code fits s t g = record {
   others = g.others;
 }
 
-module _ (v : Verified) (ok : Ok v) (m m' : Machine) (lines sums : List ℤ) (taken : HasTaken m lines sums m') (s : State) (t : Trace) (more : List (Name × ℤ)) where
-  pub shows_taken : Shows v ok m s → calls.HoldsSums (code_view v.code) sums more → t.lines ≡ s.trace.lines ++ lines → t.additions ≡ s.trace.additions ++ more → Shows v ok m' (record s { trace = t })
-  shows_taken h summed l a = subst (λ x. Shows v ok x (record s { trace = t })) (sym taken.rest) (record {
+module _ (v : Verified) (ok : Ok v) (m m' : Machine) (lines : List ℤ) (totals : List Total) (taken : HasTaken m lines totals m') (s : State) (t : Trace) (more : List (Name × ℤ)) where
+  pub shows_taken : Shows v ok m s → HoldsTotals (code_view v.code) totals more → t.lines ≡ s.trace.lines ++ lines → t.updates ≡ s.trace.updates ++ more → Shows v ok m' (record s { trace = t })
+  shows_taken h told l a = subst (λ x. Shows v ok x (record s { trace = t })) (sym taken.rest) (record {
     good = good_with (code_view v.code) ok.verified.fits s t h.good;
     holds = record {
       at = h.holds.at;
@@ -74,29 +97,29 @@ module _ (v : Verified) (ok : Ok v) (m m' : Machine) (lines sums : List ℤ) (ta
     };
     deep = h.deep;
     arrays = h.arrays;
-    sums = subst (shows.HoldsSums (code_view v.code) m'.sums.items) (sym a) (sums_both (code_view v.code) m.sums.items sums m'.sums.items s.trace.additions more taken.sums_are h.sums summed);
+    totals = subst (HoldsTotals (code_view v.code) m'.totals.items) (sym a) (totals_both (code_view v.code) m.totals.items totals m'.totals.items s.trace.updates more taken.totals_are h.totals told);
     cuts = h.cuts;
   })
 
--- lines and additions of a run over what stands round it
+-- lines and updates of a run over what stands round it
 lines_under : (b : State) (around : List Around) (t : Trace) → (trace_under b around t).lines ≡ b.trace.lines ++ t.lines
 lines_under b [] t = refl
 lines_under b (a ∷ around) t = refl
 
-additions_under : (b : State) (around : List Around) (t : Trace) → (trace_under b around t).additions ≡ b.trace.additions ++ t.additions
-additions_under b [] t = refl
-additions_under b (a ∷ around) t = refl
+updates_under : (b : State) (around : List Around) (t : Trace) → (trace_under b around t).updates ≡ b.trace.updates ++ t.updates
+updates_under b [] t = refl
+updates_under b (a ∷ around) t = refl
 
 appended : {A : Type 0} (b s t : List A) → b ++ (s ++ t) ≡ (b ++ (s ++ [])) ++ t
 appended b s t = sym (append_assoc b s t) ∙ ap (λ z. (b ++ z) ++ t) (sym (append-nil s))
 
 -- a block that goes on from its join, with what the rest has shown
-pub shows_joined : (v : Verified) (ok : Ok v) (m m' : Machine) (sums : List ℤ) (b s : State) (frame : Standing) (t : Trace) → HasTaken m t.lines sums m' → Shows v ok m (under b (resumed s frame quiet)) → calls.HoldsSums (code_view v.code) sums t.additions
+pub shows_joined : (v : Verified) (ok : Ok v) (m m' : Machine) (totals : List Total) (b s : State) (frame : Standing) (t : Trace) → HasTaken m t.lines totals m' → Shows v ok m (under b (resumed s frame quiet)) → HoldsTotals (code_view v.code) totals t.updates
     → Shows v ok m' (under b (resumed s frame t))
-shows_joined v ok m m' sums b s frame t taken h summed =
-    shows_taken v ok m m' t.lines sums taken (under b (resumed s frame quiet)) (trace_under b s.around (joined s.trace t)) t.additions h summed
+shows_joined v ok m m' totals b s frame t taken h told =
+    shows_taken v ok m m' t.lines totals taken (under b (resumed s frame quiet)) (trace_under b s.around (joined s.trace t)) t.updates h told
     (lines_under b s.around (joined s.trace t) ∙ appended b.trace.lines s.trace.lines t.lines ∙ ap (λ z. z ++ t.lines) (sym (lines_under b s.around (joined s.trace quiet))))
-    (additions_under b s.around (joined s.trace t) ∙ appended b.trace.additions s.trace.additions t.additions ∙ ap (λ z. z ++ t.additions) (sym (additions_under b s.around (joined s.trace quiet))))
+    (updates_under b s.around (joined s.trace t) ∙ appended b.trace.updates s.trace.updates t.updates ∙ ap (λ z. z ++ t.updates) (sym (updates_under b s.around (joined s.trace quiet))))
 
 -- what stands round a run has shown nothing
 base_quiet : (x : Extent) (b : State) → StandsRound x b → b.trace ≡ quiet

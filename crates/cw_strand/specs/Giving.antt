@@ -1,5 +1,6 @@
 -- The effect of the newest job out is given.
-use Rattle.std.specs.Prelude.{◌≡◌, ◌≢◌, ℕ, ◌+◌, ◌-◌, ℤ, ◌+ℤ◌, Bool, nat_lt, List, [], ◌∷◌, ◌++◌, length, Option, Some, None, slice_get}
+use Rattle.std.specs.Prelude.{◌≡◌, ◌≢◌, ℕ, ◌+◌, ◌-◌, ℤ, Bool, nat_lt, List, [], ◌∷◌, ◌++◌, length, Option, Some, None, slice_get}
+use Rattle.cw_model.specs.declared.total.Total.{Total}
 use Rattle.cw_slices.specs.Placed.{Placed}
 use Rattle.cw_meter.specs.Meters.{Rests}
 use Rattle.cw_jobs.specs.declared.call.Rest.{Rest}
@@ -8,9 +9,9 @@ use Rattle.cw_jobs.specs.declared.effect.Effect.TheVariants as effect
 use Rattle.cw_jobs.specs.declared.effect.Shown.{Shown}
 use Rattle.cw_jobs.specs.declared.job.Job.{Job}
 use Rattle.cw_jobs.specs.Means.{IsMeaningOf}
+use Rattle.cw_jobs.specs.Totals.{joined_total}
 use Rattle.cw_machine.specs.declared.machine.Machine.{Machine}
 use Rattle.cw_machine.specs.declared.run.Run.{Run}
-use Rattle.cw_machine.specs.Shows.{wrapped}
 use Rattle.cw_machine.specs.Gives.{Gives}
 use Rattle.cw_strand.specs.declared.strand.Lent.{Lent}
 use Rattle.cw_strand.specs.declared.strand.Strand.{Strand}
@@ -53,23 +54,24 @@ abbrev pub target_of : Option Lent → Option ℕ
 target_of (Some h) = h.target
 target_of None = None
 
--- each sum has another one added, within 128 bits
-pub record AreAdded (old more new : List ℤ) : Type 0 where
+-- each total has another one joined to it
+pub record AreJoined (old more new : List Total) : Type 0 where
   pub as_many : length new ≡ length old
-  pub each : (k : ℕ) (x y : ℤ) → slice_get old k ≡ Some x → slice_get more k ≡ Some y
-      → slice_get new k ≡ Some (wrapped (x +ℤ y))
+  pub each : (k : ℕ) (x y : Total) → slice_get old k ≡ Some x → slice_get more k ≡ Some y
+      → slice_get new k ≡ Some (joined_total x y)
 
 -- one of them has
-pub record IsAddedAt (old more : List ℤ) (k : ℕ) (new : List ℤ) : Type 0 where
+pub record IsJoinedAt (old more : List Total) (k : ℕ) (new : List Total) : Type 0 where
   pub as_many : length new ≡ length old
-  pub here : (x y : ℤ) → slice_get old k ≡ Some x → slice_get more k ≡ Some y → slice_get new k ≡ Some (wrapped (x +ℤ y))
+  pub here : (x y : Total) → slice_get old k ≡ Some x → slice_get more k ≡ Some y
+      → slice_get new k ≡ Some (joined_total x y)
   pub others : (i : ℕ) → i ≢ k → slice_get new i ≡ slice_get old i
 
 -- a machine has taken in what another one has shown
-pub record HasTaken (m : Machine) (lines sums : List ℤ) (m' : Machine) : Type 0 where
+pub record HasTaken (m : Machine) (lines : List ℤ) (totals : List Total) (m' : Machine) : Type 0 where
   pub lines_are : m'.lines.items ≡ m.lines.items ++ lines
-  pub sums_are : AreAdded m.sums.items sums m'.sums.items
-  pub rest : m' ≡ record m { lines = m'.lines; sums = m'.sums }
+  pub totals_are : AreJoined m.totals.items totals m'.totals.items
+  pub rest : m' ≡ record m { lines = m'.lines; totals = m'.totals }
 
 -- the rest of a block came back to a run: its machine goes on at the join, with what the rest has shown, and its meter
 -- with what that one counted
@@ -77,5 +79,5 @@ pub record HasJoined (r : Run) (count : ℕ) (frame : Rest) (replaced : List (Op
     (shown : Shown) (r' : Run) : Type 0 where
   pub given : Machine
   pub gives : Gives r.machine frame replaced target given
-  pub takes : HasTaken given shown.lines.items shown.sums.items r'.machine
+  pub takes : HasTaken given shown.lines.items shown.totals.items r'.machine
   pub rests : Rests r.meter shown.meter r'.meter count shown.cost

@@ -57,7 +57,7 @@ begins_as extent.ToJoin site = tt
 -- join of a rest its arrays go back to where they lay
 pub record Ground (v : Verified) (is : IsFit v) (p : Parts) (j : jobs.Job) : Type 0 where
   pub job : IsJob v is p j
-  pub light : p.burden ≤ MOST_BURDEN
+  pub light : p.burden.charge ≤ MOST_BURDEN
   pub base : State
   pub round : StandsRound (extent_of p.extent) base
   pub params : ℕ

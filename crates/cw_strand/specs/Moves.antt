@@ -114,7 +114,7 @@ EndsBy (Some e) old new = IsMeaningOf (its_job old) e × (outs old ≡ [])
 -- what a run has shown and counted
 pub record IsShown (r : Run) (cost : ℕ) (shown : Shown) : Type 0 where
   pub lines : shown.lines ≡ r.machine.lines
-  pub sums : shown.sums ≡ r.machine.sums
+  pub totals : shown.totals ≡ r.machine.totals
   pub meter : shown.meter ≡ r.meter
   pub counted : shown.cost ≡ cost
 

@@ -17,9 +17,15 @@ use cw_machine::machine::Machine;
 use cw_machine::run::Run;
 use cw_meter::Meter;
 use cw_metered::laws::calls_keep_what_meters_tell;
+use cw_model::burden::{Burden, Edges};
 use cw_slices::Slice;
 use cw_strands::laws::{calls_on_a_strand_keep_its_job, rests_stay_in_their_functions};
 use std::mem;
+
+const NO_BURDEN: Burden = Burden {
+    charge: 0,
+    edges: Edges::Spawn,
+};
 
 // What a run has shown and counted in so many instructions.
 fn shown(run: &mut Run, cost: u64) -> Shown
@@ -28,8 +34,8 @@ fn shown(run: &mut Run, cost: u64) -> Shown
     let alloc = *run.machine.lines.allocator();
     Shown {
         lines: mem::replace(&mut run.machine.lines, Vec::new(alloc)),
-        sums: mem::replace(&mut run.machine.sums, Vec::new(alloc)),
-        meter: mem::replace(&mut run.meter, Meter::apart(alloc, 0, 0)),
+        totals: mem::replace(&mut run.machine.totals, Vec::new(alloc)),
+        meter: mem::replace(&mut run.meter, Meter::apart(alloc, 0, NO_BURDEN)),
         cost,
     }
 }

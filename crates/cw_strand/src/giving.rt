@@ -1,21 +1,22 @@
 //! The effect of the newest job out, which ran elsewhere, is given.
 
-ghost use Rattle.std.specs.Prelude.{◌≡◌, ◌<◌, ◌+ℤ◌, length, MatchOption, OnOk};
+ghost use Rattle.std.specs.Prelude.{◌≡◌, ◌<◌, length, MatchOption, OnOk};
 ghost use Rattle.cw_jobs.specs.declared.effect.Effect.TheVariants as effect;
-ghost use Rattle.cw_machine.specs.Shows.{wrapped};
 ghost use Rattle.cw_machine.specs.Gives.{MayGive};
 ghost use Rattle.cw_strand.specs.Holds.{HasStopped, IsAtSync, IsRunning, IsWaiting};
-ghost use Rattle.cw_strand.specs.Giving.{passes_limit, AreAdded, GivesBack, HasJoined, HasTaken, IsAddedAt, IsGiven, IsMemory, IsOfRest, LeavesOthers};
+ghost use Rattle.cw_strand.specs.Giving.{passes_limit, AreJoined, GivesBack, HasJoined, HasTaken, IsGiven, IsJoinedAt, IsMemory, IsOfRest, LeavesOthers};
 ghost use Rattle.cw_strand.specs.Giving as giving;
 
 use crate::strand::{Lent, Mode, Strand};
 use cw_code::laws::{results_may_go_back, runs_stay_in_their_functions};
 use cw_jobs::call::Rest;
 use cw_jobs::effect::{Effect, Shown};
+use cw_jobs::totals::joined;
 use cw_machine::laws::machines_that_stop_remain;
 use cw_machine::machine::Machine;
 use cw_machine::run::Run;
 use cw_metered::laws::calls_keep_what_meters_tell;
+use cw_model::total::Total;
 use cw_model::trap::Trap;
 use cw_slices::Slice;
 use cw_strands::laws::{calls_on_a_strand_keep_its_job, rests_stay_in_their_functions};
@@ -31,38 +32,31 @@ fn target_of(lent: Option<Lent>) -> Option<u32>
     }
 }
 
-// Two sums as one, within 128 bits.
-fn add_up(sum: i128, more: i128) -> i128
-    ensures { result ≡ wrapped (sum +ℤ more) }
-{
-    sum.wrapping_add(more)
-}
-
-// A sum, with another one added, where there is one.
-fn add_at(sums: &mut Vec<i128>, more: &[i128], k: usize)
-    requires { k < length sums.old.items }
-    ensures { IsAddedAt sums.old.items more.now k sums.new.items }
+// A total, with another one joined to it, where there is one.
+fn join_at(totals: &mut Vec<Total>, more: &[Total], k: usize)
+    requires { k < length totals.old.items }
+    ensures { IsJoinedAt totals.old.items more.now k totals.new.items }
 {
     if k < more.len() {
-        sums[k] = add_up(sums[k], more[k]);
+        totals[k] = joined(totals[k], more[k]);
     }
 }
 
-// Each sum, with another one added.
-fn add_sums(sums: &mut Vec<i128>, more: &[i128])
-    ensures { AreAdded sums.old.items more.now sums.new.items }
+// Each total, with another one joined to it.
+fn join_totals(totals: &mut Vec<Total>, more: &[Total])
+    ensures { AreJoined totals.old.items more.now totals.new.items }
 {
-    for k in 0..sums.len() {
-        add_at(sums, more, k);
+    for k in 0..totals.len() {
+        join_at(totals, more, k);
     }
 }
 
 // A machine takes in what another one has shown.
-fn take_shown(machine: &mut Machine, lines: &[i64], sums: &[i128]) -> Result<(), AllocError>
-    ensures { OnOk result (HasTaken machine.old lines.now sums.now machine.new) }
+fn take_shown(machine: &mut Machine, lines: &[i64], totals: &[Total]) -> Result<(), AllocError>
+    ensures { OnOk result (HasTaken machine.old lines.now totals.now machine.new) }
 {
     machine.lines.extend_from_slice(lines)?;
-    add_sums(&mut machine.sums, sums);
+    join_totals(&mut machine.totals, totals);
     Ok(())
 }
 
@@ -81,12 +75,12 @@ fn join_rest(
 {
     let Shown {
         lines,
-        sums,
+        totals,
         meter,
         cost,
     } = shown;
     run.machine.give_rest(frame, replaced, target);
-    take_shown(&mut run.machine, lines.as_slice(), sums.as_slice())?;
+    take_shown(&mut run.machine, lines.as_slice(), totals.as_slice())?;
     run.meter.rest(count, meter, cost)?;
     Ok(())
 }

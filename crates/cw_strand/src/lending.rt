@@ -64,13 +64,23 @@ impl Strand {
         if let Some(parts) = self.spares.pop() {
             return Ok(parts);
         }
+        let parts = self.new_shell()?;
+        Ok(parts)
+    }
+
+    // A new box for a rest of the strand's code: out of line, so that a spawn that finds a spare one clears no room for it.
+    #[inline(never)]
+    fn new_shell(&self) -> Result<Box<Parts>, AllocError>
+        requires { code_of self.now.parts.value ≡ its_code self.now }
+        ensures { IfOk result (λ b. code_of b.value ≡ its_code self.now) }
+    {
         let alloc = *self.lent.allocator();
         let parts = Parts {
             code: self.parts.code.clone()?,
             extent: Extent::ToJoin,
             rest: empty_rest(alloc),
             site: 0,
-            burden: 0,
+            burden: self.parts.burden,
             limit: 0,
             before: 0,
         };

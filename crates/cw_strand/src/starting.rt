@@ -12,12 +12,18 @@ use cw_machine::machine::Machine;
 use cw_machine::run::Run;
 use cw_meter::Meter;
 use cw_metered::laws::calls_keep_what_meters_tell;
+use cw_model::burden::Burden;
 use cw_strands::laws::calls_on_a_strand_keep_its_job;
 use std::alloc::{AllocError, Global};
 use std::snapshot::Snapshot;
 
 // The meter of a job that goes so far, in the call of a site.
-fn begin_meter(alloc: Global, extent: Extent, site: u32, burden: u64) -> Result<Meter, AllocError>
+fn begin_meter(
+    alloc: Global,
+    extent: Extent,
+    site: u32,
+    burden: Burden,
+) -> Result<Meter, AllocError>
     ensures { IfOk result (λ m. StartsFrom (begins_at extent site) burden m) }
 {
     match extent {

@@ -4,6 +4,7 @@ use cw_code::code::Code;
 use cw_jobs::effect::{Effect, Shown};
 use cw_machine::alone::Ended;
 use cw_meter::Readings;
+use cw_model::total::Total;
 use cw_model::trap::Trap;
 use cw_regions::RegionRow;
 use cw_sites::table::SiteRow;
@@ -23,7 +24,7 @@ pub enum Told<'a> {
     Ends {
         value: i64,
         lines: &'a [i64],
-        sums: &'a [i128],
+        totals: &'a [Total],
         span: u64,
         burdened: u128,
         sites: &'a [Site],
@@ -61,7 +62,7 @@ fn is_end_told(ended: &Ended, told: &Told, cost: u64) -> bool {
         Told::Ends {
             value,
             lines,
-            sums,
+            totals,
             span,
             burdened,
             sites,
@@ -74,7 +75,7 @@ fn is_end_told(ended: &Ended, told: &Told, cost: u64) -> bool {
             };
             ended.value == *value
                 && ended.lines.as_slice() == *lines
-                && ended.sums.as_slice() == *sums
+                && ended.totals.as_slice() == *totals
                 && ended.measure == measure
                 && are_sites(ended.sites.values().as_slice(), sites)
                 && are_regions(ended.regions.values().as_slice(), regions)
@@ -118,7 +119,7 @@ fn is_same_end(
 ) -> Result<bool, Fault> {
     let Shown {
         lines,
-        sums,
+        totals,
         meter,
         cost,
     } = shown;
@@ -126,7 +127,7 @@ fn is_same_end(
     Ok(
         value == Some(ended.value)
             && lines.as_slice() == ended.lines.as_slice()
-            && sums.as_slice() == ended.sums.as_slice()
+            && totals.as_slice() == ended.totals.as_slice()
             && all.measure == ended.measure
             && all.sites.as_slice() == ended.sites.values().as_slice()
             && all.regions.as_slice() == ended.regions.values().as_slice(),
@@ -157,8 +158,8 @@ fn is_over(alone: &Result<Ended, Fault>) -> bool {
     }
 }
 
-/// Whether the effect of a whole run's job is what a run with one worker came to: value, lines, sums, measures and rows;
-/// trap, line, lines and cost; or over the limit. The error is want of memory.
+/// Whether the effect of a whole run's job is what a run with one worker came to: value, lines, totals, measures and
+/// rows; trap, line, lines and cost; or over the limit. The error is want of memory.
 pub fn is_same(
     alloc: Global,
     code: &Code,

@@ -2,7 +2,7 @@
 
 use crate::programs::{Part, Program};
 use cw_code::code::{BlockKind, Callee, Instr};
-use cw_model::syntax::{CallKind, Operator};
+use cw_model::syntax::{CallKind, Operator, Reduction};
 
 const END: Instr = Instr::ReturnValue;
 
@@ -279,7 +279,7 @@ pub const PRINTED: Program<'static> = Program {
     passed: NO_ARRAYS,
 };
 
-/// reducer sum s; void add() { s += 9223372036854775807; }
+/// reducer sum s; reducer max none; void add() { s += 9223372036854775807; }
 /// int main() { cilk_spawn add();
 ///   cilk_spawn add(); cilk_sync; return 0; }
 pub const SUMMED: Program<'static> = Program {
@@ -290,7 +290,7 @@ pub const SUMMED: Program<'static> = Program {
             slots: 0,
             array_params: 0,
             arrays: 0,
-            body: &[Instr::Push(i64::MAX), Instr::AddTo(0), Instr::Return],
+            body: &[Instr::Push(i64::MAX), Instr::Reduce(0), Instr::Return],
         },
         Part {
             gives_int: true,
@@ -308,24 +308,26 @@ pub const SUMMED: Program<'static> = Program {
         },
     ],
     sites: &[(CallKind::Spawned, 0), (CallKind::Spawned, 0)],
-    reducers: &["s"],
+    reducers: &[("s", Reduction::Sum), ("none", Reduction::Max)],
     tags: &[],
     passed: NO_ARRAYS,
 };
 
-const ADD_BODY: [Instr; 9] = [
+const TELL_BODY: [Instr; 11] = [
     Instr::Load(0),
-    Instr::AddTo(0),
+    Instr::Reduce(0),
     Instr::Push(0),
     Instr::Load(0),
     Instr::Binary(MINUS, 2),
-    Instr::AddTo(1),
+    Instr::Reduce(1),
+    Instr::Load(0),
+    Instr::Reduce(3),
     Instr::Load(0),
     Instr::Print,
     Instr::Return,
 ];
 
-const ADD_MAIN: [Instr; 15] = [
+const TELL_MAIN: [Instr; 15] = [
     Instr::Push(0),
     Instr::Store(0),
     Instr::Load(0),
@@ -343,15 +345,17 @@ const ADD_MAIN: [Instr; 15] = [
     END,
 ];
 
-/// reducer sum up;
-/// void add(int v) { up += v; down += 0 - v; print(v); }
+/// reducer max up;
+/// void tell(int v) { up max= v; down max= 0 - v; all += v; print(v); }
 /// int main() {
 ///   int i = 0;
-///   while (i < 4) { cilk_spawn add(i); i = i + 1; }
+///   while (i < 4) { cilk_spawn tell(i); i = i + 1; }
 ///   return 9;
 /// }
-/// reducer sum down;
-pub const SUMMED_IN_TURNS: Program<'static> = Program {
+/// reducer max down;
+/// reducer max none;
+/// reducer sum all;
+pub const GREATEST_IN_TURNS: Program<'static> = Program {
     parts: &[
         Part {
             gives_int: false,
@@ -359,7 +363,7 @@ pub const SUMMED_IN_TURNS: Program<'static> = Program {
             slots: 1,
             array_params: 0,
             arrays: 0,
-            body: &ADD_BODY,
+            body: &TELL_BODY,
         },
         Part {
             gives_int: true,
@@ -367,11 +371,16 @@ pub const SUMMED_IN_TURNS: Program<'static> = Program {
             slots: 1,
             array_params: 0,
             arrays: 0,
-            body: &ADD_MAIN,
+            body: &TELL_MAIN,
         },
     ],
     sites: &[(CallKind::Spawned, 0)],
-    reducers: &["up", "down"],
+    reducers: &[
+        ("up", Reduction::Max),
+        ("down", Reduction::Max),
+        ("none", Reduction::Max),
+        ("all", Reduction::Sum),
+    ],
     tags: &[],
     passed: NO_ARRAYS,
 };

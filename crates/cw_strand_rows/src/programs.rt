@@ -1,7 +1,7 @@
 //! Programs as code that is written by hand.
 
-use cw_code::code::{Code, Func, Instr, Site};
-use cw_model::syntax::{CallKind, Name};
+use cw_code::code::{Code, Func, Instr, Reducer, Site};
+use cw_model::syntax::{CallKind, Name, Reduction};
 use cw_text::Fault;
 use cw_verify::verified::Verified;
 use cw_verify::verify::verify;
@@ -20,13 +20,13 @@ pub struct Part<'a> {
     pub body: &'a [Instr],
 }
 
-/// A program: its functions, main the last one; the kind and the function of its call statements, so many reducers and
-/// tags, and the lists of the array slots that its calls take.
+/// A program: its functions, main the last one; the kind and the function of its call statements, its reducers and tags,
+/// and the lists of the array slots that its calls take.
 #[derive(Clone, Copy, Debug)]
 pub struct Program<'a> {
     pub parts: &'a [Part<'a>],
     pub sites: &'a [(CallKind, u32)],
-    pub reducers: &'a [&'a str],
+    pub reducers: &'a [(&'a str, Reduction)],
     pub tags: &'a [&'a str],
     pub passed: &'a [&'a [u32]],
 }
@@ -78,6 +78,18 @@ fn names_of(alloc: Global, texts: &[&str]) -> Result<Vec<Name>, AllocError> {
     Ok(names)
 }
 
+// These reducers.
+fn reducers_of(alloc: Global, told: &[(&str, Reduction)]) -> Result<Vec<Reducer>, AllocError> {
+    let mut reducers = Vec::new(alloc);
+    for (text, how) in told {
+        reducers.push(Reducer {
+            name: Name::new(alloc, text.as_bytes())?,
+            how: *how,
+        })?;
+    }
+    Ok(reducers)
+}
+
 // These lists.
 fn lists_of(alloc: Global, lists: &[&[u32]]) -> Result<Vec<Vec<u32>>, AllocError> {
     let mut all = Vec::new(alloc);
@@ -95,7 +107,7 @@ pub fn code_of(alloc: Global, program: &Program) -> Result<Arc<Verified>, Fault>
         main: u32::try_from(program.parts.len().saturating_sub(1)).unwrap_or(0),
         main_line: 1,
         sites: Vec::new(alloc),
-        reducers: names_of(alloc, program.reducers)?,
+        reducers: reducers_of(alloc, program.reducers)?,
         tags: names_of(alloc, program.tags)?,
         passed: lists_of(alloc, program.passed)?,
     };

@@ -4,29 +4,43 @@
 use crate::answers::{Told, is_same, is_told};
 use crate::arrays::{CUT, MADE, SQUARES};
 use crate::calls::{
-    DIVIDED, DIVIDED_BESIDE_FOREVER, DIVIDED_TWICE, FIB, NESTED, PRINTED, SUMMED, SUMMED_IN_TURNS,
+    DIVIDED, DIVIDED_BESIDE_FOREVER, DIVIDED_TWICE, FIB, GREATEST_IN_TURNS, NESTED, PRINTED, SUMMED,
 };
 use crate::driving::{Fate, Way, run_so};
 use crate::programs::{Program, code_of};
 use cw_jobs::effect::Effect;
 use cw_jobs::job::Job;
 use cw_machine::alone::{Ended, run_alone};
+use cw_model::burden::{Burden, Edges};
+use cw_model::total::Total;
 use cw_text::Fault;
 use cw_verify::verified::Verified;
 use std::alloc::Global;
 use std::sync::Arc;
 use std::test::Fail;
 
-// A program on its arguments, with a burden, and what it comes to at this cost, having spawned so many calls.
+// A program on its arguments, with what each charged edge of a spawn costs, and what it comes to at this cost, having
+// spawned so many calls.
 #[derive(Clone, Copy, Debug)]
 struct Row<'a> {
     name: &'a str,
     program: Program<'a>,
     args: &'a [i64],
-    burden: u64,
+    charge: u64,
+    edges: Edges,
     cost: u64,
     spawns: u64,
     told: Told<'a>,
+}
+
+impl Row<'_> {
+    // What each spawn of its run is charged.
+    fn burden(&self) -> Burden {
+        Burden {
+            charge: self.charge,
+            edges: self.edges,
+        }
+    }
 }
 
 // What becomes of rests: all the same; or in turn; twice by one instruction at a time, where each strand is
@@ -89,7 +103,7 @@ fn alone(
     row: &Row,
     limit: u64,
 ) -> Result<Result<Ended, Fault>, Fault> {
-    match run_alone(alloc, code.clone()?, row.args, limit, row.burden) {
+    match run_alone(alloc, code.clone()?, row.args, limit, row.burden()) {
         Ok(ended) => Ok(Ok(ended)),
         Err(fault) => match fault {
             Fault::Memory => Err(Fault::Memory),
@@ -107,7 +121,7 @@ fn apart(
     limit: u64,
     sound: u64,
 ) -> Result<Effect, Fault> {
-    let job = Job::root(alloc, code.clone()?, row.args, limit, row.burden)?;
+    let job = Job::root(alloc, code.clone()?, row.args, limit, row.burden())?;
     match run_so(alloc, job, way, sound) {
         Ok(effect) => Ok(effect),
         Err(_) => Err(Fault::Strands),
@@ -177,13 +191,14 @@ const ENDING: [Row<'static>; 11] = [
         name: "fib of 4",
         program: FIB,
         args: &[4],
-        burden: 100,
+        charge: 100,
+        edges: Edges::Spawn,
         cost: 120,
         spawns: 4,
         told: Told::Ends {
             value: 3,
             lines: &[],
-            sums: &[],
+            totals: &[],
             span: 67,
             burdened: 254,
             sites: &[
@@ -199,13 +214,14 @@ const ENDING: [Row<'static>; 11] = [
         name: "fib of 0",
         program: FIB,
         args: &[0],
-        burden: 100,
+        charge: 100,
+        edges: Edges::Spawn,
         cost: 12,
         spawns: 0,
         told: Told::Ends {
             value: 0,
             lines: &[],
-            sums: &[],
+            totals: &[],
             span: 12,
             burdened: 12,
             sites: &[],
@@ -216,15 +232,16 @@ const ENDING: [Row<'static>; 11] = [
         name: "a division beside a print",
         program: DIVIDED,
         args: &[1],
-        burden: 15000,
+        charge: 15000,
+        edges: Edges::Both,
         cost: 15,
         spawns: 1,
         told: Told::Ends {
             value: 0,
             lines: &[7],
-            sums: &[],
+            totals: &[],
             span: 13,
-            burdened: 15007,
+            burdened: 15013,
             sites: &[],
             regions: &[],
         },
@@ -233,13 +250,14 @@ const ENDING: [Row<'static>; 11] = [
         name: "two divisions",
         program: DIVIDED_TWICE,
         args: &[2],
-        burden: 10,
+        charge: 10,
+        edges: Edges::Spawn,
         cost: 17,
         spawns: 1,
         told: Told::Ends {
             value: 0,
             lines: &[4],
-            sums: &[],
+            totals: &[],
             span: 13,
             burdened: 19,
             sites: &[],
@@ -250,50 +268,59 @@ const ENDING: [Row<'static>; 11] = [
         name: "three prints",
         program: PRINTED,
         args: &[],
-        burden: 0,
+        charge: 0,
+        edges: Edges::Spawn,
         cost: 15,
         spawns: 2,
         told: Told::Ends {
             value: 0,
             lines: &[1, 2, 3],
-            sums: &[],
+            totals: &[],
             span: 10,
             burdened: 10,
             sites: &[],
             regions: &[],
         },
     },
+    // 1, a rest, and in it 1 and a child of 3, with both edges of its own; then 3
     Row {
         name: "a great sum",
         program: SUMMED,
         args: &[],
-        burden: 0,
+        charge: 10,
+        edges: Edges::Both,
         cost: 11,
         spawns: 2,
         told: Told::Ends {
             value: 0,
             lines: &[],
-            sums: &[18_446_744_073_709_551_614],
+            totals: &[Total::Sum(18_446_744_073_709_551_614), Total::Max(None)],
             span: 8,
-            burdened: 8,
+            burdened: 28,
             sites: &[],
             regions: &[],
         },
     },
-    // a turn is 20 with a child of 9, and 8 are around them; the chain goes through each rest
+    // a turn is 22 with a child of 11, and 8 are around them; the chain goes through three rests, and the last child
     Row {
-        name: "sums in turns",
-        program: SUMMED_IN_TURNS,
+        name: "the greatest in turns",
+        program: GREATEST_IN_TURNS,
         args: &[],
-        burden: 10,
-        cost: 88,
+        charge: 10,
+        edges: Edges::Both,
+        cost: 96,
         spawns: 4,
         told: Told::Ends {
             value: 9,
             lines: &[0, 1, 2, 3],
-            sums: &[6, -6],
-            span: 52,
-            burdened: 92,
+            totals: &[
+                Total::Max(Some(3)),
+                Total::Max(Some(0)),
+                Total::Max(None),
+                Total::Sum(6),
+            ],
+            span: 53,
+            burdened: 93,
             sites: &[],
             regions: &[],
         },
@@ -303,13 +330,14 @@ const ENDING: [Row<'static>; 11] = [
         name: "regions",
         program: NESTED,
         args: &[1],
-        burden: 10,
+        charge: 10,
+        edges: Edges::Spawn,
         cost: 35,
         spawns: 3,
         told: Told::Ends {
             value: 0,
             lines: &[1, 2, 3, 6, 4],
-            sums: &[],
+            totals: &[],
             span: 24,
             burdened: 41,
             sites: &[
@@ -326,13 +354,14 @@ const ENDING: [Row<'static>; 11] = [
         name: "parts of parts",
         program: CUT,
         args: &[5],
-        burden: 10,
+        charge: 10,
+        edges: Edges::Spawn,
         cost: 57,
         spawns: 2,
         told: Told::Ends {
             value: 17034,
             lines: &[],
-            sums: &[],
+            totals: &[],
             span: 48,
             burdened: 65,
             sites: &[],
@@ -343,13 +372,14 @@ const ENDING: [Row<'static>; 11] = [
         name: "an array made in a rest",
         program: MADE,
         args: &[2],
-        burden: 10,
+        charge: 10,
+        edges: Edges::Spawn,
         cost: 25,
         spawns: 1,
         told: Told::Ends {
             value: 57,
             lines: &[],
-            sums: &[],
+            totals: &[],
             span: 21,
             burdened: 31,
             sites: &[],
@@ -361,13 +391,14 @@ const ENDING: [Row<'static>; 11] = [
         name: "a loop by halves",
         program: SQUARES,
         args: &[],
-        burden: 10,
+        charge: 10,
+        edges: Edges::Spawn,
         cost: 192,
         spawns: 2,
         told: Told::Ends {
             value: 16,
             lines: &[],
-            sums: &[],
+            totals: &[],
             span: 110,
             burdened: 130,
             sites: &[],
@@ -382,7 +413,8 @@ const TRAPPING: [Row<'static>; 6] = [
         name: "a division by 0 beside a print",
         program: DIVIDED,
         args: &[0],
-        burden: 0,
+        charge: 0,
+        edges: Edges::Spawn,
         cost: 7,
         spawns: 1,
         told: Told::Traps {
@@ -395,7 +427,8 @@ const TRAPPING: [Row<'static>; 6] = [
         name: "two divisions by 0",
         program: DIVIDED_TWICE,
         args: &[0],
-        burden: 0,
+        charge: 0,
+        edges: Edges::Spawn,
         cost: 7,
         spawns: 1,
         told: Told::Traps {
@@ -408,7 +441,8 @@ const TRAPPING: [Row<'static>; 6] = [
         name: "a division by 0 beside a loop without end",
         program: DIVIDED_BESIDE_FOREVER,
         args: &[0],
-        burden: 0,
+        charge: 0,
+        edges: Edges::Spawn,
         cost: 7,
         spawns: 1,
         told: Told::Traps {
@@ -421,7 +455,8 @@ const TRAPPING: [Row<'static>; 6] = [
         name: "a division by 0 in a rest in regions",
         program: NESTED,
         args: &[0],
-        burden: 0,
+        charge: 0,
+        edges: Edges::Spawn,
         cost: 25,
         spawns: 3,
         told: Told::Traps {
@@ -434,7 +469,8 @@ const TRAPPING: [Row<'static>; 6] = [
         name: "past the end of a part",
         program: CUT,
         args: &[4],
-        burden: 0,
+        charge: 0,
+        edges: Edges::Spawn,
         cost: 21,
         spawns: 2,
         told: Told::Traps {
@@ -447,7 +483,8 @@ const TRAPPING: [Row<'static>; 6] = [
         name: "past the end beside an array made in a rest",
         program: MADE,
         args: &[0],
-        burden: 0,
+        charge: 0,
+        edges: Edges::Spawn,
         cost: 7,
         spawns: 1,
         told: Told::Traps {

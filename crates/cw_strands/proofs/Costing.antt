@@ -103,7 +103,7 @@ act_shows n code s o h =
     acts_by code s (λ j turn w. Shows n w) (record {
       stuck = λ j turn. tt;
       stops = λ j turn trap line lines. tt;
-      local = λ place operands slots arrays lines additions. omega (arith, one, h);
+      local = λ place operands slots arrays lines updates. omega (arith, one, h);
       enters = λ e. omega (arith, one, h);
       opens = λ operands arrays tag cut. omega (arith, one, h);
       syncs = omega (arith, join, h);

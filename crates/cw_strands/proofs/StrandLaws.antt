@@ -89,7 +89,7 @@ pub act_out : (limit bound : ℕ) (outs : List Job) (code : Code) (s : State) (o
 act_out limit bound outs code s o h = acts_by code s (λ j turn w. OutsAfter limit bound outs s turn w) (record {
   stuck = λ j turn. nothing_out limit bound outs s turn;
   stops = λ j turn trap line lines. stop_out limit bound outs s turn trap line lines;
-  local = λ place operands slots arrays lines additions. h;
+  local = λ place operands slots arrays lines updates. h;
   enters = λ e. enter_out limit bound outs s e h;
   opens = λ operands arrays tag cut. h;
   syncs = h;

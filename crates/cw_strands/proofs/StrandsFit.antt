@@ -104,7 +104,7 @@ module _ (code : Code) (fits : Fits code) (steps_well : FitSteps code fits) (set
         turns o = acts_by code s (λ j turn w. FitTurn s count outs turn w) (record {
           stuck = λ j turn. not_on turn Stuck tt;
           stops = λ j turn trap line lines. not_on turn (Stops trap line lines) tt;
-          local = λ place operands slots arrays lines additions s' e g. g;
+          local = λ place operands slots arrays lines updates s' e g. g;
           enters = enters;
           opens = λ operands arrays tag cut s' e g. g;
           syncs = λ s' e g. g;

@@ -19,7 +19,7 @@ use Rattle.cw_strands.specs.lemmas.Settled.{settled_append}
 use Rattle.cw_strands.specs.lemmas.Under.{same_trace, HasCaller, IsCall, Allowed, act_under}
 
 pub joined_quiet : (t : Trace) → joined t quiet ≡ t
-joined_quiet t = same_trace _ _ (append-nil t.lines) (append-nil t.additions) (append-nil t.events)
+joined_quiet t = same_trace _ _ (append-nil t.lines) (append-nil t.updates) (append-nil t.events)
 
 second_false : (a b : Bool) → b ≡ false → (a && b) ≡ false
 second_false true b h = h
@@ -66,7 +66,7 @@ module _ (d : ℕ) where
   act_based code s o h = acts_by code s (λ j turn w. TransitionBased d w) (record {
     stuck = λ j turn. tt;
     stops = λ j turn trap line lines. tt;
-    local = λ place operands slots arrays lines additions. h;
+    local = λ place operands slots arrays lines updates. h;
     enters = λ e. h;
     opens = λ operands arrays tag cut. h;
     syncs = h;
@@ -102,7 +102,7 @@ module _ (code : Code) where
       same (Some (instr.Open kind)) k = cc
       same (Some instr.Close) k = refl
       same (Some instr.Print) k = cc
-      same (Some (instr.AddTo n)) k = cc
+      same (Some (instr.Reduce n)) k = cc
       same (Some instr.ReturnValue) k = refl
       same (Some instr.Return) k = refl
 

@@ -79,6 +79,10 @@ pub const ALL: &[Choice] = &[
         shown: "sum",
     },
     Choice {
+        word: "max",
+        shown: "max",
+    },
+    Choice {
         word: "grain",
         shown: "grain",
     },
@@ -173,6 +177,7 @@ pub fn spelled(kind: Kind) -> bool {
         | Kind::Region
         | Kind::Reducer
         | Kind::Sum
+        | Kind::Max
         | Kind::Grain
         | Kind::Over
         | Kind::Spawn

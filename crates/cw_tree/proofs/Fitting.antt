@@ -20,6 +20,7 @@ use Rattle.cw_tree.proofs.Plain.{function_faults}
 use Rattle.cw_tree.proofs.Right.{both, same}
 use Rattle.cw_tree.specs.lemmas.Slotted.{one_more, few_ints_in, few_arrays_in, params_count}
 use Rattle.cw_tree.specs.lemmas.Few.{heads_small, small_head}
+use Rattle.cw_tree.specs.lemmas.Reducers.{is_named}
 
 less : (a b : ℕ) → a < b → nat_lt a b ≡ true
 less a b h = grind (arith, nat_tests)
@@ -93,7 +94,7 @@ agree_after known l (model.Declare x e) a = agree_int known l x a
 agree_after known l (model.DeclareArray x e) a = agree_array known l x a
 agree_after known l (model.Assign x e) a = a
 agree_after known l (model.AssignElement x i e) a = a
-agree_after known l (model.AddTo s e) a = a
+agree_after known l (model.Reduce how s e) a = a
 agree_after known l (model.Call kind site target f es) a = a
 agree_after known l (model.Start kind f es) a = a
 agree_after known l (model.Begin f from to captured over) a = a
@@ -326,7 +327,7 @@ mutual
   more_ints n (spec.DeclareArray u e) = omega arith
   more_ints n (spec.Assign u e) = omega arith
   more_ints n (spec.AssignElement u i e) = omega arith
-  more_ints n (spec.AddTo s e) = omega arith
+  more_ints n (spec.Reduce how s e) = omega arith
   more_ints n (spec.Call kind site target f es) = omega arith
   more_ints n spec.Sync = omega arith
   more_ints n (spec.If e b) = more_ints_in n b
@@ -353,7 +354,7 @@ mutual
   more_arrays n (spec.DeclareArray u e) = omega arith
   more_arrays n (spec.Assign u e) = omega arith
   more_arrays n (spec.AssignElement u i e) = omega arith
-  more_arrays n (spec.AddTo s e) = omega arith
+  more_arrays n (spec.Reduce how s e) = omega arith
   more_arrays n (spec.Call kind site target f es) = omega arith
   more_arrays n spec.Sync = omega arith
   more_arrays n (spec.If e b) = more_arrays_in n b
@@ -380,7 +381,7 @@ ints_grown lists l n (model.Declare x e) h = let one = one_more l.ints x in omeg
 ints_grown lists l n (model.DeclareArray x e) h = h
 ints_grown lists l n (model.Assign x e) h = h
 ints_grown lists l n (model.AssignElement x i e) h = h
-ints_grown lists l n (model.AddTo s e) h = h
+ints_grown lists l n (model.Reduce how s e) h = h
 ints_grown lists l n (model.Call kind site target f es) h = h
 ints_grown lists l n (model.Start kind f es) h = h
 ints_grown lists l n (model.Begin f from to captured over) h = h
@@ -400,7 +401,7 @@ arrays_grown lists l n (model.Declare x e) h = h
 arrays_grown lists l n (model.DeclareArray x e) h = let one = one_more l.arrays x in omega (arith, one)
 arrays_grown lists l n (model.Assign x e) h = h
 arrays_grown lists l n (model.AssignElement x i e) h = h
-arrays_grown lists l n (model.AddTo s e) h = h
+arrays_grown lists l n (model.Reduce how s e) h = h
 arrays_grown lists l n (model.Call kind site target f es) h = h
 arrays_grown lists l n (model.Start kind f es) h = h
 arrays_grown lists l n (model.Begin f from to captured over) h = h
@@ -521,10 +522,11 @@ module _ (program : Program) (n : Counts) (tables : Tables program n) where
         let two = both_left (is_array known x && is_fine known d) (is_fine known e) k in
         both (both (below x l.arrays n.arrays (a.arrays x (both_left (is_array known x) (is_fine known d) two)) r.arrays) (fit_expr n known l a r d (both_right (is_array known x) (is_fine known d) two)))
         (fit_expr n known l a r e (both_right (is_array known x && is_fine known d) (is_fine known e) k))
-    fit_stmt returns known l i j a stands line (model.AddTo s e) needs tagged h =
-        let r = has_room n l i j (spec.resolved_stmt (spec.lists_of program) l (model.AddTo s e)) stands needs in
-        let k = kept (is_reducer program s && is_fine known e) line h in
-        both (below s (spec.reducer_names program.reducers) n.reducers (both_left (is_reducer program s) (is_fine known e) k) tables.reducers) (fit_expr n known l a r e (both_right (is_reducer program s) (is_fine known e) k))
+    fit_stmt returns known l i j a stands line (model.Reduce how s e) needs tagged h =
+        let r = has_room n l i j (spec.resolved_stmt (spec.lists_of program) l (model.Reduce how s e)) stands needs in
+        let k = kept (is_reducer program how s && is_fine known e) line h in
+        let named = is_named how s program.reducers (both_left (is_reducer program how s) (is_fine known e) k) in
+        both (below s (spec.reducer_names program.reducers) n.reducers named tables.reducers) (fit_expr n known l a r e (both_right (is_reducer program how s) (is_fine known e) k))
     fit_stmt returns known l i j a stands line (model.Call kind site target f es) needs tagged h =
         let r = has_room n l i j (spec.resolved_stmt (spec.lists_of program) l (model.Call kind site target f es)) stands needs in
         let c = is_called known target f es program.functions (kept (is_call known target (called f program.functions) es) line h) in

@@ -74,7 +74,7 @@ mutual
   plain_of_stmt program returns known lists l line (model.DeclareArray a e) h = ap (model.DeclareArray a) (plain_of_expr l e)
   plain_of_stmt program returns known lists l line (model.Assign x e) h = ap (model.Assign x) (plain_of_expr l e)
   plain_of_stmt program returns known lists l line (model.AssignElement a i e) h = let p = plain_of_expr l i in let q = plain_of_expr l e in cc
-  plain_of_stmt program returns known lists l line (model.AddTo s e) h = ap (model.AddTo s) (plain_of_expr l e)
+  plain_of_stmt program returns known lists l line (model.Reduce how s e) h = ap (model.Reduce how s) (plain_of_expr l e)
   plain_of_stmt program returns known lists l line (model.Call kind site target f es) h = let p = plain_of_target l.ints target in let q = plain_of_arguments l es in cc
   plain_of_stmt program returns known lists l line (model.Start kind f es) h = cc
   plain_of_stmt program returns known lists l line (model.Begin f from to captured over) h = cc

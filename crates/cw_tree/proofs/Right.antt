@@ -85,7 +85,7 @@ after_plain lists l (model.Declare x e) = refl
 after_plain lists l (model.DeclareArray a e) = refl
 after_plain lists l (model.Assign x e) = refl
 after_plain lists l (model.AssignElement a i e) = refl
-after_plain lists l (model.AddTo s e) = refl
+after_plain lists l (model.Reduce how s e) = refl
 after_plain lists l (model.Call kind site target f es) = refl
 after_plain lists l (model.Start kind f es) = refl
 after_plain lists l (model.Begin f from to captured over) = refl
@@ -106,7 +106,7 @@ mutual
   right_stmt lists l (model.DeclareArray a e) = both (equal (length l.arrays)) (right_expr l e)
   right_stmt lists l (model.Assign x e) = both (equal (spec.slot_of x l.ints)) (right_expr l e)
   right_stmt lists l (model.AssignElement a i e) = both (both (equal (spec.slot_of a l.arrays)) (right_expr l i)) (right_expr l e)
-  right_stmt lists l (model.AddTo s e) = both (equal (spec.slot_of s lists.reducers)) (right_expr l e)
+  right_stmt lists l (model.Reduce how s e) = both (equal (spec.slot_of s lists.reducers)) (right_expr l e)
   right_stmt lists l (model.Call kind site target f es) = both (both (right_target l target) (equal (spec.slot_of f lists.functions))) (right_arguments l es)
   right_stmt lists l (model.Start kind f es) = refl
   right_stmt lists l (model.Begin f from to captured over) = refl

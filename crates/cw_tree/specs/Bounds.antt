@@ -3,7 +3,7 @@
 use Rattle.std.specs.Prelude.{ℕ, Bool, true, ◌&&◌, nat_lt, nat_le, length, Option, Some, None}
 use Rattle.std.specs.List.{list_all}
 use Rattle.cw_model.specs.declared.limits.TheConstants.{MOST_DECLARED}
-use Rattle.cw_tree.specs.Resolved.{Expr, Number, Variable, Element, Length, Negative, Not, Binary, Use, Argument, Int, Array, Head, Parts, Stmt, Declare, DeclareArray, Assign, AssignElement, AddTo, Call, Sync, If, IfElse, While, For, Scope, Cut, Region, Print, Return, Block, End, Then, Function, Resolved}
+use Rattle.cw_tree.specs.Resolved.{Expr, Number, Variable, Element, Length, Negative, Not, Binary, Use, Argument, Int, Array, Head, Parts, Stmt, Declare, DeclareArray, Assign, AssignElement, Reduce, Call, Sync, If, IfElse, While, For, Scope, Cut, Region, Print, Return, Block, End, Then, Function, Resolved}
 
 -- how many there are: slots of integers and of arrays, functions, reducers and tags
 pub record Counts : Type 0 where
@@ -59,7 +59,7 @@ abbrev mutual
   fits_stmt n (DeclareArray u e) = is_below n.arrays u && fits_expr n e
   fits_stmt n (Assign u e) = is_below n.ints u && fits_expr n e
   fits_stmt n (AssignElement u i e) = is_below n.arrays u && fits_expr n i && fits_expr n e
-  fits_stmt n (AddTo s e) = nat_lt s.index n.reducers && fits_expr n e
+  fits_stmt n (Reduce how s e) = nat_lt s.index n.reducers && fits_expr n e
   fits_stmt n (Call kind site target f es) =
       fits_target n target && nat_lt f.index n.functions && list_all (fits_argument n) es
   fits_stmt n Sync = true

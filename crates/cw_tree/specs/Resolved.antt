@@ -11,6 +11,7 @@ use Rattle.std.specs.Prelude.{ℕ, suc, ℤ, ◌==◌, max, nat_lt, Bool, not, �
 use Rattle.std.specs.List.{list_any}
 use Rattle.cw_model.specs.declared.syntax.CallKind.{CallKind}
 use Rattle.cw_model.specs.declared.syntax.Operator.{Operator}
+use Rattle.cw_model.specs.declared.syntax.Reduction.{Reduction}
 use Rattle.cw_model.specs.Syntax.{Name, Param, Reducer}
 use Rattle.cw_model.specs.Syntax as model
 use Rattle.cw_model.specs.Names.{same_name, is_among}
@@ -65,7 +66,7 @@ mutual
     DeclareArray : Use → Expr → Stmt
     Assign : Use → Expr → Stmt
     AssignElement : Use → Expr → Expr → Stmt
-    AddTo : Listed → Expr → Stmt
+    Reduce : (how : Reduction) → Listed → Expr → Stmt
     Call : (kind : CallKind) (site : ℕ) (target : Option Use) (callee : Listed) → List Argument → Stmt
     Sync : Stmt
     If : Expr → Block → Stmt
@@ -199,7 +200,7 @@ abbrev mutual
   reads_in (DeclareArray u e) = reads e
   reads_in (Assign u e) = reads e
   reads_in (AssignElement u i e) = reads i ++ reads e
-  reads_in (AddTo s e) = reads e
+  reads_in (Reduce how s e) = reads e
   reads_in (Call kind site target callee es) = arguments_read es
   reads_in Sync = []
   reads_in (If e b) = reads e ++ reads_in_block b
@@ -267,7 +268,7 @@ abbrev mutual
   resolved_stmt lists locals (model.Assign x e) = Assign (use_of locals.ints x) (resolved_expr locals e)
   resolved_stmt lists locals (model.AssignElement a i e) =
       AssignElement (use_of locals.arrays a) (resolved_expr locals i) (resolved_expr locals e)
-  resolved_stmt lists locals (model.AddTo s e) = AddTo (listed_in lists.reducers s) (resolved_expr locals e)
+  resolved_stmt lists locals (model.Reduce how s e) = Reduce how (listed_in lists.reducers s) (resolved_expr locals e)
   resolved_stmt lists locals (model.Call kind site target f es) =
       Call kind site (option_map (use_of locals.ints) target) (listed_in lists.functions f)
       (map (resolved_argument locals) es)
@@ -404,7 +405,7 @@ abbrev mutual
   plain_stmt (DeclareArray u e) = model.DeclareArray u.name (plain_expr e)
   plain_stmt (Assign u e) = model.Assign u.name (plain_expr e)
   plain_stmt (AssignElement u i e) = model.AssignElement u.name (plain_expr i) (plain_expr e)
-  plain_stmt (AddTo s e) = model.AddTo s.name (plain_expr e)
+  plain_stmt (Reduce how s e) = model.Reduce how s.name (plain_expr e)
   plain_stmt (Call kind site target f es) =
       model.Call kind site (option_map (λ u. u.name) target) f.name (map plain_argument es)
   plain_stmt Sync = model.Sync

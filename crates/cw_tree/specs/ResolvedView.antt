@@ -67,7 +67,7 @@ stmt_step (Stmt-F.Declare u e) = spec.Declare (use_of u) (expr_of e)
 stmt_step (Stmt-F.DeclareArray u e) = spec.DeclareArray (use_of u) (expr_of e)
 stmt_step (Stmt-F.Assign u e) = spec.Assign (use_of u) (expr_of e)
 stmt_step (Stmt-F.AssignElement u i e) = spec.AssignElement (use_of u) (expr_of i) (expr_of e)
-stmt_step (Stmt-F.AddTo s e) = spec.AddTo (listed_of s) (expr_of e)
+stmt_step (Stmt-F.Reduce how s e) = spec.Reduce how (listed_of s) (expr_of e)
 stmt_step (Stmt-F.Call c) =
     spec.Call c.kind c.site (option_map use_of c.target) (listed_of c.callee) (map argument_of c.arguments.items)
 stmt_step Stmt-F.Sync = spec.Sync
@@ -115,7 +115,7 @@ function_of f = record {
 
 -- a reducer of the code as one of the definitions
 abbrev pub reducer_of : Reducer → model.Reducer
-reducer_of r = record { name = r.name; line = r.line }
+reducer_of r = record { name = r.name; how = r.how; line = r.line }
 
 -- the resolved tree that a tree of the code stands for
 abbrev pub resolved_of : Tree → spec.Resolved

@@ -5,7 +5,7 @@ use Rattle.std.specs.List.{list_all}
 use Rattle.cw_model.specs.Syntax.{Name}
 use Rattle.cw_model.specs.Names.{is_among}
 use Rattle.cw_model.specs.Answers.{main_name}
-use Rattle.cw_tree.specs.Resolved.{Use, Listed, Expr, Number, Variable, Element, Length, Negative, Not, Binary, Argument, Int, Array, Head, Parts, Stmt, Declare, DeclareArray, Assign, AssignElement, AddTo, Call, Sync, If, IfElse, While, For, Scope, Cut, Region, Print, Return, Block, End, Then, Function, Resolved, Lists, Locals, slot_of, with_int, with_array, locals_after, captured_in, ints_in_block, arrays_in_block, locals_of, lists_of, tags_of, plain_stmt, plain}
+use Rattle.cw_tree.specs.Resolved.{Use, Listed, Expr, Number, Variable, Element, Length, Negative, Not, Binary, Argument, Int, Array, Head, Parts, Stmt, Declare, DeclareArray, Assign, AssignElement, Reduce, Call, Sync, If, IfElse, While, For, Scope, Cut, Region, Print, Return, Block, End, Then, Function, Resolved, Lists, Locals, slot_of, with_int, with_array, locals_after, captured_in, ints_in_block, arrays_in_block, locals_of, lists_of, tags_of, plain_stmt, plain}
 
 -- a use has the slot of its name
 abbrev pub is_use : List Name → Use → Bool
@@ -77,7 +77,7 @@ abbrev mutual
   is_right_stmt lists locals (Assign u e) = is_use locals.ints u && is_right_expr locals e
   is_right_stmt lists locals (AssignElement u i e) =
       is_use locals.arrays u && is_right_expr locals i && is_right_expr locals e
-  is_right_stmt lists locals (AddTo s e) = is_listed lists.reducers s && is_right_expr locals e
+  is_right_stmt lists locals (Reduce how s e) = is_listed lists.reducers s && is_right_expr locals e
   is_right_stmt lists locals (Call kind site target f es) =
       is_right_target locals target && is_listed lists.functions f && list_all (is_right_argument locals) es
   is_right_stmt lists locals Sync = true

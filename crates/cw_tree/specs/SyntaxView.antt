@@ -36,7 +36,7 @@ stmt_step (Stmt-F.Declare x e) = model.Declare x (expr_of e)
 stmt_step (Stmt-F.DeclareArray x e) = model.DeclareArray x (expr_of e)
 stmt_step (Stmt-F.Assign x e) = model.Assign x (expr_of e)
 stmt_step (Stmt-F.AssignElement x i e) = model.AssignElement x (expr_of i) (expr_of e)
-stmt_step (Stmt-F.AddTo x e) = model.AddTo x (expr_of e)
+stmt_step (Stmt-F.Reduce how x e) = model.Reduce how x (expr_of e)
 stmt_step (Stmt-F.Call c) =
     model.Call c.value.kind c.value.site c.value.target c.value.callee (exprs_of c.value.arguments.items)
 stmt_step Stmt-F.Sync = model.Sync
@@ -90,7 +90,7 @@ function_of f =
 
 -- a reducer of the code as one of the definitions
 abbrev pub reducer_of : Reducer → model.Reducer
-reducer_of r = record { name = r.name; line = r.line }
+reducer_of r = record { name = r.name; how = r.how; line = r.line }
 
 -- the program that a tree of the code stands for
 abbrev pub program_of : Ast → model.Program

@@ -3,3 +3,4 @@ pub mod Few
 pub mod Slotted
 pub mod NamedSlots
 pub mod Looked
+pub mod Reducers

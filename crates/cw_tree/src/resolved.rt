@@ -7,7 +7,7 @@
 //! reducers or the different tags of the source, from 0.
 
 use crate::syntax::Name;
-use cw_model::syntax::{CallKind, Operator};
+use cw_model::syntax::{CallKind, Operator, Reduction};
 
 /// A use of a local, or its declaration, with its slot among the integers or among the arrays.
 #[derive(Drop, Debug)]
@@ -116,8 +116,8 @@ pub enum Stmt {
     Assign(Use, Expr),
     /// An array, an index, and the new value of the element there.
     AssignElement(Use, Expr, Expr),
-    /// A reducer and what is added to it.
-    AddTo(Listed, Expr),
+    /// How a reducer reduces, the reducer, and what it is told.
+    Reduce(Reduction, Listed, Expr),
     /// A call, plain or spawned.
     Call(Call),
     /// A join of all that the innermost sync block has spawned.
@@ -167,10 +167,12 @@ pub struct Function {
     pub body: Vec<Line>,
 }
 
-/// A reducer that sums.
+/// A reducer.
 #[derive(Drop, Debug)]
 pub struct Reducer {
     pub name: Name,
+    /// How it reduces what it is told.
+    pub how: Reduction,
     /// The line of the first token.
     pub line: u32,
 }

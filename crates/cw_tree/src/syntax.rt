@@ -2,7 +2,7 @@
 //! first token, and each call statement its number. Lines are counted from 1.
 
 pub use cw_model::syntax::Name;
-use cw_model::syntax::{CallKind, Operator};
+use cw_model::syntax::{CallKind, Operator, Reduction};
 
 /// An expression.
 #[derive(Drop, Debug)]
@@ -90,8 +90,8 @@ pub enum Stmt {
     Assign(Name, Expr),
     /// An element of an array by the array's name and the index, and its new value.
     AssignElement(Name, Expr, Expr),
-    /// A reducer by its name, and what is added to it.
-    AddTo(Name, Expr),
+    /// How a reducer is to reduce, the reducer by its name, and what it is told.
+    Reduce(Reduction, Name, Expr),
     /// A call, plain or spawned.
     Call(Box<Call>),
     /// A join of all that the innermost sync block has spawned.
@@ -136,10 +136,12 @@ pub struct Function {
     pub body: Vec<Line>,
 }
 
-/// A reducer that sums.
+/// A reducer.
 #[derive(Drop, Debug)]
 pub struct Reducer {
     pub name: Name,
+    /// How it reduces what it is told.
+    pub how: Reduction,
     /// The line of the first token.
     pub line: u32,
 }

@@ -1,7 +1,7 @@
 -- The lines of a block, one after another.
 use Rattle.std.proofs.Common.{ℕ, take, ◌≡◌, ◌+◌, ◌≤◌, List, [], ◌∷◌, ◌++◌, length, refl, ap, length-append, arith}
 use Rattle.std.proofs.lemmas.List.{take-append-le}
-use Rattle.cw_model.specs.Syntax.{Name, Stmt, Declare, DeclareArray, Assign, AssignElement, AddTo, Call, Start, Begin, Sync, If, IfElse, While, For, Scope, Cut, Region, Print, Return}
+use Rattle.cw_model.specs.Syntax.{Name, Stmt, Declare, DeclareArray, Assign, AssignElement, Reduce, Call, Start, Begin, Sync, If, IfElse, While, For, Scope, Cut, Region, Print, Return}
 use Rattle.cw_tree.specs.declared.resolved.Line.{Line, the_lemmas}
 use Rattle.cw_tree.specs.Declares.{declares_in}
 use Rattle.cw_tree.specs.Resolved.{Block, End, Then, Locals, locals_after}
@@ -29,7 +29,7 @@ counted l (Declare x e) = let one = more l.ints x in omega (arith, one)
 counted l (DeclareArray a e) = let one = more l.arrays a in omega (arith, one)
 counted l (Assign x e) = omega arith
 counted l (AssignElement a i e) = omega arith
-counted l (AddTo s e) = omega arith
+counted l (Reduce how s e) = omega arith
 counted l (Call kind site target f es) = omega arith
 counted l (Start kind f es) = omega arith
 counted l (Begin f from to captured over) = omega arith
@@ -50,7 +50,7 @@ grown_ints l (Declare x e) = let one = more l.ints x in omega (arith, one)
 grown_ints l (DeclareArray a e) = omega arith
 grown_ints l (Assign x e) = omega arith
 grown_ints l (AssignElement a i e) = omega arith
-grown_ints l (AddTo s e) = omega arith
+grown_ints l (Reduce how s e) = omega arith
 grown_ints l (Call kind site target f es) = omega arith
 grown_ints l (Start kind f es) = omega arith
 grown_ints l (Begin f from to captured over) = omega arith
@@ -70,7 +70,7 @@ grown_arrays l (Declare x e) = omega arith
 grown_arrays l (DeclareArray a e) = let one = more l.arrays a in omega (arith, one)
 grown_arrays l (Assign x e) = omega arith
 grown_arrays l (AssignElement a i e) = omega arith
-grown_arrays l (AddTo s e) = omega arith
+grown_arrays l (Reduce how s e) = omega arith
 grown_arrays l (Call kind site target f es) = omega arith
 grown_arrays l (Start kind f es) = omega arith
 grown_arrays l (Begin f from to captured over) = omega arith
@@ -90,7 +90,7 @@ first_ints l (Declare x e) n h = rw take-append-le refl
 first_ints l (DeclareArray a e) n h = refl
 first_ints l (Assign x e) n h = refl
 first_ints l (AssignElement a i e) n h = refl
-first_ints l (AddTo s e) n h = refl
+first_ints l (Reduce how s e) n h = refl
 first_ints l (Call kind site target f es) n h = refl
 first_ints l (Start kind f es) n h = refl
 first_ints l (Begin f from to captured over) n h = refl
@@ -110,7 +110,7 @@ first_arrays l (Declare x e) n h = refl
 first_arrays l (DeclareArray a e) n h = rw take-append-le refl
 first_arrays l (Assign x e) n h = refl
 first_arrays l (AssignElement a i e) n h = refl
-first_arrays l (AddTo s e) n h = refl
+first_arrays l (Reduce how s e) n h = refl
 first_arrays l (Call kind site target f es) n h = refl
 first_arrays l (Start kind f es) n h = refl
 first_arrays l (Begin f from to captured over) n h = refl

@@ -4,14 +4,15 @@ use Rattle.std.proofs.lemmas.List.{append-nil}
 use Rattle.std.proofs.lemmas.Bool.Decides.{nat_tests}
 use Rattle.cw_model.specs.Lines.{unless, lowest}
 use Rattle.cw_model.specs.Names.{same_name, is_among}
-use Rattle.cw_model.specs.Syntax.{Name, Expr, Param, Function, Program, Stmt, Declare, DeclareArray, Assign, AssignElement, AddTo, Call, Start, Begin, Sync, If, IfElse, While, For, Scope, Cut, Region, Print, Return}
-use Rattle.cw_model.specs.Typing.{Known, Returns, ends_block, faults_in, declares, called, is_argument, are_arguments, block_returns, surely_returns}
+use Rattle.cw_model.specs.Syntax.{Name, Expr, Param, Function, Reducer, Program, Stmt, Declare, DeclareArray, Assign, AssignElement, Reduce, Call, Start, Begin, Sync, If, IfElse, While, For, Scope, Cut, Region, Print, Return}
+use Rattle.cw_model.specs.Typing.{Known, Returns, ends_block, faults_in, declares, called, reducer_called, is_argument, are_arguments, block_returns, surely_returns}
 use Rattle.cw_model.specs.lemmas.Lowest.{lowest-append}
 use Rattle.cw_tree.specs.declared.syntax.Function.{Function as CodeFunction}
+use Rattle.cw_tree.specs.declared.syntax.Reducer.{Reducer as CodeReducer}
 use Rattle.cw_tree.specs.declared.syntax.Line.{Line, the_lemmas}
-use Rattle.cw_tree.specs.SyntaxView.{function_of, block_of, stmt_of}
-use Rattle.cw_types.specs.Globals.{option_function}
-use Rattle.cw_tree.specs.Resolved.{slot_of, function_names}
+use Rattle.cw_tree.specs.SyntaxView.{function_of, reducer_of, block_of, stmt_of}
+use Rattle.cw_types.specs.Globals.{option_function, option_reducer}
+use Rattle.cw_tree.specs.Resolved.{slot_of, function_names, reducer_names}
 use Rattle.cw_types.specs.Typing.{keeps_rules, faults_inside, oldest}
 
 pub by_parts : (program : Program) (returns : Returns) (known : Known) (line : ℕ) (s : Stmt) →
@@ -20,7 +21,7 @@ by_parts program returns known line (Declare x e) = sym (append-nil (unless (kee
 by_parts program returns known line (DeclareArray a e) = sym (append-nil (unless (keeps_rules program returns known (DeclareArray a e)) line))
 by_parts program returns known line (Assign x e) = sym (append-nil (unless (keeps_rules program returns known (Assign x e)) line))
 by_parts program returns known line (AssignElement a i e) = sym (append-nil (unless (keeps_rules program returns known (AssignElement a i e)) line))
-by_parts program returns known line (AddTo s e) = sym (append-nil (unless (keeps_rules program returns known (AddTo s e)) line))
+by_parts program returns known line (Reduce how s e) = sym (append-nil (unless (keeps_rules program returns known (Reduce how s e)) line))
 by_parts program returns known line (Call kind site target f es) = sym (append-nil (unless (keeps_rules program returns known (Call kind site target f es)) line))
 by_parts program returns known line (Start kind f es) = refl
 by_parts program returns known line (Begin f from to captured over) = refl
@@ -46,7 +47,7 @@ oldest_declares (Declare x e) ks n h = oldest_more (x, false) ks n h
 oldest_declares (DeclareArray a e) ks n h = oldest_more (a, true) ks n h
 oldest_declares (Assign x e) ks n h = refl
 oldest_declares (AssignElement a i e) ks n h = refl
-oldest_declares (AddTo s e) ks n h = refl
+oldest_declares (Reduce how s e) ks n h = refl
 oldest_declares (Call kind site target f es) ks n h = refl
 oldest_declares (Start kind f es) ks n h = refl
 oldest_declares (Begin f from to captured over) ks n h = refl
@@ -66,7 +67,7 @@ longer_declares (Declare x e) ks n h = omega arith
 longer_declares (DeclareArray a e) ks n h = omega arith
 longer_declares (Assign x e) ks n h = h
 longer_declares (AssignElement a i e) ks n h = h
-longer_declares (AddTo s e) ks n h = h
+longer_declares (Reduce how s e) ks n h = h
 longer_declares (Call kind site target f es) ks n h = h
 longer_declares (Start kind f es) ks n h = h
 longer_declares (Begin f from to captured over) ks n h = h
@@ -99,6 +100,16 @@ called_at x (f ∷ fs) = first (same_name x f.name) (called_at x fs)
   where
     first : (b : Bool) → slice_get fs (slot_of x (function_names fs)) ≡ called x fs →
         slice_get (f ∷ fs) (if b then 0 else suc (slot_of x (function_names fs))) ≡ (if b then Some f else called x fs)
+    first true h = refl
+    first false h = h
+
+-- the first reducer of a name is the one at its place
+pub reducer_at : (x : Name) (rs : List Reducer) → slice_get rs (slot_of x (reducer_names rs)) ≡ reducer_called x rs
+reducer_at x [] = refl
+reducer_at x (r ∷ rs) = first (same_name x r.name) (reducer_at x rs)
+  where
+    first : (b : Bool) → slice_get rs (slot_of x (reducer_names rs)) ≡ reducer_called x rs →
+        slice_get (r ∷ rs) (if b then 0 else suc (slot_of x (reducer_names rs))) ≡ (if b then Some r else reducer_called x rs)
     first true h = refl
     first false h = h
 
@@ -135,6 +146,19 @@ found_function fs i r h = as_copied r ∙ ap (option_map function_of) h ∙ mapp
     mapped [] i = refl
     mapped (f ∷ fs) zero = refl
     mapped (f ∷ fs) (suc i) = mapped fs i
+
+-- a reducer that was found
+pub found_reducer : (rs : List CodeReducer) (i : ℕ) (r : Option (Bor CodeReducer)) → option_copied r ≡ slice_get rs i → option_reducer r ≡ slice_get (map reducer_of rs) i
+found_reducer rs i r h = as_copied r ∙ ap (option_map reducer_of) h ∙ mapped rs i
+  where
+    as_copied : (r : Option (Bor CodeReducer)) → option_reducer r ≡ option_map reducer_of (option_copied r)
+    as_copied None = refl
+    as_copied (Some f) = refl
+
+    mapped : (rs : List CodeReducer) (i : ℕ) → option_map reducer_of (slice_get rs i) ≡ slice_get (map reducer_of rs) i
+    mapped [] i = refl
+    mapped (r ∷ rs) zero = refl
+    mapped (r ∷ rs) (suc i) = mapped rs i
 
 -- the last statement of a block
 pub last_returns : (ls : List Line) (k : ℕ) (d : Line) → suc k ≡ length ls → block_returns (block_of ls) ≡ surely_returns (stmt_of (get_or ls k d).stmt)

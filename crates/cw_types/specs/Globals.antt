@@ -1,10 +1,15 @@
--- A function that is looked up in a program.
+-- What is looked up in a program.
 use Rattle.std.specs.Prelude.{Option, option_map}
 use Rattle.std.specs.Borrow.{Bor}
 use Rattle.cw_model.specs.Syntax as model
 use Rattle.cw_tree.specs.declared.syntax.Function.{Function}
-use Rattle.cw_tree.specs.SyntaxView.{function_of}
+use Rattle.cw_tree.specs.declared.syntax.Reducer.{Reducer}
+use Rattle.cw_tree.specs.SyntaxView.{function_of, reducer_of}
 
 -- the function of the definitions that was found, if one was
 abbrev pub option_function : Option (Bor Function) → Option model.Function
 option_function found = option_map (λ f. function_of f.now) found
+
+-- the reducer of the definitions that was found, if one was
+abbrev pub option_reducer : Option (Bor Reducer) → Option model.Reducer
+option_reducer found = option_map (λ r. reducer_of r.now) found

@@ -1,6 +1,6 @@
 -- The rules of names and types by the parts that the code tests them in.
 use Rattle.std.specs.Prelude.{ℕ, ◌-◌, Bool, true, false, not, ◌&&◌, ◌||◌, List, [], ◌∷◌, ◌++◌, length, map, drop, Option, Some, None, if◌then◌else◌}
-use Rattle.cw_model.specs.Syntax.{Name, Param, Function, Program, Stmt, Declare, DeclareArray, Assign, AssignElement, AddTo, Call, Start, Begin, Sync, If, IfElse, While, For, Scope, Cut, Region, Print, Return}
+use Rattle.cw_model.specs.Syntax.{Name, Param, Function, Program, Stmt, Declare, DeclareArray, Assign, AssignElement, Reduce, Call, Start, Begin, Sync, If, IfElse, While, For, Scope, Cut, Region, Print, Return}
 use Rattle.cw_model.specs.Names.{same_name}
 use Rattle.cw_model.specs.Typing.{Known, Returns, Nowhere, is_fine, is_new, is_int, is_array, is_reducer, is_call, called, are_arguments, is_head_of_loop, is_cut, may_return, block_returns, faults_in_block}
 use Rattle.std.specs.List.{list_any}
@@ -44,7 +44,7 @@ keeps_rules program returns known (Declare x e) = is_fine known e && is_new prog
 keeps_rules program returns known (DeclareArray a e) = is_fine known e && is_new program known a
 keeps_rules program returns known (Assign x e) = is_int known x && is_fine known e
 keeps_rules program returns known (AssignElement a i e) = is_array known a && is_fine known i && is_fine known e
-keeps_rules program returns known (AddTo s e) = is_reducer program s && is_fine known e
+keeps_rules program returns known (Reduce how s e) = is_reducer program how s && is_fine known e
 keeps_rules program returns known (Call kind site target f es) = is_call known target (called f program.functions) es
 keeps_rules program returns known (Start kind callee es) = false
 keeps_rules program returns known (Begin callee from to captured over) = false

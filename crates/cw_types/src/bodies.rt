@@ -74,7 +74,7 @@ fn inside<'a>(
         | Stmt::DeclareArray(_, _)
         | Stmt::Assign(_, _)
         | Stmt::AssignElement(_, _, _)
-        | Stmt::AddTo(_, _)
+        | Stmt::Reduce(_, _, _)
         | Stmt::Call(_)
         | Stmt::Sync
         | Stmt::Print(_)

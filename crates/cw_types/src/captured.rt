@@ -128,7 +128,7 @@ fn statement(alloc: Global, count: u32, found: &mut Vec<Use>, stmt: &Stmt) -> Re
         Stmt::Declare(_, e)
         | Stmt::DeclareArray(_, e)
         | Stmt::Assign(_, e)
-        | Stmt::AddTo(_, e)
+        | Stmt::Reduce(_, _, e)
         | Stmt::Print(e)
         | Stmt::Return(Some(e)) => expression(alloc, count, found, e),
         Stmt::AssignElement(_, i, e) => {

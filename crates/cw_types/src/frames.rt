@@ -49,7 +49,7 @@ fn ints_of(slots: u64, stmt: &Stmt) -> u64
         Stmt::DeclareArray(_, _)
         | Stmt::Assign(_, _)
         | Stmt::AssignElement(_, _, _)
-        | Stmt::AddTo(_, _)
+        | Stmt::Reduce(_, _, _)
         | Stmt::Call(_)
         | Stmt::Sync
         | Stmt::Print(_)
@@ -92,7 +92,7 @@ fn arrays_of(slots: u64, stmt: &Stmt) -> u64
         Stmt::Declare(_, _)
         | Stmt::Assign(_, _)
         | Stmt::AssignElement(_, _, _)
-        | Stmt::AddTo(_, _)
+        | Stmt::Reduce(_, _, _)
         | Stmt::Call(_)
         | Stmt::Sync
         | Stmt::Print(_)

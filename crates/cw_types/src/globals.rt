@@ -2,9 +2,9 @@
 
 ghost use Rattle.std.specs.Prelude.{◌≡◌, ◌<◌, ◌≤◌, ◌^◌, length, map, IfOk, OnOk, option_copied, IfSome};
 ghost use Rattle.cw_model.specs.Names.{is_among};
-ghost use Rattle.cw_model.specs.Typing.{globals as globals_of, called};
+ghost use Rattle.cw_model.specs.Typing.{globals as globals_of, called, reducer_called};
 ghost use Rattle.cw_tree.specs.SyntaxView.{program_of, function_of, reducer_of};
-ghost use Rattle.cw_types.specs.Globals.{option_function};
+ghost use Rattle.cw_types.specs.Globals.{option_function, option_reducer};
 ghost use Rattle.cw_tree.specs.Resolved as spec;
 
 use crate::table::Table;
@@ -51,6 +51,14 @@ impl<'a> Globals<'a> {
     {
         let index = self.functions.find(name) as usize;
         self.ast.functions.get(index)
+    }
+
+    /// The first reducer of a name, if there is one.
+    pub fn reducer(&self, name: &[u8]) -> Option<&'a Reducer>
+        ensures { option_reducer result ≡ reducer_called name.now (program_of self.now.ast.now).reducers }
+    {
+        let index = self.reducers.find(name) as usize;
+        self.ast.reducers.get(index)
     }
 }
 

@@ -56,7 +56,8 @@ fn reducers(alloc: Global, reducers: &[Reducer]) -> Result<Vec<tree::Reducer>, A
     for reducer in reducers {
         let name = copy(alloc, &reducer.name)?;
         let line = reducer.line;
-        found.push(tree::Reducer { name, line })?;
+        let how = reducer.how;
+        found.push(tree::Reducer { name, how, line })?;
     }
     Ok(found)
 }

@@ -58,7 +58,7 @@ fn statement<'a>(found: &mut Vec<Marked<'a>>, line: u32, stmt: &'a Stmt) -> Resu
         | Stmt::DeclareArray(_, _)
         | Stmt::Assign(_, _)
         | Stmt::AssignElement(_, _, _)
-        | Stmt::AddTo(_, _)
+        | Stmt::Reduce(_, _, _)
         | Stmt::Call(_)
         | Stmt::Sync
         | Stmt::Print(_)

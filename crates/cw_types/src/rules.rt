@@ -14,6 +14,7 @@ ghost use Rattle.cw_types.specs.Within.{line_keeps};
 use crate::globals::Globals;
 use crate::known::Known;
 use cw_model::limits::MOST_GRAIN;
+use cw_model::syntax::Reduction;
 use cw_tree::syntax::{Call, Cut, Expr, Function, Head, Line, Name, Param, Stmt};
 
 /// The name of the function that a run begins with.
@@ -130,6 +131,26 @@ fn is_call(globals: &Globals, known: &Known, call: &Call) -> bool
     }
 }
 
+// Whether one way to reduce is another.
+fn same_reduction(how: Reduction, other: Reduction) -> bool
+    ensures { result ≡ rule.same_reduction how other }
+{
+    match (how, other) {
+        (Reduction::Sum, Reduction::Sum) | (Reduction::Max, Reduction::Max) => true,
+        (_, _) => false,
+    }
+}
+
+// Whether there is a reducer of the name, and the first of them reduces so.
+fn is_reducer(globals: &Globals, how: Reduction, name: &Name) -> bool
+    ensures { result ≡ rule.is_reducer (program_of globals.now.ast.now) how name.now }
+{
+    match globals.reducer(name.as_bytes()) {
+        None => false,
+        Some(reducer) => same_reduction(how, reducer.how),
+    }
+}
+
 // Whether the names are all of known arrays.
 fn are_arrays(known: &Known, names: &[Name]) -> bool
     ensures { result ≡ list_all (λ a. rule.is_array known.now a) names.now }
@@ -191,7 +212,7 @@ pub fn keeps_rules(globals: &Globals, returns: Returns, known: &Known, stmt: &St
         Stmt::AssignElement(a, i, e) => is_array(known, a)
             && is_fine(known, i)
             && is_fine(known, e),
-        Stmt::AddTo(s, e) => globals.reducers.has(s.as_bytes()) && is_fine(known, e),
+        Stmt::Reduce(how, s, e) => is_reducer(globals, *how, s) && is_fine(known, e),
         Stmt::Call(call) => is_call(globals, known, call),
         Stmt::If(e, _) | Stmt::IfElse(e, _, _) | Stmt::While(e, _) | Stmt::Print(e) => {
             is_fine(known, e)
@@ -219,7 +240,7 @@ pub fn surely_returns(stmt: &Stmt) -> bool
         | Stmt::DeclareArray(_, _)
         | Stmt::Assign(_, _)
         | Stmt::AssignElement(_, _, _)
-        | Stmt::AddTo(_, _)
+        | Stmt::Reduce(_, _, _)
         | Stmt::Call(_)
         | Stmt::Sync
         | Stmt::If(_, _)

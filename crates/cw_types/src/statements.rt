@@ -86,7 +86,7 @@ fn statement<'a>(
         | Stmt::DeclareArray(_, _)
         | Stmt::Assign(_, _)
         | Stmt::AssignElement(_, _, _)
-        | Stmt::AddTo(_, _)
+        | Stmt::Reduce(_, _, _)
         | Stmt::Call(_)
         | Stmt::Sync
         | Stmt::Print(_)
@@ -171,10 +171,10 @@ fn plain(
             let index = expression(alloc, locals, i)?;
             Ok(tree::Stmt::AssignElement(name, index, expression(alloc, locals, e)?))
         }
-        Stmt::AddTo(s, e) => {
+        Stmt::Reduce(how, s, e) => {
             let reducer = listed(alloc, &lists.reducers, s)?;
             let value = expression(alloc, locals, e)?;
-            Ok(tree::Stmt::AddTo(reducer, value))
+            Ok(tree::Stmt::Reduce(*how, reducer, value))
         }
         Stmt::Call(c) => Ok(tree::Stmt::Call(call(alloc, lists, locals, c)?)),
         Stmt::Print(e) => Ok(tree::Stmt::Print(expression(alloc, locals, e)?)),

@@ -1,14 +1,26 @@
 -- Names that are there once.
-use Rattle.std.proofs.Common.{◌≡◌, ℕ, suc, ◌+◌, ◌<◌, true, false, not, ◌||◌, ◌&&◌, Some, List, length, get_or, sym, ap, ◌∙◌, arith}
-use Rattle.std.specs.Prelude.{drop, slice_get}
-use Rattle.std.proofs.lemmas.Option.{slice_get-get_or}
+use Rattle.std.proofs.Common.{◌≡◌, ℕ, suc, ◌+◌, ◌<◌, ◌≤◌, true, false, not, ◌||◌, ◌&&◌, Some, List, [], length, get_or, sym, ap, ◌∙◌, arith}
+use Rattle.std.specs.Prelude.{drop, slice_get, option_map}
+use Rattle.std.proofs.lemmas.List.{length-map, drop_all}
+use Rattle.std.proofs.lemmas.Option.{slice_get-get_or, slice_get-map}
 use Rattle.cw_model.specs.Syntax.{Name}
 use Rattle.cw_model.specs.Names.{same_name}
+use Rattle.cw_code.specs.declared.code.Reducer.{Reducer}
+use Rattle.cw_code.specs.Code.{reducer_names}
 use Rattle.cw_code.specs.Fits.{is_among, are_apart}
 use Rattle.cw_verify.proofs.Lists.{drop_at}
 
 pub name_at : (names : List Name) (k : ℕ) (name d : Name) → k < length names → name ≡ get_or names k d → slice_get names k ≡ Some name
 name_at names k name d lt e = slice_get-get_or names k d lt ∙ ap Some (sym e)
+
+-- the name of a reducer
+pub named_at : (reducers : List Reducer) (k : ℕ) (r d : Reducer) → k < length reducers → r ≡ get_or reducers k d → slice_get (reducer_names reducers) k ≡ Some r.name
+named_at reducers k r d lt e =
+    slice_get-map (λ (r : Reducer). r.name) reducers k ∙ ap (option_map (λ (r : Reducer). r.name)) (slice_get-get_or reducers k d lt ∙ ap Some (sym e))
+
+-- behind the last reducer there is no name
+pub none_behind : (reducers : List Reducer) (k : ℕ) → length reducers ≤ k → drop k (reducer_names reducers) ≡ []
+none_behind reducers k le = drop_all k (reducer_names reducers) (let n = length-map reducers (λ (r : Reducer). r.name) in omega (arith, n, le))
 
 module _ (names : List Name) (k : ℕ) (other : Name) (e : slice_get names k ≡ Some other) where
   next : suc k ≡ k + 1

@@ -216,7 +216,7 @@ kept_blocks code s instr.Sync e = refl
 kept_blocks code s (instr.Open kind) e = cc
 kept_blocks code s instr.Close e = cc
 kept_blocks code s instr.Print e = refl
-kept_blocks code s (instr.AddTo k) e = refl
+kept_blocks code s (instr.Reduce k) e = refl
 kept_blocks code s instr.ReturnValue e = refl
 kept_blocks code s instr.Return e = refl
 

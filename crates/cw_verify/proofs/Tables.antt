@@ -317,7 +317,7 @@ module _ (code : Code) (big small : Shape) (e : big.operands ≡ small.operands)
   ready_less (instr.Open kind) h = refl
   ready_less instr.Close h = both_less (nat_eq 0 big.operands) (can_close big.outer) (nat_eq 0 small.operands) (can_close small.outer) none_less (λ k. sym (each_close big.outer small.outer c.3) ∙ k) h
   ready_less instr.Print h = some_less 1 h
-  ready_less (instr.AddTo k) h = some_less 1 h
+  ready_less (instr.Reduce k) h = some_less 1 h
   ready_less instr.ReturnValue h = both_less (nat_le 1 big.operands) (none_open big.outer) (nat_le 1 small.operands) (none_open small.outer) (some_less 1) (λ k. sym (each_open big.outer small.outer c.3) ∙ k) h
   ready_less instr.Return h = sym (each_open big.outer small.outer c.3) ∙ h
 
@@ -370,7 +370,7 @@ module _ (code : Code) (big small : Shape) (e : big.operands ≡ small.operands)
   leaves_less (instr.Open kind) = record { as_many = e; covers = (clear_less, clear_gone, refl, c) }
   leaves_less instr.Close = close_less big.outer small.outer c.3
   leaves_less instr.Print = record { as_many = ap (λ n. n - 1) e; covers = c }
-  leaves_less (instr.AddTo k) = record { as_many = ap (λ n. n - 1) e; covers = c }
+  leaves_less (instr.Reduce k) = record { as_many = ap (λ n. n - 1) e; covers = c }
   leaves_less instr.ReturnValue = record { as_many = e; covers = c }
   leaves_less instr.Return = record { as_many = e; covers = c }
 
@@ -583,7 +583,7 @@ nexts_from code f place instr.Sync le n = (omega (arith, le), tt)
 nexts_from code f place (instr.Open kind) le n = (omega (arith, le), tt)
 nexts_from code f place instr.Close le n = (omega (arith, le), tt)
 nexts_from code f place instr.Print le n = (omega (arith, le), tt)
-nexts_from code f place (instr.AddTo k) le n = (omega (arith, le), tt)
+nexts_from code f place (instr.Reduce k) le n = (omega (arith, le), tt)
 nexts_from code f place instr.ReturnValue le n = tt
 nexts_from code f place instr.Return le n = tt
 

@@ -170,7 +170,7 @@ pub fn is_ready(code: &Code, found: &Found, i: &Instr) -> bool
         Instr::Open(_) => true,
         Instr::Close => found.operands == 0 && can_close(&found.outer),
         Instr::Print => 1 <= found.operands,
-        Instr::AddTo(_) => 1 <= found.operands,
+        Instr::Reduce(_) => 1 <= found.operands,
         Instr::ReturnValue => 1 <= found.operands && none_open(&found.outer),
         Instr::Return => none_open(&found.outer),
     }

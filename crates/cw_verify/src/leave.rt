@@ -244,7 +244,7 @@ pub fn leave(alloc: Global, code: &Code, found: Found, i: &Instr) -> Result<Foun
         Instr::Open(_) => opened(alloc, found, None),
         Instr::Close => closed(found),
         Instr::Print => Ok(less(found, 1)),
-        Instr::AddTo(_) => Ok(less(found, 1)),
+        Instr::Reduce(_) => Ok(less(found, 1)),
         Instr::ReturnValue => Ok(found),
         Instr::Return => Ok(found),
     }

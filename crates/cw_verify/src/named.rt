@@ -1,7 +1,7 @@
 //! What an instruction names is there.
 
 ghost use Rattle.std.specs.Prelude.{◌≡◌, ◌+◌, ◌<◌, ◌≤◌, length, drop, Some, slice_get};
-ghost use Rattle.cw_code.specs.Code.{code_view, site_view};
+ghost use Rattle.cw_code.specs.Code.{code_view, reducer_names, site_view};
 ghost use Rattle.cw_code.specs.Fits as fits;
 ghost use Rattle.cw_code.specs.Run.{passed_by};
 ghost use Rattle.cw_model.specs.Sites.{Of};
@@ -9,7 +9,7 @@ ghost use Rattle.cw_verify.specs.Table as table;
 ghost use Rattle.cw_verify.specs.Views as views;
 
 use crate::row::{Row, is_full_in, none_empty, set};
-use cw_code::code::{BlockKind, Callee, Code, Func, Halves, Inner, Instr, Site};
+use cw_code::code::{BlockKind, Callee, Code, Func, Halves, Inner, Instr, Reducer, Site};
 use cw_model::syntax::{CallKind, Name};
 use cw_text::Fault;
 use std::alloc::Global;
@@ -219,7 +219,7 @@ pub fn names_well(
         Instr::Open(kind) => Ok(names_tag(code, kind)),
         Instr::Close => Ok(true),
         Instr::Print => Ok(true),
-        Instr::AddTo(k) => Ok((*k as usize) < code.reducers.len()),
+        Instr::Reduce(k) => Ok((*k as usize) < code.reducers.len()),
         Instr::ReturnValue => Ok(f.gives_int),
         Instr::Return => Ok(!f.gives_int),
     }
@@ -256,6 +256,30 @@ pub fn are_apart(names: &[Name]) -> bool
 {
     for k in 0..names.len() {
         if is_among(&names[k], names, k + 1) {
+            return false;
+        }
+    }
+    true
+}
+
+// Whether a name is that of one of these reducers from one on.
+fn is_name_of(name: &Name, reducers: &[Reducer], from: usize) -> bool
+    ensures { result ≡ fits.is_among name.now (drop from (reducer_names reducers.now)) }
+{
+    for k in from..reducers.len() {
+        if name.as_bytes() == reducers[k].name.as_bytes() {
+            return true;
+        }
+    }
+    false
+}
+
+/// Whether no two reducers have one name.
+pub fn are_named_apart(reducers: &[Reducer]) -> bool
+    ensures { result ≡ fits.are_apart (reducer_names reducers.now) }
+{
+    for k in 0..reducers.len() {
+        if is_name_of(&reducers[k].name, reducers, k + 1) {
             return false;
         }
     }

@@ -151,7 +151,7 @@ impl Search {
             Instr::Open(_) => self.come(alloc, next, false, left, number),
             Instr::Close => self.come(alloc, next, false, left, number),
             Instr::Print => self.come(alloc, next, false, left, number),
-            Instr::AddTo(_) => self.come(alloc, next, false, left, number),
+            Instr::Reduce(_) => self.come(alloc, next, false, left, number),
             Instr::ReturnValue => Ok(false),
             Instr::Return => Ok(false),
         }

@@ -4,11 +4,17 @@
 use cw_code::code::{Code, Func, Instr};
 use cw_jobs::effect::Effect;
 use cw_jobs::job::Job;
+use cw_model::burden::{Burden, Edges};
 use cw_text::Fault;
 use cw_verify::verified::Verified;
 use cw_verify::verify::verify;
 use std::alloc::Global;
 use std::sync::Arc;
+
+const NO_BURDEN: Burden = Burden {
+    charge: 0,
+    edges: Edges::Spawn,
+};
 
 // Code of a main that gives its argument, and has so many arrays.
 fn same(alloc: Global, arrays: usize) -> Result<Arc<Verified>, Fault> {
@@ -40,7 +46,7 @@ fn same(alloc: Global, arrays: usize) -> Result<Arc<Verified>, Fault> {
 // The job of a run on this argument, with as many arrays.
 pub fn job(alloc: Global, arg: u16) -> Result<Job, Fault> {
     let code = same(alloc, arg as usize)?;
-    Job::root(alloc, code, &[arg as i64], 1000, 0)
+    Job::root(alloc, code, &[arg as i64], 1000, NO_BURDEN)
 }
 
 // The argument of a job.

@@ -2,6 +2,7 @@
 #![tactic(auto)]
 
 use cw_cli::{Mode, Options, analyse_alone, refuse};
+use cw_model::burden::{Burden, Edges};
 use cw_report::Counted;
 use std::io;
 use std::process::ExitCode;
@@ -31,7 +32,10 @@ fn main(rt: HostRuntime) -> ExitCode {
     let options = Options {
         mode: Mode::Scale,
         limit: 1_000_000,
-        burden: 15_000,
+        burden: Burden {
+            charge: 15_000,
+            edges: Edges::Spawn,
+        },
     };
     // a sink counts the writes that fail; `Counted` makes one of any writer, a `Vec` too
     let mut out = Counted::new(io::writer(&rt));

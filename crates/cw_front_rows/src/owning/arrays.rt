@@ -20,6 +20,7 @@ pub const ELEMENTS: &[(u32, &str)] = &[
     (5, "b[0] = a[0];"),
     (5, "b[0] = len(a);"),
     (5, "total += a[0];"),
+    (5, "top max= a[0];"),
     (5, "f(a[0]);"),
     (5, "y = two(1, len(a));"),
     (5, "y = cilk_spawn n(b, a[0]);"),

@@ -52,6 +52,7 @@ const ELEMENTS: &[(u32, &str)] = &[
     (5, "int u = a[0];"),
     (5, "int c[a[0]];"),
     (5, "total += a[0];"),
+    (5, "top max= a[0];"),
     (5, "f(a[0]);"),
     (5, "cilk_spawn two(1, a[0]);"),
     (5, "if (a[0]) { }"),
@@ -109,7 +110,7 @@ fn an_outer_array_is_not_named_as_a_whole(rt: HostRuntime) {
 const READS: &[&str] = &[
     "int u = t + i; u = t;",
     "int c[t]; c[i] = t;",
-    "print(t); print(-i * t); total += t;",
+    "print(t); print(-i * t); total += t; top max= t;",
     "f(t); int u = 0; u = two(i, t); cilk_spawn f(i);",
     "if (t) { print(i); } else { print(t); }",
     "int u = i; while (u < t) { u = u + 1; }",

@@ -16,9 +16,14 @@ struct Row {
 }
 
 // Items, from line 1 on; the end is one line behind the last token.
-const ITEMS: [Row; 3] = [
+const ITEMS: [Row; 4] = [
     Row {
         tokens: &["reducer", "sum", "s", ";"],
+        missing: &[2, 3, 4, 5],
+        doubled: &[1, 2, 3, 4],
+    },
+    Row {
+        tokens: &["reducer", "max", "m", ";"],
         missing: &[2, 3, 4, 5],
         doubled: &[1, 2, 3, 4],
     },
@@ -37,7 +42,7 @@ const ITEMS: [Row; 3] = [
 ];
 
 // Statements, from line 2 on, in a function whose brace stands behind them in a line of its own.
-const STATEMENTS: [Row; 20] = [
+const STATEMENTS: [Row; 21] = [
     Row {
         tokens: &["int", "x", "=", "1", ";"],
         missing: &[0, 4, 5, 6, 7],
@@ -62,6 +67,11 @@ const STATEMENTS: [Row; 20] = [
         tokens: &["s", "+=", "e", ";"],
         missing: &[3, 4, 5, 6],
         doubled: &[2, 3, 4, 5],
+    },
+    Row {
+        tokens: &["m", "max", "=", "e", ";"],
+        missing: &[3, 0, 5, 6, 7],
+        doubled: &[2, 3, 4, 5, 6],
     },
     Row {
         tokens: &["f", "(", "x", ",", "y", ")", ";"],

@@ -1,7 +1,7 @@
 //! Trees as text, for tests.
 
 use cw_lex::lex;
-use cw_model::syntax::{CallKind, Operator};
+use cw_model::syntax::{CallKind, Operator, Reduction};
 use cw_parse::parse;
 use cw_text::{Fault, Place, Source};
 use cw_tree::syntax::{Ast, Call, Expr, Head, Line, Name, Stmt};
@@ -63,6 +63,14 @@ fn sign(operator: Operator) -> &'static str {
         Operator::Times => "*",
         Operator::Divide => "/",
         Operator::Modulo => "%",
+    }
+}
+
+// What stands between a reducer and what it is told.
+fn telling(how: Reduction) -> &'static str {
+    match how {
+        Reduction::Sum => " += ",
+        Reduction::Max => " max= ",
     }
 }
 
@@ -196,9 +204,13 @@ fn parts_of_stmt<'t>(todo: &mut Vec<Part<'t>>, stmt: &'t Stmt) -> Result<(), All
                 Part::Expr(value),
             ],
         ),
-        Stmt::AddTo(name, value) => next(
+        Stmt::Reduce(how, name, value) => next(
             todo,
-            &[Part::Name(name), Part::Word(" += "), Part::Expr(value)],
+            &[
+                Part::Name(name),
+                Part::Word(telling(*how)),
+                Part::Expr(value),
+            ],
         ),
         Stmt::Call(call) => parts_of_call(todo, call),
         Stmt::Sync => next(todo, &[Part::Word("sync")]),
@@ -306,12 +318,15 @@ pub(crate) fn show_block(
     Ok(())
 }
 
-/// "LINE sum NAME", and "LINE int NAME PARAMETERS {..}" or "LINE void ..", a line each.
+/// "LINE sum NAME" or "LINE max NAME", and "LINE int NAME PARAMETERS {..}" or "LINE void ..", a line each.
 pub(crate) fn shown(alloc: Global, ast: &Ast) -> Result<String, AllocError> {
     let mut out = String::new(alloc);
     for reducer in &ast.reducers {
         out.push_str(reducer.line.to_string(alloc)?.as_str())?;
-        out.push_str(" sum ")?;
+        out.push_str(match reducer.how {
+            Reduction::Sum => " sum ",
+            Reduction::Max => " max ",
+        })?;
         show_name(&mut out, &reducer.name)?;
         out.push_str("\n")?;
     }

@@ -15,7 +15,7 @@ struct Worked {
 }
 
 // Programs whose meaning, costs or refusals the definitions give.
-const PROGRAMS: [Worked; 41] = [
+const PROGRAMS: [Worked; 43] = [
     Worked {
         name: "first",
         text: "int f(int v) { return v; } int main() { int x = 0; x = cilk_spawn f(1); cilk_sync; \
@@ -96,6 +96,20 @@ const PROGRAMS: [Worked; 41] = [
          return 0; }",
         tree: "1 sum s\n\
          1 int main{1 for i = 5 i < 3 i++ 2{1 s += i;};1 return 0;}\n",
+    },
+    Worked {
+        name: "greatest",
+        text: "reducer max m; int main() { cilk_for (int i = 0; i < 4; i++) grain 2 { \
+         m max= i * (3 - i); } return 0; }",
+        tree: "1 max m\n\
+         1 int main{1 for i = 0 i < 4 i++ 2{1 m max= (i*(3-i));};1 return 0;}\n",
+    },
+    Worked {
+        name: "no_greatest",
+        text: "reducer max m; int main() { cilk_for (int i = 5; i < 3; i++) grain 2 { \
+         m max= i * (3 - i); } return 0; }",
+        tree: "1 max m\n\
+         1 int main{1 for i = 5 i < 3 i++ 2{1 m max= (i*(3-i));};1 return 0;}\n",
     },
     Worked {
         name: "large_sum",

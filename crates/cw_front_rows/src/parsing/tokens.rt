@@ -12,7 +12,7 @@ struct Worked {
     tokens: &'static [(Kind, usize, usize, u32)],
 }
 
-const TEXTS: [Worked; 12] = [
+const TEXTS: [Worked; 13] = [
     Worked {
         text: "int main() { return 007; }",
         tokens: &[
@@ -57,6 +57,19 @@ const TEXTS: [Worked; 12] = [
             (Kind::GreaterEqual, 5, 7, 1),
             (Kind::Not, 7, 8, 1),
             (Kind::NotEqual, 8, 10, 1),
+        ],
+    },
+    // "max=" is two tokens
+    Worked {
+        text: "m max=3 max==maxi",
+        tokens: &[
+            (Kind::Name, 0, 1, 1),
+            (Kind::Max, 2, 5, 1),
+            (Kind::Assign, 5, 6, 1),
+            (Kind::Number(3), 6, 7, 1),
+            (Kind::Max, 8, 11, 1),
+            (Kind::Equal, 11, 13, 1),
+            (Kind::Name, 13, 17, 1),
         ],
     },
     Worked {

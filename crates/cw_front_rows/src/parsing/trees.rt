@@ -14,6 +14,11 @@ fn sources_have_their_trees(rt: HostRuntime) -> Result<(), Fail> {
             "reducer sum s;\nvoid f(int v, int a[]) { }\nreducer sum t; int g() { return 1; }",
             "1 sum s\n3 sum t\n2 void f v []a{}\n3 int g{3 return 1;}\n",
         ),
+        // reducers of both kinds, each told in both ways: which fits is no matter of the grammar
+        (
+            "reducer max m;\nvoid f() { m max= x;\nm max = 1 - 2; m += y; }\nreducer sum s; reducer\nmax n;",
+            "1 max m\n4 sum s\n4 max n\n2 void f{2 m max= x;3 m max= (1-2);3 m += y;}\n",
+        ),
         // call statements are numbered through the source, in all their forms
         (
             "void f() { g(1, x); x = g(); if (x) { x = cilk_spawn g(2); } else { cilk_spawn g(); } }\nvoid g() { g(); }",
@@ -137,8 +142,38 @@ fn tokens_that_cannot_go_on_are_refused_where_they_stand(rt: HostRuntime) -> Res
         ("void f(int a[]\n[]) { }", 2),
         ("void f(int a[\n3]) { }", 2),
         ("void f(int a,\n) { }", 2),
+        // a reducer is told its way to reduce, and two of its words are no name
+        ("reducer\nleast m;", 2),
+        ("reducer\nm;", 2),
+        ("reducer sum\nmax;", 2),
+        ("reducer max\nsum;", 2),
+        ("reducer max\nmax;", 2),
+        ("reducer max m\n= 1;", 2),
+        ("reducer max m\n, n;", 2),
+        ("void\nmax() { }", 2),
+        ("void f(int\nmax) { }", 2),
+        ("void f() { int\nmax = 1; }", 2),
+        ("void f() { region\nmax { } }", 2),
+        ("void f() {\nmax += 1; }", 2),
+        ("void f() {\nmax max= 1; }", 2),
+        // it stands behind a name alone, and "=" behind it
+        ("void f() { a[0]\nmax= 1; }", 2),
+        ("void f() { int x\nmax= 1; }", 2),
+        ("void f() { m max\n1; }", 2),
+        ("void f() { m max\n== 1; }", 2),
+        ("void f() { m max\n+= 1; }", 2),
+        ("void f() { m max\n[0] = 1; }", 2),
+        ("void f() { m\nsum= 1; }", 2),
+        ("void f() { m max=\nmax; }", 2),
+        // what it is told is no call, and it is no operator
+        ("void f() { m max=\ncilk_spawn g(); }", 2),
+        ("void f() { m max= g\n(); }", 2),
+        ("void f() { print(\nmax(1, 2)); }", 2),
+        ("void f() { x = 1\nmax 2; }", 2),
         // no statement stands among the items, and no item among the statements
         ("int main() {\nreducer sum s; }", 2),
+        ("int main() {\nreducer max m; }", 2),
+        ("m\nmax= 1;", 1),
         ("cilk_sync;\n", 1),
     ] {
         assert_eq!(rt; fault_of(alloc, text.as_bytes()), misplaced(line), "{text}");

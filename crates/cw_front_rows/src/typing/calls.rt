@@ -76,6 +76,7 @@ const IN_THE_WHOLE_SOURCE: &[&str] = &[
     "void f() {\ng(); }\nvoid g() {\nf(); }\nint main() { return 0; }",
     // a reducer after its use
     "int main() {\ns += 1;\nreturn 0; }\nreducer sum s;",
+    "int main() {\nm max= 1;\nreturn 0; }\nreducer max m;",
 ];
 
 const OF_THE_WHOLE_SOURCE: &[(u32, &str)] = &[
@@ -90,7 +91,21 @@ const OF_THE_WHOLE_SOURCE: &[(u32, &str)] = &[
         2,
         "void f() {\ng(); }\nvoid g(int x) { }\nint main() { return 0; }",
     ),
-    // of two of a name the first, and then the later one itself breaks a rule
+    // the first of two reducers of a name tells how it reduces, and then the later one itself breaks a rule
+    (
+        2,
+        "int main() {\ns max= 1;\nreturn 0; }\nreducer sum s;\nreducer max s;",
+    ),
+    (
+        5,
+        "int main() {\ns += 1;\nreturn 0; }\nreducer sum s;\nreducer max s;",
+    ),
+    (2, "int main() {\nm += 1;\nreturn 0; }\nreducer max m;"),
+    (
+        2,
+        "int main() {\nm += 1;\nreturn 0; }\nint f() { return 0; }\nreducer sum s; reducer max m;",
+    ),
+    // of two functions of a name the first, and then the later one itself breaks a rule
     (
         3,
         "int f(int x) { return x; }\nint main() {\nf();\nreturn 0; }\nint f() { return 0; }",

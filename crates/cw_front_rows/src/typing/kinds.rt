@@ -29,6 +29,8 @@ const ARRAYS_FOR_INTEGERS: &[(u32, &str)] = &[
     (2, "a[0] = b;"),
     (2, "print(a);"),
     (2, "s += a;"),
+    (2, "top max= a;"),
+    (2, "top max= 1 + b;"),
     (2, "x = f(a);"),
     (2, "x = w(a, b);"),
     (2, "a = f(1);"),
@@ -102,7 +104,44 @@ const SUMS: &[&str] = &[
     "cilk_for (int i = 0; i < x; i++) {\ncilk_for (int j = 0; j < i; j++) {\ns += i * j; } }",
 ];
 
+const GREATEST: &[&str] = &[
+    "top max= x;\ntop max = a[0] * len(b);\ntop max= -x;",
+    "if (x) {\ntop max= 1; } else {\nwhile (x) {\ntop max= 2;\ns += 2; } }",
+    "cilk_scope {\ntop max= 1; }\nregion t {\ntop max= 1; }\ncut a at 1 as l, r {\ntop max= l[0]; }",
+    "cilk_for (int i = 0; i < x; i++) {\ncilk_for (int j = 0; j < i; j++) {\ntop max= i * j; } }",
+];
+
+// A reducer that is told what fits another kind, with a value that is right.
+const OF_ANOTHER_KIND: &[(u32, &str)] = &[
+    (2, "s max= 1;"),
+    (2, "top += 1;"),
+    (2, "s\nmax= 1;"),
+    (3, "s += 1;\ns max= 1;"),
+    (3, "top max= 1;\ntop += 1;"),
+    (3, "if (x) {\ntop += 1; }"),
+    (4, "if (x) {\n} else {\ns max= 1; }"),
+    (3, "while (x) {\ntop += x; }"),
+    (3, "cilk_scope {\ns max= 1; }"),
+    (3, "region t {\ns max= 1; }"),
+    (3, "cut a at 1 as l, r {\ntop += l[0]; }"),
+    (
+        4,
+        "cilk_for (int i = 0; i < 1; i++) {\ntop max= i;\ntop += i; }",
+    ),
+    (
+        3,
+        "cilk_for (int i = 0; i < 1; i++) {\ncilk_for (int j = 0; j < 1; j++) { s max= j; } }",
+    ),
+];
+
 const NO_REDUCER: &[(u32, &str)] = &[
+    (2, "x max= 1;"),
+    (2, "a max= 1;"),
+    (2, "f max= 1;"),
+    (2, "main max= 1;"),
+    (2, "t max= 1;"),
+    (3, "cilk_for (int i = 0; i < 1; i++) {\ni max= 1; }"),
+    (3, "region t {\nt max= 1; }"),
     (2, "x += 1;"),
     (2, "a += 1;"),
     (2, "f += 1;"),
@@ -122,6 +161,14 @@ const REDUCERS_ELSEWHERE: &[(u32, &str)] = &[
     (2, "int z = s;"),
     (2, "int c[s];"),
     (2, "s += s;"),
+    (2, "top max= top;"),
+    (2, "top max= s;"),
+    (2, "s += top;"),
+    (2, "top = 1;"),
+    (2, "x = top;"),
+    (2, "print(top);"),
+    (2, "top();"),
+    (2, "int top = 1;"),
     (2, "print(s);"),
     (2, "x = f(s);"),
     (2, "v(s);"),
@@ -151,6 +198,8 @@ const FUNCTIONS_ELSEWHERE: &[(u32, &str)] = &[
 #[test]
 fn reducers_and_functions(rt: HostRuntime) -> Result<(), Fail> {
     bodies_keep(&rt, rt.alloc(), SUMS)?;
+    bodies_keep(&rt, rt.alloc(), GREATEST)?;
+    bodies_break(&rt, rt.alloc(), OF_ANOTHER_KIND)?;
     bodies_break(&rt, rt.alloc(), NO_REDUCER)?;
     bodies_break(&rt, rt.alloc(), REDUCERS_ELSEWHERE)?;
     bodies_break(&rt, rt.alloc(), FUNCTIONS_ELSEWHERE)?;

@@ -204,6 +204,14 @@ const ITEMS: &[Parts] = &[
         "int main() { return 0; }",
     ),
     ("", ("reducer sum r", ";\n"), 32, "int main() { return 0; }"),
+    // of both kinds together
+    ("", ("reducer max r", ";\n"), 32, "int main() { return 0; }"),
+    (
+        "reducer max m; reducer max n;\n",
+        ("reducer sum r", ";\n"),
+        30,
+        "int main() { return 0; }",
+    ),
 ];
 
 const ITEMS_BEYOND: &[(u32, Parts)] = &[
@@ -228,6 +236,19 @@ const ITEMS_BEYOND: &[(u32, Parts)] = &[
     (
         33,
         ("", ("reducer sum r", ";\n"), 33, "int main() { return 0; }"),
+    ),
+    (
+        33,
+        ("", ("reducer max r", ";\n"), 33, "int main() { return 0; }"),
+    ),
+    (
+        32,
+        (
+            "reducer max m; reducer max n;\n",
+            ("reducer sum r", ";\n"),
+            31,
+            "int main() { return 0; }",
+        ),
     ),
     (
         66,

@@ -6,6 +6,7 @@ use std::test::Fail;
 const LISTED: &[&str] = &[
     "int main() { return 0; }",
     "int main(int a, int b) { return a; }",
+    "reducer max r;\nreducer sum s;\nreducer max t; int main() { return 0; }",
     "reducer sum r;\nint f() { return 0; }\nreducer sum s;\nvoid g() { }\nint main() { return 0; }",
 ];
 
@@ -37,6 +38,14 @@ const LISTED_TWICE: &[(u32, &str)] = &[
     (
         2,
         "int s() { return 0; } int main() { return 0; }\nreducer sum s;",
+    ),
+    // of both kinds
+    (2, "reducer sum s;\nreducer max s; int main() { return 0; }"),
+    (2, "reducer max s;\nreducer sum s; int main() { return 0; }"),
+    (2, "reducer max s;\nreducer max s; int main() { return 0; }"),
+    (
+        2,
+        "int s() { return 0; } int main() { return 0; }\nreducer max s;",
     ),
     (2, "reducer sum main;\nint main() { return 0; }"),
     (2, "int main() { return 0; }\nreducer sum main;"),
@@ -145,6 +154,7 @@ const UNKNOWN: &[(u32, &str)] = &[
     (2, "a[z] = 1;"),
     (2, "a[0] = z;"),
     (2, "s += z;"),
+    (2, "top max= z;"),
     (2, "f(z);"),
     (2, "x = w(z, a);"),
     (2, "x = w(1, c);"),

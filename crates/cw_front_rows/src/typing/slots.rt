@@ -4,10 +4,10 @@ use crate::typing::typed;
 use std::test::Fail;
 
 // Line 1 has the reducers and `f`; `main` is the second function.
-const LOCALS: &str = "reducer sum r; reducer sum s; int f(int a[], int n) { return n; }
+const LOCALS: &str = "reducer max r; reducer sum s; int f(int a[], int n) { return n; }
 int main(int m) {
 int a[2];
-if (m) { int x = 7; int b[8]; s += x; }
+if (m) { int x = 7; int b[8]; s += x; r max= 6; }
 int y = 9;
 region t { region u { region t { y = f(a, m); } } }
 return y; }";
@@ -32,7 +32,11 @@ fn names_have_their_slots(rt: HostRuntime) -> Result<(), Fail> {
         "slot: 0 }, Number(2)",
         "slot: 1 }, Number(8)",
         // the second reducer, the first function, an array and an integer given
+        "Reduce(Sum, Listed {",
         "index: 1 }, Variable",
+        // the first reducer, which keeps the greatest
+        "Reduce(Max, Listed {",
+        "index: 0 }, Number(6)",
         "index: 0 }, arguments: [Array(Use",
         "slot: 0 }), Int(Variable(Use",
         // the second tag, and the first again

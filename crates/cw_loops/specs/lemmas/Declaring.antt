@@ -4,7 +4,7 @@ use Rattle.std.specs.Prelude.{if◌then◌else◌, not, ◌||◌, nat_le}
 use Rattle.std.specs.List.{list_all}
 use Rattle.cw_model.specs.declared.limits.TheConstants.{MOST_GRAIN}
 use Rattle.cw_model.specs.Lines.{unless}
-use Rattle.cw_model.specs.Syntax.{Name, Expr, Stmt, Declare, DeclareArray, Assign, AssignElement, AddTo, Call, Start, Begin, Sync, If, IfElse, While, For, Scope, Cut, Region, Print, Return, Block, End, Then, Program}
+use Rattle.cw_model.specs.Syntax.{Name, Expr, Stmt, Declare, DeclareArray, Assign, AssignElement, Reduce, Call, Start, Begin, Sync, If, IfElse, While, For, Scope, Cut, Region, Print, Return, Block, End, Then, Program}
 use Rattle.cw_model.specs.Names.{same_name, is_among}
 use Rattle.cw_model.specs.Captured.{declared_in, declared_in_block}
 use Rattle.cw_model.specs.Typing.{Known, is_fine, is_int, is_array, is_new, is_head_of_loop, is_cut, ends_block, surely_returns, faults_in, faults_in_block, declares, Returns, Nowhere}
@@ -153,7 +153,7 @@ module _ (program : Program) where
         one_new known x v (both_true (is_fine known e) (is_new program known x) (kept _ line h)).1 o
     stmt_new (Assign x e) returns known line h v o = absurd cc
     stmt_new (AssignElement a i e) returns known line h v o = absurd cc
-    stmt_new (AddTo s e) returns known line h v o = absurd cc
+    stmt_new (Reduce how s e) returns known line h v o = absurd cc
     stmt_new (Call kind site target f es) returns known line h v o = absurd cc
     stmt_new (Start kind f es) returns known line h v o = absurd cc
     stmt_new (Begin f from to captured over) returns known line h v o = absurd cc

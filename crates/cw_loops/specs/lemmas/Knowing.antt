@@ -1,7 +1,7 @@
 -- Names that are known, and those that a statement makes known.
 use Rattle.std.proofs.Common.{◌≡◌, Bool, true, false, List, [], ◌∷◌, refl}
 use Rattle.std.specs.Prelude.{if◌then◌else◌, not, ◌||◌, map}
-use Rattle.cw_model.specs.Syntax.{Name, Expr, Stmt, Declare, DeclareArray, Assign, AssignElement, AddTo, Call, Start, Begin, Sync, If, IfElse, While, For, Scope, Cut, Region, Print, Return, Program}
+use Rattle.cw_model.specs.Syntax.{Name, Expr, Stmt, Declare, DeclareArray, Assign, AssignElement, Reduce, Call, Start, Begin, Sync, If, IfElse, While, For, Scope, Cut, Region, Print, Return, Program}
 use Rattle.cw_model.specs.Names.{same_name, is_among}
 use Rattle.cw_model.specs.Typing.{Known, is_known, is_int, is_array, is_new, globals, declares}
 use Rattle.cw_model.specs.Ownership.{known_after}
@@ -51,7 +51,7 @@ adds (Declare x e) = an_int x e refl
 adds (DeclareArray a e) = an_array a e refl
 adds (Assign x e) = nothing (λ k. refl) refl refl (λ o. refl)
 adds (AssignElement a i e) = nothing (λ k. refl) refl refl (λ o. refl)
-adds (AddTo s e) = nothing (λ k. refl) refl refl (λ o. refl)
+adds (Reduce how s e) = nothing (λ k. refl) refl refl (λ o. refl)
 adds (Call kind site target f es) = nothing (λ k. refl) refl refl (λ o. refl)
 adds (Start kind f es) = nothing (λ k. refl) refl refl (λ o. refl)
 adds (Begin f from to captured over) = nothing (λ k. refl) refl refl (λ o. refl)

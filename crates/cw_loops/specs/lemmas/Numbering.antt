@@ -1,6 +1,6 @@
 -- What loops are made into: as many functions, named by numbers in turn.
 use Rattle.std.proofs.Common.{◌≡◌, ℕ, suc, ◌+◌, ◌<◌, false, List, [], ◌∷◌, ◌++◌, length, arith, refl, sym, ◌∙◌, subst, length-append, ap}
-use Rattle.cw_model.specs.Syntax.{Stmt, Declare, DeclareArray, Assign, AssignElement, AddTo, Call, Start, Begin, Sync, If, IfElse, While, For, Scope, Cut, Region, Print, Return, Block, End, Then, Function}
+use Rattle.cw_model.specs.Syntax.{Stmt, Declare, DeclareArray, Assign, AssignElement, Reduce, Call, Start, Begin, Sync, If, IfElse, While, For, Scope, Cut, Region, Print, Return, Block, End, Then, Function}
 use Rattle.cw_model.specs.Names.{same_name}
 use Rattle.cw_tree.specs.Resolved.{function_names}
 use Rattle.cw_loops.specs.Lowered.{loop_name, loop_count, loop_count_in, lower_functions, made_by, made_in, made_of}
@@ -47,7 +47,7 @@ mutual
   made_stmt (DeclareArray x e) line k = none_made k
   made_stmt (Assign x e) line k = none_made k
   made_stmt (AssignElement x i e) line k = none_made k
-  made_stmt (AddTo x e) line k = none_made k
+  made_stmt (Reduce how x e) line k = none_made k
   made_stmt (Call kind site t f es) line k = none_made k
   made_stmt (Start kind f es) line k = none_made k
   made_stmt (Begin f from to xs over) line k = none_made k

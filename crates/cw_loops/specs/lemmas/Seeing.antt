@@ -4,7 +4,7 @@ use Rattle.std.specs.Prelude.{if◌then◌else◌, not, ◌&&◌, ◌||◌, Opti
 use Rattle.std.specs.List.{list_all}
 use Rattle.cw_model.specs.Lines.{unless}
 use Rattle.cw_model.specs.declared.syntax.CallKind.{CallKind}
-use Rattle.cw_model.specs.Syntax.{Name, Expr, Number, Variable, Element, Length, Negative, Not, Binary, Stmt, Declare, DeclareArray, Assign, AssignElement, AddTo, Call, Start, Begin, Sync, If, IfElse, While, For, Scope, Cut, Region, Print, Return, Block, End, Then, Param, Function, Program}
+use Rattle.cw_model.specs.Syntax.{Name, Expr, Number, Variable, Element, Length, Negative, Not, Binary, Stmt, Declare, DeclareArray, Assign, AssignElement, Reduce, Call, Start, Begin, Sync, If, IfElse, While, For, Scope, Cut, Region, Print, Return, Block, End, Then, Param, Function, Program}
 use Rattle.cw_model.specs.Names.{same_name, is_among, differ}
 use Rattle.cw_model.specs.Meaning.{function_named}
 use Rattle.cw_model.specs.Answers.{main_name}
@@ -464,9 +464,9 @@ module _ (program : Program) (fs : List Function) (fs_is : program.functions ≡
         let s = both_true (is_source_expr i) (is_source_expr e) (both_true (is_plain a) _ source).1 in
         let f = both_true (is_array known a && is_fine known i) (is_fine known e) (kept _ line types) in
         element_seen known around i e s.0 s.1 (both_true (is_array known a) (is_fine known i) f.0).1 f.1 x o
-    stmt_seen (AddTo r e) returns known owners around same depth line taken source types owns x o =
+    stmt_seen (Reduce how r e) returns known owners around same depth line taken source types owns x o =
         fine_seen around known [] e (both_true (is_plain r) (is_source_expr e) source).1
-        (both_true (is_reducer program r) (is_fine known e) (kept _ line types)).1 x o
+        (both_true (is_reducer program how r) (is_fine known e) (kept _ line types)).1 x o
     stmt_seen (Call kind site target f es) returns known owners around same depth line taken source types owns x o =
         call_seen kind site target f es returns known owners around same depth line taken source types owns x o
     stmt_seen (Start kind f es) returns known owners around same depth line taken source types owns x o = absurd cc

@@ -15,7 +15,7 @@ use Rattle.cw_machine.specs.Gives.{Waits, went_on, ComesBut, RoundComesBut}
 use Rattle.cw_machine.specs.Hands.{ComesRound}
 
 joined_quiet : (t : Trace) → joined t quiet ≡ t
-joined_quiet t = same_trace (joined t quiet) t (append-nil t.lines) (append-nil t.additions) (append-nil t.events)
+joined_quiet t = same_trace (joined t quiet) t (append-nil t.lines) (append-nil t.updates) (append-nil t.events)
 
 abbrev pub waits_at : (b s : State) (around : List Around) → Waits (under b (record s { around = around }))
 waits_at b s [] =

@@ -1,6 +1,10 @@
 -- Lemmas of blocks: what a strand keeps of one adds the burdened span of the tree of its events.
-use Rattle.std.specs.Prelude.{◌≡◌, ℕ, zero, suc, ◌+◌, max, List, [], ◌∷◌}
+use Rattle.std.specs.Prelude.{◌≡◌, ℕ, ◌≤◌, zero, suc, ◌+◌, max, List, [], ◌∷◌}
 use Rattle.std.proofs.Common.{sym, ◌∙◌, ap, subst, arith}
+use Rattle.cw_model.specs.declared.burden.Edges.{Edges}
+use Rattle.cw_model.specs.declared.burden.Edges.TheVariants.{Spawn, Both}
+use Rattle.cw_model.specs.declared.burden.Burden.{Burden}
+use Rattle.cw_model.specs.Burdens.{on_returns, at_child, at_rest}
 use Rattle.cw_model.specs.Trees.{Event, Work, Series, Fork, Join, burdened_span, tree_of}
 use Rattle.cw_measure.specs.Counters.{exactly, Counters, Unsynced, Synced, later, onward, fresh, heaviest, of_event, of_events}
 use Rattle.cw_measure.specs.BlockWeights.{BlockWeight, Straight, Split, now_of, gone_on, child_ended, top_of, after, after_all, BlocksWeighTheirSpans}
@@ -19,14 +23,23 @@ stands_gone_on : (f l k w : ℕ) (L : BlockWeight) → StandsAt f l k L → Stan
 stands_gone_on f l k w (Straight n) h = let a = h.0 in let b = h.1 in (omega arith, omega arith)
 stands_gone_on f l k w (Split m n) h = let a = h.0 in let b = h.1 in (omega arith, omega arith)
 
-stands_forked : (f l k burden c : ℕ) (L : BlockWeight) → StandsAt f l k L
-    → StandsAt f (max l (later exactly k c)) (k + burden) (child_ended burden c L)
-stands_forked f l k burden zero (Straight n) h = let a = h.0 in let b = h.1 in (omega arith, omega arith)
-stands_forked f l k burden (suc c) (Straight n) h = let a = h.0 in let b = h.1 in (omega arith, omega arith)
-stands_forked f l k burden zero (Split m n) h = let a = h.0 in let b = h.1 in (omega arith, omega arith)
-stands_forked f l k burden (suc c) (Split m n) h = let a = h.0 in let b = h.1 in (omega arith, omega arith)
+-- a child of this weight, what its path is charged included, beside a rest that is charged so much
+straight_forked : (f l k n child charge : ℕ) → StandsAt f l k (Straight n)
+    → StandsAt f (max l (later exactly k child)) (k + charge) (Split (n + child) (n + charge))
+straight_forked f l k n zero charge h = let a = h.0 in let b = h.1 in (omega arith, omega arith)
+straight_forked f l k n (suc child) charge h = let a = h.0 in let b = h.1 in (omega arith, omega arith)
 
-one_more : (burden before : ℕ) (w : Counters) (L : BlockWeight) (e : Event) → StandsFor before w L
+split_forked : (f l k m n child charge : ℕ) → StandsAt f l k (Split m n)
+    → StandsAt f (max l (later exactly k child)) (k + charge) (Split (max m (n + child)) (n + charge))
+split_forked f l k m n zero charge h = let a = h.0 in let b = h.1 in (omega arith, omega arith)
+split_forked f l k m n (suc child) charge h = let a = h.0 in let b = h.1 in (omega arith, omega arith)
+
+stands_forked : (f l k : ℕ) (burden : Burden) (c : ℕ) (L : BlockWeight) → StandsAt f l k L
+    → StandsAt f (max l (later exactly k (at_child burden + c))) (k + at_rest burden) (child_ended burden c L)
+stands_forked f l k burden c (Straight n) h = straight_forked f l k n (at_child burden + c) (at_rest burden) h
+stands_forked f l k burden c (Split m n) h = split_forked f l k m n (at_child burden + c) (at_rest burden) h
+
+one_more : (burden : Burden) (before : ℕ) (w : Counters) (L : BlockWeight) (e : Event) → StandsFor before w L
     → StandsFor before (onward exactly w (of_event burden e)) (after burden L e)
 one_more burden before (Unsynced l k) L (Work n) h = stands_gone_on before l k n L h
 one_more burden before (Synced p l k) L (Work n) h = stands_gone_on (before + p) l k n L h
@@ -37,7 +50,7 @@ one_more burden before (Synced p l k) L (Fork t) h = stands_forked (before + p) 
 one_more burden before (Unsynced l k) L Join h = let a = h.1 in (omega arith, omega arith)
 one_more burden before (Synced p l k) L Join h = let a = h.1 in (omega arith, omega arith)
 
-all_more : (burden before : ℕ) (w : Counters) (L : BlockWeight) (es : List Event) → StandsFor before w L
+all_more : (burden : Burden) (before : ℕ) (w : Counters) (L : BlockWeight) (es : List Event) → StandsFor before w L
     → StandsFor before (onward exactly w (of_events burden es)) (after_all burden L es)
 all_more burden before w L [] h =
     let P : Counters → Type 0 = λ x. StandsFor before x L in subst P (sym (onward-fresh_last exactly exactly_is w)) h
@@ -53,7 +66,7 @@ stands_top before (Unsynced l k) L h = let a = h.1 in omega arith
 stands_top before (Synced p l k) L h = let a = h.1 in omega arith
 
 -- THE LAW OF A BLOCK
-pub top-after_all : (burden before : ℕ) (es : List Event)
+pub top-after_all : (burden : Burden) (before : ℕ) (es : List Event)
     → top_of (after_all burden (Straight before) es) ≡ before + burdened_span burden (tree_of es)
 top-after_all burden before es =
     let begun : StandsFor before fresh (Straight before) = (omega arith, omega arith) in
@@ -61,6 +74,14 @@ top-after_all burden before es =
     (all_more burden before fresh (Straight before) es begun)
     ∙ ap (λ (w : Counters). before + heaviest exactly w) (onward-fresh_first exactly exactly_is (of_events burden es))
     ∙ ap (λ (n : ℕ). before + n) (heaviest-of_events burden es)
+
+-- a path into a child is charged no more than one into the rest
+pub child_charge : (burden : Burden) → at_child burden ≤ burden.charge
+child_charge burden = by_edges burden.edges
+  where
+    by_edges : (edges : Edges) → on_returns edges burden.charge ≤ burden.charge
+    by_edges Spawn = omega arith
+    by_edges Both = omega arith
 
 pub blocks_weigh_their_spans : BlocksWeighTheirSpans
 blocks_weigh_their_spans = top-after_all

@@ -1,23 +1,24 @@
 -- Lemmas of strand weights: parts in series need no call, and what is metered along a part.
 use Rattle.std.specs.Prelude.{◌≡◌, ℕ, ◌+◌, ◌≤◌, Bool, true, false, List, [], ◌∷◌, ◌++◌, Option, Some, None, refl}
 use Rattle.std.proofs.Common.{sym, ◌∙◌, ap, subst, arith}
+use Rattle.cw_model.specs.declared.burden.Burden.{Burden}
 use Rattle.cw_model.specs.Trees.{Mark, Tree, Leaf, Seq, Par, Marked, Event, Work, Series, Fork, Join, tree_of, work, burdened_span}
 use Rattle.cw_measure.specs.declared.burdened_path.BurdenedBlock.{BurdenedBlock}
 use Rattle.cw_measure.specs.declared.burdened_path.BurdenedPath.{BurdenedPath}
 use Rattle.cw_measure.specs.OpenParts.{Open, in_series, marked, part_of, event_of, closed, spawned_after, has_spawned_from, has_spawned, work_in}
 use Rattle.cw_measure.specs.Outermost.{Meters}
-use Rattle.cw_measure.specs.BlockWeights.{BlockWeight, Straight, Split, now_of, gone_on, top_of, after, after_all, enters, block_weight, weight_in, burdened_work, burden_if, burdened_work_in}
+use Rattle.cw_measure.specs.BlockWeights.{BlockWeight, Straight, Split, now_of, gone_on, top_of, after, after_all, enters, block_weight, weight_in, burdened_work, charge_if, burdened_work_in}
 use Rattle.cw_measure.specs.StrandWeights.{StrandWeight, strand_weight, StandsOn, Under, ShowsWeight, SeriesNeedNoCall}
-use Rattle.cw_measure.specs.lemmas.BlockWeights.{top-after_all}
+use Rattle.cw_measure.specs.lemmas.BlockWeights.{top-after_all, child_charge}
 use Rattle.cw_measure.specs.lemmas.OpenParts.{work_adds, sum_begun, left_work}
 
 -- one event more in the block that runs
-pub after_all-append : (burden : ℕ) (L : BlockWeight) (es fs : List Event)
+pub after_all-append : (burden : Burden) (L : BlockWeight) (es fs : List Event)
     → after_all burden L (es ++ fs) ≡ after_all burden (after_all burden L es) fs
 after_all-append burden L [] fs = refl
 after_all-append burden L (e ∷ es) fs = after_all-append burden (after burden L e) es fs
 
-pub block_more : (burden : ℕ) (os : List Open) (es : List Event) (e : Event)
+pub block_more : (burden : Burden) (os : List Open) (es : List Event) (e : Event)
     → block_weight burden os (es ++ e ∷ []) ≡ after burden (block_weight burden os es) e
 block_more burden [] es e = after_all-append burden (Straight 0) es (e ∷ [])
 block_more burden (o ∷ os) es e =
@@ -28,7 +29,7 @@ abbrev pub is_split : BlockWeight → Bool
 is_split (Straight n) = false
 is_split (Split l n) = true
 
-split_after : (burden : ℕ) (L : BlockWeight) (e : Event) → is_split (after burden L e) ≡ spawned_after (is_split L) e
+split_after : (burden : Burden) (L : BlockWeight) (e : Event) → is_split (after burden L e) ≡ spawned_after (is_split L) e
 split_after burden (Straight n) (Work k) = refl
 split_after burden (Split l n) (Work k) = refl
 split_after burden (Straight n) (Series t) = refl
@@ -37,18 +38,18 @@ split_after burden (Straight n) (Fork t) = refl
 split_after burden (Split l n) (Fork t) = refl
 split_after burden L Join = refl
 
-split_all : (burden : ℕ) (L : BlockWeight) (es : List Event)
+split_all : (burden : Burden) (L : BlockWeight) (es : List Event)
     → is_split (after_all burden L es) ≡ has_spawned_from (is_split L) es
 split_all burden L [] = refl
 split_all burden L (e ∷ es) =
     split_all burden (after burden L e) es ∙ ap (λ (b : Bool). has_spawned_from b es) (split_after burden L e)
 
-split_entered : (burden : ℕ) (spawned : Bool) (L : BlockWeight) (es : List Event)
+split_entered : (burden : Burden) (spawned : Bool) (L : BlockWeight) (es : List Event)
     → is_split (after_all burden (enters spawned L) es) ≡ has_spawned es
 split_entered burden true L es = split_all burden (Straight 0) es
 split_entered burden false L es = split_all burden (Straight (now_of L)) es
 
-pub split-block : (burden : ℕ) (os : List Open) (es : List Event)
+pub split-block : (burden : Burden) (os : List Open) (es : List Event)
     → is_split (block_weight burden os es) ≡ has_spawned es
 split-block burden [] es = split_all burden (Straight 0) es
 split-block burden (o ∷ os) es = split_entered burden o.spawned (block_weight burden os o.outer) es
@@ -61,13 +62,13 @@ enters_is : (b : Bool) (L : BlockWeight) → enters b L ≡ Straight (now_of (en
 enters_is true L = refl
 enters_is false L = refl
 
-pub span_marked : (burden : ℕ) (mark : Option Mark) (t : Tree)
+pub span_marked : (burden : Burden) (mark : Option Mark) (t : Tree)
     → burdened_span burden (marked mark t) ≡ burdened_span burden t
 span_marked burden None t = refl
 span_marked burden (Some m) t = refl
 
 -- the path of a part that has ended, after the path that it began with
-pub ended_weight : (burden : ℕ) (o : Open) (os : List Open) (es : List Event) → has_spawned es ≡ false
+pub ended_weight : (burden : Burden) (o : Open) (os : List Open) (es : List Event) → has_spawned es ≡ false
     → weight_in burden (o ∷ os) es ≡ weight_in burden (o ∷ os) [] + burdened_span burden (tree_of es)
 ended_weight burden o os es e =
     let L = enters o.spawned (block_weight burden os o.outer) in
@@ -75,7 +76,7 @@ ended_weight burden o os es e =
     ∙ ap (λ (x : BlockWeight). top_of (after_all burden x es)) (enters_is o.spawned (block_weight burden os o.outer))
     ∙ top-after_all burden (now_of L) es
 
-pub weight_meters : (burden : ℕ) → Meters (burdened_span burden) (weight_in burden)
+pub weight_meters : (burden : Burden) → Meters (burdened_span burden) (weight_in burden)
 weight_meters burden = record {
   in_mark = λ m t. refl;
   at_begin = λ mark os es. refl;
@@ -94,7 +95,7 @@ pub record ShowsBlock (below : List BurdenedBlock → Type 0) (L : BlockWeight) 
   pub now_is : v.now ≡ now_of L
   pub blocks_are : StandsOn below L v.blocks
 
-pub by_block : (burden : ℕ) (os : List Open) (es : List Event) (L : BlockWeight) (v : StrandWeight)
+pub by_block : (burden : Burden) (os : List Open) (es : List Event) (L : BlockWeight) (v : StrandWeight)
     → block_weight burden os es ≡ L → ShowsBlock (Under burden os) L v → ShowsWeight burden os es v
 by_block burden os es L v e h =
     let P : BlockWeight → Type 0 = λ x. ShowsBlock (Under burden os) x v in
@@ -116,7 +117,7 @@ pub stands_straight : (below : List BurdenedBlock → Type 0) (L : BlockWeight) 
 stands_straight below (Straight n) bs e h = h
 stands_straight below (Split l n) bs e h = cc
 
-in_series_ends : (burden : ℕ) (mark : Option Mark) (outer : List Event) (os : List Open) (es : List Event)
+in_series_ends : (burden : Burden) (mark : Option Mark) (outer : List Event) (os : List Open) (es : List Event)
     (v : StrandWeight) → has_spawned es ≡ false → ShowsWeight burden (in_series mark outer os) es v
     → ShowsWeight burden os (closed (record { spawned = false; mark = mark; outer = outer }) es) v
 in_series_ends burden mark outer os es v e h =
@@ -135,7 +136,7 @@ in_series_ends burden mark outer os es v e h =
       blocks_are = stands_gone_on (Under burden os) k L v.blocks below;
     })
 
-shows_left : (burden : ℕ) (o : Open) (os : List Open) (es : List Event) (v : StrandWeight) → o.spawned ≡ false
+shows_left : (burden : Burden) (o : Open) (os : List Open) (es : List Event) (v : StrandWeight) → o.spawned ≡ false
     → has_spawned es ≡ false → ShowsWeight burden (o ∷ os) es v → ShowsWeight burden os (closed o es) v
 shows_left burden o os es v b e h = by_kind o.spawned b h
   where
@@ -145,76 +146,77 @@ shows_left burden o os es v b e h = by_kind o.spawned b h
     by_kind false b h = in_series_ends burden o.mark o.outer os es v e h
     by_kind true b h = cc
 
--- what is kept of a run is within its work with a burden for each spawn
-pub span_within : (burden : ℕ) (t : Tree) → burdened_span burden t ≤ burdened_work burden t
+-- what is kept of a run is within its work with a charge for each spawn
+pub span_within : (burden : Burden) (t : Tree) → burdened_span burden t ≤ burdened_work burden t
 span_within burden (Leaf k) = omega arith
 span_within burden (Seq a b) = let g = span_within burden a in let h = span_within burden b in omega arith
-span_within burden (Par a b) = let g = span_within burden a in let h = span_within burden b in omega arith
+span_within burden (Par a b) =
+    let g = span_within burden a in let h = span_within burden b in let c = child_charge burden in omega arith
 span_within burden (Marked mark t) = span_within burden t
 
-abbrev pub event_work : (burden : ℕ) → Event → ℕ
+abbrev pub event_work : Burden → Event → ℕ
 event_work burden (Work k) = k
 event_work burden (Series t) = burdened_work burden t
-event_work burden (Fork t) = burdened_work burden t + burden
+event_work burden (Fork t) = burdened_work burden t + burden.charge
 event_work burden Join = 0
 
-abbrev pub sum_of_works : (burden : ℕ) → List Event → ℕ
+abbrev pub sum_of_works : Burden → List Event → ℕ
 sum_of_works burden [] = 0
 sum_of_works burden (e ∷ es) = event_work burden e + sum_of_works burden es
 
-pub works_is : (burden : ℕ) (es : List Event) → sum_of_works burden es ≡ burdened_work burden (tree_of es)
+pub works_is : (burden : Burden) (es : List Event) → sum_of_works burden es ≡ burdened_work burden (tree_of es)
 works_is burden [] = refl
 works_is burden (Work k ∷ es) = let b = works_is burden es in omega arith
 works_is burden (Series t ∷ es) = let b = works_is burden es in omega arith
 works_is burden (Fork t ∷ es) = let b = works_is burden es in omega arith
 works_is burden (Join ∷ es) = let b = works_is burden es in omega arith
 
-burdened_works_more : (burden : ℕ) (es : List Event) (e : Event)
+burdened_works_more : (burden : Burden) (es : List Event) (e : Event)
     → burdened_work burden (tree_of (es ++ e ∷ [])) ≡ burdened_work burden (tree_of es) + event_work burden e
 burdened_works_more burden es e =
     sym (works_is burden (es ++ e ∷ [])) ∙ sum_append burden es e ∙ ap (λ (x : ℕ). x + event_work burden e)
     (works_is burden es)
   where
-    sum_append : (burden : ℕ) (es : List Event) (e : Event)
+    sum_append : (burden : Burden) (es : List Event) (e : Event)
         → sum_of_works burden (es ++ e ∷ []) ≡ sum_of_works burden es + event_work burden e
     sum_append burden [] e = omega arith
     sum_append burden (d ∷ es) e = let i = sum_append burden es e in omega arith
 
-burdened_works_in : (burden : ℕ) (os : List Open) (es : List Event) (e : Event)
+burdened_works_in : (burden : Burden) (os : List Open) (es : List Event) (e : Event)
     → burdened_work_in burden os (es ++ e ∷ []) ≡ burdened_work_in burden os es + event_work burden e
 burdened_works_in burden [] es e = burdened_works_more burden es e
 burdened_works_in burden (o ∷ os) es e = let a = burdened_works_more burden es e in omega arith
 
-burdened_works_all : (burden : ℕ) (es fs : List Event)
+burdened_works_all : (burden : Burden) (es fs : List Event)
     → burdened_work burden (tree_of (es ++ fs)) ≡ burdened_work burden (tree_of es) + burdened_work burden (tree_of fs)
 burdened_works_all burden es fs =
     sym (works_is burden (es ++ fs)) ∙ sum_all burden es fs ∙ ap (λ (x : ℕ). x + sum_of_works burden fs)
     (works_is burden es) ∙ ap (λ (x : ℕ). burdened_work burden (tree_of es) + x) (works_is burden fs)
   where
-    sum_all : (burden : ℕ) (es fs : List Event)
+    sum_all : (burden : Burden) (es fs : List Event)
         → sum_of_works burden (es ++ fs) ≡ sum_of_works burden es + sum_of_works burden fs
     sum_all burden [] fs = omega arith
     sum_all burden (d ∷ es) fs = let i = sum_all burden es fs in omega arith
 
-pub burdened_append : (burden : ℕ) (os : List Open) (es fs : List Event)
+pub burdened_append : (burden : Burden) (os : List Open) (es fs : List Event)
     → burdened_work_in burden os (es ++ fs) ≡ burdened_work_in burden os es + burdened_work burden (tree_of fs)
 burdened_append burden [] es fs = burdened_works_all burden es fs
 burdened_append burden (o ∷ os) es fs = let a = burdened_works_all burden es fs in omega arith
 
-event_work_is : (burden : ℕ) (spawned : Bool) (mark : Option Mark) (t : Tree)
-    → event_work burden (part_of spawned (marked mark t)) ≡ burdened_work burden t + burden_if spawned burden
+event_work_is : (burden : Burden) (spawned : Bool) (mark : Option Mark) (t : Tree)
+    → event_work burden (part_of spawned (marked mark t)) ≡ burdened_work burden t + charge_if spawned burden
 event_work_is burden true None t = refl
 event_work_is burden true (Some m) t = refl
 event_work_is burden false None t = omega arith
 event_work_is burden false (Some m) t = omega arith
 
-pub left_burdened_work : (burden : ℕ) (o : Open) (os : List Open) (es : List Event)
+pub left_burdened_work : (burden : Burden) (o : Open) (os : List Open) (es : List Event)
     → burdened_work_in burden os (closed o es) ≡ burdened_work_in burden (o ∷ os) es
 left_burdened_work burden o os es =
     let a = burdened_works_in burden os o.outer (event_of o es) in
     let b = event_work_is burden o.spawned o.mark (tree_of es) in omega arith
 
-pub series_need_no_call : (burden : ℕ) (path : BurdenedPath) → SeriesNeedNoCall burden path
+pub series_need_no_call : (burden : Burden) (path : BurdenedPath) → SeriesNeedNoCall burden path
 series_need_no_call burden path = record {
   begins = λ mark os es h. record {
     shows = record { now_is = h.shows.now_is; blocks_are = h.shows.blocks_are };

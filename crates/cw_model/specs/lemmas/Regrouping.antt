@@ -4,6 +4,8 @@ use Prim.Native.Nat.add
 use Rattle.std.specs.Prelude.{nat_le, if◌then◌else◌, ◌==◌, sum_by, filter}
 use Rattle.std.proofs.lemmas.List.Sums.{sum_by-append}
 use Rattle.std.proofs.lemmas.List.Elements.{filter-append}
+use Rattle.cw_model.specs.declared.burden.Burden.{Burden}
+use Rattle.cw_model.specs.Burdens.{no_burden}
 use Rattle.cw_model.specs.Trees.{Mark, Tree, Leaf, Seq, Par, Marked, work, span, burdened_span, leaf_before, part_before, before, normal}
 use Rattle.cw_model.specs.Rows.{leaves, chosen_leaves, site_inside, weight_of_site, is_site, is_tag, outermost, calls_of}
 use Rattle.cw_model.specs.TreeLaws.{Regrouped, same, back, further, to_the_right, as_one_strand, nothing_before, nothing_after, in_series, in_fork, in_mark, ReadSame}
@@ -82,7 +84,7 @@ same_work (in_series r s) = omega (arith, same_work r, same_work s)
 same_work (in_fork r s) = omega (arith, same_work r, same_work s)
 same_work (in_mark mark r) = same_work r
 
-same_burdened : (burden : ℕ) {t u : Tree} → Regrouped t u → burdened_span burden t ≡ burdened_span burden u
+same_burdened : (burden : Burden) {t u : Tree} → Regrouped t u → burdened_span burden t ≡ burdened_span burden u
 same_burdened burden (same t) = refl
 same_burdened burden (back r) = sym (same_burdened burden r)
 same_burdened burden (further r s) = same_burdened burden r ∙ same_burdened burden s
@@ -205,7 +207,7 @@ same_chosen site outer (in_series {a = a} {a' = a'} {b = b} {b' = b'} r s) =
       same_chosen site outer s,
     ) refl
 same_chosen site outer (in_fork {child = a} {child' = a'} {rest = b} {rest' = b'} r s) =
-    same_choice site (span b) (span a) (span b') (span a') _ _ _ _ (same_burdened 0 s) (same_burdened 0 r)
+    same_choice site (span b) (span a) (span b') (span a') _ _ _ _ (same_burdened no_burden s) (same_burdened no_burden r)
     (same_chosen site outer r) (same_chosen site outer s)
 same_chosen site outer (in_mark mark r) = same_chosen site (site_inside mark outer) r
 
@@ -254,11 +256,11 @@ same_readings t u r = record {
       let own_work = same_leaves site 0 r in
       let own_span = same_chosen site 0 r in
       let all_work = same_outermost work (is_site site) (λ t u r. same_work r) r in
-      let all_span = same_outermost span (is_site site) (λ t u r. same_burdened 0 r) r in
+      let all_span = same_outermost span (is_site site) (λ t u r. same_burdened no_burden r) r in
       cc;
   same_region_row = λ burden tag.
       let all_work = same_outermost work (is_tag tag) (λ t u r. same_work r) r in
-      let all_span = same_outermost span (is_tag tag) (λ t u r. same_burdened 0 r) r in
+      let all_span = same_outermost span (is_tag tag) (λ t u r. same_burdened no_burden r) r in
       let all_burdened = same_outermost (burdened_span burden) (is_tag tag) (λ t u r. same_burdened burden r) r in
       cc;
 }

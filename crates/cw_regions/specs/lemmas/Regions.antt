@@ -1,5 +1,6 @@
 -- Lemmas of region tables: what lies outside of regions needs no call.
 use Rattle.std.specs.Prelude.{◌≡◌, ℕ, false, List, [], ◌∷◌, ◌++◌, Option, Some, None, refl}
+use Rattle.cw_model.specs.declared.burden.Burden.{Burden}
 use Rattle.cw_model.specs.Syntax.{Name}
 use Rattle.cw_model.specs.Trees.{Mark, Invocation, Execution, Event, Work, Join, work, span, burdened_span}
 use Rattle.cw_model.specs.Rows.{is_tag}
@@ -12,7 +13,7 @@ use Rattle.cw_regions.specs.RegionRows.{row_of, work_tally, span_tally, burdened
 use Rattle.cw_regions.specs.Regions.{Readings, Tags, CountsTag, IsNoExecution, RegionsNeedNoCall}
 
 -- a row for each of its tallies
-row_work : (burden : ℕ) (along : Readings burden) (tag : Name) (busy : ℕ) (os : List Open) (es : List Event) (r : Row)
+row_work : (burden : Burden) (along : Readings burden) (tag : Name) (busy : ℕ) (os : List Open) (es : List Event) (r : Row)
     (k : ℕ) → CountsTag burden along tag busy os es r → CountsTag burden along tag busy os (es ++ Work k ∷ []) r
 row_work burden along tag busy os es r k h = record {
   work_is = counts_work work work_in (is_tag tag) busy os es (work_tally r) k h.work_is;
@@ -21,7 +22,7 @@ row_work burden along tag busy os es r k h = record {
       counts_work (burdened_span burden) along.burdened (is_tag tag) busy os es (burdened_tally r) k h.burdened_is;
 }
 
-row_join : (burden : ℕ) (along : Readings burden) (tag : Name) (busy : ℕ) (os : List Open) (es : List Event) (r : Row)
+row_join : (burden : Burden) (along : Readings burden) (tag : Name) (busy : ℕ) (os : List Open) (es : List Event) (r : Row)
     → CountsTag burden along tag busy os es r → CountsTag burden along tag busy os (es ++ Join ∷ []) r
 row_join burden along tag busy os es r h = record {
   work_is = counts_join work work_in (is_tag tag) busy os es (work_tally r) h.work_is;
@@ -30,7 +31,7 @@ row_join burden along tag busy os es r h = record {
       counts_join (burdened_span burden) along.burdened (is_tag tag) busy os es (burdened_tally r) h.burdened_is;
 }
 
-pub row_other : (burden : ℕ) (along : Readings burden) (tag : Name) (busy : ℕ) (o : Open) (os : List Open) (r : Row)
+pub row_other : (burden : Burden) (along : Readings burden) (tag : Name) (busy : ℕ) (o : Open) (os : List Open) (r : Row)
     → is_counted (is_tag tag) o.mark ≡ false → CountsTag burden along tag busy os o.outer r
     → CountsTag burden along tag busy (o ∷ os) [] r
 row_other burden along tag busy o os r e h = record {
@@ -40,7 +41,7 @@ row_other burden along tag busy o os r e h = record {
       counts_other (burdened_span burden) along.burdened (is_tag tag) busy o os (burdened_tally r) e h.burdened_is;
 }
 
-pub row_other_left : (burden : ℕ) (along : Readings burden) (tag : Name) (busy : ℕ) (o : Open) (os : List Open)
+pub row_other_left : (burden : Burden) (along : Readings burden) (tag : Name) (busy : ℕ) (o : Open) (os : List Open)
     (es : List Event) (r : Row) → is_counted (is_tag tag) o.mark ≡ false
     → CountsTag burden along tag busy (o ∷ os) es r → CountsTag burden along tag busy os (closed o es) r
 row_other_left burden along tag busy o os es r e h = record {
@@ -57,7 +58,7 @@ no_execution None tag h = refl
 no_execution (Some (Invocation site)) tag h = refl
 no_execution (Some (Execution other)) tag h = absurd h
 
-pub regions_need_no_call : (burden : ℕ) (along : Readings burden) (tags : Tags) (busy : ℕ → ℕ) (os : List Open)
+pub regions_need_no_call : (burden : Burden) (along : Readings burden) (tags : Tags) (busy : ℕ → ℕ) (os : List Open)
     (table : RegionTable) → RegionsNeedNoCall burden along tags busy os table
 regions_need_no_call burden along tags busy os table = record {
   work = λ es k h q less. row_work burden along (tags.name q) (busy q) os es (row_of table.rows q) k (h q less);

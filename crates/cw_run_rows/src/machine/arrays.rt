@@ -1,8 +1,10 @@
 //! What small codes with arrays, cuts and loops give, by hand: each at its cost, and over its limit at one less.
 
-use cw_code::code::{BlockKind, Callee, Code, Func, Halves, Inner, Instr, Site};
+use crate::machine::charged;
+use cw_code::code::{BlockKind, Callee, Code, Func, Halves, Inner, Instr, Reducer, Site};
 use cw_machine::alone::{Ended, run_alone};
-use cw_model::syntax::{CallKind, Name, Operator};
+use cw_model::syntax::{CallKind, Name, Operator, Reduction};
+use cw_model::total::Total;
 use cw_text::Fault;
 use cw_verify::verify::verify;
 use std::alloc::{AllocError, Global};
@@ -21,7 +23,7 @@ pub(crate) struct Part<'a> {
 }
 
 // Code of these functions, the first of them main, with two sites of each of them, a plain and a spawned one, numbered
-// from 1 on, these lists of array slots and two reducers.
+// from 1 on, these lists of array slots and two reducers: the greatest, and a sum.
 pub(crate) fn code_of(
     alloc: Global,
     parts: &[Part],
@@ -37,8 +39,12 @@ pub(crate) fn code_of(
         tags: Vec::new(alloc),
         passed: Vec::new(alloc),
     };
-    code.reducers.push(Name::new(alloc, b"s")?)?;
-    code.reducers.push(Name::new(alloc, b"t")?)?;
+    for (name, how) in [(b"m", Reduction::Max), (b"s", Reduction::Sum)] {
+        code.reducers.push(Reducer {
+            name: Name::new(alloc, name)?,
+            how,
+        })?;
+    }
     for slots in passed {
         code.passed.push(Vec::from_slice(alloc, slots)?)?;
     }
@@ -90,7 +96,7 @@ pub(crate) fn calls(kind: CallKind, function: u32, target: Option<u32>, passed: 
 
 fn run(alloc: Global, parts: &[Part], passed: &[&[u32]], limit: u64) -> Result<Ended, Fault> {
     let verified = verify(alloc, code_of(alloc, parts, passed)?)?;
-    let ended = run_alone(alloc, Arc::new(alloc, verified)?, &[], limit, 0)?;
+    let ended = run_alone(alloc, Arc::new(alloc, verified)?, &[], limit, charged(0))?;
     Ok(ended)
 }
 
@@ -101,7 +107,10 @@ fn is_over(alloc: Global, parts: &[Part], passed: &[&[u32]], limit: u64) -> bool
     }
 }
 
-// Whether a run ends with this value and these lines and sums within this limit, and is over it at one less.
+// What the two reducers come to where they are told nothing.
+const UNTOLD: [Total; 2] = [Total::Max(None), Total::Sum(0)];
+
+// Whether a run ends with this value and these lines and totals within this limit, and is over it at one less.
 fn gives(
     alloc: Global,
     parts: &[Part],
@@ -109,11 +118,13 @@ fn gives(
     cost: u64,
     value: i64,
     lines: &[i64],
-    sums: &[i128],
+    totals: &[Total],
 ) -> bool {
     let exact = match run(alloc, parts, passed, cost) {
         Ok(ended) => {
-            ended.value == value && ended.lines.as_slice() == lines && ended.sums.as_slice() == sums
+            ended.value == value
+                && ended.lines.as_slice() == lines
+                && ended.totals.as_slice() == totals
         }
         Err(_) => false,
     };
@@ -191,7 +202,7 @@ fn one_array(rt: HostRuntime) -> Result<(), AllocError> {
             2,
             0,
             &[],
-            &[0, 0]
+            &UNTOLD
         )
     );
     let body = [
@@ -203,7 +214,7 @@ fn one_array(rt: HostRuntime) -> Result<(), AllocError> {
         Instr::Binary(Operator::Plus, 3),
         end,
     ];
-    assert!(rt; gives(alloc, &[main_of(&body)], &[], 7, 3, &[], &[0, 0]));
+    assert!(rt; gives(alloc, &[main_of(&body)], &[], 7, 3, &[], &UNTOLD));
     // one past the end, and before the first; what was printed before stays
     for i in [3, -1, i64::MIN, i64::MAX] {
         let body = [
@@ -237,7 +248,7 @@ fn one_array(rt: HostRuntime) -> Result<(), AllocError> {
         Instr::Length(0),
         end,
     ];
-    assert!(rt; gives(alloc, &[main_of(&body)], &[], 4, 16_777_216, &[], &[0, 0]));
+    assert!(rt; gives(alloc, &[main_of(&body)], &[], 4, 16_777_216, &[], &UNTOLD));
     // a new array in the same slot has zeros again
     let body = [
         Instr::Push(1),
@@ -251,26 +262,31 @@ fn one_array(rt: HostRuntime) -> Result<(), AllocError> {
         Instr::Element(0, 1),
         end,
     ];
-    assert!(rt; gives(alloc, &[main_of(&body)], &[], 10, 0, &[], &[0, 0]));
+    assert!(rt; gives(alloc, &[main_of(&body)], &[], 10, 0, &[], &UNTOLD));
     Ok(())
 }
 
 #[test]
-fn sums(rt: HostRuntime) -> Result<(), AllocError> {
+fn totals(rt: HostRuntime) -> Result<(), AllocError> {
     let alloc = rt.alloc();
-    // the least number, twice to one reducer; and 5 to the other
+    // the least number, twice to the sum; and 5 and 3 to the other
     let body = [
         Instr::Push(i64::MIN),
-        Instr::AddTo(1),
+        Instr::Reduce(1),
         Instr::Push(5),
-        Instr::AddTo(0),
+        Instr::Reduce(0),
         Instr::Push(i64::MIN),
-        Instr::AddTo(1),
+        Instr::Reduce(1),
+        Instr::Push(3),
+        Instr::Reduce(0),
         Instr::Push(1),
         Instr::ReturnValue,
     ];
-    let least = -18_446_744_073_709_551_616i128;
-    assert!(rt; gives(alloc, &[main_of(&body)], &[], 8, 1, &[], &[5, least]));
+    let totals = [
+        Total::Max(Some(5)),
+        Total::Sum(-18_446_744_073_709_551_616),
+    ];
+    assert!(rt; gives(alloc, &[main_of(&body)], &[], 10, 1, &[], &totals));
     Ok(())
 }
 
@@ -306,7 +322,7 @@ fn sieve(rt: HostRuntime) -> Result<(), AllocError> {
         Instr::ReturnValue,
     ];
     // four turns of 12, the last test of 4, and 12 around them
-    assert!(rt; gives(alloc, &[main_of(&body)], &[], 64, 10, &[], &[0, 0]));
+    assert!(rt; gives(alloc, &[main_of(&body)], &[], 64, 10, &[], &UNTOLD));
     Ok(())
 }
 
@@ -350,7 +366,7 @@ fn cuts(rt: HostRuntime) -> Result<(), AllocError> {
             28,
             59,
             &[],
-            &[0, 0]
+            &UNTOLD
         )
     );
     // parts of parts: a of 4 at 3, then its left part at 1, whose right part has the places 1 and 2
@@ -384,7 +400,7 @@ fn cuts(rt: HostRuntime) -> Result<(), AllocError> {
             25,
             78,
             &[],
-            &[0, 0]
+            &UNTOLD
         )
     );
     // past the end, and before the first place
@@ -413,7 +429,7 @@ fn cuts(rt: HostRuntime) -> Result<(), AllocError> {
             Instr::Load(0),
             Instr::ReturnValue,
         ];
-        assert!(rt; gives(alloc, &[main_of(&body)], &[], 9, k, &[], &[0, 0]));
+        assert!(rt; gives(alloc, &[main_of(&body)], &[], 9, k, &[], &UNTOLD));
     }
     Ok(())
 }
@@ -451,7 +467,7 @@ fn passing(rt: HostRuntime) -> Result<(), AllocError> {
             27,
             17,
             &[],
-            &[0, 0]
+            &UNTOLD
         )
     );
     // two arrays in the other order, through a call that passes one on
@@ -500,7 +516,7 @@ fn passing(rt: HostRuntime) -> Result<(), AllocError> {
             30,
             376,
             &[],
-            &[0, 0]
+            &UNTOLD
         )
     );
     Ok(())
@@ -618,7 +634,7 @@ fn turns(rt: HostRuntime) -> Result<(), AllocError> {
             94,
             2,
             &[],
-            &[0, 0]
+            &UNTOLD
         )
     );
     assert!(rt;
@@ -629,7 +645,7 @@ fn turns(rt: HostRuntime) -> Result<(), AllocError> {
             94,
             1,
             &[],
-            &[0, 0]
+            &UNTOLD
         )
     );
     assert!(rt;
@@ -640,7 +656,7 @@ fn turns(rt: HostRuntime) -> Result<(), AllocError> {
             94,
             0,
             &[],
-            &[0, 0]
+            &UNTOLD
         )
     );
     // one leaf
@@ -652,7 +668,7 @@ fn turns(rt: HostRuntime) -> Result<(), AllocError> {
             38,
             2,
             &[],
-            &[0, 0]
+            &UNTOLD
         )
     );
     // no turn: a leaf of 14, wherever the range lies
@@ -665,7 +681,7 @@ fn turns(rt: HostRuntime) -> Result<(), AllocError> {
                 22,
                 0,
                 &[],
-                &[0, 0]
+                &UNTOLD
             )
         );
         assert!(rt;
@@ -676,7 +692,7 @@ fn turns(rt: HostRuntime) -> Result<(), AllocError> {
                 22,
                 0,
                 &[],
-                &[0, 0]
+                &UNTOLD
             )
         );
     }

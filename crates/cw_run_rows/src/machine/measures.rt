@@ -5,6 +5,7 @@ use crate::machine::{arrays, code_of, spawned};
 use cw_code::code::{BlockKind, Code, Instr};
 use cw_machine::alone::{Ended, run_alone};
 use cw_meter::Readings;
+use cw_model::burden::{Burden, Edges};
 use cw_model::syntax::{CallKind, Operator};
 use cw_regions::RegionRow;
 use cw_sites::table::SiteRow;
@@ -13,10 +14,17 @@ use cw_verify::verify::verify;
 use std::alloc::Global;
 use std::sync::Arc;
 
-// How a run of code ends on these arguments, with a burden of 10.
-fn ended(alloc: Global, code: Code, args: &[i64]) -> Result<Ended, Fault> {
+// How a run of code ends on these arguments, with a burden of 10 on these edges.
+fn ended_with(alloc: Global, code: Code, args: &[i64], edges: Edges) -> Result<Ended, Fault> {
+    let burden = Burden { charge: 10, edges };
     let verified = verify(alloc, code)?;
-    let ended = run_alone(alloc, Arc::new(alloc, verified)?, args, 1_000_000, 10)?;
+    let ended = run_alone(alloc, Arc::new(alloc, verified)?, args, 1_000_000, burden)?;
+    Ok(ended)
+}
+
+// The same on continuation edges alone.
+fn ended(alloc: Global, code: Code, args: &[i64]) -> Result<Ended, Fault> {
+    let ended = ended_with(alloc, code, args, Edges::Spawn)?;
     Ok(ended)
 }
 
@@ -83,18 +91,21 @@ pub(crate) fn fib_body() -> [Instr; 19] {
     ]
 }
 
-#[test]
-fn fib(rt: HostRuntime) -> Result<(), Fault> {
-    let alloc = rt.alloc();
-    let body = fib_body();
-    let fib = Part {
+fn fib_part(body: &[Instr]) -> Part<'_> {
+    Part {
         gives_int: true,
         params: 1,
         slots: 3,
         array_params: 0,
         arrays: 0,
-        body: &body,
-    };
+        body,
+    }
+}
+
+#[test]
+fn fib(rt: HostRuntime) -> Result<(), Fault> {
+    let alloc = rt.alloc();
+    let body = fib_body();
     let main = [
         Instr::Push(5),
         calls(CallKind::Plain, 1, Some(0), 0),
@@ -103,7 +114,7 @@ fn fib(rt: HostRuntime) -> Result<(), Fault> {
     ];
     let e = ended(
         alloc,
-        arrays::code_of(alloc, &[main_of(&main), fib], &[&[]])?,
+        arrays::code_of(alloc, &[main_of(&main), fib_part(&body)], &[&[]])?,
         &[],
     )?;
     assert_eq!(rt; e.value, 5);
@@ -120,6 +131,11 @@ fn fib(rt: HostRuntime) -> Result<(), Fault> {
     // spawned: of n = 4, 3, 2, 2, 1, 1, 1; in no other one of them lie that of 4 and that of 2 in the second fib(3)
     assert_eq!(rt; site_of(&e, 4), Some(site(7, 86, 43, 127, 72)));
     assert_eq!(rt; e.regions.len(), 0);
+    // on both edges 6, 6, 33, 56, 79, 102, by 13 + max(10 + b(n-1), 14 + b(n-2)); the chosen path is the same
+    let code = arrays::code_of(alloc, &[main_of(&main), fib_part(&body)], &[&[]])?;
+    let e = ended_with(alloc, code, &[], Edges::Both)?;
+    assert_eq!(rt; e.measure, readings(171, 66, 106));
+    assert_eq!(rt; site_of(&e, 4), Some(site(7, 86, 43, 127, 72)));
     Ok(())
 }
 
@@ -158,6 +174,12 @@ fn blocks(rt: HostRuntime) -> Result<(), Fault> {
     assert_eq!(rt; site_of(&e, 0), Some(site(1, 13, 13, 21, 17)));
     assert_eq!(rt; site_of(&e, 4), Some(site(2, 8, 4, 8, 8)));
     assert_eq!(rt; region_of(&e, b""), Some(region(7, 7, 13)));
+    // on both edges the block is 3 + max(14, 10), and the children still take less than the rests
+    let code = code_of(alloc, &block(BlockKind::Region(0)))?;
+    let e = ended_with(alloc, code, &[0], Edges::Both)?;
+    assert_eq!(rt; e.measure, readings(21, 17, 37));
+    assert_eq!(rt; site_of(&e, 0), Some(site(1, 13, 13, 21, 17)));
+    assert_eq!(rt; region_of(&e, b""), Some(region(7, 7, 17)));
     Ok(())
 }
 
@@ -233,6 +255,10 @@ fn cuts(rt: HostRuntime) -> Result<(), Fault> {
     assert_eq!(rt; e.measure, readings(19, 16, 24));
     assert_eq!(rt; site_of(&e, 0), Some(site(1, 14, 11, 19, 16)));
     assert_eq!(rt; site_of(&e, 4), Some(site(1, 5, 5, 5, 5)));
+    // on both edges the child takes 15, and the rest 13
+    let code = arrays::code_of(alloc, &[main_of(&body), fill()], &[&[2]])?;
+    let e = ended_with(alloc, code, &[], Edges::Both)?;
+    assert_eq!(rt; e.measure, readings(19, 16, 26));
     Ok(())
 }
 
@@ -249,5 +275,9 @@ fn loops(rt: HostRuntime) -> Result<(), Fault> {
     assert_eq!(rt; site_of(&e, 0), Some(site(1, 94, 64, 94, 64)));
     assert_eq!(rt; site_of(&e, 3), Some(site(0, 0, 0, 0, 0)));
     assert_eq!(rt; site_of(&e, 4), Some(site(0, 0, 0, 0, 0)));
+    // on both edges the first half takes 40 beside the other one's 43
+    let code = arrays::code_of(alloc, &[main_of(&looping(1, 3, 2)), halving()], &passed)?;
+    let e = ended_with(alloc, code, &[], Edges::Both)?;
+    assert_eq!(rt; e.measure, readings(94, 64, 74));
     Ok(())
 }

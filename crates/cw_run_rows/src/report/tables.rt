@@ -53,7 +53,7 @@ fn ended_with(
     Ok(Ok(Ended {
         value: -3,
         lines: Vec::from_slice(alloc, &[7])?,
-        sums: Vec::new(alloc),
+        totals: Vec::new(alloc),
         measure,
         sites,
         regions,
@@ -66,7 +66,7 @@ fn values_of(alloc: Global, ended: &Result<Ended, Fault>) -> Result<Result<Value
         Ok(ended) => Ok(Values {
             value: ended.value,
             lines: Vec::from_slice(alloc, ended.lines.as_slice())?,
-            sums: Vec::from_slice(alloc, ended.sums.as_slice())?,
+            totals: Vec::from_slice(alloc, ended.totals.as_slice())?,
         }),
         Err(Fault::Trap { code, line, output }) => Err(Fault::Trap {
             code: *code,

@@ -19,7 +19,7 @@ use Rattle.cw_code.specs.declared.code.Halves.{Halves}
 use Rattle.cw_code.specs.declared.code.Func.{Func}
 use Rattle.cw_code.specs.declared.code.Instr.{Instr}
 use Rattle.cw_code.specs.declared.code.Instr.TheVariants as instr
-use Rattle.cw_code.specs.Code.{Code}
+use Rattle.cw_code.specs.Code.{Code, reducer_names}
 use Rattle.cw_code.specs.Run.{Slots, State, Transition, On, Stops, Stuck, synced, on_top, on_two, on_slot, is_full, apply_unary, operated, set_array, adds, settled, put_in, Whole, arrays_in, Entering, arguments_of, may_begin, begun, begins, call_of, on_arrays, enter, recur, parts_of, looped, on_range, start, back, opened, opened_region, cut_arrays, may_cut, cuts, Opened, Around, Caller, Block, resumes, closed, uncut_arrays, resumes_uncut, cut_ends, passed_by, act}
 use Rattle.cw_strands.specs.Jobs.{joins}
 use Rattle.cw_strands.specs.Strands.{Turn, Goes, turn_call, turn_in, turn_of}
@@ -31,13 +31,13 @@ module _ (code : Code) (s : State) (P : (joins : Bool) → Turn → Transition �
     pub stuck : (j : Bool) (turn : Turn) → P j turn Stuck
     pub stops : (j : Bool) (turn : Turn) (trap : Trap) (line : ℕ) (lines : List ℤ) → P j turn (Stops trap line lines)
     pub local : (place : ℕ) (operands : List ℤ) (slots : Slots ℤ) (arrays : Slots (List ℤ)) (lines : List ℤ)
-        (additions : List (Name × ℤ))
+        (updates : List (Name × ℤ))
         → P false Goes (On (record s {
           place = place;
           operands = operands;
           slots = slots;
           arrays = arrays;
-          trace = joined s.trace (record { lines = lines; additions = additions; events = works 1 });
+          trace = joined s.trace (record { lines = lines; updates = updates; events = works 1 });
         }))
     pub enters : (e : Entering) → P false (turn_call e.kind e.target e.taken) (On (begun s e))
     pub opens : (operands : List ℤ) (arrays : Slots (List ℤ)) (tag : Option Name) (cut : Option Halves) →
@@ -227,6 +227,6 @@ module _ (code : Code) (s : State) (P : (joins : Bool) → Turn → Transition �
     acts_by (Some instr.Close) = closes s.around refl
     acts_by (Some instr.Print) =
         top false Goes _ (λ v rest. moves.local (s.place + 1) rest s.slots s.arrays (v ∷ []) [])
-    acts_by (Some (instr.AddTo k)) = top false Goes _ (λ v rest. names (slice_get code.reducers k) v rest)
+    acts_by (Some (instr.Reduce k)) = top false Goes _ (λ v rest. names (slice_get (reducer_names code.reducers) k) v rest)
     acts_by (Some instr.ReturnValue) = top true (turn_in s.around) _ (λ v rest. moves.returns (Some v))
     acts_by (Some instr.Return) = moves.returns None

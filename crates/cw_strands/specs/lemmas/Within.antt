@@ -17,7 +17,7 @@ use Rattle.cw_code.specs.declared.code.Halves.{Halves}
 use Rattle.cw_code.specs.declared.code.Func.{Func}
 use Rattle.cw_code.specs.declared.code.Instr.{Instr}
 use Rattle.cw_code.specs.declared.code.Instr.TheVariants as instr
-use Rattle.cw_code.specs.Code.{Code}
+use Rattle.cw_code.specs.Code.{Code, reducer_names}
 use Rattle.cw_code.specs.Fits.{Shape, nexts, Table, FlowsIntoEach, LieFrom, Fits, leaves}
 use Rattle.cw_code.specs.Good.{Seat, GoodState, GoodTransition, FitFacts, FitSteps}
 use Rattle.cw_code.specs.Run.{Slots, Results, State, Transition, On, Ends, Stops, Stuck, on_top, on_two, on_slot, is_full, apply_unary, operated, set_array, adds, settled, put_in, Whole, arrays_in, Entering, arguments_of, may_begin, begun, begins, call_of, on_arrays, enter, recur, parts_of, looped, on_range, start, given_back, result_of, returns_to, going_on, rejoined, event_of, back, opened, opened_region, cut_arrays, may_cut, cuts, Around, Caller, Block, resumes, closed, resumes_uncut, cut_ends, passed_by, act, step}
@@ -248,7 +248,7 @@ module _ (f : Func) where
     act_stays (Some (instr.Open (Region k))) n = regions n.0 (slice_get code.tags k)
     act_stays (Some instr.Close) n = closes n.0 s.around refl
     act_stays (Some instr.Print) n = top _ (λ v rest. n.0)
-    act_stays (Some (instr.AddTo k)) n = top _ (λ v rest. names n.0 (slice_get code.reducers k) v rest)
+    act_stays (Some (instr.Reduce k)) n = top _ (λ v rest. names n.0 (slice_get (reducer_names code.reducers) k) v rest)
     act_stays (Some instr.ReturnValue) n = top _ (λ v rest. returns s.around refl (Some v) _ _)
     act_stays (Some instr.Return) n = returns s.around refl None _ _
 

@@ -3,7 +3,7 @@ use Rattle.std.proofs.Common.{◌≡◌, ℕ, ◌+◌, ◌-◌, ◌≤◌, nat_l
 use Rattle.std.proofs.lemmas.List.{length-map}
 use Rattle.std.proofs.lemmas.List.Elements.{All-cons}
 use Rattle.cw_model.specs.Lines.{unless}
-use Rattle.cw_model.specs.Syntax.{Name, Param, Reducer, Stmt, Declare, DeclareArray, Assign, AssignElement, AddTo, Call, Start, Begin, Sync, If, IfElse, While, For, Scope, Cut, Region, Print, Return, Block, End, Then, Program}
+use Rattle.cw_model.specs.Syntax.{Name, Param, Reducer, Stmt, Declare, DeclareArray, Assign, AssignElement, Reduce, Call, Start, Begin, Sync, If, IfElse, While, For, Scope, Cut, Region, Print, Return, Block, End, Then, Program}
 use Rattle.cw_model.specs.Syntax as model
 use Rattle.cw_model.specs.declared.limits.TheConstants.{MOST_PARAMETERS, MOST_DECLARED, MOST_TAG_BYTES}
 use Rattle.cw_model.specs.Sizes.{declaring_lines, declaring_lines_in, function_limits, limit_faults, lines_beyond, first_places, regions_of}
@@ -21,7 +21,7 @@ mutual
   as_many_here line (DeclareArray x e) = omega arith
   as_many_here line (Assign x e) = omega arith
   as_many_here line (AssignElement x i e) = omega arith
-  as_many_here line (AddTo x e) = omega arith
+  as_many_here line (Reduce how x e) = omega arith
   as_many_here line (Call kind site target f es) = omega arith
   as_many_here line (Start kind f es) = omega arith
   as_many_here line (Begin f from to captured over) = omega arith

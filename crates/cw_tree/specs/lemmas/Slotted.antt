@@ -13,7 +13,7 @@ ints_after l (model.Declare x e) = let one = one_more l.ints x in omega (arith, 
 ints_after l (model.DeclareArray a e) = omega arith
 ints_after l (model.Assign x e) = omega arith
 ints_after l (model.AssignElement a i e) = omega arith
-ints_after l (model.AddTo s e) = omega arith
+ints_after l (model.Reduce how s e) = omega arith
 ints_after l (model.Call kind site target f es) = omega arith
 ints_after l (model.Start kind f es) = omega arith
 ints_after l (model.Begin f from to captured over) = omega arith
@@ -34,7 +34,7 @@ arrays_after l (model.Declare x e) = omega arith
 arrays_after l (model.DeclareArray a e) = let one = one_more l.arrays a in omega (arith, one)
 arrays_after l (model.Assign x e) = omega arith
 arrays_after l (model.AssignElement a i e) = omega arith
-arrays_after l (model.AddTo s e) = omega arith
+arrays_after l (model.Reduce how s e) = omega arith
 arrays_after l (model.Call kind site target f es) = omega arith
 arrays_after l (model.Start kind f es) = omega arith
 arrays_after l (model.Begin f from to captured over) = omega arith
@@ -56,7 +56,7 @@ mutual
   few_ints lists l n (model.DeclareArray a e) = omega arith
   few_ints lists l n (model.Assign x e) = omega arith
   few_ints lists l n (model.AssignElement a i e) = omega arith
-  few_ints lists l n (model.AddTo s e) = omega arith
+  few_ints lists l n (model.Reduce how s e) = omega arith
   few_ints lists l n (model.Call kind site target f es) = omega arith
   few_ints lists l n (model.Start kind f es) = omega arith
   few_ints lists l n (model.Begin f from to captured over) = omega arith
@@ -94,7 +94,7 @@ mutual
   few_arrays lists l n (model.DeclareArray a e) = omega arith
   few_arrays lists l n (model.Assign x e) = omega arith
   few_arrays lists l n (model.AssignElement a i e) = omega arith
-  few_arrays lists l n (model.AddTo s e) = omega arith
+  few_arrays lists l n (model.Reduce how s e) = omega arith
   few_arrays lists l n (model.Call kind site target f es) = omega arith
   few_arrays lists l n (model.Start kind f es) = omega arith
   few_arrays lists l n (model.Begin f from to captured over) = omega arith

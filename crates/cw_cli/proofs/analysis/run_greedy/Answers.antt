@@ -15,7 +15,7 @@ returns-in_err-schedule g c = λ bytes is compiled_given.
     let compiled : IsCompiled bytes (code_view given.code) = subst (λ v. IsCompiled bytes (code_view v.code)) (sym same) compiled_given in
     let ran : SchedulesAsCode (code_view given.code) c.args.args.now c.args.options.limit c.args.processors c.schedule_alone-told.result = c.schedule_alone-told.ensures in
     let over = c.if-options-gt-MOST_BURDEN.false in
-    let low : c.args.options.burden ≤ MOST_BURDEN = omega (arith, over) in
+    let low : c.args.options.burden.charge ≤ MOST_BURDEN = omega (arith, over) in
     handed_on _ _ _ c.from_residual-in_err-schedule.result
     (unwritten bytes c.args.args.now c.are_words.ensures c.args.options _ compiled _ _ _ (schedule_tells bytes c.args.args.now c.are_words.ensures c.args.options _ compiled c.args.processors is low) g.W.Sink.seen c.args.out.now c.schedule.new.to c.schedule_alone-told.result ran c.in_err-schedule.ensures.idle _ c.in_err-schedule.ensures.answers)
     c.from_residual-in_err-schedule.ensures.1
@@ -27,7 +27,7 @@ returns-in_err-told g c = λ bytes is compiled_given.
     let compiled : IsCompiled bytes (code_view given.code) = subst (λ v. IsCompiled bytes (code_view v.code)) (sym same) compiled_given in
     let ran : SchedulesAsCode (code_view given.code) c.args.args.now c.args.options.limit c.args.processors c.schedule_alone-told.result = c.schedule_alone-told.ensures in
     let over = c.if-options-gt-MOST_BURDEN.false in
-    let low : c.args.options.burden ≤ MOST_BURDEN = omega (arith, over) in
+    let low : c.args.options.burden.charge ≤ MOST_BURDEN = omega (arith, over) in
     let was : c.schedule_alone-told.result ≡ Err c.in_err-told.field-0.0 = c.in_err-told.was in
     handed_on _ _ _ c.from_residual-in_err-told.result
     (stopped bytes c.args.args.now c.are_words.ensures c.args.options _ compiled _ _ _ (schedule_tells bytes c.args.args.now c.are_words.ensures c.args.options _ compiled c.args.processors is low) g.W.Sink.seen c.args.out.now c.schedule.new.to c.schedule_alone-told.result _ was ran c.in_ok-schedule.ensures.answers c.in_ok-schedule.ensures.idle)
@@ -40,6 +40,6 @@ returns g c = λ bytes is compiled_given.
     let compiled : IsCompiled bytes (code_view given.code) = subst (λ v. IsCompiled bytes (code_view v.code)) (sym same) compiled_given in
     let ran : SchedulesAsCode (code_view given.code) c.args.args.now c.args.options.limit c.args.processors c.schedule_alone-told.result = c.schedule_alone-told.ensures in
     let over = c.if-options-gt-MOST_BURDEN.false in
-    let low : c.args.options.burden ≤ MOST_BURDEN = omega (arith, over) in
+    let low : c.args.options.burden.charge ≤ MOST_BURDEN = omega (arith, over) in
     let was : c.schedule_alone-told.result ≡ Ok c.in_ok-told.field-0 = c.in_ok-told.was in
     finished bytes c.args.args.now c.are_words.ensures c.args.options _ compiled _ _ _ (schedule_tells bytes c.args.args.now c.are_words.ensures c.args.options _ compiled c.args.processors is low) g.W.Sink.seen c.args.out.now c.schedule.new.to c.schedule_alone-told.result _ was ran c.in_ok-schedule.ensures.answers c.in_ok-schedule.ensures.idle

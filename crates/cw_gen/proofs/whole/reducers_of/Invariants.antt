@@ -1,8 +1,7 @@
 use Rattle.std.proofs.Common.{◌≡◌, ◌++◌}
-use Rattle.std.specs.Prelude.{drop, map}
-use Rattle.cw_tree.specs.Resolved.{reducer_names}
-use Rattle.cw_tree.specs.ResolvedView as view
+use Rattle.std.specs.Prelude.{drop}
+use Rattle.cw_gen.specs.Written.{kept_reducers}
 use Rattle.cw_gen.proofs.whole.reducers_of.Given as goal
 
 abbrev pub invariant-loop-r : goal.invariant-loop-r
-invariant-loop-r l = l.names.items ++ reducer_names (map view.reducer_of (drop l.r-index l.reducers)) ≡ reducer_names (map view.reducer_of l.reducers)
+invariant-loop-r l = l.kept.items ++ kept_reducers (drop l.r-index l.reducers) ≡ kept_reducers l.reducers

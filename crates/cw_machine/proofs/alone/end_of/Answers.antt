@@ -15,7 +15,7 @@ returns c =
     record {
       value = same ∙ c.int_given.ensures;
       lines = refl;
-      sums = refl;
+      totals = refl;
       all = all;
       reads = subst (λ k. Reads m c.args.shown.cost (k + 1) (length code.tags.items) all) sites (subst (λ k. Reads m c.args.shown.cost (c.len-sites.result + 1) k all) tags c.in_ok-all.ensures.reads);
       counted = c.in_ok-all.ensures.counted;

@@ -1,7 +1,9 @@
-use Rattle.std.proofs.Common.{arith, ◌≡◌, ℕ, ◌+◌, ℤ, List, ◌≤◌, [], ◌∙◌, length, map, true, sym, ap, subst}
+use Rattle.std.proofs.Common.{arith, ◌≡◌, ℕ, ℤ, List, ◌≤◌, [], ◌∙◌, length, true, sym, subst}
 use Rattle.std.specs.Coded.{le_prop}
 use Rattle.std.proofs.Math.Bool.{Bool-set}
 use Rattle.std.proofs.Math.Logic.{∥∥₁_elim, ∥∥₁_map}
+use Rattle.cw_model.specs.declared.burden.Burden.{Burden}
+use Rattle.cw_code.specs.declared.code.Reducer.{Reducer}
 use Rattle.cw_code.specs.declared.code.Func.{Func}
 use Rattle.cw_code.specs.Code.{code_view}
 use Rattle.cw_code.specs.Run.{first_state, code_serial}
@@ -15,8 +17,8 @@ use Rattle.cw_machine.proofs.Metering.{gauge_of}
 use Rattle.cw_machine.proofs.FromMain.{IsEnded-prop, shown_by, told, is_over, was_over, IsTrapped-prop, was_trapped, requested, asked_count, asked_limit, asked_burden, main_there, main_has_room, main_room, main_frame, first_run, ended, over, trapped}
 use Rattle.cw_machine.proofs.alone.run_alone.Goals as goal
 
--- a new run has main's room and a sum for each reducer
-is_new : {f : Func} {args : List ℤ} {room room' reducers reducers' burden : ℕ} {r : Run} → room ≡ room' → reducers ≡ reducers' → IsNewRun f args room reducers burden r → IsNewRun f args room' reducers' burden r
+-- a new run has main's room and a total for each reducer
+is_new : {f : Func} {args : List ℤ} {room room' : ℕ} {reducers reducers' : List Reducer} {burden : Burden} {r : Run} → room ≡ room' → reducers ≡ reducers' → IsNewRun f args room reducers burden r → IsNewRun f args room' reducers' burden r
 is_new {f} {args} {room} {room'} {reducers} {reducers'} {burden} {r} e e' new = subst (λ k. IsNewRun f args k reducers' burden r) e (subst (λ k. IsNewRun f args room k burden r) e' new)
 
 pub func-f-requires : goal.func-f-requires
@@ -44,7 +46,7 @@ go-stop-requires-clause-running c =
     let asked : is_asked f.params (length args) n burden ≡ true = sym c.is_asked.ensures ∙ c.if-not-is_asked.false in
     let count = asked_count f args n burden asked in
     let light = asked_burden f args n burden asked in
-    let made : IsNewRun f args (room_of v.rooms.items v.code.main) (length v.code.reducers.items) burden c.in_ok-run.run' = is_new c.room.ensures (c.len.ensures ∙ v.code.reducers.ok.0) c.in_ok-run.ensures in
+    let made : IsNewRun f args (room_of v.rooms.items v.code.main) v.code.reducers.items burden c.in_ok-run.run' = is_new c.room.ensures c.as_slice.ensures.value c.in_ok-run.ensures in
     ∥∥₁_map v.ok (λ ok. record { verified = ok; burden = burden; light = light; state = first_state f args []; shows = first_run v ok (gauge_of v ok burden light) f args c.in_ok-run.run' c.func-f.ensures count made })
 
 pub go-stop-requires-clause-small : goal.go-stop-requires-clause-small
@@ -70,7 +72,7 @@ returns-in-Gave c =
     let asked : is_asked f.params (length args) n burden ≡ true = sym c.is_asked.ensures ∙ c.if-not-is_asked.false in
     let many = asked_count f args n burden asked in
     let light = asked_burden f args n burden asked in
-    let made : IsNewRun f args (room_of v.rooms.items v.code.main) (length v.code.reducers.items) burden c.in_ok-run.run' = is_new c.room.ensures (c.len.ensures ∙ v.code.reducers.ok.0) c.in_ok-run.ensures in
+    let made : IsNewRun f args (room_of v.rooms.items v.code.main) v.code.reducers.items burden c.in_ok-run.run' = is_new c.room.ensures c.as_slice.ensures.value c.in_ok-run.ensures in
     let serial = code_serial code args n in
     let e = c.in_ok-ended-in-Gave.ended in
     let end = c.in_ok-ended-in-Gave.ensures in
@@ -93,7 +95,7 @@ returns-in-On c =
     let asked : is_asked f.params (length args) n burden ≡ true = sym c.is_asked.ensures ∙ c.if-not-is_asked.false in
     let many = asked_count f args n burden asked in
     let light = asked_burden f args n burden asked in
-    let made : IsNewRun f args (room_of v.rooms.items v.code.main) (length v.code.reducers.items) burden c.in_ok-run.run' = is_new c.room.ensures (c.len.ensures ∙ v.code.reducers.ok.0) c.in_ok-run.ensures in
+    let made : IsNewRun f args (room_of v.rooms.items v.code.main) v.code.reducers.items burden c.in_ok-run.run' = is_new c.room.ensures c.as_slice.ensures.value c.in_ok-run.ensures in
     let serial = code_serial code args n in
     let e : is_over serial ≡ true = ∥∥₁_elim v.ok (hlevel Bool-set) (λ ok.
     let g = gauge_of v ok burden light in
@@ -114,7 +116,7 @@ returns-in-Trapped c =
     let asked : is_asked f.params (length args) n burden ≡ true = sym c.is_asked.ensures ∙ c.if-not-is_asked.false in
     let many = asked_count f args n burden asked in
     let light = asked_burden f args n burden asked in
-    let made : IsNewRun f args (room_of v.rooms.items v.code.main) (length v.code.reducers.items) burden c.in_ok-run.run' = is_new c.room.ensures (c.len.ensures ∙ v.code.reducers.ok.0) c.in_ok-run.ensures in
+    let made : IsNewRun f args (room_of v.rooms.items v.code.main) v.code.reducers.items burden c.in_ok-run.run' = is_new c.room.ensures c.as_slice.ensures.value c.in_ok-run.ensures in
     let serial = code_serial code args n in
     let trap = c.in-Trapped.trap in
     let line = c.in-Trapped.line in

@@ -1,9 +1,8 @@
-use Rattle.std.proofs.Common.{◌≡◌, ℕ, ℤ, List, subst}
+use Rattle.std.proofs.Common.{subst}
 use Rattle.std.specs.Coded.{le_prop}
 use Rattle.std.proofs.Math.Bool.{Bool-set}
 use Rattle.std.proofs.Math.Logic.{∥∥₁_elim}
 use Rattle.cw_jobs.specs.declared.effect.Effect.{Effect}
-use Rattle.cw_jobs.specs.declared.job.Job as jobs
 use Rattle.cw_jobs.specs.Means.{IsMeaningOf}
 use Rattle.cw_machine.proofs.RootEnds.{ended_as_code, trapped_as_code, over_as_code, comes_to_no_join}
 use Rattle.cw_machine.proofs.answering.answer.Goals as goal

@@ -1,6 +1,7 @@
 use Rattle.std.proofs.Common.{◌≡◌, ℕ, ℤ, List, [], ◌∙◌, length, true, sym, ap, subst}
 use Rattle.std.proofs.Math.Bool.{Bool-set}
 use Rattle.std.proofs.Math.Logic.{∥∥₁_elim, ∥∥₁_map}
+use Rattle.cw_model.specs.Burdens.{no_burden}
 use Rattle.cw_code.specs.Code.{code_view}
 use Rattle.cw_code.specs.Fits.{main_params}
 use Rattle.cw_code.specs.Run.{first_state, code_serial}
@@ -21,8 +22,8 @@ use Rattle.cw_machine.proofs.Strands.{IsRecorded-prop, was_recorded, recorded}
 use Rattle.cw_machine.proofs.recorded.strands_alone.Goals as goal
 
 -- the test is that of the request
-asked_as : (v : Verified) (args : List ℤ) (params n : ℕ) → params ≡ main_params (code_view v.code) → is_asked params (length args) n 0 ≡ true → is_request (code_view v.code) args n 0 ≡ true
-asked_as v args params n e h = ap (λ k. is_asked k (length args) n 0) (sym e) ∙ h
+asked_as : (v : Verified) (args : List ℤ) (params n : ℕ) → params ≡ main_params (code_view v.code) → is_asked params (length args) n no_burden ≡ true → is_request (code_view v.code) args n no_burden ≡ true
+asked_as v args params n e h = ap (λ k. is_asked k (length args) n no_burden) (sym e) ∙ h
 
 -- a machine where main begins, and a recorder that was told of nothing
 begins : (v : Verified) (ok : IsFit v) (main : Main v) (args : List ℤ) (r : Recording) → BeginsRun v args r.machine → parts.Starts r.recorder → ShowsRecording v (from_main v ok) 0 r (first_state main.func args [])
@@ -35,7 +36,7 @@ came v ok main args n count r r' to to' machine recorder runs is = subst (λ x. 
 pub begun-requires : goal.begun-requires
 begun-requires c =
     let args = c.args.args.now in
-    as_many_asked c.main_takes.result args c.args.n 0 (sym c.is_asked.ensures ∙ c.if-not-is_asked.false) ∙ c.main_takes.ensures
+    as_many_asked c.main_takes.result args c.args.n no_burden (sym c.is_asked.ensures ∙ c.if-not-is_asked.false) ∙ c.main_takes.ensures
 
 pub go-stop-requires-clause-running : goal.go-stop-requires-clause-running
 go-stop-requires-clause-running c =
@@ -54,9 +55,9 @@ returns-in-Gave c =
     let kept = c.in_ok-kept-in-Gave.kept in
     let is = was_recorded kept serial (∥∥₁_elim v.ok (IsRecorded-prop kept serial) (λ ok.
     let main = main_of v ok in
-    recorded v main.func args n c.go-stop.result.1 r main.found (asked_of v main args n 0 asked) ok c.in-Gave.field-0 kept c.in_ok-kept-in-Gave.ensures (came v ok main args n c.go-stop.result.1 _ r _ _ c.in_ok-machine.ensures c.new.ensures c.go-stop.ensures c.in-Gave.is))) in
+    recorded v main.func args n c.go-stop.result.1 r main.found (asked_of v main args n no_burden asked) ok c.in-Gave.field-0 kept c.in_ok-kept-in-Gave.ensures (came v ok main args n c.go-stop.result.1 _ r _ _ c.in_ok-machine.ensures c.new.ensures c.go-stop.ensures c.in-Gave.is))) in
     subst (λ (w : Verified). Records (code_view w.code) args n kept) c.deref-verified.ensures
-    (record { asked = asked; value = is.value; lines = is.lines; sums = is.sums; tree = is.tree; answer = is.answer; is_kept = is.is_kept })
+    (record { asked = asked; value = is.value; lines = is.lines; totals = is.totals; tree = is.tree; answer = is.answer; is_kept = is.is_kept })
 
 pub returns-in-On : goal.returns-in-On
 returns-in-On c =
@@ -69,8 +70,8 @@ returns-in-On c =
     let serial = code_serial code args n in
     let e : is_over serial ≡ true = ∥∥₁_elim v.ok (hlevel Bool-set) (λ ok.
     let main = main_of v ok in
-    passed v main.func args n 0 r.machine main.found (asked_of v main args n 0 asked) ok (by_machine v (from_main v ok) moved.On r c.go-stop.result.1 n (first_state main.func args []) (came v ok main args n c.go-stop.result.1 _ r _ _ c.in_ok-machine.ensures c.new.ensures c.go-stop.ensures c.in-On.is))) in
-    subst (λ (w : Verified). IsFailure (code_view w.code) args n 0 fault.OverLimit) c.deref-verified.ensures (asked, was_over serial e)
+    passed v main.func args n no_burden r.machine main.found (asked_of v main args n no_burden asked) ok (by_machine v (from_main v ok) moved.On r c.go-stop.result.1 n (first_state main.func args []) (came v ok main args n c.go-stop.result.1 _ r _ _ c.in_ok-machine.ensures c.new.ensures c.go-stop.ensures c.in-On.is))) in
+    subst (λ (w : Verified). IsFailure (code_view w.code) args n no_burden fault.OverLimit) c.deref-verified.ensures (asked, was_over serial e)
 
 pub returns-in-Trapped : goal.returns-in-Trapped
 returns-in-Trapped c =
@@ -87,5 +88,5 @@ returns-in-Trapped c =
     let lines = m.lines.items in
     let e = was_trapped trap line lines serial (∥∥₁_elim v.ok (IsTrapped-prop trap line lines serial) (λ ok.
     let main = main_of v ok in
-    stopped v main.func args n 0 m main.found (asked_of v main args n 0 asked) ok trap line (by_machine v (from_main v ok) (moved.Trapped trap line) r c.go-stop.result.1 n (first_state main.func args []) (came v ok main args n c.go-stop.result.1 _ r _ _ c.in_ok-machine.ensures c.new.ensures c.go-stop.ensures c.in-Trapped.is)))) in
-    subst (λ (w : Verified). IsFailure (code_view w.code) args n 0 (fault.Trap trap line m.lines)) c.deref-verified.ensures (asked, e)
+    stopped v main.func args n no_burden m main.found (asked_of v main args n no_burden asked) ok trap line (by_machine v (from_main v ok) (moved.Trapped trap line) r c.go-stop.result.1 n (first_state main.func args []) (came v ok main args n c.go-stop.result.1 _ r _ _ c.in_ok-machine.ensures c.new.ensures c.go-stop.ensures c.in-Trapped.is)))) in
+    subst (λ (w : Verified). IsFailure (code_view w.code) args n no_burden (fault.Trap trap line m.lines)) c.deref-verified.ensures (asked, e)

@@ -2,6 +2,7 @@ use Rattle.std.proofs.Common.{rules, ◌≡◌, ℕ, ℤ, List, [], ◌∙◌, l
 use Rattle.std.proofs.Math.Bool.{Bool-set}
 use Rattle.std.proofs.Math.Logic.{∥∥₁_elim, ∥∥₁_map}
 use Rattle.std.proofs.lemmas.Int.{to_z-of_z}
+use Rattle.cw_model.specs.declared.burden.Burden.{Burden}
 use Rattle.cw_code.specs.Code.{code_view}
 use Rattle.cw_code.specs.Fits.{main_params}
 use Rattle.cw_code.specs.Run.{first_state, code_serial}
@@ -19,7 +20,7 @@ use Rattle.cw_machine.proofs.Given.{IsGiven-prop, is_given, gave, passed, stoppe
 use Rattle.cw_machine.proofs.values.values_alone.Goals as goal
 
 -- the test is that of the request
-asked_as : (v : Verified) (args : List ℤ) (params n burden : ℕ) → params ≡ main_params (code_view v.code) → is_asked params (length args) n burden ≡ true → is_request (code_view v.code) args n burden ≡ true
+asked_as : (v : Verified) (args : List ℤ) (params n : ℕ) (burden : Burden) → params ≡ main_params (code_view v.code) → is_asked params (length args) n burden ≡ true → is_request (code_view v.code) args n burden ≡ true
 asked_as v args params n burden e h = ap (λ k. is_asked k (length args) n burden) (sym e) ∙ h
 
 -- what a run from where main begins came to
@@ -47,7 +48,7 @@ returns-in-Gave c =
     let asked = asked_as v args c.main_takes.result n burden c.main_takes.ensures (sym c.is_asked.ensures ∙ c.if-not-is_asked.false) in
     let serial = code_serial code args n in
     let same : to_z w64 (of_z w64 c.int_given.result) ≡ c.int_given.result = search (rules, to_z-of_z) in
-    let e : Values = record { value = to_z w64 (of_z w64 c.int_given.result); lines = m.lines; sums = m.sums } in
+    let e : Values = record { value = to_z w64 (of_z w64 c.int_given.result); lines = m.lines; totals = m.totals } in
     let is = is_given e serial (∥∥₁_elim v.ok (IsGiven-prop e serial) (λ ok.
     let main = main_of v ok in
     gave v main.func args n burden m main.found (asked_of v main args n burden asked) ok c.in-Gave.value e (same ∙ c.int_given.ensures) refl refl (came v ok main args n c.in_ok-machine.machine m _ _ c.in_ok-machine.ensures c.run.ensures c.in-Gave.is))) in

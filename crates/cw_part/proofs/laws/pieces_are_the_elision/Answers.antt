@@ -4,5 +4,5 @@ use Rattle.cw_part.proofs.laws.pieces_are_the_elision.Goals as goal
 pub returns : goal.returns
 returns c = record {
   answer = told.pieces_are_the_elision c.measures_read_trees.ensures c.normal_form_reads_the_same.ensures;
-  sums = told.additions_are_sums c.sums_hold_integers.ensures;
+  totals = told.updates_are_totals c.sums_hold_integers.ensures;
 }

@@ -1,4 +1,5 @@
 use Rattle.std.proofs.Common.{rules, refl, ◌≡◌, true, false, sym, ◌∙◌, subst}
+use Rattle.cw_model.specs.Burdens.{no_burden}
 use Rattle.cw_code.specs.Code.{code_view}
 use Rattle.cw_text.specs.declared.fault.Fault.TheVariants as fault
 use Rattle.cw_verify.specs.declared.verified.Verified.{Verified}
@@ -20,7 +21,7 @@ returns-in_err-whole c =
     let code = code_view c.args.code.value.code in
     let asked = subst (λ (w : Verified). is_asked (code_view w.code) c.args.args.now c.args.n c.args.processors ≡ true) c.deref.ensures (sym c.is_asked.ensures ∙ c.if-not-is_asked.false) in
     handed_on _ _ c.in_err-whole.field-0.0 c.from_residual-in_err-whole.result
-    (not_scheduled code c.args.args.now c.args.n c.args.processors c.in_err-whole.field-0.0 asked (subst (λ (w : Verified). IsFailure (code_view w.code) c.args.args.now c.args.n 0 c.in_err-whole.field-0.0) c.in_ok-share.ensures c.in_err-whole.ensures)) c.from_residual-in_err-whole.ensures.1
+    (not_scheduled code c.args.args.now c.args.n c.args.processors c.in_err-whole.field-0.0 asked (subst (λ (w : Verified). IsFailure (code_view w.code) c.args.args.now c.args.n no_burden c.in_err-whole.field-0.0) c.in_ok-share.ensures c.in_err-whole.ensures)) c.from_residual-in_err-whole.ensures.1
 
 pub returns : goal.returns
 returns c =

@@ -1,4 +1,4 @@
-use Rattle.std.proofs.Common.{sym, subst}
+use Rattle.std.proofs.Common.{subst}
 use Rattle.cw_strand.specs.Giving.{HasTaken}
 use Rattle.cw_strand.proofs.giving.join_rest.Goals as goal
 
@@ -6,7 +6,7 @@ pub returns : goal.returns
 returns c = record {
   given = c.give_rest.new.self;
   gives = c.give_rest.ensures.shows;
-  takes = subst (λ l. HasTaken c.give_rest.new.self l c.args.shown.sums.items c.take_shown.new.machine) c.as_slice.ensures.value
+  takes = subst (λ l. HasTaken c.give_rest.new.self l c.args.shown.totals.items c.take_shown.new.machine) c.as_slice.ensures.value
       (subst (λ l. HasTaken c.give_rest.new.self c.as_slice.result.now l c.take_shown.new.machine) c.as_slice-2.ensures.value c.in_ok-take_shown.ensures);
   rests = c.in_ok-rest.ensures;
 }

@@ -13,7 +13,7 @@ loop-reducer-preserved c =
     let item : Reducer = parsed.reducer_of c.reducer-item.result in
     let split : map parsed.reducer_of (drop c.loop-reducer.reducer-index c.args.reducers.now) ≡ item ∷ rest = grind (arith, common_steps) in
     ap (λ ps. map reducer_of ps ++ rest) c.in_ok-push.ensures.items
-    ∙ map_pushed reducer_of c.loop-reducer.found.items (record { name = c.in_ok-name.name; line = c.reducer-item.result.line }) rest
-    ∙ ap (λ (x : List ℕ). found ++ (record { name = x; line = c.reducer-item.result.line }) ∷ rest) c.in_ok-name.ensures
+    ∙ map_pushed reducer_of c.loop-reducer.found.items (record { name = c.in_ok-name.name; how = c.reducer-item.result.how; line = c.reducer-item.result.line }) rest
+    ∙ ap (λ (x : List ℕ). found ++ (record { name = x; how = c.reducer-item.result.how; line = c.reducer-item.result.line }) ∷ rest) c.in_ok-name.ensures
     ∙ ap (λ (rs : List Reducer). found ++ rs) (sym split)
     ∙ c.loop-reducer.invariant

@@ -1,9 +1,11 @@
-use Rattle.std.proofs.Common.{ap, sym, ◌∙◌, subst}
+use Rattle.std.proofs.Common.{◌≡◌, length, arith, ap, sym, ◌∙◌, subst}
 use Rattle.cw_board.specs.Boards.{lowered}
+use Rattle.cw_board.specs.Falls.{length-lowered}
+use Rattle.cw_board.proofs.Slots.{written}
 use Rattle.cw_board.specs.contracts.board.Board.{the_invariant, the_view}
 use Rattle.cw_board.proofs.Halves.{opened_right, opened_shows, room_shown, owed_tells, owed_shows}
 use Rattle.cw_board.proofs.board.Board.lower.Goals as goal
-use Rattle.cw_board.proofs.board.Board.lower.Goals.{in-Free, in-Ready, in-Halves}
+use Rattle.cw_board.proofs.board.Board.lower.Goals.{in-Block, in-Halves}
 
 pub owe-requires-clause-room : goal.owe-requires-clause-room
 owe-requires-clause-room c =
@@ -13,8 +15,7 @@ owe-requires-clause-room c =
 pub invariant_of-self : goal.invariant_of-self
 invariant_of-self c =
     elim c.match-self.branch [
-      | in-Free w ↦ subst the_invariant (sym w.self-inside-is) c.self.invariant
-      | in-Ready w ↦ subst the_invariant (sym w.self-inside-is) tt
+      | in-Block w ↦ subst the_invariant (sym w.self-inside-is) tt
       | in-Halves w ↦
           let tells = opened_right c.self.invariant w.in-Halves.is in
           subst the_invariant (sym w.self-inside-is)
@@ -26,10 +27,13 @@ invariant_of-self c =
 pub returns : goal.returns
 returns c =
     elim c.match-self.branch [
-      | in-Free w ↦
-          let shows = opened_shows c.self.view_is w.in-Free.is in
-          ap the_view w.self-inside-is ∙ c.self.view_is ∙ sym shows ∙ ap (lowered c.args.by) shows
-      | in-Ready w ↦ ap the_view w.self-inside-is ∙ ap (lowered c.args.by) (opened_shows c.self.view_is w.in-Ready.is)
+      | in-Block w ↦
+          let same : w.deref_mut.result.now ≡ w.in-Block.places.items = cc in
+          let shown = same ∙ opened_shows c.self.view_is w.in-Block.is in
+          let low = w.lower_all.ensures ∙ ap (lowered c.args.by) shown in
+          let long : w.in-Block.places.len ≡ length w.lower_all.new.places =
+          omega (arith, ap length w.lower_all.ensures, length-lowered c.args.by w.deref_mut.result.now, ap length same) in
+          ap the_view w.self-inside-is ∙ written w.in-Block.places.len w.lower_all.new.places w.in-Block.places.items long ∙ low
       | in-Halves w ↦
           ap the_view w.self-inside-is
           ∙ owed_shows w.in-Halves.field-0.value w.in-Halves.field-1.value w.in-Halves.told w.owe.new.self c.args.by c.args.self.now w.owe.ensures

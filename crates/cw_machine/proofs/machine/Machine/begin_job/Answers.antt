@@ -1,4 +1,3 @@
-use Rattle.std.proofs.Common.{◌∙◌}
 use Rattle.cw_machine.proofs.JobBegins.{has_begun, begun_job}
 use Rattle.cw_machine.proofs.machine.Machine.begin_job.Goals as goal
 
@@ -6,4 +5,4 @@ pub returns-clause-begins : goal.returns-clause-begins
 returns-clause-begins c =
     let v = c.args.code.now in
     begun_job v c.args.rest.now c.move_in.new.self
-    (has_begun v c.args.rest.now v.most_room c.len-reducers.result c.in_ok-machine.machine c.move_in.new.self v.most (c.len-reducers.ensures ∙ v.code.reducers.ok.0) c.in_ok-machine.ensures c.move_in.ensures.slices c.move_in.ensures.all)
+    (has_begun v c.args.rest.now v.most_room c.as_slice-reducers.result.now c.in_ok-machine.machine c.move_in.new.self v.most c.as_slice-reducers.ensures.value c.in_ok-machine.ensures c.move_in.ensures.slices c.move_in.ensures.all)

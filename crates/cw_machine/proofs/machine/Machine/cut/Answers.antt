@@ -75,4 +75,4 @@ returns c = λ ok s is shows may.
     let e_views = c.set_view-2.ensures.views ∙ ap (λ f. slice_set c.set_view.new.self.views.items (q + c.args.h.now.right) (record { block = c.view-v.result.block; from = f; len = c.view-v.result.len - c.in-Ok.k })) c.beyond-from.ensures ∙ ap (λ l. slice_set l (q + c.args.h.now.right) (record { block = c.view-v.result.block; from = c.view-v.result.from + c.in-Ok.k; len = c.view-v.result.len - c.in-Ok.k })) c.set_view.ensures.views
     ∙ ap (λ (w : View). slice_set (slice_set c.args.self.now.views.items (q + c.args.h.now.left) (record { block = w.block; from = w.from; len = c.in-Ok.k })) (q + c.args.h.now.right) (record { block = w.block; from = w.from + c.in-Ok.k; len = w.len - c.in-Ok.k })) c.view-v.ensures in
     moves.cut_follows c.args._code.now ok c.args.self.now s shows may c.args.d c.args.line c.args.h.now c.get.result c.in-Ok.k _ is c.get.ensures (omega (arith, le, len)) (subst (λ (z : ℤ). CutsAs z (view c.args.self.now.views.items (c.args.self.now.first_array + c.args.h.now.array)).len (Value (pos c.in-Ok.k))) same comes) e_views (rest'.cuts ∙ rest.cuts ∙ c.in-Ok-push.ensures.items)
-    (moves.kept c.args._code.now ok c.args.self.now s shows _ c.args.self.now.cells.items (c.args.self.now.place + 1) (rest'.cells ∙ rest.cells) (ap (λ p. p + 1) (rest'.place ∙ rest.place)) (record { first = rest'.first ∙ rest.first; frames = rest'.frames ∙ rest.frames; lines = rest'.lines ∙ rest.lines; views = refl; blocks = c.set_view-2.ensures.blocks ∙ c.set_view.ensures.blocks; first_array = rest'.first_array ∙ rest.first_array; depth = rest'.depth ∙ rest.depth; sums = rest'.sums ∙ rest.sums; cuts = refl }))
+    (moves.kept c.args._code.now ok c.args.self.now s shows _ c.args.self.now.cells.items (c.args.self.now.place + 1) (rest'.cells ∙ rest.cells) (ap (λ p. p + 1) (rest'.place ∙ rest.place)) (record { first = rest'.first ∙ rest.first; frames = rest'.frames ∙ rest.frames; lines = rest'.lines ∙ rest.lines; views = refl; blocks = c.set_view-2.ensures.blocks ∙ c.set_view.ensures.blocks; first_array = rest'.first_array ∙ rest.first_array; depth = rest'.depth ∙ rest.depth; totals = rest'.totals ∙ rest.totals; cuts = refl }))

@@ -47,4 +47,4 @@ returns c = λ ok s is shows may.
     let l = length-append cells (x ∷ []) in
     let is : c.set_view-2.new.self.cuts.len - 1 ≡ length cells = omega (arith, n, m, l) in
     c.pop-cut.ensures.rest ∙ ap (λ z. take (c.set_view-2.new.self.cuts.len - 1) z) (rest'.cuts ∙ rest.cuts ∙ e) ∙ but_last cells x (c.set_view-2.new.self.cuts.len - 1) is)
-    (moves.kept c.args._code.now ok c.args.self.now s shows _ c.args.self.now.cells.items (c.args.self.now.place + 1) (rest'.cells ∙ rest.cells) (ap (λ p. p + 1) (rest'.place ∙ rest.place)) (record { first = rest'.first ∙ rest.first; frames = rest'.frames ∙ rest.frames; lines = rest'.lines ∙ rest.lines; views = refl; blocks = c.set_view-2.ensures.blocks ∙ c.set_view.ensures.blocks; first_array = rest'.first_array ∙ rest.first_array; depth = rest'.depth ∙ rest.depth; sums = rest'.sums ∙ rest.sums; cuts = refl }))
+    (moves.kept c.args._code.now ok c.args.self.now s shows _ c.args.self.now.cells.items (c.args.self.now.place + 1) (rest'.cells ∙ rest.cells) (ap (λ p. p + 1) (rest'.place ∙ rest.place)) (record { first = rest'.first ∙ rest.first; frames = rest'.frames ∙ rest.frames; lines = rest'.lines ∙ rest.lines; views = refl; blocks = c.set_view-2.ensures.blocks ∙ c.set_view.ensures.blocks; first_array = rest'.first_array ∙ rest.first_array; depth = rest'.depth ∙ rest.depth; totals = rest'.totals ∙ rest.totals; cuts = refl }))

@@ -46,4 +46,4 @@ returns-in-Ok-renew c = λ ok s is shows may.
     let e_views = c.set_view.ensures.views ∙ ap (λ l. slice_set l at (record { block = at; from = 0; len = c.in-Ok.len })) renewed.views in
     let e_blocks = c.set_view.ensures.blocks ∙ renewed.blocks in
     moves.new_follows c.args._code.now ok c.args.self.now s shows may c.args.d c.args.a c.args.line c.get.result c.in-Ok.len renewed.zeros _ c.in-Ok.ensures.small renewed.are is c.get.ensures (sym (ap new_length same) ∙ c.in-Ok.ensures.length) e_views e_blocks
-    (moves.kept c.args._code.now ok c.args.self.now s shows _ c.args.self.now.cells.items (c.args.self.now.place + 1) (rest'.cells ∙ rest.cells) (ap (λ p. p + 1) (rest'.place ∙ rest.place)) (record { first = rest'.first ∙ rest.first; frames = rest'.frames ∙ rest.frames; lines = rest'.lines ∙ rest.lines; views = refl; blocks = refl; first_array = rest'.first_array ∙ rest.first_array; depth = rest'.depth ∙ rest.depth; sums = rest'.sums ∙ rest.sums; cuts = rest'.cuts ∙ rest.cuts }))
+    (moves.kept c.args._code.now ok c.args.self.now s shows _ c.args.self.now.cells.items (c.args.self.now.place + 1) (rest'.cells ∙ rest.cells) (ap (λ p. p + 1) (rest'.place ∙ rest.place)) (record { first = rest'.first ∙ rest.first; frames = rest'.frames ∙ rest.frames; lines = rest'.lines ∙ rest.lines; views = refl; blocks = refl; first_array = rest'.first_array ∙ rest.first_array; depth = rest'.depth ∙ rest.depth; totals = rest'.totals ∙ rest.totals; cuts = rest'.cuts ∙ rest.cuts }))

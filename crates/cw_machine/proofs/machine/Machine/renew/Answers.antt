@@ -8,5 +8,5 @@ returns c = record {
   are = c.in_ok-self.ensures;
   blocks = set_twice c.args.self.now.blocks.items c.args.cell c.empty.result c.in_ok-self.field-0;
   views = refl;
-  rest = record { cells = refl; place = refl; first = refl; frames = refl; lines = refl; first_array = refl; depth = refl; sums = refl; cuts = refl };
+  rest = record { cells = refl; place = refl; first = refl; frames = refl; lines = refl; first_array = refl; depth = refl; totals = refl; cuts = refl };
 }

@@ -74,4 +74,4 @@ returns c = λ ok s is shows may.
     c.set_at.ensures.blocks ∙ ap (λ z. put (blocks_of c.args.self.now) c.view-v.result.block (c.view-v.result.from + nat_abs (to_z w64 (of_z w64 c.get-i.result))) z) same_x
     ∙ ap (λ k. put (blocks_of c.args.self.now) c.view-v.result.block (c.view-v.result.from + k) c.get-x.result) abs ∙ ap (λ (w : View). put (blocks_of c.args.self.now) w.block (w.from + natural c.get-i.result) c.get-x.result) c.view-v.ensures in
     moves.set_follows c.args._code.now ok c.args.self.now s shows may c.args.d c.args.a c.args.line c.get-i.result c.get-x.result _ is c.get-i.ensures c.get-x.ensures within e_blocks
-    (moves.kept c.args._code.now ok c.args.self.now s shows _ c.args.self.now.cells.items (c.args.self.now.place + 1) rest.cells (ap (λ p. p + 1) rest.place) (record { first = rest.first; frames = rest.frames; lines = rest.lines; views = c.set_at.ensures.views; blocks = refl; first_array = rest.first_array; depth = rest.depth; sums = rest.sums; cuts = rest.cuts }))
+    (moves.kept c.args._code.now ok c.args.self.now s shows _ c.args.self.now.cells.items (c.args.self.now.place + 1) rest.cells (ap (λ p. p + 1) rest.place) (record { first = rest.first; frames = rest.frames; lines = rest.lines; views = c.set_at.ensures.views; blocks = refl; first_array = rest.first_array; depth = rest.depth; totals = rest.totals; cuts = rest.cuts }))

@@ -1,4 +1,4 @@
-use Rattle.std.proofs.Common.{◌∙◌, Some, refl, sym, ap, subst}
+use Rattle.std.proofs.Common.{Some, refl, sym, ap, subst}
 use Rattle.cw_yard.specs.Tickets.{ticket_job}
 use Rattle.cw_pool.specs.Posts.{Lacks, kept_job}
 use Rattle.cw_pool.proofs.Joins.{after_back, lacks_newest, popped, post}

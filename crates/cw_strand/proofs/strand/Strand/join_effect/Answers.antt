@@ -19,7 +19,7 @@ returns-in-Ok-clause-means c =
     let seats = c.runs_stay_in_their_functions.ensures.seats in
     let many : length c.deref_mut.result.now.rest.slices.items ≡ length (its_parts self).rest.slices.items = ap (λ (q : Parts). length q.rest.slices.items) c.deref_mut.ensures.value ∙ c.requires.comes.keeps.rest.as_many in
     join_means c.calls_on_a_strand_keep_its_job.ensures self c.args.end stay seats c.requires.comes c.calls_keep_what_meters_tell.ensures
-    (record { machine = c.finish.new.self; meter = self.run.meter }) refl c.finish.ensures.lines c.finish.ensures.sums
+    (record { machine = c.finish.new.self; meter = self.run.meter }) refl c.finish.ensures.lines c.finish.ensures.totals
     (effect.Joined c.replace.result c.finish.new.replaced c.shown.result) (
       subst (λ n. runs.EndsJob self.run.machine n c.replace.result c.finish.new.replaced.items) many
           (subst (λ f. runs.EndsJob self.run.machine (length c.deref_mut.result.now.rest.slices.items) f c.finish.new.replaced.items) (sym (c.replace.ensures.value ∙ ap (λ (q : Parts). q.rest) c.deref_mut-in-Ok.ensures.value)) c.in-Ok.ensures.ends),

@@ -1,0 +1,58 @@
+-- What reducers come to, as runs keep it.
+use Rattle.std.specs.Prelude.{◌≡◌, ℕ, ℤ, pos, ◌+ℤ◌, List, [], ◌∷◌, length, map, Option, Some, None, slice_get}
+use Rattle.std.specs.Int.{w64, w128, int_wrap}
+use Rattle.std.specs.Int.RustNames.{FitsSigned}
+use Rattle.cw_model.specs.declared.syntax.Reduction.{Reduction}
+use Rattle.cw_model.specs.declared.syntax.Reduction.TheVariants.{Sum, Max}
+use Rattle.cw_model.specs.declared.total.Total.{Total}
+use Rattle.cw_model.specs.declared.total.Total.TheVariants as total
+use Rattle.cw_model.specs.Syntax.{Name}
+use Rattle.cw_model.specs.Answers.{or_greater, total_to}
+use Rattle.cw_code.specs.declared.code.Reducer.{Reducer}
+use Rattle.cw_code.specs.Code.{Code}
+
+-- the number in the range of 128 bits that differs from this one by a multiple of 2^128
+abbrev pub wrapped : ℤ → ℤ
+wrapped z = int_wrap w128 z
+
+-- a total as it is kept: a sum within 128 bits
+abbrev pub kept : Total → Total
+kept (total.Sum v) = total.Sum (wrapped v)
+kept (total.Max v) = total.Max v
+
+-- what a reducer comes to that was told nothing
+abbrev pub nothing_told : Reduction → Total
+nothing_told Sum = total.Sum (pos 0)
+nothing_told Max = total.Max None
+
+-- the greater of two values, where there are any
+abbrev pub greater : Option ℤ → Option ℤ → Option ℤ
+greater None more = more
+greater (Some v) more = Some (or_greater v more)
+
+-- two totals of one reducer as one
+abbrev pub joined_total : Total → Total → Total
+joined_total (total.Sum v) (total.Sum w) = total.Sum (wrapped (v +ℤ w))
+joined_total (total.Max v) (total.Max w) = total.Max (greater v w)
+joined_total t _ = t
+
+-- what a reducer with this total comes to that is told a value more
+abbrev pub told : Total → ℤ → Total
+told (total.Sum v) w = total.Sum (wrapped (v +ℤ w))
+told (total.Max v) w = total.Max (Some (or_greater w v))
+
+-- what reducers come to that were told nothing
+abbrev pub none_told : List Reducer → List Total
+none_told reducers = map (λ r. nothing_told r.how) reducers
+
+-- each value that was told is one of 64 bits
+abbrev pub AllFit : List (Name × ℤ) → Type 0
+AllFit [] = Unit {0}
+AllFit (a ∷ updates) = FitsSigned w64 a.1 × AllFit updates
+
+-- each reducer has its total
+pub record HoldsTotals (code : Code) (totals : List Total) (updates : List (Name × ℤ)) : Type 0 where
+  pub fit : AllFit updates
+  pub as_many : length totals ≡ length code.reducers
+  pub are : (k : ℕ) (r : Reducer) → slice_get code.reducers k ≡ Some r
+      → slice_get totals k ≡ Some (kept (total_to r.how r.name updates))

@@ -1,7 +1,0 @@
-use Rattle.std.proofs.Common.{arith}
-use Rattle.cw_reduce.proofs.ShownAddLaws.{one_added}
-use Rattle.cw_reduce.proofs.views.add_all.Goals as goal
-
-pub loop-i-preserved : goal.loop-i-preserved
-loop-i-preserved c =
-    one_added c.args.from.now.items c.args.into.items c.loop-i.into.items c.loop-i.i c.index.result.now c.index-in-loop-i.result.now (omega arith) c.requires c.index.ensures c.index-in-loop-i.ensures c.loop-i.invariant

@@ -1,0 +1,93 @@
+//! The greatest integer that a reducer is told.
+
+ghost use Rattle.std.specs.Prelude.{◌≡◌, None, Some, IsOk, IfOk};
+ghost use Rattle.cw_model.specs.Answers as answers;
+ghost use Rattle.cw_reduce.specs.Greatest.{greater};
+
+use cw_model::monoid::Monoid;
+use std::alloc::{AllocError, Global};
+use std::marker::Model;
+
+/// The greatest of integers of 64 bits; none where there were none.
+#[derive(Debug, Drop)]
+pub struct Max(Option<i64>);
+
+impl Model for Max {
+    ghost use Rattle.std.specs.Prelude.{Option, ℤ};
+
+    ghost Value = { Option ℤ };
+
+    ghost view = { λ m. m.0 };
+}
+
+impl Max {
+    /// The greatest of nothing.
+    pub fn new() -> Max
+        ensures { result ≡ None }
+    {
+        Max(None)
+    }
+
+    /// One number more.
+    pub fn raise(&mut self, n: i64)
+        ensures { self.new ≡ greater self.old (Some n) }
+    {
+        self.0 = greater_of(self.0, Some(n));
+    }
+
+    /// The greatest number, if there was one.
+    pub fn value(&self) -> Option<i64>
+        ensures { result ≡ self.now }
+    {
+        self.0
+    }
+}
+
+/// The greater of two numbers, where there are any.
+pub(crate) fn greater_of(left: Option<i64>, right: Option<i64>) -> Option<i64>
+    ensures { result ≡ greater left right }
+{
+    match left {
+        Some(value) => Some(or_greater(value, right)),
+        None => right,
+    }
+}
+
+// The greater of a number and another one, if there is one.
+fn or_greater(value: i64, other: Option<i64>) -> i64
+    ensures { result ≡ answers.or_greater value other }
+{
+    match other {
+        Some(other) => value.max(other),
+        None => value,
+    }
+}
+
+impl Monoid for Max {
+    ghost use Rattle.std.specs.Prelude.{None};
+    ghost use Rattle.cw_reduce.specs.Greatest.{greater};
+    ghost use Rattle.cw_reduce.specs.GreatestLaws.{greater-first, greater-last, greater-assoc};
+
+    ghost empty = { None };
+
+    ghost joined = { greater };
+
+    fn unit(_alloc: Global) -> Self
+        ensures value { result ≡ None }
+    {
+        Max::new()
+    }
+
+    fn join(self, right: Self) -> Result<Self, AllocError>
+        ensures always { IsOk result }
+        ensures value { IfOk result (λ whole. whole ≡ greater self right) }
+    {
+        Ok(Max(greater_of(self.0, right.0)))
+    }
+
+    ghost unit_first = { greater-first };
+
+    ghost unit_last = { greater-last };
+
+    ghost associative = { greater-assoc };
+}

@@ -1,0 +1,60 @@
+//! What reducers come to over pieces of a run.
+
+ghost use Rattle.std.specs.Prelude.{◌≡◌};
+ghost use Rattle.std.specs.Int.{int_wrapping_add, w128};
+ghost use Rattle.cw_reduce.specs.Held.{as_total, held, held_joined, one_held};
+ghost use Rattle.cw_reduce.specs.Words.{plus, word_of};
+
+use crate::greatest::greater_of;
+use cw_model::syntax::Reduction;
+use cw_model::total::Total;
+
+/// What a reducer comes to that reduces so and was told this value alone.
+pub(crate) fn one_told(how: Reduction, value: i64) -> Total
+    ensures { held result ≡ one_held how value }
+{
+    match how {
+        Reduction::Sum => Total::Sum(value as i128),
+        Reduction::Max => Total::Max(Some(value)),
+    }
+}
+
+// Two sums as one, within 128 bits.
+fn add_up(sum: i128, more: i128) -> i128
+    ensures { word_of result ≡ plus (word_of sum) (word_of more) }
+{
+    sum.wrapping_add(more)
+}
+
+/// What a reducer comes to over two pieces. One that sums in one of them sums in both, so that joins may be grouped in
+/// any way.
+pub(crate) fn joined(left: Total, right: Total) -> Total
+    ensures { held result ≡ held_joined (held left) (held right) }
+{
+    match left {
+        Total::Sum(sum) => match right {
+            Total::Sum(more) => Total::Sum(add_up(sum, more)),
+            Total::Max(_) => left,
+        },
+        Total::Max(greatest) => match right {
+            Total::Sum(_) => right,
+            Total::Max(more) => Total::Max(greater_of(greatest, more)),
+        },
+    }
+}
+
+/// The total of a reducer that reduces so.
+pub(crate) fn read_as(how: Reduction, total: Total) -> Total
+    ensures { result ≡ as_total how (held total) }
+{
+    match how {
+        Reduction::Sum => match total {
+            Total::Sum(sum) => Total::Sum(sum),
+            Total::Max(_) => Total::Sum(0),
+        },
+        Reduction::Max => match total {
+            Total::Sum(_) => Total::Max(None),
+            Total::Max(greatest) => Total::Max(greatest),
+        },
+    }
+}

@@ -1,0 +1,53 @@
+//! The program examples/longest.cilk, and the files beside it.
+
+use crate::examples::Example;
+
+pub const EXAMPLE: Example = Example {
+    words: "longest.cilk 1000",
+    source: "// Which number from 1 to n takes the most steps by halving and tripling to reach 1, and how high such a number goes: two
+// reducers that keep the greatest. The steps stand before the number in one value, so that the greatest has its place
+// with it.
+// cilkwork run longest.cilk 1000
+// Up to 1000 it is 871, with 178 steps; 703 goes highest, to 250504. Up to 10 it is 9, which comes by 28 and 14 to 7 and
+// from there by 22, 11, 34, 17, 52, 26, 13, 40, 20, 10, 5, 16, 8, 4 and 2 to 1: 19 steps, and 52.
+
+reducer max longest;
+reducer max highest;
+
+void chain(int number) {
+  int v = number;
+  int steps = 0;
+  while (v != 1) {
+    if (v % 2 == 0) {
+      v = v / 2;
+    } else {
+      v = 3 * v + 1;
+    }
+    steps = steps + 1;
+    highest max= v;
+  }
+  longest max= steps * 1000000 + number;
+}
+
+int main(int n) {
+  cilk_for (int i = 1; i < n + 1; i++) grain 10 {
+    chain(i);
+  }
+  return 0;
+}
+",
+    run: "max longest = 178000871
+max highest = 250504
+return 0
+",
+    scale: "tag,work,span,parallelism,burdened_span,burdened_parallelism
+,1362043,19359,70.357,115345,11.808
+",
+    sites: "site,kind,line,callee,calls,own_work,own_span,work,span
+0,root,26,main,1,17466,263,1362043,19359
+1,call,28,chain,1000,1344577,19096,1344577,1344577
+",
+    greedy: "processors,work,span,greedy
+8,1362043,19359,176546
+",
+};
