@@ -151,11 +151,25 @@ fn named_after<'a>(
             element_assigned(reading, depth, site, name_of(reading, first)?, tokens)
         }
         Kind::AddAssign => {
-            told(reading, depth, site, Reduction::Sum, name_of(reading, first)?, tokens)
+            told(
+                reading,
+                depth,
+                site,
+                Reduction::Sum,
+                name_of(reading, first)?,
+                tokens,
+            )
         }
         Kind::Max => {
             let (_, rest) = expect(Mark::Assign, tokens)?;
-            told(reading, depth, site, Reduction::Max, name_of(reading, first)?, rest)
+            told(
+                reading,
+                depth,
+                site,
+                Reduction::Max,
+                name_of(reading, first)?,
+                rest,
+            )
         }
         Kind::LeftParen => called(reading, depth, CallKind::Plain, site, None, first, tokens),
         _ => Err(Stop::At(tokens.len() + 1)),

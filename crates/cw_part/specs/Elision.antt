@@ -83,7 +83,7 @@ PiecesAreTheElision =
     → IsJoinedOf burden numbering limit 0 run p
     → (p.limit ≡ limit)
     × ((p.came ≡ Memory)
-      ⊎ TellsAnswer burden numbering program args limit (serial_answer program args limit) p.came)
+    ⊎ TellsAnswer burden numbering program args limit (serial_answer program args limit) p.came)
 
 -- each value that a reducer was told fits 128 bits
 abbrev pub AllFit : List (Name × ℤ) → Type 0

@@ -80,6 +80,7 @@ impl Gate for Holder {
 
 /// A worker stumbles at one of so many moments, and for fewer turns than this.
 const SELDOM: u64 = 4;
+
 const FEW_TURNS: u64 = 4096;
 
 /// Holds any worker at about every fourth of its moments, for a while: when and how long is told by a small random

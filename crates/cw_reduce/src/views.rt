@@ -80,7 +80,11 @@ fn total_at(totals: &Vec<Total>, reducer: u32) -> Total
     ensures { result ≡ total_of totals.now.items reducer }
 {
     let place = reducer as usize;
-    if place < totals.len() { totals[place] } else { Total::Max(None) }
+    if place < totals.len() {
+        totals[place]
+    } else {
+        Total::Max(None)
+    }
 }
 
 // So much more at a place.

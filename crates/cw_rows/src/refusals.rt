@@ -67,7 +67,10 @@ const NO_PROGRAMS: &[(&str, &str)] = &[
         "reducer max m;\nint main() {\nm += 1; return 0; }",
         "refused 3 line 3\n",
     ),
-    ("reducer sum s;\nint main() { return max; }", "refused 2 line 2\n"),
+    (
+        "reducer sum s;\nint main() { return max; }",
+        "refused 2 line 2\n",
+    ),
     (
         "int f(int v) { return v; } int main() { int x = 0; x = cilk_spawn g(1); cilk_sync; return x; }",
         "refused 3 line 1\n",

@@ -152,12 +152,7 @@ fn answered(
 }
 
 // A run that left this value, printed these and left these totals.
-fn values_with(
-    alloc: Global,
-    value: i64,
-    lines: &[i64],
-    totals: &[Total],
-) -> Result<Values, Fail> {
+fn values_with(alloc: Global, value: i64, lines: &[i64], totals: &[Total]) -> Result<Values, Fail> {
     Ok(Values {
         value,
         lines: Vec::from_slice(alloc, lines)?,

@@ -282,10 +282,7 @@ fn totals(rt: HostRuntime) -> Result<(), AllocError> {
         Instr::Push(1),
         Instr::ReturnValue,
     ];
-    let totals = [
-        Total::Max(Some(5)),
-        Total::Sum(-18_446_744_073_709_551_616),
-    ];
+    let totals = [Total::Max(Some(5)), Total::Sum(-18_446_744_073_709_551_616)];
     assert!(rt; gives(alloc, &[main_of(&body)], &[], 10, 1, &[], &totals));
     Ok(())
 }
