@@ -211,3 +211,17 @@ pub length-run : (p n : ℕ) (xs : Slots) → length (run_slots p n xs) ≡ leng
 length-run p n [] = refl
 length-run p n (None ∷ xs) = omega (arith, length-run p n xs)
 length-run p n (Some k ∷ xs) = omega (arith, length-run (p - 1) n xs)
+
+pub ready-nones : (n : ℕ) → ready_slots (nones n) ≡ 0
+ready-nones zero = refl
+ready-nones (suc n) = ready-nones n
+
+pub least-nones : (n : ℕ) → least_slot (nones n) ≡ None
+least-nones zero = refl
+least-nones (suc n) = least-nones n
+
+-- as many are ready as before they run
+pub ready-run : (p n : ℕ) (xs : Slots) → ready_slots (run_slots p n xs) ≡ ready_slots xs
+ready-run p n [] = refl
+ready-run p n (None ∷ xs) = ready-run p n xs
+ready-run p n (Some k ∷ xs) = ap (λ m. 1 + m) (ready-run (p - 1) n xs)

@@ -53,8 +53,13 @@ abbrev pub owing : Told → (by : ℕ) → Told
 owing told by =
     record { places = told.places; count = told.count; least = told.least; owed = owed_more told.least told.owed by }
 
+-- how many of a few strands are ready, and the least that is left of one
+pub record Knows (count : ℕ) (least : Option ℕ) (slots : Slots) : Type 0 where
+  pub ready : count ≡ ready_slots slots
+  pub left : least ≡ least_slot slots
+
 abbrev pub slots_of : Node → Slots
-slots_of (Block places) = places.items
+slots_of (Block block) = block
 slots_of (Halves l r told) = lowered told.owed (l.value ++ r.value)
 
 -- what is told of two halves
@@ -68,7 +73,7 @@ pub record Tells (l r : Slots) (told : Told) : Type 0 where
   pub owed : IsOwed told.owed told.least
 
 abbrev pub IsBoard : Node → Type 0
-IsBoard (Block places) = Unit {0}
+IsBoard (Block block) = Unit {0}
 IsBoard (Halves l r told) = Tells l.value r.value told
 
 -- steps until of a ready strand nothing is left

@@ -13,6 +13,6 @@ length-lowered by (None ∷ xs) = omega (arith, length-lowered by xs)
 length-lowered by (Some k ∷ xs) = omega (arith, length-lowered by xs)
 
 pub depth_le-length-slots : (n : Node) → IsBoard n → max (deep-Node n) 0 ≤ length (slots_of n)
-depth_le-length-slots (Block places) h = omega arith
+depth_le-length-slots (Block block) h = omega arith
 depth_le-length-slots (Halves l r told) h =
     omega (arith, length-lowered told.owed (l.value ++ r.value), length-append l.value r.value, h.first, h.second)

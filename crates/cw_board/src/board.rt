@@ -4,7 +4,7 @@ ghost use Rattle.std.specs.Prelude.{◌≡◌, ◌↔◌, ◌+◌, ◌<◌, ◌�
 ghost use Rattle.cw_greedy.specs.Slots.{nones, ready_slots, run_slots, RoomFor};
 ghost use Rattle.cw_board.specs.Boards.{least_first, least_slot, lowered, minus, owing, Advances, HasRoom, IsOwed, Tells};
 
-use crate::block::{self, is_zero, lesser_of};
+use crate::block::{Block, is_zero, lesser_of};
 use std::alloc::{AllocError, Global};
 use std::marker::Model;
 
@@ -22,8 +22,8 @@ pub struct Board {
 #[cycle(board)]
 #[derive(Drop)]
 enum Node {
-    // A few places, each with what is left of its strand where that is ready.
-    Block(Vec<Option<u64>>),
+    // A few places beside one another.
+    Block(Block),
     // The places of the first half, and those behind them.
     Halves(Box<Board>, Box<Board>, Told),
 }
@@ -123,15 +123,6 @@ fn recount(first: &Board, second: &Board, places: usize) -> Told
     }
 }
 
-// A block of places at which no strand is ready.
-fn free_block(alloc: Global, places: usize) -> Result<Vec<Option<u64>>, AllocError>
-    ensures { IfOk result (λ v. v.items ≡ nones places) }
-{
-    let mut block = Vec::with_capacity(alloc, places)?;
-    block.resize(places, None)?;
-    Ok(block)
-}
-
 impl Board {
     /// A board of so many places, at which no strand is ready.
     pub fn new(alloc: Global, places: usize) -> Result<Board, AllocError>
@@ -139,7 +130,7 @@ impl Board {
         ensures { IfOk result (λ b. b ≡ nones places) }
     {
         if places <= BLOCK {
-            let node = Node::Block(free_block(alloc, places)?);
+            let node = Node::Block(Block::new(alloc, places)?);
             return Ok(Board { node });
         }
         let first = places / 2;
@@ -156,7 +147,7 @@ impl Board {
         ensures { result ≡ ready_slots self.now }
     {
         match &self.node {
-            Node::Block(places) => block::count_ready(places),
+            Node::Block(block) => block.count(),
             Node::Halves(_, _, told) => told.count,
         }
     }
@@ -166,7 +157,7 @@ impl Board {
         ensures { result ≡ least_slot self.now }
     {
         match &self.node {
-            Node::Block(places) => block::least_of_all(places),
+            Node::Block(block) => block.least(),
             Node::Halves(_, _, told) => told.left(),
         }
     }
@@ -177,7 +168,7 @@ impl Board {
         ensures { self.new ≡ lowered by self.old }
     {
         match &mut self.node {
-            Node::Block(places) => block::lower_all(places, by),
+            Node::Block(block) => block.lower(by),
             Node::Halves(_, _, told) => told.owe(by),
         }
     }
@@ -189,7 +180,7 @@ impl Board {
         ensures { self.new ≡ slice_set self.old place (Some left) }
     {
         match &mut self.node {
-            Node::Block(places) => places[place] = Some(left),
+            Node::Block(block) => block.put(place, left),
             Node::Halves(first, second, told) => put_in_halves(first, second, told, place, left),
         }
     }
@@ -202,7 +193,7 @@ impl Board {
         ensures taken { self.new ≡ slice_set self.old result None }
     {
         match &mut self.node {
-            Node::Block(places) => block::take_done(places),
+            Node::Block(block) => block.take(),
             Node::Halves(first, second, told) => take_of_halves(first, second, told),
         }
     }
@@ -213,7 +204,7 @@ impl Board {
         ensures { result ≡ least_first processors self.now }
     {
         match &self.node {
-            Node::Block(places) => block::least_of_first(places, processors),
+            Node::Block(block) => block.least_of(processors),
             Node::Halves(first, second, told) => least_of_halves(first, second, *told, processors),
         }
     }
@@ -229,7 +220,7 @@ impl Board {
             return;
         }
         match &mut self.node {
-            Node::Block(places) => block::run_first(places, processors, steps),
+            Node::Block(block) => block.run(processors, steps),
             Node::Halves(first, second, told) => run_halves(first, second, told, processors, steps),
         }
     }

@@ -1,4 +1,4 @@
-use Rattle.std.proofs.Common.{rules, ◌≡◌, Some, None, ap, ◌∙◌}
+use Rattle.std.proofs.Common.{rules, Some, None, ap, ◌∙◌}
 use Rattle.std.proofs.lemmas.Option.{slice_get-get_or}
 use Rattle.cw_board.proofs.Slots.{place_within}
 use Rattle.cw_board.proofs.block.take_done.Goals as goal

@@ -34,10 +34,10 @@ pub Board::least_of-least_of_halves-requires : goal.Board::least_of-least_of_hal
 Board::least_of-least_of_halves-requires t c =
     let l = c.in-Halves.first.value in
     let r = c.in-Halves.second.value in
-    let a : c.deref-in-Halves.result.now ≡ l = cc in
-    let b : c.deref-in-Halves-2.result.now ≡ r = cc in
+    let a : c.deref.result.now ≡ l = cc in
+    let b : c.deref-in-Halves.result.now ≡ r = cc in
     let tells = opened_right c.self.invariant c.in-Halves.is in
-    let shows = same_shows l r c.deref-in-Halves.result.now c.deref-in-Halves-2.result.now c.args.self.now c.in-Halves.told.owed a b (opened_shows c.self.view_is c.in-Halves.is) in
-    let told = same_tells l r c.deref-in-Halves.result.now c.deref-in-Halves-2.result.now c.in-Halves.told a b tells in
-    let size = length_shown c.deref-in-Halves.result.now c.deref-in-Halves-2.result.now c.args.self.now c.in-Halves.told.owed shows in
+    let shows = same_shows l r c.deref.result.now c.deref-in-Halves.result.now c.args.self.now c.in-Halves.told.owed a b (opened_shows c.self.view_is c.in-Halves.is) in
+    let told = same_tells l r c.deref.result.now c.deref-in-Halves.result.now c.in-Halves.told a b tells in
+    let size = length_shown c.deref.result.now c.deref-in-Halves.result.now c.args.self.now c.in-Halves.told.owed shows in
     (omega (arith, size, told.first), told)

@@ -51,12 +51,12 @@ pub Board::run-run_halves-requires : goal.Board::run-run_halves-requires
 Board::run-run_halves-requires t c =
     let l = c.in-Halves.first.value in
     let r = c.in-Halves.second.value in
-    let a : c.deref_mut-in-Halves.result.now ≡ l = cc in
-    let b : c.deref_mut-in-Halves-2.result.now ≡ r = cc in
+    let a : c.deref_mut.result.now ≡ l = cc in
+    let b : c.deref_mut-in-Halves.result.now ≡ r = cc in
     let tells = opened_right c.self.invariant c.in-Halves.is in
-    let shows = same_shows l r c.deref_mut-in-Halves.result.now c.deref_mut-in-Halves-2.result.now c.args.self.now c.in-Halves.told.owed a b (opened_shows c.self.view_is c.in-Halves.is) in
-    let told = same_tells l r c.deref_mut-in-Halves.result.now c.deref_mut-in-Halves-2.result.now c.in-Halves.told a b tells in
-    let size = length_shown c.deref_mut-in-Halves.result.now c.deref_mut-in-Halves-2.result.now c.args.self.now c.in-Halves.told.owed shows in
+    let shows = same_shows l r c.deref_mut.result.now c.deref_mut-in-Halves.result.now c.args.self.now c.in-Halves.told.owed a b (opened_shows c.self.view_is c.in-Halves.is) in
+    let told = same_tells l r c.deref_mut.result.now c.deref_mut-in-Halves.result.now c.in-Halves.told a b tells in
+    let size = length_shown c.deref_mut.result.now c.deref_mut-in-Halves.result.now c.args.self.now c.in-Halves.told.owed shows in
     (omega (arith, size, told.first), (told, subst (RoomFor c.args.processors c.args.steps) (sym shows) c.requires))
 
 pub run_halves-run_half-requires : goal.run_halves-run_half-requires

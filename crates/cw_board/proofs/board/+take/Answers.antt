@@ -10,12 +10,12 @@ pub Board::take-take_of_halves-requires : goal.Board::take-take_of_halves-requir
 Board::take-take_of_halves-requires t c =
     let l = c.in-Halves.first.value in
     let r = c.in-Halves.second.value in
-    let a : c.deref_mut-in-Halves.result.now ≡ l = cc in
-    let b : c.deref_mut-in-Halves-2.result.now ≡ r = cc in
+    let a : c.deref_mut.result.now ≡ l = cc in
+    let b : c.deref_mut-in-Halves.result.now ≡ r = cc in
     let tells = opened_right c.self.invariant c.in-Halves.is in
-    let shows = same_shows l r c.deref_mut-in-Halves.result.now c.deref_mut-in-Halves-2.result.now c.args.self.now c.in-Halves.told.owed a b (opened_shows c.self.view_is c.in-Halves.is) in
-    let told = same_tells l r c.deref_mut-in-Halves.result.now c.deref_mut-in-Halves-2.result.now c.in-Halves.told a b tells in
-    let size = length_shown c.deref_mut-in-Halves.result.now c.deref_mut-in-Halves-2.result.now c.args.self.now c.in-Halves.told.owed shows in
+    let shows = same_shows l r c.deref_mut.result.now c.deref_mut-in-Halves.result.now c.args.self.now c.in-Halves.told.owed a b (opened_shows c.self.view_is c.in-Halves.is) in
+    let told = same_tells l r c.deref_mut.result.now c.deref_mut-in-Halves.result.now c.in-Halves.told a b tells in
+    let size = length_shown c.deref_mut.result.now c.deref_mut-in-Halves.result.now c.args.self.now c.in-Halves.told.owed shows in
     (omega (arith, size, told.first), (told, ap least_slot shows ∙ c.requires))
 
 pub take_of_half-returns-then-is_zero-clause-taken : goal.take_of_half-returns-then-is_zero-clause-taken

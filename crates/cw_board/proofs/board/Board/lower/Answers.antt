@@ -1,7 +1,5 @@
-use Rattle.std.proofs.Common.{◌≡◌, length, arith, ap, sym, ◌∙◌, subst}
+use Rattle.std.proofs.Common.{ap, sym, ◌∙◌, subst}
 use Rattle.cw_board.specs.Boards.{lowered}
-use Rattle.cw_board.specs.Falls.{length-lowered}
-use Rattle.cw_board.proofs.Slots.{written}
 use Rattle.cw_board.specs.contracts.board.Board.{the_invariant, the_view}
 use Rattle.cw_board.proofs.Halves.{opened_right, opened_shows, room_shown, owed_tells, owed_shows}
 use Rattle.cw_board.proofs.board.Board.lower.Goals as goal
@@ -27,13 +25,7 @@ invariant_of-self c =
 pub returns : goal.returns
 returns c =
     elim c.match-self.branch [
-      | in-Block w ↦
-          let same : w.deref_mut.result.now ≡ w.in-Block.places.items = cc in
-          let shown = same ∙ opened_shows c.self.view_is w.in-Block.is in
-          let low = w.lower_all.ensures ∙ ap (lowered c.args.by) shown in
-          let long : w.in-Block.places.len ≡ length w.lower_all.new.places =
-          omega (arith, ap length w.lower_all.ensures, length-lowered c.args.by w.deref_mut.result.now, ap length same) in
-          ap the_view w.self-inside-is ∙ written w.in-Block.places.len w.lower_all.new.places w.in-Block.places.items long ∙ low
+      | in-Block w ↦ ap the_view w.self-inside-is ∙ w.lower.ensures ∙ ap (lowered c.args.by) (opened_shows c.self.view_is w.in-Block.is)
       | in-Halves w ↦
           ap the_view w.self-inside-is
           ∙ owed_shows w.in-Halves.field-0.value w.in-Halves.field-1.value w.in-Halves.told w.owe.new.self c.args.by c.args.self.now w.owe.ensures
