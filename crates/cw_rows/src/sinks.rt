@@ -50,8 +50,8 @@ impl Read for Broken {
     }
 }
 
-// What the program answers with no worker but the caller's thread.
-fn tool_alone<
+// What the program answers by as many workers as are asked for.
+fn tool_by_crew<
     R: AllocGlobal + Threads + Wait + Copy + Drop + Send + 'static,
     D: Input,
     W: Sink,
@@ -61,7 +61,7 @@ fn tool_alone<
     requires err { (E.seen err.old).failures < 2 ^ 64 - 1 }
 {
     let alloc = rt.alloc();
-    let crew = crew_of(alloc, rt, 1)?;
+    let crew = crew_of(alloc, rt, asked.workers)?;
     let gate = Arc::new(alloc, Quiet)?;
     Ok(tool(&rt, alloc, asked, source, crew, gate, out, err))
 }
@@ -75,6 +75,10 @@ struct Told {
     err: Vec<u8>,
 }
 
+// Spawns a call for the value that it returns.
+const SPAWNS: &[u8] =
+    b"int f(int n) { return n; } int main(int n) { int x = 0; x = cilk_spawn f(n); cilk_sync; return x; }";
+
 // Reports the value 42, or a check, to a sink with this room.
 fn report<R: AllocGlobal + Threads + Wait + Copy + Drop + Send + 'static>(
     rt: R,
@@ -84,11 +88,11 @@ fn report<R: AllocGlobal + Threads + Wait + Copy + Drop + Send + 'static>(
 ) -> Result<Told, Fail> {
     let alloc = rt.alloc();
     let asked = asked(alloc, words)?;
-    let mut source = Counted::new(b"int main(int n) { return n; }".as_slice());
+    let mut source = Counted::new(SPAWNS);
     let taken = Vec::new(alloc);
     let mut out = Counted::new(Narrow { taken, room, fails });
     let mut err = Counted::new(Vec::new(alloc));
-    let status = tool_alone(rt, &asked, &mut source, &mut out, &mut err)?;
+    let status = tool_by_crew(rt, &asked, &mut source, &mut out, &mut err)?;
     Ok(Told {
         status,
         failures: out.failures(),
@@ -99,23 +103,34 @@ fn report<R: AllocGlobal + Threads + Wait + Copy + Drop + Send + 'static>(
 
 #[test]
 fn reports_where_there_is_room(rt: HostRuntime) -> Result<(), Fail> {
-    for (room, fails) in [(10, true), (10, false), (11, true), (11, false)] {
-        let told = report(rt, "run f 42", room, fails)?;
-        assert_eq!(rt; (told.status, told.failures), (0, 0), "{room}");
-        assert_eq!(rt; told.out.as_slice(), b"return 42\n".as_slice());
-        assert!(rt; told.err.is_empty(), "{room}");
+    for words in ["run f 42 --workers 1", "run f 42 --workers 4"] {
+        for (room, fails) in [(10, true), (10, false), (11, true), (11, false)] {
+            let told = report(rt, words, room, fails)?;
+            assert_eq!(rt; (told.status, told.failures), (0, 0), "{words}: {room}");
+            assert_eq!(rt; told.out.as_slice(), b"return 42\n".as_slice());
+            assert!(rt; told.err.is_empty(), "{words}: {room}");
+        }
     }
     Ok(())
 }
 
 #[test]
 fn reports_to_narrow_sinks(rt: HostRuntime) -> Result<(), Fail> {
-    for (words, text) in [("run f 42", "return 42\n"), ("check f", "ok\n")] {
+    let reports = [
+        ("run f 42 --workers 1", "return 42\n"),
+        ("run f 42 --workers 4", "return 42\n"),
+        ("check f", "ok\n"),
+    ];
+    for (words, text) in reports {
         for room in 0..text.len() {
             for fails in [true, false] {
                 let told = report(rt, words, room, fails)?;
-                assert_eq!(rt; (told.status, told.failures), (7, 1), "{room}");
-                assert_eq!(rt; told.out.as_slice(), &text.as_bytes()[..room], "{room}");
+                assert_eq!(rt; (told.status, told.failures), (7, 1), "{words}: {room}");
+                assert_eq!(rt;
+                    told.out.as_slice(),
+                    &text.as_bytes()[..room],
+                    "{words}: {room}"
+                );
                 assert_eq!(rt; told.err.as_slice(), b"write failed\n".as_slice());
             }
         }
@@ -137,7 +152,7 @@ fn tells_of_unread_sources(rt: HostRuntime) -> Result<(), Fail> {
         let mut out = Counted::new(Vec::new(alloc));
         let mut err = Counted::new(Vec::new(alloc));
         let mut source = Counted::new(Broken { kind });
-        let got = tool_alone(rt, &asked, &mut source, &mut out, &mut err)?;
+        let got = tool_by_crew(rt, &asked, &mut source, &mut out, &mut err)?;
         assert_eq!(rt; (got, source.failed_reads()), answered);
         assert_eq!(rt; out.into_inner().as_slice(), b"".as_slice());
         assert_eq!(rt; err.into_inner().as_slice(), line);
@@ -157,7 +172,7 @@ fn keeps_its_status_where_the_line_is_not_taken(rt: HostRuntime) -> Result<(), F
         fails: true,
     });
     let mut source = Counted::new(b"".as_slice());
-    let status = tool_alone(rt, &asked, &mut source, &mut out, &mut err)?;
+    let status = tool_by_crew(rt, &asked, &mut source, &mut out, &mut err)?;
     assert_eq!(rt; (status, err.failures()), (2, 1));
     assert_eq!(rt; err.into_inner().taken.as_slice(), b"refused 2".as_slice());
     Ok(())
