@@ -1,6 +1,10 @@
+mod Alike
 mod Breaking
 mod Heading
+mod Lending
+mod Lent
 mod Misuse
+mod Moves
 mod Nesting
 mod Owned
 mod Passing
@@ -9,3 +13,4 @@ mod Repeating
 mod Sets
 mod Telling
 mod Walking
+mod Wrongs

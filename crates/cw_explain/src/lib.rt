@@ -10,6 +10,7 @@ mod reading;
 mod rules;
 mod statements;
 mod taken;
+mod touched;
 mod traps;
 mod typing;
 mod word;

@@ -232,8 +232,8 @@ impl<'a> Taken<'a> {
     }
 }
 
-// One sync block deeper; as many inside one another as 32 bits count are told as a want of memory.
-fn deeper(depth: u32) -> Result<u32, AllocError>
+/// One sync block deeper; as many inside one another as 32 bits count are told as a want of memory.
+pub fn deeper(depth: u32) -> Result<u32, AllocError>
     ensures { IfOk result (λ inner. inner ≡ depth + 1) }
 {
     match depth.checked_add(1) {
@@ -242,8 +242,8 @@ fn deeper(depth: u32) -> Result<u32, AllocError>
     }
 }
 
-// With each name in an expression.
-fn add_names<'a>(names: &mut Vec<Word<'a>>, e: &'a Expr) -> Result<(), AllocError>
+/// With each name in an expression.
+pub fn add_names<'a>(names: &mut Vec<Word<'a>>, e: &'a Expr) -> Result<(), AllocError>
     ensures { OnOk result
         (spelled names.new.items ≡ spelled names.old.items ++ rule.names_in (expr_of e.now)) }
 {
@@ -316,18 +316,6 @@ fn given<'a>(alloc: Global, ast: &Ast, call: &'a Call) -> Result<Vec<Word<'a>>, 
             Ok(names)
         }
         None => Ok(Vec::new(alloc)),
-    }
-}
-
-/// The array that is given for a parameter, by its place among the arguments, if that is one.
-pub fn array_given<'a>(ast: &'a Ast, call: &'a Call, place: usize) -> Option<&'a Name> {
-    let function = function_named(ast, call.callee.as_bytes())?;
-    if place >= function.params.len() || place >= call.arguments.len() {
-        return None;
-    }
-    match &call.arguments[place] {
-        Expr::Variable(a) if function.params[place].is_array => Some(a),
-        _ => None,
     }
 }
 

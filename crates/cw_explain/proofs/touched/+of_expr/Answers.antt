@@ -7,7 +7,7 @@ use Rattle.cw_explain.specs.Held.{taken_of}
 use Rattle.cw_explain.specs.Loops.{around_of}
 use Rattle.cw_explain.specs.Names.{locals_of}
 use Rattle.cw_explain.proofs.Owned.{found_inside, found_last, read_element}
-use Rattle.cw_explain.proofs.reading.+of_expr.Goals as goal
+use Rattle.cw_explain.proofs.touched.+of_expr.Goals as goal
 
 pub returns-in-Some-of_expr : goal.returns-in-Some-of_expr
 returns-in-Some-of_expr t c =

@@ -5,7 +5,7 @@ use Rattle.cw_explain.specs.Held.{taken_of}
 use Rattle.cw_explain.specs.Loops.{around_of}
 use Rattle.cw_explain.specs.Names.{locals_of}
 use Rattle.cw_explain.proofs.Owned.{last_fails}
-use Rattle.cw_explain.proofs.reading.of_assign_element.Goals as goal
+use Rattle.cw_explain.proofs.touched.of_assign_element.Goals as goal
 
 pub returns : goal.returns
 returns c =
