@@ -14,7 +14,7 @@ use Rattle.cw_explain.specs.Moments.{Before, Ending, Moment, Spot, behind, decla
 use Rattle.cw_explain.specs.Owners.{block_faults, faults_among, faults_inside, keeps_call, keeps_owners, statement_faults}
 use Rattle.cw_explain.specs.declared.owning.Disowned.{Disowned}
 use Rattle.cw_explain.specs.declared.owning.Disowned.TheVariants as reason
-use Rattle.cw_explain.proofs.Sets.{same_after, same_after_all, same_freed, same_holder_self, same_more}
+use Rattle.cw_explain.proofs.Sets.{same_after, same_all, same_freed, same_holder_self, same_more}
 
 or_true : (a : Bool) → (a || true) ≡ true
 or_true true = refl
@@ -23,21 +23,23 @@ or_true false = refl
 -- a name that is taken is so by something
 by_something : (ts : Taken) (x : Name) (p : Bool) → ((h : Holder) → has_taken x h ts ≡ true → p ≡ true) → is_taken ts x ≡ true → p ≡ true
 by_something [] x p k e = cc
-by_something (t ∷ ts) x p k e = step (same_name x t.0) refl e
+by_something (t ∷ ts) x p k e =
+    step (same_name x t.0) refl e
+    (by_something ts x p (λ h g. k h (ap (λ r. (same_name x t.0 && same_holder h t.1) || r) g ∙ or_true (same_name x t.0 && same_holder h t.1))))
   where
-    step : (b : Bool) → same_name x t.0 ≡ b → (if b then true else is_taken ts x) ≡ true → p ≡ true
-    step true n e =
+    step : (b : Bool) → same_name x t.0 ≡ b → (if b then true else is_taken ts x) ≡ true → (is_taken ts x ≡ true → p ≡ true) → p ≡ true
+    step true n e further =
         k t.1 (ap (λ b. (b && same_holder t.1 t.1) || has_taken x t.1 ts) n ∙ ap (λ b. b || has_taken x t.1 ts) (same_holder_self t.1))
-    step false n e =
-        by_something ts x p (λ h g. k h (ap (λ r. (same_name x t.0 && same_holder h t.1) || r) g ∙ or_true (same_name x t.0 && same_holder h t.1))) e
+    step false n e further = further e
 
-by_this : (ts : Taken) (x : Name) (h : Holder) → has_taken x h ts ≡ true → is_taken ts x ≡ true
+pub by_this : (ts : Taken) (x : Name) (h : Holder) → has_taken x h ts ≡ true → is_taken ts x ≡ true
 by_this [] x h e = cc
-by_this (t ∷ ts) x h e = step (same_name x t.0) (same_holder h t.1) e
+by_this (t ∷ ts) x h e = step (same_name x t.0) (same_holder h t.1) e (by_this ts x h)
   where
-    step : (b c : Bool) → ((b && c) || has_taken x h ts) ≡ true → (if b then true else is_taken ts x) ≡ true
-    step true c e = refl
-    step false c e = by_this ts x h e
+    step : (b c : Bool) → ((b && c) || has_taken x h ts) ≡ true → (has_taken x h ts ≡ true → is_taken ts x ≡ true) →
+        (if b then true else is_taken ts x) ≡ true
+    step true c e further = refl
+    step false c e further = further e
 
 alike : (a b : Bool) → (a ≡ true → b ≡ true) → (b ≡ true → a ≡ true) → a ≡ b
 alike true true f g = refl
@@ -309,12 +311,12 @@ ending_same fs depth closing bl a b s =
     let to = at_end closing depth (taken_after_all fs depth bl b) in
     carries_one fs (Ending (declared_in bl []) from) (Ending (declared_in bl []) to)
     (ends_same (declared_in bl []) from to
-    (end_same closing depth (taken_after_all fs depth bl a) (taken_after_all fs depth bl b) (same_after_all fs depth bl a b s)))
+    (end_same closing depth (taken_after_all fs depth bl a) (taken_after_all fs depth bl b) (same_all fs depth bl a b s)))
 
 pub nothing_carried : (fs : List Function) (ms : List Moment) → Carries fs ms ms
 nothing_carried fs ms = λ line r h. h
 
-whole_same : (fs : List Function) (bl : Block) (spot : Spot) (depth : ℕ) (closing : Closing) (a b : Taken) → AreSame a b →
+pub whole_same : (fs : List Function) (bl : Block) (spot : Spot) (depth : ℕ) (closing : Closing) (a b : Taken) → AreSame a b →
     Carries fs (moments_among fs spot a bl) (moments_among fs spot b bl) →
     Carries fs (moments_among fs spot a bl ++ ending fs depth closing a bl) (moments_among fs spot b bl ++ ending fs depth closing b bl)
 whole_same fs bl spot depth closing a b s inner =
@@ -364,3 +366,9 @@ mutual
   within_same fs line (Region tag bl) spot a b s = whole_same fs bl (in_sync spot) (spot.depth + 1) Joins a b s (among_same fs bl (in_sync spot) a b s)
   within_same fs line (Print e) spot a b s = nothing_carried fs []
   within_same fs line (Return e) spot a b s = nothing_carried fs []
+
+-- a while sees what its turns leave
+pub seen_while : (fs : List Function) (d : ℕ) (e : Expr) (bl : Block) (before now : Taken) (st : Stmt) → st ≡ While e bl → AreSame now (taken_after fs d st before) →
+    AreSame now (seen_by fs d before st)
+seen_while fs d e bl before now st shown same =
+    subst (λ (s : Stmt). AreSame now (seen_by fs d before s)) (sym shown) (subst (λ (s : Stmt). AreSame now (taken_after fs d s before)) shown same)

@@ -171,7 +171,7 @@ pub rest_parts : (around : Around) (taken : Taken) (earlier : List Name) (ps : L
     keep_rest around taken earlier ps es ≡ (list_all (λ e. may_read around taken e) es && lend_behind around taken earlier (arrays_given ps es))
 rest_parts around taken earlier ps [] = ap (lend_behind around taken earlier) (sym (given_nothing ps))
 rest_parts around taken earlier ps (e ∷ es) =
-    step (is_array_first ps)
+    step (is_array_first ps) (λ ns. rest_parts around taken ns (drop 1 ps) es)
     ∙ ap (λ (names : List Name). (may_read around taken e && list_all (λ e. may_read around taken e) es) && lend_behind around taken earlier names)
     (sym (given_more ps e es))
   where
@@ -186,15 +186,17 @@ rest_parts around taken earlier ps (e ∷ es) =
     mixed false true false r h = refl
     mixed false false a r h = refl
 
-    step : (b : Bool) → (keeps_argument around taken earlier b e && keep_rest around taken (earlier ++ (if b then names_in e else [])) (drop 1 ps) es)
+    step : (b : Bool) → ((ns : List Name) →
+        keep_rest around taken ns (drop 1 ps) es ≡ (list_all (λ e. may_read around taken e) es && lend_behind around taken ns (arrays_given (drop 1 ps) es))) →
+        (keeps_argument around taken earlier b e && keep_rest around taken (earlier ++ (if b then names_in e else [])) (drop 1 ps) es)
         ≡ ((may_read around taken e && all) && lend_behind around taken earlier ((if b then names_in e else []) ++ arrays_given (drop 1 ps) es))
-    step true =
-        ap (λ k. lend_behind around taken earlier (names_in e) && k) (rest_parts around taken (earlier ++ names_in e) (drop 1 ps) es)
+    step true behind =
+        ap (λ k. lend_behind around taken earlier (names_in e) && k) (behind (earlier ++ names_in e))
         ∙ mixed (lend_behind around taken earlier (names_in e)) (may_read around taken e) all
         (lend_behind around taken (earlier ++ names_in e) (arrays_given (drop 1 ps) es)) (lent_read around taken earlier e)
         ∙ ap (λ k. (may_read around taken e && all) && k) (sym (lend_append around taken earlier (names_in e) (arrays_given (drop 1 ps) es)))
-    step false =
-        ap (λ k. may_read around taken e && k) (rest_parts around taken (earlier ++ []) (drop 1 ps) es)
+    step false behind =
+        ap (λ k. may_read around taken e && k) (behind (earlier ++ []))
         ∙ sym (and_apart (may_read around taken e) all (lend_behind around taken (earlier ++ []) (arrays_given (drop 1 ps) es)))
         ∙ ap (λ (names : List Name). (may_read around taken e && all) && lend_behind around taken names (arrays_given (drop 1 ps) es)) (append-nil earlier)
 

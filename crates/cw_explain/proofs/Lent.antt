@@ -1,6 +1,6 @@
 -- What is told of names that are lent one after another, and of the arguments of a call.
-use Rattle.std.proofs.Common.{Bool, true, false, not, ◌&&◌, ◌||◌, if◌then◌else◌, ◌≡◌, ◌<◌, ℕ, ◌+◌, List, [], ◌∷◌, ◌++◌, Contains, drop, get_or, length, map, suc, take, zero, subst, refl, sym, ap, ◌∙◌, append_assoc, arith}
-use Rattle.std.proofs.lemmas.List.{drop-map, drop_at, length-map, take-map, take_at}
+use Rattle.std.proofs.Common.{Bool, true, false, not, ◌&&◌, ◌||◌, if◌then◌else◌, ◌≡◌, ◌<◌, ℕ, ◌+◌, List, [], ◌∷◌, ◌++◌, Contains, drop, get_or, length, map, suc, take, zero, Option, Some, None, IfSome, subst, refl, sym, ap, ◌∙◌, append_assoc, arith}
+use Rattle.std.proofs.lemmas.List.{drop-map, drop_at, length-map, map_more, take-map, take_at}
 use Rattle.std.proofs.lemmas.List.Elements.{Contains-append_left, Contains-append_right}
 use Rattle.std.specs.List.{list_any, list_all}
 use Rattle.cw_model.specs.Names.{differ, is_among}
@@ -9,16 +9,16 @@ use Rattle.cw_model.specs.Syntax.{Name, Expr, Param}
 use Rattle.cw_explain.specs.Disowned.{Does, IsGivenTwice, IsOverTwice, IsWrongAmong, IsWrongOr, Lends, Where}
 use Rattle.cw_explain.specs.Doings.{Doing, NamesInOver, Passes, doings_in_argument, doings_in_arguments}
 use Rattle.cw_explain.specs.Held.{spelled}
-use Rattle.cw_explain.specs.Owners.{IsTwiceIn, IsWrongWhole, is_array_first, lend_behind, lent_to, may_lend, touch_by}
+use Rattle.cw_explain.specs.Owners.{IsTwiceIn, IsWrongWhole, is_array_first, keeps_argument, lend_behind, lent_to, may_lend, touch_by}
 use Rattle.cw_explain.specs.Told.{AreBothIn}
 use Rattle.cw_explain.specs.declared.owning.Disowned.{Disowned}
 use Rattle.cw_explain.specs.declared.owning.Disowned.TheVariants as reason
 use Rattle.cw_explain.specs.declared.touched.Lender.{Lender}
 use Rattle.cw_explain.specs.declared.touched.Lender.TheVariants as lender
 use Rattle.cw_explain.specs.declared.word.Word.{Word}
-use Rattle.cw_explain.proofs.Lending.{doings_more, given_more}
-use Rattle.cw_explain.proofs.Repeating.{among_there, are_in_both, in_front, one_more}
-use Rattle.cw_explain.proofs.Wrongs.{among_here, or_more, whole_wrong}
+use Rattle.cw_explain.proofs.Lending.{doings_more, given_more, keep_rest}
+use Rattle.cw_explain.proofs.Repeating.{among_there, are_in_both, in_front}
+use Rattle.cw_explain.proofs.Wrongs.{among_here, among_right, or_more, whole_wrong}
 
 -- a name that is lent is taken, or from outside
 pub lent_wrong : (w : Where) (l : Lender) (a : Name) (P : Disowned → Type 0) (r : Disowned) → IsWrongWhole w a (touch_by l) r →
@@ -106,25 +106,59 @@ words_behind given more names place grown at =
     let counted = length-map given (λ (w : Word). w.text.now) in
     sym (drop-map (λ (w : Word). w.text.now) place more) ∙ ap (drop place) grown ∙ drop_at (spelled given) names place (omega (arith, counted, at))
 
--- what is told of an argument is told of all
-pub argument_among : (w : Where) (f : Name) (ps : List Param) (e : Expr) (es all : List Expr) (from : List Param) (given names : List Name) (r : Disowned) →
-    all ≡ e ∷ es → (is_array : Bool) → is_array ≡ is_array_first ps →
-    (whole : List Doing) → ((d : Doing) → Contains (doings_in_arguments ps all) d → Contains whole d) →
-    names ≡ given ++ arrays_given (drop 1 ps) es →
-    IsWrongOr w (doings_in_argument is_array e) (IsGivenTwice f given) r → IsWrongOr w whole (IsGivenTwice f names) r
-argument_among w f ps e es all from given names r first is_array kind whole within grown h =
-    or_more w (doings_in_argument is_array e) whole (IsGivenTwice f given) (IsGivenTwice f names) r
-    (λ d found. within d (subst (λ (xs : List Expr). Contains (doings_in_arguments ps xs) d) (sym first)
-    (subst (λ (ds : List Doing). Contains ds d) (sym (doings_more ps e es))
-    (subst (λ (b : Bool). Contains (doings_in_argument b e ++ doings_in_arguments (drop 1 ps) es) d) kind
-    (Contains-append_left (doings_in_argument is_array e) (doings_in_arguments (drop 1 ps) es) d found)))))
-    (λ found. subst (λ (ns : List Name). IsGivenTwice f ns r) (sym grown) (given_front f given (arrays_given (drop 1 ps) es) r found)) h
+-- the arguments from one on: it, and those behind it
+pub argument_step : (around : Around) (taken : Taken) (earlier more : List Name) (ps next : List Param) (e : Expr) (es all : List Expr) (is_array : Bool) →
+    all ≡ e ∷ es → is_array ≡ is_array_first ps → next ≡ drop 1 ps → more ≡ earlier ++ (if is_array then names_in e else []) →
+    keep_rest around taken earlier ps all ≡ (keeps_argument around taken earlier is_array e && keep_rest around taken more next es)
+argument_step around taken earlier more ps next e es all is_array first kind later grown =
+    ap (keep_rest around taken earlier ps) first
+    ∙ ap (λ (b : Bool). keeps_argument around taken earlier b e && keep_rest around taken (earlier ++ (if b then names_in e else [])) (drop 1 ps) es) (sym kind)
+    ∙ ap (λ (ns : List Name). keeps_argument around taken earlier is_array e && keep_rest around taken ns (drop 1 ps) es) (sym grown)
+    ∙ ap (λ (qs : List Param). keeps_argument around taken earlier is_array e && keep_rest around taken more qs es) (sym later)
 
-pub arguments_later : (ps : List Param) (e : Expr) (es : List Expr) (d : Doing) → Contains (doings_in_arguments (drop 1 ps) es) d →
-    Contains (doings_in_arguments ps (e ∷ es)) d
-arguments_later ps e es d h =
-    subst (λ (ds : List Doing). Contains ds d) (sym (doings_more ps e es))
-    (Contains-append_right (doings_in_argument (is_array_first ps) e) (doings_in_arguments (drop 1 ps) es) d h)
+pub given_step : (earlier more : List Name) (ps next : List Param) (e : Expr) (es all : List Expr) (is_array : Bool) →
+    all ≡ e ∷ es → is_array ≡ is_array_first ps → next ≡ drop 1 ps → more ≡ earlier ++ (if is_array then names_in e else []) →
+    earlier ++ arrays_given ps all ≡ more ++ arrays_given next es
+given_step earlier more ps next e es all is_array first kind later grown =
+    ap (λ (xs : List Expr). earlier ++ arrays_given ps xs) first
+    ∙ ap (λ (ns : List Name). earlier ++ ns) (given_more ps e es)
+    ∙ sym (append_assoc earlier (if is_array_first ps then names_in e else []) (arrays_given (drop 1 ps) es))
+    ∙ ap (λ (b : Bool). (earlier ++ (if b then names_in e else [])) ++ arrays_given (drop 1 ps) es) (sym kind)
+    ∙ ap (λ (ns : List Name). ns ++ arrays_given (drop 1 ps) es) (sym grown)
+    ∙ ap (λ (qs : List Param). more ++ arrays_given qs es) (sym later)
+
+doings_step : (ps next : List Param) (e : Expr) (es all : List Expr) (is_array : Bool) → all ≡ e ∷ es → is_array ≡ is_array_first ps → next ≡ drop 1 ps →
+    doings_in_arguments ps all ≡ doings_in_argument is_array e ++ doings_in_arguments next es
+doings_step ps next e es all is_array first kind later =
+    ap (doings_in_arguments ps) first
+    ∙ doings_more ps e es
+    ∙ ap (λ (b : Bool). doings_in_argument b e ++ doings_in_arguments (drop 1 ps) es) (sym kind)
+    ∙ ap (λ (qs : List Param). doings_in_argument is_array e ++ doings_in_arguments qs es) (sym later)
+
+-- what is told of an argument is told of all
+pub argument_among : (w : Where) (f : Name) (ps next : List Param) (e : Expr) (es all : List Expr) (is_array : Bool) → all ≡ e ∷ es →
+    is_array ≡ is_array_first ps → next ≡ drop 1 ps → (more names : List Name) (whole : List Doing) →
+    ((d : Doing) → Contains (doings_in_arguments ps all) d → Contains whole d) → names ≡ more ++ arrays_given next es → (r : Disowned) →
+    IsWrongOr w (doings_in_argument is_array e) (IsGivenTwice f more) r → IsWrongOr w whole (IsGivenTwice f names) r
+argument_among w f ps next e es all is_array first kind later more names whole within grown r h =
+    or_more w (doings_in_argument is_array e) whole (IsGivenTwice f more) (IsGivenTwice f names) r
+    (λ d found. within d (subst (λ (ds : List Doing). Contains ds d) (sym (doings_step ps next e es all is_array first kind later))
+    (Contains-append_left (doings_in_argument is_array e) (doings_in_arguments next es) d found)))
+    (λ found. subst (λ (ns : List Name). IsGivenTwice f ns r) (sym grown) (given_front f more (arrays_given next es) r found)) h
+
+pub argument_told : (w : Where) (f : Name) (ps next : List Param) (e : Expr) (es all : List Expr) (is_array : Bool) → all ≡ e ∷ es →
+    is_array ≡ is_array_first ps → next ≡ drop 1 ps → (more names : List Name) (whole : List Doing) →
+    ((d : Doing) → Contains (doings_in_arguments ps all) d → Contains whole d) → names ≡ more ++ arrays_given next es → (found : Option Disowned) →
+    IfSome found (IsWrongOr w (doings_in_argument is_array e) (IsGivenTwice f more)) → IfSome found (IsWrongOr w whole (IsGivenTwice f names))
+argument_told w f ps next e es all is_array first kind later more names whole within grown None h = h
+argument_told w f ps next e es all is_array first kind later more names whole within grown (Some r) h =
+    argument_among w f ps next e es all is_array first kind later more names whole within grown r h
+
+pub arguments_later : (ps next : List Param) (e : Expr) (es all : List Expr) (is_array : Bool) → all ≡ e ∷ es → is_array ≡ is_array_first ps →
+    next ≡ drop 1 ps → (d : Doing) → Contains (doings_in_arguments next es) d → Contains (doings_in_arguments ps all) d
+arguments_later ps next e es all is_array first kind later d h =
+    subst (λ (ds : List Doing). Contains ds d) (sym (doings_step ps next e es all is_array first kind later))
+    (Contains-append_right (doings_in_argument is_array e) (doings_in_arguments next es) d h)
 
 -- the head of a further loop says the same of what is from outside
 pub write_in_head : (around : Around) (taken : Taken) (xs : List Name) → may_write (for_head around) taken xs ≡ may_write around taken xs
@@ -132,12 +166,55 @@ write_in_head NoLoop taken xs = refl
 write_in_head (InLoop outer i over) taken xs = refl
 
 -- words up to a place, with the one there
-pub words_more : (words : List Word) (i : ℕ) (d : Word) → i < length words → d ≡ get_or words i d →
-    spelled (take (i + 1) words) ≡ spelled (take i words) ++ d.text.now ∷ []
-words_more words i d h at = one_more (λ (w : Word). w.text.now) words i d h at
+pub words_more : (words : List Word) (i : ℕ) (d : Word) → i < length words →
+    spelled (take (i + 1) words) ≡ spelled (take i words) ++ (get_or words i d).text.now ∷ []
+words_more words i d h = map_more (λ (w : Word). w.text.now) words i d h
 
 pub all_split : (words : List Word) (i : ℕ) → spelled words ≡ spelled (take i words) ++ spelled (drop i words)
 all_split [] zero = refl
 all_split [] (suc i) = refl
 all_split (w ∷ words) zero = refl
 all_split (w ∷ words) (suc i) = ap (λ (ns : List Name). w.text.now ∷ ns) (all_split words i)
+
+-- a call: its arguments, then its target
+pub call_found : (k a t found : Bool) → k ≡ (a && t) → found ≡ not a → found ≡ true → found ≡ not k
+call_found k true t found e is so = cc
+call_found k false t found e is so = so ∙ ap not (sym e)
+
+pub call_last : (k a t found last : Bool) → k ≡ (a && t) → found ≡ not a → found ≡ false → last ≡ not t → last ≡ not k
+call_last k true t found last e is off h = h ∙ ap not (sym e)
+call_last k false t found last e is off h = cc
+
+pub or_left : (w : Where) (xs ys : List Doing) (P : Disowned → Type 0) (found : Option Disowned) → IfSome found (IsWrongOr w xs P) →
+    IfSome found (IsWrongOr w (xs ++ ys) P)
+or_left w xs ys P None h = h
+or_left w xs ys P (Some r) h = or_more w xs (xs ++ ys) P P r (Contains-append_left xs ys) (λ k. k) h
+
+pub or_right : (w : Where) (xs ys : List Doing) (P : Disowned → Type 0) (found : Option Disowned) → IfSome found (IsWrongAmong w ys) →
+    IfSome found (IsWrongOr w (xs ++ ys) P)
+or_right w xs ys P None h = h
+or_right w xs ys P (Some r) h = Does (among_right w xs ys (xs ++ ys) r refl h)
+
+-- the head of a loop: its ends, then its arrays
+pub head_first : (f t m d : Bool) → true ≡ not f → true ≡ not (f && t && m && d)
+head_first true t m d h = cc
+head_first false t m d h = refl
+
+pub head_second : (f t m d : Bool) → true ≡ not t → true ≡ not (f && t && m && d)
+head_second true true m d h = cc
+head_second true false m d h = refl
+head_second false t m d h = refl
+
+pub head_last : (f t m d b : Bool) → false ≡ not f → false ≡ not t → b ≡ not (m && d) → b ≡ not (f && t && m && d)
+head_last true true m d b g h k = k
+head_last true false m d b g h k = cc
+head_last false t m d b g h k = cc
+
+pub call_on : (k a t found : Bool) → k ≡ (a && t) → found ≡ not a → found ≡ false → t ≡ k
+call_on k true t found e is off = sym e
+call_on k false t found e is off = cc
+
+pub or_behind : (w : Where) (xs ys : List Doing) (P : Disowned → Type 0) (found : Option Disowned) → IfSome found (IsWrongOr w ys P) →
+    IfSome found (IsWrongOr w (xs ++ ys) P)
+or_behind w xs ys P None h = h
+or_behind w xs ys P (Some r) h = or_more w ys (xs ++ ys) P P r (Contains-append_right xs ys) (λ k. k) h

@@ -9,6 +9,7 @@ mod Nesting
 mod Owned
 mod Passing
 mod Pieces
+mod Refusing
 mod Repeating
 mod Sets
 mod Telling

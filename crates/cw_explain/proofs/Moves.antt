@@ -1,5 +1,7 @@
 -- Where a walk is: places, blocks and what is told there, as the definitions have them.
 use Rattle.std.proofs.Common.{Bool, true, false, not, ◌&&◌, ◌||◌, ◌==◌, if◌then◌else◌, ◌≡◌, ◌≤◌, ◌-◌, ℕ, ◌+◌, List, [], ◌∷◌, ◌++◌, Option, Some, None, IfSome, Contains, drop, flat_map, length, map, subst, refl, sym, ap, ◌∙◌, arith, append_assoc}
+use Rattle.std.proofs.lemmas.Bool.Decides.{nat_tests}
+use Rattle.std.proofs.lemmas.List.{append-nil}
 use Rattle.std.proofs.lemmas.List.Elements.{Contains-append_left, Contains-append_right}
 use Rattle.cw_model.specs.Lines.{unless}
 use Rattle.cw_model.specs.Ownership.{Around, Closing, CutOf, Declared as Named, InLoop, Joins, Leaves, NoLoop, Taken, at_end, declared_by, is_taken, known_after, left_taken, owner_faults_in, owner_faults_of, taken_after, taken_after_all}
@@ -13,12 +15,13 @@ use Rattle.cw_explain.specs.Owners.{block_faults, faults_among, faults_inside, k
 use Rattle.cw_explain.specs.Places.{Declared, after_stmt, kinds, oldest, with_local}
 use Rattle.cw_explain.specs.Rules.{has_line}
 use Rattle.cw_explain.specs.Standing.{in_cut, in_loop}
+use Rattle.cw_explain.specs.Touched.{IsStillTaken}
 use Rattle.cw_explain.specs.declared.owning.Disowned.{Disowned}
 use Rattle.cw_explain.specs.declared.owning.Disowned.TheVariants as reason
 use Rattle.cw_explain.specs.declared.touched.Loop.{Loop}
-use Rattle.cw_explain.proofs.Alike.{Carries, among_faults_same, among_same, by_parts, end_same, ends_same, inside_same, keeps_same, left_same, moment_here, moment_left, moment_right, within_same, wrong_same}
-use Rattle.cw_explain.proofs.Breaking.{has_append, has_unless, oldest_after}
-use Rattle.cw_explain.proofs.Sets.{same_after_all, same_is, same_then}
+use Rattle.cw_explain.proofs.Alike.{Carries, among_faults_same, among_same, block_same, by_parts, end_same, ends_same, inside_same, keeps_same, left_same, moment_here, moment_left, moment_right, whole_same, within_same, wrong_same}
+use Rattle.cw_explain.proofs.Breaking.{has_append, has_flat, has_unless, oldest_after}
+use Rattle.cw_explain.proofs.Sets.{same_all, same_is, same_then}
 use Rattle.cw_explain.proofs.Telling.{one_found}
 use Rattle.cw_explain.proofs.Walking.{oldest_more}
 
@@ -216,9 +219,9 @@ declared_later line s b d h =
 -- a statement that breaks a rule, before those behind it
 pub walk_found : (n line : ℕ) (fs : List Function) (spot : Spot) (taken : Taken) (s : Stmt) (b all : Block) → all ≡ Then line s b → (found : Bool) →
     found ≡ has_line n (statement_faults fs spot taken line s) → found ≡ true → found ≡ has_line n (faults_among fs spot taken all)
-walk_found n line fs spot taken s b all split found is yes =
+walk_found n line fs spot taken s b all split found is so =
     one_found found (has_line n (statement_faults fs spot taken line s))
-    (has_line n (faults_among fs (behind s spot) (taken_after fs spot.depth s taken) b)) is yes
+    (has_line n (faults_among fs (behind s spot) (taken_after fs spot.depth s taken) b)) is so
     ∙ sym (has_then n line fs spot taken s b)
     ∙ ap (λ (ls : Block). has_line n (faults_among fs spot taken ls)) (sym split)
 
@@ -233,11 +236,11 @@ walk_told n line fs spot taken s b all split found h =
 pub walk_on : (n line : ℕ) (fs : List Function) (spot : Spot) (taken : Taken) (s : Stmt) (b all : Block) → all ≡ Then line s b → (found : Bool) →
     found ≡ has_line n (statement_faults fs spot taken line s) → found ≡ false → (next : Spot) (now : Taken) → next ≡ behind s spot →
     AreSame now (taken_after fs spot.depth s taken) → has_line n (faults_among fs next now b) ≡ has_line n (faults_among fs spot taken all)
-walk_on n line fs spot taken s b all split found is no next now moved same =
+walk_on n line fs spot taken s b all split found is off next now moved same =
     let rest = faults_among fs (behind s spot) (taken_after fs spot.depth s taken) b in
     ap (λ (p : Spot). has_line n (faults_among fs p now b)) moved
     ∙ ap (has_line n) (among_faults_same fs b (behind s spot) now (taken_after fs spot.depth s taken) same)
-    ∙ ap (λ h. h || has_line n rest) (sym no ∙ is)
+    ∙ ap (λ h. h || has_line n rest) (sym off ∙ is)
     ∙ sym (has_then n line fs spot taken s b)
     ∙ ap (λ (ls : Block). has_line n (faults_among fs spot taken ls)) (sym split)
 
@@ -254,15 +257,15 @@ pub walk_after : (line depth : ℕ) (fs : List Function) (taken : Taken) (s : St
     AreSame now (taken_after fs depth s taken) → AreSame (taken_after_all fs depth b now) (taken_after_all fs depth all taken)
 walk_after line depth fs taken s b all split now same =
     subst (λ (ls : Block). AreSame (taken_after_all fs depth b now) (taken_after_all fs depth ls taken)) (sym split)
-    (same_after_all fs depth b now (taken_after fs depth s taken) same)
+    (same_all fs depth b now (taken_after fs depth s taken) same)
 
 -- a statement that breaks a rule itself
 pub line_found : (n line : ℕ) (fs : List Function) (spot : Spot) (taken seen : Taken) (s : Stmt) → AreSame seen (seen_by fs spot.depth taken s) →
     (found : Bool) → found ≡ ((line == n) && not (keeps_owners fs spot.around seen s)) → found ≡ true → found ≡ has_line n (statement_faults fs spot taken line s)
-line_found n line fs spot taken seen s same found is yes =
+line_found n line fs spot taken seen s same found is so =
     one_found found ((line == n) && not (keeps_owners fs spot.around (seen_by fs spot.depth taken s) s))
     (has_line n (faults_inside fs spot (seen_by fs spot.depth taken s) line s))
-    (is ∙ ap (λ k. (line == n) && not k) (keeps_same fs spot.around s seen (seen_by fs spot.depth taken s) same)) yes
+    (is ∙ ap (λ k. (line == n) && not k) (keeps_same fs spot.around s seen (seen_by fs spot.depth taken s) same)) so
     ∙ sym (has_statement n line fs spot taken s)
 
 pub line_told : (n line : ℕ) (fs : List Function) (spot : Spot) (taken seen : Taken) (s : Stmt) → AreSame seen (seen_by fs spot.depth taken s) →
@@ -277,12 +280,12 @@ line_told n line fs spot taken seen s same (Some r) at h =
 pub inside_found : (n line : ℕ) (fs : List Function) (spot : Spot) (taken seen : Taken) (s : Stmt) → AreSame seen (seen_by fs spot.depth taken s) →
     (found : Bool) → found ≡ ((line == n) && not (keeps_owners fs spot.around seen s)) → found ≡ false → (inner : Bool) →
     inner ≡ has_line n (faults_inside fs spot seen line s) → inner ≡ has_line n (statement_faults fs spot taken line s)
-inside_found n line fs spot taken seen s same found is no inner inside =
+inside_found n line fs spot taken seen s same found is off inner inside =
     let now = seen_by fs spot.depth taken s in
     inside
     ∙ ap (has_line n) (inside_same fs line s spot seen now same)
     ∙ ap (λ b. b || has_line n (faults_inside fs spot now line s))
-    (sym no ∙ is ∙ ap (λ k. (line == n) && not k) (keeps_same fs spot.around s seen now same))
+    (sym off ∙ is ∙ ap (λ k. (line == n) && not k) (keeps_same fs spot.around s seen now same))
     ∙ sym (has_statement n line fs spot taken s)
 
 pub inside_told : (n line : ℕ) (fs : List Function) (spot : Spot) (taken seen : Taken) (s : Stmt) → AreSame seen (seen_by fs spot.depth taken s) →
@@ -296,9 +299,9 @@ inside_told n line fs spot taken seen s same found h =
 -- a block in which a statement breaks a rule
 pub block_found : (n : ℕ) (fs : List Function) (b : Block) (spot : Spot) (closing : Closing) (taken : Taken) (found : Bool) →
     found ≡ has_line n (faults_among fs spot taken b) → found ≡ true → found ≡ has_line n (block_faults fs spot closing taken b)
-block_found n fs b spot closing taken found is yes =
+block_found n fs b spot closing taken found is so =
     one_found found (has_line n (faults_among fs spot taken b))
-    (has_line n (left_taken (declared_in b []) (at_end closing spot.depth (taken_after_all fs spot.depth b taken)))) is yes
+    (has_line n (left_taken (declared_in b []) (at_end closing spot.depth (taken_after_all fs spot.depth b taken)))) is so
     ∙ sym (has_block n fs b spot closing taken)
 
 -- what is taken as it ends
@@ -315,11 +318,11 @@ pub end_found : (n : ℕ) (fs : List Function) (b : Block) (spot : Spot) (closin
     found ≡ has_line n (faults_among fs spot taken b) → found ≡ false → AreSame now (taken_after_all fs spot.depth b taken) →
     left ≡ at_end closing spot.depth now → (last : Bool) → last ≡ has_line n (left_taken (declared_in b []) left) →
     last ≡ has_line n (block_faults fs spot closing taken b)
-end_found n fs b spot closing taken now left found is no same at last ends =
+end_found n fs b spot closing taken now left found is off same at last ends =
     let whole = at_end closing spot.depth (taken_after_all fs spot.depth b taken) in
     ends
     ∙ ap (has_line n) (left_same (declared_in b []) left whole (ends_so fs b spot closing taken now left same at))
-    ∙ ap (λ h. h || has_line n (left_taken (declared_in b []) whole)) (sym no ∙ is)
+    ∙ ap (λ h. h || has_line n (left_taken (declared_in b []) whole)) (sym off ∙ is)
     ∙ sym (has_block n fs b spot closing taken)
 
 pub end_told : (n : ℕ) (fs : List Function) (b : Block) (spot : Spot) (closing : Closing) (taken now left : Taken) →
@@ -346,3 +349,150 @@ disowned_in program n f (Some r) there h = record { function = f; within = there
 pub outer_more : (around : Option Loop) (m n : ℕ) → m ≤ n → IfSome around (λ l. l.outer ≤ m) → IfSome around (λ l. l.outer ≤ n)
 outer_more None m n h k = k
 outer_more (Some l) m n h k = omega (arith, h, k)
+
+-- names that statements declare, one after another
+pub left_found : (n line : ℕ) (s : Stmt) (b all : Block) (taken : Taken) → all ≡ Then line s b → (found : Bool) →
+    found ≡ has_line n (left_taken (declared_by line s []) taken) → found ≡ true → found ≡ has_line n (left_taken (declared_in all []) taken)
+left_found n line s b all taken split found is so =
+    one_found found (has_line n (left_taken (declared_by line s []) taken)) (has_line n (left_taken (declared_in b []) taken)) is so
+    ∙ sym (has_left n line s b taken)
+    ∙ ap (λ (ls : Block). has_line n (left_taken (declared_in ls []) taken)) (sym split)
+
+pub left_on : (n line : ℕ) (s : Stmt) (b all : Block) (taken : Taken) → all ≡ Then line s b → (found : Bool) →
+    found ≡ has_line n (left_taken (declared_by line s []) taken) → found ≡ false →
+    has_line n (left_taken (declared_in b []) taken) ≡ has_line n (left_taken (declared_in all []) taken)
+left_on n line s b all taken split found is off =
+    ap (λ h. h || has_line n (left_taken (declared_in b []) taken)) (sym off ∙ is)
+    ∙ sym (has_left n line s b taken)
+    ∙ ap (λ (ls : Block). has_line n (left_taken (declared_in ls []) taken)) (sym split)
+
+pub left_told : (n line : ℕ) (s : Stmt) (b all : Block) (taken : Taken) → all ≡ Then line s b → (from : Named) →
+    ((d : Name × ℕ) → Contains (declared_in all []) d → Contains from d) → (r : Disowned) → IsLeftTaken (declared_by line s []) taken n r →
+    IsLeftTaken from taken n r
+left_told n line s b all taken split from within r h =
+    left_more (declared_by line s []) from taken n r
+    (λ d k. within d (subst (λ (ls : Block). Contains (declared_in ls []) d) (sym split) (declared_first line s b d k))) h
+
+pub left_there : (line : ℕ) (s : Stmt) (b all : Block) → all ≡ Then line s b → (d : Name × ℕ) → Contains (declared_in b []) d → Contains (declared_in all []) d
+left_there line s b all split d h = subst (λ (ls : Block). Contains (declared_in ls []) d) (sym split) (declared_later line s b d h)
+
+-- one name
+pub left_one : (x : Name) (line n : ℕ) (taken : Taken) (r : Disowned) → line ≡ n → IsStillTaken taken x r → IsLeftTaken ((x, line) ∷ []) taken n r
+left_one x line n taken (reason.EndsTaken word holder other) at h =
+    (
+      subst (λ (m : ℕ). Contains {X = Name × ℕ} ((x, line) ∷ []) (word.text.now, m)) at
+      (subst (λ (y : Name). Contains {X = Name × ℕ} ((x, line) ∷ []) (y, line)) (sym h.0) (0, omega arith, refl)),
+      subst (λ (y : Name). has_taken y (holder_of holder) taken ≡ true) (sym h.0) h.1,
+    )
+left_one x line n taken (reason.Taken word how holder other) at h = h
+left_one x line n taken (reason.GivenTwice word callee) at h = h
+left_one x line n taken (reason.OverTwice word) at h = h
+left_one x line n taken (reason.OuterWritten word other) at h = h
+left_one x line n taken (reason.OuterArray word other) at h = h
+left_one x line n taken (reason.OtherElement word variable other) at h = h
+
+pub left_single : (x : Name) (line n : ℕ) (taken : Taken) → line ≡ n → has_line n (left_taken ((x, line) ∷ []) taken) ≡ is_taken taken x
+left_single x line n taken at =
+    let same : (line == n) ≡ true = grind (arith, nat_tests, at) in
+    ap (has_line n) (append-nil (unless (not (is_taken taken x)) line))
+    ∙ has_unless n (not (is_taken taken x)) line
+    ∙ ap (λ b. not (not (is_taken taken x)) && b) same
+    ∙ twice (is_taken taken x)
+  where
+    twice : (b : Bool) → (not (not b) && true) ≡ b
+    twice true = refl
+    twice false = refl
+
+-- no name of another line
+pub left_elsewhere : (n line : ℕ) (s : Stmt) (taken : Taken) → (line ≡ n → ⊥) → has_line n (left_taken (declared_by line s []) taken) ≡ false
+left_elsewhere n line s taken apart = either s
+  where
+    other : (line == n) ≡ false
+    other = grind (arith, nat_tests, apart)
+
+    none : (b : Bool) → (b && false) ≡ false
+    none true = refl
+    none false = refl
+
+    one : (x : Name) → has_line n (left_taken ((x, line) ∷ []) taken) ≡ false
+    one x =
+        ap (has_line n) (append-nil (unless (not (is_taken taken x)) line))
+        ∙ has_unless n (not (is_taken taken x)) line
+        ∙ ap (λ b. not (not (is_taken taken x)) && b) other
+        ∙ none (not (not (is_taken taken x)))
+
+    either : (s : Stmt) → has_line n (left_taken (declared_by line s []) taken) ≡ false
+    either (Declare x e) = one x
+    either (DeclareArray a e) = one a
+    either (Assign x e) = refl
+    either (AssignElement a i e) = refl
+    either (Reduce how s e) = refl
+    either (Call kind site target f es) = refl
+    either (Start kind f es) = refl
+    either (Begin f from to captured over) = refl
+    either Sync = refl
+    either (If e b) = refl
+    either (IfElse e b c) = refl
+    either (While e b) = refl
+    either (For x y z from to grain over b) = refl
+    either (Scope b) = refl
+    either (Cut a e l r b) = refl
+    either (Region tag b) = refl
+    either (Print e) = refl
+    either (Return e) = refl
+
+-- lines of functions, one after another
+pub flat_found : (n : ℕ) (fs : List Function) (f : Function) (rest all : List Function) → all ≡ f ∷ rest → (found : Bool) →
+    found ≡ has_line n (owner_faults_of fs f) → found ≡ true → found ≡ has_line n (flat_map (owner_faults_of fs) all)
+flat_found n fs f rest all split found is so =
+    one_found found (has_line n (owner_faults_of fs f)) (has_line n (flat_map (owner_faults_of fs) rest)) is so
+    ∙ sym (has_flat n (owner_faults_of fs) all f rest split)
+
+pub flat_on : (n : ℕ) (fs : List Function) (f : Function) (rest all : List Function) → all ≡ f ∷ rest → (found : Bool) →
+    found ≡ has_line n (owner_faults_of fs f) → found ≡ false →
+    has_line n (flat_map (owner_faults_of fs) rest) ≡ has_line n (flat_map (owner_faults_of fs) all)
+flat_on n fs f rest all split found is off =
+    ap (λ b. b || has_line n (flat_map (owner_faults_of fs) rest)) (sym off ∙ is) ∙ sym (has_flat n (owner_faults_of fs) all f rest split)
+
+-- in a turn of a loop, as the code has it
+pub turned_spot : (l : Loop) (line depth at : ℕ) (x : Name) (locals more : List Declared) (around : Option Loop) → more ≡ in_loop line x locals →
+    at ≡ depth + 1 → l.outer ≡ length more → l.line ≡ line → l.head.now.variable ≡ x →
+    spot_of more (Some l) at ≡ in_turn line x l.head.now.over.items (spot_of locals around depth)
+turned_spot l line depth at x locals more around grown deeper many here variable =
+    ap (λ (ds : List Declared). spot_of ds (Some l) at) grown
+    ∙ ap (λ (d : ℕ). spot_of (in_loop line x locals) (Some l) d) deeper
+    ∙ spot_turn l line x locals around depth (many ∙ ap (λ (ds : List Declared). length ds) grown) here variable
+
+pub parted_spot : (line depth at : ℕ) (l r : Name) (locals more : List Declared) (around other : Option Loop) → more ≡ in_cut line l r locals →
+    at ≡ depth + 1 → other ≡ around → IfSome around (λ o. o.outer ≤ length locals) →
+    spot_of more other at ≡ in_parts l r (spot_of locals around depth)
+parted_spot line depth at l r locals more around other grown deeper same h =
+    ap (λ (ds : List Declared). spot_of ds other at) grown
+    ∙ ap (λ (d : ℕ). spot_of (in_cut line l r locals) other d) deeper
+    ∙ ap (λ (o : Option Loop). spot_of (in_cut line l r locals) o (depth + 1)) same
+    ∙ spot_parts line l r locals around depth h
+
+pub synced_spot : (depth at : ℕ) (locals : List Declared) (around other : Option Loop) → at ≡ depth + 1 → other ≡ around →
+    spot_of locals other at ≡ in_sync (spot_of locals around depth)
+synced_spot depth at locals around other deeper same =
+    ap (λ (d : ℕ). spot_of locals other d) deeper ∙ ap (λ (o : Option Loop). spot_of locals o (depth + 1)) same
+
+-- a block elsewhere, as the code has its place
+pub moved_found : (n m : ℕ) (fs gs : List Function) (spot next : Spot) (closing : Closing) (taken now : Taken) (b : Block) (found : Bool) → m ≡ n → gs ≡ fs →
+    next ≡ spot → AreSame now taken → found ≡ has_line m (block_faults gs next closing now b) → found ≡ has_line n (block_faults fs spot closing taken b)
+moved_found n m fs gs spot next closing taken now b found at program moved same h =
+    h
+    ∙ ap (λ (k : ℕ). has_line k (block_faults gs next closing now b)) at
+    ∙ ap (λ (hs : List Function). has_line n (block_faults hs next closing now b)) program
+    ∙ ap (λ (p : Spot). has_line n (block_faults fs p closing now b)) moved
+    ∙ ap (has_line n) (block_same fs b spot closing [] now taken same)
+
+pub moved_told : (n m : ℕ) (fs gs : List Function) (spot next : Spot) (closing : Closing) (taken now : Taken) (b : Block) (found : Option Disowned) → m ≡ n →
+    gs ≡ fs → next ≡ spot → AreSame now taken → IfSome found (IsDisownedAmong gs m (moments_in gs next closing now b)) →
+    IfSome found (IsDisownedAmong fs n (moments_in fs spot closing taken b))
+moved_told n m fs gs spot next closing taken now b found at program moved same h =
+    told_more fs n (moments_in fs spot closing now b) (moments_in fs spot closing taken b) found
+    (whole_same fs b spot spot.depth closing now taken same (among_same fs b spot now taken same))
+    (subst (λ (p : Spot). IfSome found (IsDisownedAmong fs n (moments_in fs p closing now b))) moved
+    (subst (λ (hs : List Function). IfSome found (IsDisownedAmong hs n (moments_in hs next closing now b))) program
+    (subst (λ (k : ℕ). IfSome found (IsDisownedAmong gs k (moments_in gs next closing now b))) at h)))

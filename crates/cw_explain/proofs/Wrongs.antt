@@ -1,5 +1,5 @@
 -- What is done breaks a rule in the loop around, and so in the whole of what a statement does.
-use Rattle.std.proofs.Common.{Bool, true, false, not, ◌&&◌, ◌||◌, if◌then◌else◌, ◌≡◌, ◌<◌, ℕ, zero, suc, List, [], ◌∷◌, ◌++◌, Option, Some, None, IfSome, Contains, drop, get_or, length, map, refl, sym, ap, ◌∙◌, arith}
+use Rattle.std.proofs.Common.{Bool, true, false, not, ◌&&◌, ◌||◌, if◌then◌else◌, ◌≡◌, ◌<◌, ℕ, zero, suc, List, [], ◌∷◌, ◌++◌, Option, Some, None, IfSome, Contains, drop, get_or, length, map, refl, subst, sym, ap, ◌∙◌, arith}
 use Rattle.std.proofs.lemmas.List.Elements.{Contains-append_left, Contains-append_right}
 use Rattle.cw_model.specs.Meaning.{function_named}
 use Rattle.cw_model.specs.Names.{same_name}
@@ -19,6 +19,7 @@ use Rattle.cw_model.specs.Ownership.{Taken}
 use Rattle.cw_explain.specs.declared.owning.Disowned.{Disowned}
 use Rattle.cw_explain.specs.declared.owning.Disowned.TheVariants as reason
 use Rattle.cw_explain.specs.declared.owning.Touch.{Touch}
+use Rattle.cw_explain.specs.declared.owning.Touch.TheVariants as touch
 use Rattle.cw_explain.specs.declared.touched.Loop.{Loop}
 use Rattle.cw_explain.specs.declared.touched.Within.{Within}
 
@@ -136,3 +137,16 @@ pub first_dropped : (ps : List CodeParam) (k : ℕ) (d : CodeParam) → k < leng
 first_dropped [] k d h = absurd (omega (arith, h))
 first_dropped (p ∷ ps) zero d h = refl
 first_dropped (p ∷ ps) (suc k) d h = first_dropped ps k d (omega (arith, h))
+
+-- a name that is read, and taken
+pub read_taken : (w : Where) (d : Doing) (x : Name) (ds all : List Doing) (r : Disowned) → all ≡ d ∷ ds → x ≡ name_of d → touch_of d ≡ touch.Read →
+    IsTakenBy w.taken x touch.Read r → IsWrongAmong w all r
+read_taken w d x ds all r same named how h =
+    among_here w d ds all r same
+    (taken_wrong w d r (subst (λ (t : Touch). IsTakenBy w.taken (name_of d) t r) (sym how) (subst (λ (y : Name). IsTakenBy w.taken y touch.Read r) named h)))
+
+-- an array from outside that is measured, or of which an element is named
+pub outer_named : (w : Where) (d : Doing) (x : Name) (ds all : List Doing) (r : Disowned) → all ≡ d ∷ ds → x ≡ name_of d → is_of_array d ≡ true →
+    may_be (judged w) d ≡ false → IsOuterArray w x r → IsWrongAmong w all r
+outer_named w d x ds all r same named array may h =
+    among_here w d ds all r same (array_wrong w d r array may (subst (λ (y : Name). IsOuterArray w y r) named h))

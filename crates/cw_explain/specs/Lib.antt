@@ -1,6 +1,7 @@
 pub mod Disowned
 pub mod Doings
 pub mod Held
+pub mod Laws
 pub mod Limits
 pub mod Lines
 pub mod Loops

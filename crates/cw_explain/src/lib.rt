@@ -3,6 +3,7 @@
 
 mod excerpt;
 mod known;
+pub mod laws;
 mod lexical;
 mod limits;
 mod owning;

@@ -285,16 +285,37 @@ fn in_line<'a>(
 }
 
 // What is taken for a statement: for a while also what any number of its turns leaves.
+#[tactic(auto, using(crate::proofs::Alike::seen_while))]
 fn seen<'a>(place: Place<'a>, taken: &Taken<'a>, line: &'a Line) -> Result<Taken<'a>, AllocError>
     ensures { IfOk result (λ seen. AreSame (taken_of seen)
         (seen_by (program_of place.entry.ast.now).functions place.entry.depth (taken_of taken.now)
         (stmt_of line.now.stmt))) }
 {
-    let mut seen = taken.copied(place.alloc)?;
-    if let Stmt::While(_, _) = &line.stmt {
-        after(place.alloc, place.ast, place.depth, line, &mut seen)?;
+    match &line.stmt {
+        Stmt::While(_, _) => {
+            let mut seen = taken.copied(place.alloc)?;
+            after(place.alloc, place.ast, place.depth, line, &mut seen)?;
+            Ok(seen)
+        }
+        Stmt::Declare(_, _)
+        | Stmt::DeclareArray(_, _)
+        | Stmt::Assign(_, _)
+        | Stmt::AssignElement(_, _, _)
+        | Stmt::Reduce(_, _, _)
+        | Stmt::Call(_)
+        | Stmt::Sync
+        | Stmt::If(_, _)
+        | Stmt::IfElse(_, _, _)
+        | Stmt::For(_, _)
+        | Stmt::Scope(_)
+        | Stmt::Cut(_, _)
+        | Stmt::Region(_, _)
+        | Stmt::Print(_)
+        | Stmt::Return(_) => {
+            let seen = taken.copied(place.alloc)?;
+            Ok(seen)
+        }
     }
-    Ok(seen)
 }
 
 // A rule that a statement of this line breaks, the blocks in it aside.
@@ -449,7 +470,8 @@ fn in_parts<'a>(
     seen.cut(&cut.array, line)?;
     known.add(&cut.left, true, line)?;
     known.add(&cut.right, true, line)?;
-    let found = in_block(place.inside()?, known, seen, lines, true)?;
+    let inner = place.inside()?;
+    let found = in_block(inner, known, seen, lines, true)?;
     known.leave(before);
     Ok(found)
 }

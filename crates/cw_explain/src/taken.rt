@@ -232,7 +232,7 @@ impl<'a> Taken<'a> {
     }
 }
 
-/// One sync block deeper; as many inside one another as 32 bits count are told as a want of memory.
+/// One sync block deeper. An error where more of them lie inside one another than 32 bits count, as for a want of memory.
 pub fn deeper(depth: u32) -> Result<u32, AllocError>
     ensures { IfOk result (λ inner. inner ≡ depth + 1) }
 {
@@ -242,7 +242,7 @@ pub fn deeper(depth: u32) -> Result<u32, AllocError>
     }
 }
 
-/// With each name in an expression.
+/// With each name in an expression, behind those that are there. An error where memory is refused.
 pub fn add_names<'a>(names: &mut Vec<Word<'a>>, e: &'a Expr) -> Result<(), AllocError>
     ensures { OnOk result
         (spelled names.new.items ≡ spelled names.old.items ++ rule.names_in (expr_of e.now)) }
@@ -382,7 +382,8 @@ fn after_spawn<'a>(
     Ok(())
 }
 
-/// What is taken after a statement that lies in so many sync blocks.
+/// What is taken after a statement that lies in so many sync blocks. An error where memory is refused, or by `deeper`;
+/// what is held as taken is then of no statement.
 #[cycle(taking)]
 pub fn after<'a>(
     alloc: Global,

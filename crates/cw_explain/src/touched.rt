@@ -17,6 +17,7 @@ ghost use Rattle.std.specs.Prelude.{
   is_some,
   map,
   not,
+  option_map,
   take,
 };
 ghost use Rattle.cw_explain.specs.Disowned.{
@@ -32,6 +33,7 @@ ghost use Rattle.cw_explain.specs.Doings.{
   Cuts,
   Writes,
   WritesElement,
+  doings,
   doings_in,
   doings_in_argument,
   doings_in_arguments,
@@ -138,26 +140,46 @@ pub fn of_stmt<'a>(
         in_head: false,
     };
     match stmt {
-        Stmt::Declare(_, e)
-        | Stmt::DeclareArray(_, e)
-        | Stmt::Reduce(_, _, e)
-        | Stmt::If(e, _)
-        | Stmt::IfElse(e, _, _)
-        | Stmt::While(e, _)
-        | Stmt::Print(e)
-        | Stmt::Return(Some(e)) => Ok(of_expr(within, known, taken, e)),
+        Stmt::Declare(_, e) => Ok(of_expr(within, known, taken, e)),
+        Stmt::DeclareArray(_, e) => Ok(of_expr(within, known, taken, e)),
         Stmt::Assign(x, e) => Ok(of_assign(within, known, taken, x, e)),
         Stmt::AssignElement(a, i, e) => Ok(of_assign_element(within, known, taken, a, i, e)),
-        Stmt::Call(call) => of_call(alloc, ast, within, known, taken, call),
+        Stmt::Reduce(_, _, e) => Ok(of_expr(within, known, taken, e)),
+        Stmt::If(e, _) => Ok(of_expr(within, known, taken, e)),
+        Stmt::IfElse(e, _, _) => Ok(of_expr(within, known, taken, e)),
+        Stmt::While(e, _) => Ok(of_expr(within, known, taken, e)),
+        Stmt::Print(e) => Ok(of_expr(within, known, taken, e)),
+        Stmt::Call(call) => {
+            let found = of_call(alloc, ast, within, known, taken, call)?;
+            Ok(found)
+        }
         Stmt::For(head, _) => {
-            let within = Within {
-                around,
-                in_head: true,
-            };
-            of_head(alloc, within, known, taken, head)
+            let found = of_head(alloc, around, known, taken, head)?;
+            Ok(found)
         }
         Stmt::Cut(cut, _) => Ok(of_cut(within, known, taken, cut)),
-        Stmt::Sync | Stmt::Scope(_) | Stmt::Region(_, _) | Stmt::Return(None) => Ok(None),
+        Stmt::Return(value) => Ok(of_return(within, known, taken, value)),
+        Stmt::Sync | Stmt::Scope(_) | Stmt::Region(_, _) => Ok(None),
+    }
+}
+
+// What a return gives, if it gives something, breaks a rule.
+fn of_return<'a>(
+    around: Within<'a>,
+    known: &Known<'a>,
+    taken: &Taken<'a>,
+    value: &'a Option<Expr>,
+) -> Option<Disowned<'a>>
+    ensures decides { is_some result
+        ≡ not (keeps_owners [] (around_of (locals_of known.now) around.entry) (taken_of taken.now)
+        (model.Return (option_map expr_of value.now))) }
+    ensures holds { IfSome result
+        (IsWrongAmong (where_of (locals_of known.now) around.entry (taken_of taken.now))
+        (doings [] (model.Return (option_map expr_of value.now)))) }
+{
+    match value {
+        None => None,
+        Some(e) => Some(of_expr(around, known, taken, e)?),
     }
 }
 
@@ -618,20 +640,23 @@ fn is_earlier(earlier: &[Word<'_>], name: Word<'_>) -> bool
 // The head of a loop breaks a rule.
 fn of_head<'a>(
     alloc: Global,
-    around: Within<'a>,
+    looped: Option<Loop<'a>>,
     known: &Known<'a>,
     taken: &Taken<'a>,
     head: &'a Head,
 ) -> Result<Option<Disowned<'a>>, AllocError>
-    requires in_head { around.in_head ≡ true }
     ensures decides { IfOk result (λ found. is_some found
-        ≡ not (keeps_head (loop_of (locals_of known.now) around.entry.around) (taken_of taken.now)
+        ≡ not (keeps_head (loop_of (locals_of known.now) looped.entry) (taken_of taken.now)
         (expr_of head.now.from) (expr_of head.now.to) head.now.over.items)) }
     ensures holds { IfOk result (λ found. IfSome found
-        (IsWrongOr (where_of (locals_of known.now) around.entry (taken_of taken.now))
+        (IsWrongOr (where_of (locals_of known.now) (record { around = looped.entry; in_head = true }) (taken_of taken.now))
         (doings_in_head (expr_of head.now.from) (expr_of head.now.to) head.now.over.items)
         (IsOverTwice head.now.over.items))) }
 {
+    let around = Within {
+        around: looped,
+        in_head: true,
+    };
     if let Some(reason) = of_expr(around, known, taken, &head.from) {
         return Ok(Some(reason));
     }
