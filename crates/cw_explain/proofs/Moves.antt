@@ -378,12 +378,11 @@ left_there line s b all split d h = subst (λ (ls : Block). Contains (declared_i
 
 -- one name
 pub left_one : (x : Name) (line n : ℕ) (taken : Taken) (r : Disowned) → line ≡ n → IsStillTaken taken x r → IsLeftTaken ((x, line) ∷ []) taken n r
-left_one x line n taken (reason.EndsTaken word holder other) at h =
-    (
-      subst (λ (m : ℕ). Contains {X = Name × ℕ} ((x, line) ∷ []) (word.text.now, m)) at
+left_one x line n taken (reason.EndsTaken word holder other) at h = (
+  subst (λ (m : ℕ). Contains {X = Name × ℕ} ((x, line) ∷ []) (word.text.now, m)) at
       (subst (λ (y : Name). Contains {X = Name × ℕ} ((x, line) ∷ []) (y, line)) (sym h.0) (0, omega arith, refl)),
-      subst (λ (y : Name). has_taken y (holder_of holder) taken ≡ true) (sym h.0) h.1,
-    )
+  subst (λ (y : Name). has_taken y (holder_of holder) taken ≡ true) (sym h.0) h.1,
+)
 left_one x line n taken (reason.Taken word how holder other) at h = h
 left_one x line n taken (reason.GivenTwice word callee) at h = h
 left_one x line n taken (reason.OverTwice word) at h = h
