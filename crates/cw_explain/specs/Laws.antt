@@ -9,4 +9,5 @@ use Rattle.cw_explain.specs.declared.owning.Disowned.{Disowned}
 -- a line of which a reason of ownership holds is refused by the definition
 abbrev pub DisownedAreRefused : Type 0
 DisownedAreRefused =
-    (program : Program) (line : ℕ) (r : Disowned) → IsDisowned program line r → has_line line (ownership_faults program) ≡ true
+    (program : Program) (line : ℕ) (r : Disowned) → IsDisowned program line r →
+    has_line line (ownership_faults program) ≡ true

@@ -76,7 +76,8 @@ impl<'a> Place<'a> {
     }
 }
 
-/// A rule of ownership that this line breaks: one is told exactly where the line breaks one.
+/// A rule of ownership that this line breaks: one is told exactly where the line breaks one. An error where memory is
+/// refused, or, as for that, where more sync blocks lie inside one another than 32 bits count.
 pub fn broken_ownership<'a>(
     alloc: Global,
     ast: &'a Ast,

@@ -232,7 +232,8 @@ impl<'a> Taken<'a> {
     }
 }
 
-/// One sync block deeper. An error where more of them lie inside one another than 32 bits count, as for a want of memory.
+/// One sync block deeper. An error, as for a want of memory, where more of them lie inside one another than 32 bits
+/// count.
 pub fn deeper(depth: u32) -> Result<u32, AllocError>
     ensures { IfOk result (λ inner. inner ≡ depth + 1) }
 {

@@ -108,7 +108,8 @@ impl<'a> Lender<'a> {
 
     // A name is lent twice.
     fn twice(self, name: Word<'a>) -> Disowned<'a>
-        ensures { (names : List model.Name) → AreBothIn names name.entry.text.now name.entry.text.now
+        ensures { (names : List model.Name)
+            → AreBothIn names name.entry.text.now name.entry.text.now
             → IsTwiceIn self.entry names result }
     {
         match self {
@@ -118,7 +119,8 @@ impl<'a> Lender<'a> {
     }
 }
 
-/// A rule that a statement breaks, the blocks in it aside.
+/// A rule that a statement breaks, the blocks in it aside: one is told exactly where it breaks one. An error where memory
+/// is refused.
 pub fn of_stmt<'a>(
     alloc: Global,
     ast: &'a Ast,
@@ -128,11 +130,12 @@ pub fn of_stmt<'a>(
     stmt: &'a Stmt,
 ) -> Result<Option<Disowned<'a>>, AllocError>
     ensures decides { IfOk result (λ found. is_some found
-        ≡ not (keeps_owners (program_of ast.now).functions (loop_of (locals_of known.now) around.entry)
-        (taken_of taken.now) (stmt_of stmt.now))) }
+        ≡ not (keeps_owners (program_of ast.now).functions
+        (loop_of (locals_of known.now) around.entry) (taken_of taken.now) (stmt_of stmt.now))) }
     ensures holds { IfOk result (λ found. IfSome found
         (IsWrongStmt (program_of ast.now).functions
-        (where_of (locals_of known.now) (record { around = around.entry; in_head = is_loop (stmt_of stmt.now) })
+        (where_of (locals_of known.now)
+        (record { around = around.entry; in_head = is_loop (stmt_of stmt.now) })
         (taken_of taken.now)) (stmt_of stmt.now))) }
 {
     let within = Within {
@@ -252,7 +255,8 @@ fn of_element<'a>(
     index: &Expr,
 ) -> Option<Disowned<'a>>
     ensures decides { is_some result
-        ≡ not (rule.may_index (around_of (locals_of known.now) around.entry) name.now (expr_of index.now)) }
+        ≡ not (rule.may_index (around_of (locals_of known.now) around.entry) name.now
+        (expr_of index.now)) }
     ensures holds { IfSome result (λ r. (taken : rule.Taken) →
         IsOuterArray (where_of (locals_of known.now) around.entry taken) name.now r) }
 {
@@ -275,9 +279,11 @@ fn of_expr<'a>(
     e: &'a Expr,
 ) -> Option<Disowned<'a>>
     ensures decides { is_some result
-        ≡ not (rule.may_read (around_of (locals_of known.now) around.entry) (taken_of taken.now) (expr_of e.now)) }
+        ≡ not (rule.may_read (around_of (locals_of known.now) around.entry)
+        (taken_of taken.now) (expr_of e.now)) }
     ensures holds { IfSome result
-        (IsWrongAmong (where_of (locals_of known.now) around.entry (taken_of taken.now)) (doings_in (expr_of e.now))) }
+        (IsWrongAmong (where_of (locals_of known.now) around.entry (taken_of taken.now))
+        (doings_in (expr_of e.now))) }
 {
     match e {
         Expr::Number(_) => None,
@@ -320,8 +326,10 @@ fn of_assign<'a>(
     e: &'a Expr,
 ) -> Option<Disowned<'a>>
     ensures decides { is_some result
-        ≡ not (rule.may_read (around_of (locals_of known.now) around.entry) (taken_of taken.now) (expr_of e.now)
-        && rule.may_write (around_of (locals_of known.now) around.entry) (taken_of taken.now) (x.now ∷ [])) }
+        ≡ not (rule.may_read (around_of (locals_of known.now) around.entry)
+        (taken_of taken.now) (expr_of e.now)
+        && rule.may_write (around_of (locals_of known.now) around.entry)
+        (taken_of taken.now) (x.now ∷ [])) }
     ensures holds { IfSome result
         (IsWrongAmong (where_of (locals_of known.now) around.entry (taken_of taken.now))
         (doings_in (expr_of e.now) ++ Writes x.now ∷ [])) }
@@ -341,9 +349,11 @@ fn of_write<'a>(
     x: &'a Name,
 ) -> Option<Disowned<'a>>
     ensures decides { is_some result
-        ≡ not (rule.may_write (around_of (locals_of known.now) around.entry) (taken_of taken.now) (x.now ∷ [])) }
+        ≡ not (rule.may_write (around_of (locals_of known.now) around.entry)
+        (taken_of taken.now) (x.now ∷ [])) }
     ensures holds { IfSome result
-        (IsWrongDoing (where_of (locals_of known.now) around.entry (taken_of taken.now)) (Writes x.now)) }
+        (IsWrongDoing (where_of (locals_of known.now) around.entry (taken_of taken.now))
+        (Writes x.now)) }
 {
     if let Some(reason) = of_touch(taken, Word::of(x), Touch::Written) {
         return Some(reason);
@@ -362,13 +372,16 @@ fn of_assign_element<'a>(
     e: &'a Expr,
 ) -> Option<Disowned<'a>>
     ensures decides { is_some result
-        ≡ not (rule.may_read (around_of (locals_of known.now) around.entry) (taken_of taken.now) (expr_of i.now)
-        && rule.may_read (around_of (locals_of known.now) around.entry) (taken_of taken.now) (expr_of e.now)
+        ≡ not (rule.may_read (around_of (locals_of known.now) around.entry)
+        (taken_of taken.now) (expr_of i.now)
+        && rule.may_read (around_of (locals_of known.now) around.entry)
+        (taken_of taken.now) (expr_of e.now)
         && rule.are_free (taken_of taken.now) (a.now ∷ [])
         && rule.may_index (around_of (locals_of known.now) around.entry) a.now (expr_of i.now)) }
     ensures holds { IfSome result
         (IsWrongAmong (where_of (locals_of known.now) around.entry (taken_of taken.now))
-        (doings_in (expr_of i.now) ++ (doings_in (expr_of e.now) ++ WritesElement a.now (expr_of i.now) ∷ []))) }
+        (doings_in (expr_of i.now)
+        ++ (doings_in (expr_of e.now) ++ WritesElement a.now (expr_of i.now) ∷ []))) }
 {
     if let Some(reason) = of_expr(around, known, taken, i) {
         return Some(reason);
@@ -410,8 +423,10 @@ fn of_cut<'a>(
     cut: &'a Cut,
 ) -> Option<Disowned<'a>>
     ensures decides { is_some result
-        ≡ not (rule.may_read (around_of (locals_of known.now) around.entry) (taken_of taken.now) (expr_of cut.now.at)
-        && rule.may_write (around_of (locals_of known.now) around.entry) (taken_of taken.now) (cut.now.array ∷ [])) }
+        ≡ not (rule.may_read (around_of (locals_of known.now) around.entry)
+        (taken_of taken.now) (expr_of cut.now.at)
+        && rule.may_write (around_of (locals_of known.now) around.entry)
+        (taken_of taken.now) (cut.now.array ∷ [])) }
     ensures holds { IfSome result
         (IsWrongAmong (where_of (locals_of known.now) around.entry (taken_of taken.now))
         (doings_in (expr_of cut.now.at) ++ Cuts cut.now.array ∷ [])) }
@@ -432,9 +447,11 @@ fn of_whole<'a>(
     touch: Touch,
 ) -> Option<Disowned<'a>>
     ensures decides { is_some result
-        ≡ not (rule.may_write (around_of (locals_of known.now) around.entry) (taken_of taken.now) (name.entry.text.now ∷ [])) }
+        ≡ not (rule.may_write (around_of (locals_of known.now) around.entry)
+        (taken_of taken.now) (name.entry.text.now ∷ [])) }
     ensures holds { IfSome result
-        (IsWrongWhole (where_of (locals_of known.now) around.entry (taken_of taken.now)) name.entry.text.now touch) }
+        (IsWrongWhole (where_of (locals_of known.now) around.entry (taken_of taken.now))
+        name.entry.text.now touch) }
 {
     if let Some(reason) = of_touch(taken, name, touch) {
         return Some(reason);
@@ -453,7 +470,8 @@ fn of_call<'a>(
     call: &'a Call,
 ) -> Result<Option<Disowned<'a>>, AllocError>
     ensures decides { IfOk result (λ found. is_some found
-        ≡ not (keeps_call (program_of ast.now).functions (around_of (locals_of known.now) around.entry)
+        ≡ not (keeps_call (program_of ast.now).functions
+        (around_of (locals_of known.now) around.entry)
         (taken_of taken.now) call.now.target call.now.callee (exprs_of call.now.arguments.items))) }
     ensures holds { IfOk result (λ found. IfSome found
         (IsWrongOr (where_of (locals_of known.now) around.entry (taken_of taken.now))
@@ -481,7 +499,8 @@ fn of_target<'a>(
         ≡ not (rule.may_write (around_of (locals_of known.now) around.entry) (taken_of taken.now)
         (rule.target_names target.now)) }
     ensures holds { IfSome result
-        (IsWrongAmong (where_of (locals_of known.now) around.entry (taken_of taken.now)) (doings_of_target target.now)) }
+        (IsWrongAmong (where_of (locals_of known.now) around.entry (taken_of taken.now))
+        (doings_of_target target.now)) }
 {
     match target {
         None => None,
@@ -499,7 +518,8 @@ fn of_arguments<'a>(
     call: &'a Call,
 ) -> Result<Option<Disowned<'a>>, AllocError>
     ensures decides { IfOk result (λ found. is_some found
-        ≡ not (keep_arguments (program_of ast.now).functions (around_of (locals_of known.now) around.entry)
+        ≡ not (keep_arguments (program_of ast.now).functions
+        (around_of (locals_of known.now) around.entry)
         (taken_of taken.now) call.now.callee (exprs_of call.now.arguments.items))) }
     ensures holds { IfOk result (λ found. IfSome found
         (IsWrongOr (where_of (locals_of known.now) around.entry (taken_of taken.now))
@@ -589,7 +609,8 @@ fn of_lent<'a>(
         (spelled (take place names.now)) (spelled (drop place names.now))) }
     ensures holds { IfSome result
         (IsWrongOr (where_of (locals_of known.now) around.entry (taken_of taken.now))
-        (map (lent_to lender.entry) (spelled (drop place names.now))) (IsTwiceIn lender.entry (spelled names.now))) }
+        (map (lent_to lender.entry) (spelled (drop place names.now)))
+        (IsTwiceIn lender.entry (spelled names.now))) }
 {
     for i in place..names.len() {
         if let Some(reason) = of_lent_name(around, known, taken, lender, &names[..i], names[i]) {
@@ -614,7 +635,8 @@ fn of_lent_name<'a>(
         && not (is_among name.entry.text.now (spelled earlier.now)))) }
     ensures holds { IfSome result
         (IsWrongOr (where_of (locals_of known.now) around.entry (taken_of taken.now))
-        (lent_to lender.entry name.entry.text.now ∷ []) (IsTwiceIn lender.entry (spelled earlier.now ++ name.entry.text.now ∷ []))) }
+        (lent_to lender.entry name.entry.text.now ∷ [])
+        (IsTwiceIn lender.entry (spelled earlier.now ++ name.entry.text.now ∷ []))) }
 {
     if let Some(reason) = of_whole(around, known, taken, name, lender.touch()) {
         return Some(reason);
@@ -649,7 +671,8 @@ fn of_head<'a>(
         ≡ not (keeps_head (loop_of (locals_of known.now) looped.entry) (taken_of taken.now)
         (expr_of head.now.from) (expr_of head.now.to) head.now.over.items)) }
     ensures holds { IfOk result (λ found. IfSome found
-        (IsWrongOr (where_of (locals_of known.now) (record { around = looped.entry; in_head = true }) (taken_of taken.now))
+        (IsWrongOr (where_of (locals_of known.now)
+        (record { around = looped.entry; in_head = true }) (taken_of taken.now))
         (doings_in_head (expr_of head.now.from) (expr_of head.now.to) head.now.over.items)
         (IsOverTwice head.now.over.items))) }
 {
