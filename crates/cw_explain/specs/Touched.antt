@@ -1,7 +1,7 @@
 -- What it means that a reason says of a name what took it.
 use Rattle.std.specs.Prelude.{◌≡◌, true}
-use Rattle.cw_model.specs.Ownership.{Declared, Taken, declared_by}
-use Rattle.cw_model.specs.Syntax.{Name, Block, End, Then}
+use Rattle.cw_model.specs.Ownership.{Taken}
+use Rattle.cw_model.specs.Syntax.{Name}
 use Rattle.cw_explain.specs.Held.{has_taken, holder_of}
 use Rattle.cw_explain.specs.declared.owning.Disowned.{Disowned}
 use Rattle.cw_explain.specs.declared.owning.Disowned.TheVariants as reason
@@ -13,12 +13,8 @@ IsTakenBy taken x touch (reason.Taken word how holder line) =
     (word.text.now ≡ x) × (how ≡ touch) × (has_taken x (holder_of holder) taken ≡ true)
 IsTakenBy taken x touch _ = ⊥
 
--- the reason is of a name that is still taken, by what the reason says
-abbrev pub IsStillTaken : Taken → Disowned → Type 0
-IsStillTaken taken (reason.EndsTaken word holder line) = has_taken word.text.now (holder_of holder) taken ≡ true
-IsStillTaken taken _ = ⊥
-
--- the names that a block declares, each with its line, behind those before
-abbrev pub declared_in : Block → Declared → Declared
-declared_in End declared = declared
-declared_in (Then line s b) declared = declared_in b (declared_by line s declared)
+-- the reason is of this name, which is still taken by what the reason says
+abbrev pub IsStillTaken : Taken → Name → Disowned → Type 0
+IsStillTaken taken x (reason.EndsTaken word holder line) =
+    (word.text.now ≡ x) × (has_taken x (holder_of holder) taken ≡ true)
+IsStillTaken taken x _ = ⊥
