@@ -1,5 +1,8 @@
 -- What a board shows, and one function for each of its moves.
-use Rattle.std.specs.Prelude.{ℕ, Bool, true, false, ◌&&◌, nat_lt, List, [], length, replicate, Option, Some, None, is_some, is_none, slice_set}
+use Rattle.std.specs.Prelude.{◌≡◌, ℕ, ◌<◌, Bool, true, false, ◌&&◌, nat_lt, List, [], length, map, replicate, Option, Some, None, is_some, is_none, slice_get, slice_set}
+use Rattle.std.specs.Global.{Global}
+use Rattle.std.specs.VecDeque.{deque_len, deque_capacity}
+use Rattle.std.specs.declared.collections.VecDeque.{VecDeque}
 use Rattle.std.specs.Ordering.{nat_cmp}
 use Rattle.std.specs.Map.{lookup, remove_entry, set_value}
 use Rattle.std.specs.BTreeMap.{insert_entry, is_at}
@@ -88,3 +91,11 @@ can_collect n b = is_settled (state_of b n)
 
 abbrev pub collect : (number : ℕ) → Offers → Offers
 collect n b = spent b n
+
+-- what lists hold, whatever room they have
+abbrev pub lists_of : List (VecDeque ℕ Global) → List (List ℕ)
+lists_of lists = map (λ q. q.items) lists
+
+-- a worker's list is there, and has room for one more
+abbrev pub HasRoomAt : List (VecDeque ℕ Global) → (worker : ℕ) → Type 0
+HasRoomAt lists w = (q : VecDeque ℕ Global) × (slice_get lists w ≡ Some q) × (deque_len q < deque_capacity q)

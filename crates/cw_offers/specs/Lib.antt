@@ -1,1 +1,3 @@
 pub mod Boards
+pub mod Laws
+pub mod lemmas

@@ -4,7 +4,9 @@ ghost use Rattle.std.specs.Prelude.{◌≡◌, ◌↔◌, false, true, Err, None
 ghost use Rattle.cw_sched.specs.Board.{newest, oldest};
 ghost use Rattle.cw_offers.specs.Boards as boards;
 ghost use Rattle.cw_offers.specs.Boards.{can_collect, can_offer, can_settle, list_of, opened, state_of};
+ghost use Rattle.cw_offers.specs.Laws.{IsBoard};
 
+use crate::{lists, states};
 use std::alloc::{AllocError, Global};
 use std::collections::{BTreeMap, VecDeque};
 use std::marker::Model;
@@ -39,12 +41,14 @@ pub struct Board {
 }
 
 impl Model for Board {
-    ghost use Rattle.std.specs.Prelude.{map};
-    ghost use Rattle.cw_offers.specs.Boards.{Offers};
+    ghost use Rattle.cw_offers.specs.Boards.{lists_of, Offers};
+    ghost use Rattle.cw_offers.specs.Laws.{IsBoard};
 
     ghost Value = { Offers };
 
-    ghost view = { λ b. record { lists = map (λ q. q.items) b.lists.items; states = b.states.entries } };
+    ghost view = { λ b. record { lists = lists_of b.lists.items; states = b.states.entries } };
+
+    ghost invariant = { λ b. IsBoard record { lists = lists_of b.lists.items; states = b.states.entries } };
 }
 
 impl From<AllocError> for Refused {
@@ -58,14 +62,19 @@ impl Board {
     pub fn open(alloc: Global, workers: usize) -> Result<Board, AllocError>
         ensures { IfOk result (λ b. b ≡ opened workers) }
     {
-        let mut lists = Vec::with_capacity(alloc, workers)?;
-        for _ in 0..workers {
-            lists.push_reserved(VecDeque::new(alloc));
-        }
+        let lists = lists::empty(alloc, workers)?;
         Ok(Board {
             lists,
             states: BTreeMap::new(alloc),
         })
+    }
+
+    /// Shows a proof what every board keeps: the numbers that are not spent rise, so each has one state, and a number
+    /// stands in the lists, once in all, exactly where its state is `Offered`.
+    pub fn keeps(&self)
+        ensures { IsBoard self.now }
+    {
+        let _ = &self.lists;
     }
 
     /// How many workers there are.
@@ -76,7 +85,7 @@ impl Board {
     }
 
     /// How many numbers are not spent: the board keeps something of these alone.
-    pub fn len(&self) -> usize
+    pub fn unspent(&self) -> usize
         ensures { result ≡ length self.now.states }
     {
         self.states.len()
@@ -86,21 +95,21 @@ impl Board {
     pub fn state(&self, number: usize) -> Option<State>
         ensures { result ≡ state_of self.now number }
     {
-        self.states.get(&number).copied()
+        states::get(&self.states, number)
     }
 
     /// The number that a worker would take back.
     pub fn newest(&self, worker: usize) -> Option<usize>
         ensures { result ≡ newest (list_of self.now worker) }
     {
-        self.lists.get(worker)?.back().copied()
+        lists::newest(&self.lists, worker)
     }
 
     /// The number that a thief would steal from a worker.
     pub fn oldest(&self, worker: usize) -> Option<usize>
         ensures { result ≡ oldest (list_of self.now worker) }
     {
-        self.lists.get(worker)?.front().copied()
+        lists::oldest(&self.lists, worker)
     }
 
     /// A number goes to the back of a worker's list.
@@ -112,14 +121,24 @@ impl Board {
         ensures offered { OnOk result (self.new ≡ boards.offer worker number self.old) }
         ensures same { OnErr result (self.new ≡ self.old) }
     {
-        if worker >= self.lists.len() || self.states.contains_key(&number) {
+        if worker >= self.workers() || self.state(number).is_some() {
             return Err(Refused::NotNow);
         }
-        self.lists[worker].reserve(1)?;
-        if self.states.insert(number, State::Offered).is_err() {
+        if self.put(worker, number).is_err() {
             return Err(Refused::Memory);
         }
-        self.lists[worker].push_back_reserved(number);
+        Ok(())
+    }
+
+    // A number goes to the back of a worker's list.
+    fn put(&mut self, worker: usize, number: usize) -> Result<(), AllocError>
+        requires { can_offer worker number self.old ≡ true }
+        ensures offered { OnOk result (self.new ≡ boards.offer worker number self.old) }
+        ensures same { OnErr result (self.new ≡ self.old) }
+    {
+        lists::reserve(&mut self.lists, worker)?;
+        states::insert(&mut self.states, number, State::Offered)?;
+        lists::push(&mut self.lists, worker, number);
         Ok(())
     }
 
@@ -130,9 +149,9 @@ impl Board {
         ensures retaken { self.new ≡ boards.retake worker self.old }
         ensures same { IfNone result (self.new ≡ self.old) }
     {
-        let number = self.lists.get_mut(worker)?.pop_back()?;
-        self.states.remove(&number);
-        Some(number)
+        let taken = lists::pop_newest(&mut self.lists, worker)?;
+        states::remove(&mut self.states, taken);
+        Some(taken)
     }
 
     /// The oldest of a worker's list is stolen. `None` exactly where there is none in it, and then the board is as it
@@ -142,11 +161,9 @@ impl Board {
         ensures stolen { self.new ≡ boards.steal victim self.old }
         ensures same { IfNone result (self.new ≡ self.old) }
     {
-        let number = self.lists.get_mut(victim)?.pop_front()?;
-        if let Some(state) = self.states.get_mut(&number) {
-            *state = State::Stolen;
-        }
-        Some(number)
+        let taken = lists::pop_oldest(&mut self.lists, victim)?;
+        states::set(&mut self.states, taken, State::Stolen);
+        Some(taken)
     }
 
     /// The thief is done with a number. Whether it was stolen: where not, the board is as it was. This takes no memory.
@@ -155,15 +172,12 @@ impl Board {
         ensures settled { IsTrue result → self.new ≡ boards.settle number self.old }
         ensures same { result ≡ false → self.new ≡ self.old }
     {
-        match self.states.get_mut(&number) {
-            Some(state) => match *state {
-                State::Stolen => {
-                    *state = State::Settled;
-                    true
-                }
-                _ => false,
-            },
-            None => false,
+        match self.state(number) {
+            Some(State::Stolen) => {
+                states::set(&mut self.states, number, State::Settled);
+                true
+            }
+            _ => false,
         }
     }
 
@@ -175,7 +189,7 @@ impl Board {
     {
         match self.state(number) {
             Some(State::Settled) => {
-                self.states.remove(&number);
+                states::remove(&mut self.states, number);
                 true
             }
             _ => false,

@@ -2,3 +2,6 @@
 #![tactic(auto)]
 
 pub mod board;
+pub mod laws;
+mod lists;
+mod states;
