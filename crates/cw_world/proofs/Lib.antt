@@ -1,0 +1,6 @@
+pub mod Lists
+pub mod Boards
+pub mod Strands
+pub mod Posts
+pub mod Sounds
+pub mod Turns

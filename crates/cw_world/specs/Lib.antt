@@ -1,0 +1,6 @@
+pub mod Boards
+pub mod Scenes
+pub mod Table
+pub mod Posts
+pub mod Sound
+pub mod Events
