@@ -19,7 +19,7 @@ use Rattle.cw_world.specs.declared.event.Event.TheVariants as event
 use Rattle.cw_world.specs.declared.post.Out.{Out}
 use Rattle.cw_world.specs.declared.post.Out.TheVariants as out
 use Rattle.cw_world.specs.declared.world.Begun.{Begun}
-use Rattle.cw_world.specs.Boards.{Boarded, offered, retaken, stolen, settled, collected, cell_of}
+use Rattle.cw_world.specs.Boards.{Boarded, offered, retaken, stolen, settled, collected, cell_of, newest_number}
 use Rattle.cw_world.specs.Scenes.{Posted, Stage, Goes, Made, Answered, Scene, top}
 use Rattle.cw_world.specs.Sound.{IsStage}
 
@@ -102,15 +102,22 @@ abbrev pub board_without : Boarded → (w : ℕ) → Out → Boarded
 board_without b w (out.Offered n) = retaken b w
 board_without b w _ = b
 
+-- and it lies there
+abbrev pub IsAtBack : Boarded → (w : ℕ) → Out → Type 0
+IsAtBack b w (out.Offered n) = newest_number b w ≡ Some n
+IsAtBack b w _ = Unit {0}
+
 -- RETAKE: the strand has its newest job back
 pub record Retakes (v : Verified) (s s' : Scene) (w : ℕ) : Type 0 where
   pub at : AtOut s w
+  pub back : IsAtBack s.board w at.newest
   pub stage : Stage
   pub comes : ComesTo v s.jobs at.at.post at.older stage
   pub is : s' ≡ turned s w stage (board_without s.board w at.newest)
 
 -- STEAL: a strand begins the oldest job of a deque
 pub record Steals (v : Verified) (s s' : Scene) (w victim : ℕ) : Type 0 where
+  pub there : w < length s.begun
   pub offer : Offer
   pub oldest_is : oldest (of_worker s.board.offers victim) ≡ Some offer
   pub stage : Stage

@@ -120,7 +120,7 @@ fn room(begun: &mut Vec<Vec<Begun>>, w: usize) -> Result<(), AllocError>
 
 // Whether it has not ended.
 fn goes(top: Option<&Begun>) -> bool
-    ensures { result ≡ table.goes (staged top) }
+    ensures { result ≡ table.goes (staged top.entry) }
 {
     match top {
         Some(Begun::Goes(_)) => true,
@@ -130,7 +130,7 @@ fn goes(top: Option<&Begun>) -> bool
 
 // The newest job that it has out.
 fn newest_out(top: Option<&Begun>) -> Option<&Out>
-    ensures { out_of result ≡ table.newest_out (staged top) }
+    ensures { out_of result ≡ table.newest_out (staged top.entry) }
 {
     match top {
         Some(Begun::Goes(post)) => post.outs.as_slice().last(),
@@ -140,7 +140,7 @@ fn newest_out(top: Option<&Begun>) -> Option<&Out>
 
 // Whether it is at a spawn to decide.
 fn is_at_spawn(top: Option<&Begun>) -> bool
-    ensures { result ≡ table.is_at_spawn (staged top) }
+    ensures { result ≡ table.is_at_spawn (staged top.entry) }
 {
     match newest_out(top) {
         Some(Out::Undecided(_, _)) => true,
@@ -150,7 +150,7 @@ fn is_at_spawn(top: Option<&Begun>) -> bool
 
 // Whether it is at a join.
 fn is_at_join(top: Option<&Begun>) -> bool
-    ensures { result ≡ table.is_at_join (staged top) }
+    ensures { result ≡ table.is_at_join (staged top.entry) }
 {
     match top {
         Some(Begun::Goes(post)) => post.at_join,
@@ -160,7 +160,7 @@ fn is_at_join(top: Option<&Begun>) -> bool
 
 // Whether it is a stolen job that has ended.
 fn has_made(top: Option<&Begun>) -> bool
-    ensures { result ≡ table.has_made (staged top) }
+    ensures { result ≡ table.has_made (staged top.entry) }
 {
     match top {
         Some(Begun::Made(_, _)) => true,
@@ -170,7 +170,7 @@ fn has_made(top: Option<&Begun>) -> bool
 
 // Whether this job is kept, or at the back of the worker's deque.
 fn can_retake(board: &Board, w: usize, out: Option<&Out>) -> bool
-    ensures { result ≡ table.can_retake (boarded board.now) w (out_of out) }
+    ensures { result ≡ table.can_retake (boarded board.now) w (out_of out.entry) }
 {
     match out {
         Some(Out::Kept(_, _)) => true,
@@ -184,7 +184,7 @@ fn can_retake(board: &Board, w: usize, out: Option<&Out>) -> bool
 
 // Whether the effect of this job is in its cell.
 fn is_settled(board: &Board, out: Option<&Out>) -> bool
-    ensures { result ≡ table.is_settled (boarded board.now) (out_of out) }
+    ensures { result ≡ table.is_settled (boarded board.now) (out_of out.entry) }
 {
     match out {
         Some(Out::Offered(number)) => board.cell(*number).is_some(),

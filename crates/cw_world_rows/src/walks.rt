@@ -4,11 +4,10 @@ use crate::programs::{PRINTS, code_of};
 use cw_model::burden::{Burden, Edges};
 use cw_text::Fault;
 use cw_world::event::Event;
+use cw_world::event::Event::{Collect, Inline, Offer, Retake, Run, Settle, Steal};
 use cw_world::world::World;
 use std::alloc::Global;
 use std::test::Fail;
-
-use cw_world::event::Event::{Collect, Inline, Offer, Retake, Run, Settle, Steal};
 
 // Each rest costs 100 to begin.
 const BURDEN: Burden = Burden {
@@ -50,8 +49,18 @@ fn has_printed(world: &World) -> bool {
 #[test]
 fn one_worker_keeps_each_rest(rt: HostRuntime) -> Result<(), Fail> {
     let mut world = printing(rt.alloc(), 1)?;
-    assert!(rt; walk(&mut world, &[Run(0), Run(0), Inline(0), Run(0), Run(0), Run(0), Retake(0)]));
-    assert!(rt; walk(&mut world, &[Run(0), Run(0), Inline(0), Run(0), Run(0), Run(0), Retake(0)]));
+    assert!(rt;
+        walk(
+            &mut world,
+            &[Run(0), Run(0), Inline(0), Run(0), Run(0), Run(0), Retake(0)]
+        )
+    );
+    assert!(rt;
+        walk(
+            &mut world,
+            &[Run(0), Run(0), Inline(0), Run(0), Run(0), Run(0), Retake(0)]
+        )
+    );
     assert!(rt; world.outcome().is_none());
     assert!(rt; walk(&mut world, &[Run(0), Run(0), Run(0), Run(0), Run(0)]));
     assert!(rt; has_printed(&world));
@@ -61,9 +70,40 @@ fn one_worker_keeps_each_rest(rt: HostRuntime) -> Result<(), Fail> {
 #[test]
 fn two_workers_steal_each_rest(rt: HostRuntime) -> Result<(), Fail> {
     let mut world = printing(rt.alloc(), 2)?;
-    assert!(rt; walk(&mut world, &[Run(0), Run(0), Offer(0), Steal(1, 0), Run(1), Run(1), Offer(1)]));
-    assert!(rt; walk(&mut world, &[Run(0), Run(0), Run(0), Steal(0, 1), Run(0), Run(0), Settle(0)]));
-    assert!(rt; walk(&mut world, &[Run(1), Run(1), Run(1), Collect(1), Settle(1), Collect(0)]));
+    assert!(rt;
+        walk(
+            &mut world,
+            &[
+                Run(0),
+                Run(0),
+                Offer(0),
+                Steal(1, 0),
+                Run(1),
+                Run(1),
+                Offer(1)
+            ]
+        )
+    );
+    assert!(rt;
+        walk(
+            &mut world,
+            &[
+                Run(0),
+                Run(0),
+                Run(0),
+                Steal(0, 1),
+                Run(0),
+                Run(0),
+                Settle(0)
+            ]
+        )
+    );
+    assert!(rt;
+        walk(
+            &mut world,
+            &[Run(1), Run(1), Run(1), Collect(1), Settle(1), Collect(0)]
+        )
+    );
     assert!(rt; world.outcome().is_none());
     assert!(rt; walk(&mut world, &[Run(0), Run(0), Run(0)]));
     assert!(rt; has_printed(&world));

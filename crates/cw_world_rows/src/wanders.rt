@@ -98,7 +98,9 @@ fn wander(world: &mut World, workers: u64, seed: u64) -> Option<Result<Ended, Fa
         if let Some(answer) = world.outcome() {
             return Some(answer);
         }
-        number = number.wrapping_mul(6364136223846793005).wrapping_add(1442695040888963407);
+        number = number
+            .wrapping_mul(6364136223846793005)
+            .wrapping_add(1442695040888963407);
         let kind = (number >> 33) % 10;
         let w = ((number >> 40) % workers) as usize;
         let v = ((number >> 50) % workers) as usize;
@@ -109,7 +111,13 @@ fn wander(world: &mut World, workers: u64, seed: u64) -> Option<Result<Ended, Fa
 
 // Whether a walk comes to what one worker comes to.
 fn is_serial(alloc: Global, case: Case, workers: usize, seed: u64) -> Result<bool, Fault> {
-    let alone = run_alone(alloc, code_of(alloc, case.source)?, case.args, case.n, BURDEN);
+    let alone = run_alone(
+        alloc,
+        code_of(alloc, case.source)?,
+        case.args,
+        case.n,
+        BURDEN,
+    );
     let code = code_of(alloc, case.source)?;
     let mut world = World::start(alloc, code, case.args, case.n, BURDEN, workers)?;
     match wander(&mut world, workers as u64, seed) {
