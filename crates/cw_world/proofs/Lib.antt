@@ -4,3 +4,4 @@ pub mod Strands
 pub mod Posts
 pub mod Sounds
 pub mod Turns
+pub mod Placed

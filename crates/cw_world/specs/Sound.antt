@@ -1,28 +1,23 @@
 -- What each world keeps.
-use Rattle.std.specs.Prelude.{◌≡◌, ◌≢◌, ◌⊎◌, ℕ, ◌-◌, ◌<◌, ◌≤◌, ℤ, Bool, true, false, List, [], ◌∷◌, length, map, reverse, Option, Some, None, Result, slice_get, replicate}
-use Rattle.std.specs.Arc.{arc_value}
+use Rattle.std.specs.Prelude.{◌≡◌, ℕ, ℤ, List, length, map, reverse, Some, Result, slice_get}
 use Rattle.cw_model.specs.declared.burden.Burden.{Burden}
 use Rattle.cw_text.specs.declared.fault.Fault.{Fault}
-use Rattle.cw_text.specs.declared.fault.Fault.TheVariants as fault
-use Rattle.cw_code.specs.Code.{Code, code_view}
+use Rattle.cw_code.specs.Code.{code_view}
 use Rattle.cw_verify.specs.declared.verified.Verified.{Verified}
 use Rattle.cw_jobs.specs.declared.effect.Effect.{Effect}
 use Rattle.cw_jobs.specs.declared.job.Job.{Job}
-use Rattle.cw_jobs.specs.Jobs.{IsRoot, is_request}
+use Rattle.cw_jobs.specs.Jobs.{IsRoot}
 use Rattle.cw_jobs.specs.Means.{IsMeaningOf}
 use Rattle.cw_machine.specs.declared.alone.Ended as alone
 use Rattle.cw_machine.specs.Runs.{RunsAsCode}
 use Rattle.cw_strand.specs.Holds.{its_job, outs, IsRunning}
-use Rattle.cw_sched.specs.Board.{of_worker, oldest}
 use Rattle.cw_world.specs.declared.board.Offer.{Offer}
 use Rattle.cw_world.specs.declared.board.Cell.{Cell}
 use Rattle.cw_world.specs.declared.post.Out.{Out}
 use Rattle.cw_world.specs.declared.post.Out.TheVariants as out
-use Rattle.cw_world.specs.declared.world.World.{World}
-use Rattle.cw_world.specs.declared.world.TheConstants.{MOST_WORKERS}
-use Rattle.cw_world.specs.Boards.{Each, opened}
+use Rattle.cw_world.specs.Boards.{Each}
 use Rattle.cw_world.specs.Posts.{StandsRight}
-use Rattle.cw_world.specs.Scenes.{Posted, Stage, Goes, Made, Answered, Scene, scene}
+use Rattle.cw_world.specs.Scenes.{Posted, Stage, Goes, Made, Answered, Scene}
 
 -- this is the job of the number
 abbrev pub IsJobOf : List Job → (n : ℕ) → Job → Type 0
@@ -88,9 +83,6 @@ pub record Sound (v : Verified) (s : Scene) : Type 0 where
   pub cells : Each (IsCell s.jobs) s.board.cells
   pub workers : length s.board.offers ≡ length s.begun
 
-abbrev pub IsSound : World → Type 0
-IsSound w = Sound (arc_value w.code) (scene w)
-
 -- number 0 is the job of a run on these arguments, within this limit, with this burden
 abbrev pub IsRunOf : Verified → List ℤ → (n : ℕ) → Burden → List Job → Type 0
 IsRunOf v args n burden jobs = (root : Job) × IsJobOf jobs 0 root × IsRoot v args n burden root.parts.value
@@ -98,37 +90,3 @@ IsRunOf v args n burden jobs = (root : Job) × IsJobOf jobs 0 root × IsRoot v a
 -- the root stays
 abbrev pub KeepsRuns : (old new : List Job) → Type 0
 KeepsRuns old new = (root : Job) → IsJobOf old 0 root → IsJobOf new 0 root
-
--- A WORLD OF THE RUN OF THIS CODE on these arguments, within this limit, with this burden
-pub record IsWorldOf (v : Verified) (args : List ℤ) (n : ℕ) (burden : Burden) (w : World) : Type 0 where
-  pub sound : IsSound w
-  pub code_is : arc_value w.code ≡ v
-  pub run : IsRunOf v args n burden (scene w).jobs
-
--- the root has ended
-abbrev pub is_answered : Option Stage → Bool
-is_answered (Some (Answered r)) = true
-is_answered _ = false
-
-abbrev pub has_ended : Scene → Bool
-has_ended s = is_answered (oldest (of_worker s.begun 0))
-
--- so many workers that have begun nothing
-abbrev pub idle : (others : ℕ) → List (List Stage)
-idle others = replicate others []
-
--- it has begun well: worker 0 has begun the root, all others are idle, and nothing is offered
-pub record IsStarted (v : Verified) (args : List ℤ) (n : ℕ) (burden : Burden) (workers : ℕ) (w : World) : Type 0 where
-  pub is : IsWorldOf v args n burden w
-  pub post : Posted
-  pub root : (post.number ≡ 0) × (post.outs ≡ [])
-  pub begun : (scene w).begun ≡ (Goes post ∷ []) ∷ idle (workers - 1)
-  pub board : (scene w).board ≡ opened workers
-
--- why there is no world: what was asked for is out of range; or memory ran out
-abbrev pub IsNotStarted : Code → List ℤ → (n : ℕ) → Burden → (workers : ℕ) → Fault → Type 0
-IsNotStarted code args n burden workers fault.Arguments =
-    (workers ≡ 0) ⊎ (MOST_WORKERS < workers) ⊎ (is_request code args n burden ≡ false)
-IsNotStarted code args n burden workers fault.Memory =
-    (0 < workers) × (workers ≤ MOST_WORKERS) × (is_request code args n burden ≡ true)
-IsNotStarted code args n burden workers _ = ⊥

@@ -4,5 +4,6 @@
 pub mod board;
 pub mod copy;
 pub mod event;
+pub mod play;
 pub mod post;
 pub mod world;
