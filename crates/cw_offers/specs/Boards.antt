@@ -99,3 +99,13 @@ lists_of lists = map (λ q. q.items) lists
 -- a worker's list is there, and has room for one more
 abbrev pub HasRoomAt : List (VecDeque ℕ Global) → (worker : ℕ) → Type 0
 HasRoomAt lists w = (q : VecDeque ℕ Global) × (slice_get lists w ≡ Some q) × (deque_len q < deque_capacity q)
+
+-- the lists with a number more at the back of a worker's; without the one at its back; and without the one at its front
+abbrev pub with_newest : List (List ℕ) → (worker number : ℕ) → List (List ℕ)
+with_newest lists w n = slice_set lists w (pushed (of_worker lists w) n)
+
+abbrev pub without_newest : List (List ℕ) → (worker : ℕ) → List (List ℕ)
+without_newest lists w = slice_set lists w (but_newest (of_worker lists w))
+
+abbrev pub without_oldest : List (List ℕ) → (worker : ℕ) → List (List ℕ)
+without_oldest lists w = slice_set lists w (but_oldest (of_worker lists w))

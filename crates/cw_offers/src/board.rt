@@ -136,9 +136,10 @@ impl Board {
         ensures offered { OnOk result (self.new ≡ boards.offer worker number self.old) }
         ensures same { OnErr result (self.new ≡ self.old) }
     {
-        lists::reserve(&mut self.lists, worker)?;
+        let lists: &mut [VecDeque<usize>] = &mut self.lists;
+        lists::reserve(lists, worker)?;
         states::insert(&mut self.states, number, State::Offered)?;
-        lists::push(&mut self.lists, worker, number);
+        lists::push(lists, worker, number);
         Ok(())
     }
 

@@ -1,8 +1,8 @@
 //! Workers' lists of numbers, the oldest first.
 
-ghost use Rattle.std.specs.Prelude.{◌≡◌, ◌<◌, [], length, replicate, slice_set, IfNone, IfOk, OnOk, OnSome};
-ghost use Rattle.cw_sched.specs.Board.{newest, but_newest, oldest, but_oldest, of_worker, pushed};
-ghost use Rattle.cw_offers.specs.Boards.{lists_of, HasRoomAt};
+ghost use Rattle.std.specs.Prelude.{◌≡◌, ◌<◌, [], length, replicate, IfNone, IfOk, OnOk, OnSome};
+ghost use Rattle.cw_sched.specs.Board.{newest, oldest, of_worker};
+ghost use Rattle.cw_offers.specs.Boards.{lists_of, with_newest, without_newest, without_oldest, HasRoomAt};
 
 use std::alloc::{AllocError, Global};
 use std::collections::VecDeque;
@@ -23,7 +23,10 @@ pub(crate) fn newest(lists: &[VecDeque<usize>], worker: usize) -> Option<usize>
     ensures { result ≡ newest (of_worker (lists_of lists.now) worker) }
 {
     match lists.get(worker) {
-        Some(list) => list.back().copied(),
+        Some(list) => match list.back() {
+            Some(number) => Some(*number),
+            None => None,
+        },
         None => None,
     }
 }
@@ -50,8 +53,7 @@ pub(crate) fn reserve(lists: &mut [VecDeque<usize>], worker: usize) -> Result<()
 /// A number goes to the back of a worker's list.
 pub(crate) fn push(lists: &mut [VecDeque<usize>], worker: usize, number: usize)
     requires { HasRoomAt lists.old worker }
-    ensures { lists_of lists.new
-        ≡ slice_set (lists_of lists.old) worker (pushed (of_worker (lists_of lists.old) worker) number) }
+    ensures { lists_of lists.new ≡ with_newest (lists_of lists.old) worker number }
 {
     lists[worker].push_back_reserved(number);
 }
@@ -59,8 +61,7 @@ pub(crate) fn push(lists: &mut [VecDeque<usize>], worker: usize, number: usize)
 /// The number at the back of a worker's list leaves it.
 pub(crate) fn pop_newest(lists: &mut [VecDeque<usize>], worker: usize) -> Option<usize>
     ensures number { result ≡ newest (of_worker (lists_of lists.old) worker) }
-    ensures rest { OnSome result (lists_of lists.new
-        ≡ slice_set (lists_of lists.old) worker (but_newest (of_worker (lists_of lists.old) worker))) }
+    ensures rest { OnSome result (lists_of lists.new ≡ without_newest (lists_of lists.old) worker) }
     ensures same { IfNone result (lists_of lists.new ≡ lists_of lists.old) }
 {
     if worker < lists.len() {
@@ -73,8 +74,7 @@ pub(crate) fn pop_newest(lists: &mut [VecDeque<usize>], worker: usize) -> Option
 /// The number at the front of a worker's list leaves it.
 pub(crate) fn pop_oldest(lists: &mut [VecDeque<usize>], worker: usize) -> Option<usize>
     ensures number { result ≡ oldest (of_worker (lists_of lists.old) worker) }
-    ensures rest { OnSome result (lists_of lists.new
-        ≡ slice_set (lists_of lists.old) worker (but_oldest (of_worker (lists_of lists.old) worker))) }
+    ensures rest { OnSome result (lists_of lists.new ≡ without_oldest (lists_of lists.old) worker) }
     ensures same { IfNone result (lists_of lists.new ≡ lists_of lists.old) }
 {
     if worker < lists.len() {
