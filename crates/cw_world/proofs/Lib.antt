@@ -5,3 +5,6 @@ pub mod Posts
 pub mod Sounds
 pub mod Turns
 pub mod Placed
+pub mod Tops
+pub mod Begins
+pub mod After

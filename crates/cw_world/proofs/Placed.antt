@@ -1,6 +1,6 @@
 -- Each event leaves each job in one place, and the root first with worker 0.
 use Rattle.std.proofs.Common.{◌≡◌, ◌≢◌, ◌⊎◌, ◌∙◌, ℕ, zero, suc, ◌+◌, ◌<◌, ◌≤◌, Bool, true, false, List, [], ◌∷◌, ◌++◌, Option, Some, None, refl, sym, ap, subst, length, inl, inr, arith}
-use Rattle.std.specs.Prelude.{slice_get, slice_set, nat_eq}
+use Rattle.std.specs.Prelude.{slice_get, slice_set, nat_eq, take, drop}
 use Rattle.std.specs.List.{remove}
 use Rattle.cw_verify.specs.declared.verified.Verified.{Verified}
 use Rattle.cw_sched.specs.Board.{pushed, newest, but_newest, oldest, but_oldest, of_worker}
@@ -15,7 +15,7 @@ use Rattle.cw_sched.specs.Laws.{one_if}
 use Rattle.cw_world.specs.Boards.{Boarded, back_number, newest_number}
 use Rattle.cw_world.specs.Scenes.{Posted, Stage, Goes, Made, Answered, Scene, top}
 use Rattle.cw_world.specs.Sound.{out_number}
-use Rattle.cw_world.specs.Places.{at, sum_of, sum_over, out_at, out_of, held_at, held_by, run_by, offered_at, settled_at, places, owners, OnePlace, IsRootStage, RootIsFirst}
+use Rattle.cw_world.specs.Places.{once, sum_of, sum_over, out_at, out_of, held_at, held_by, run_by, offered_at, settled_at, places, owners, OnePlace, IsRootStage, RootIsFirst}
 use Rattle.cw_world.specs.Events.{with_top, but_top, turned, board_without, with_outs, IsAtBack, GoesOn, Runs, Spawns, Offers, Inlines, Retakes, Steals, Settles, Collects, Does}
 use Rattle.cw_world.proofs.Lists.{some_is, IsSomeOf, within_worker, of_worker_set, length_set}
 use Rattle.cw_world.proofs.Boards.{found}
@@ -47,10 +47,22 @@ module _ {A : Type 0} (f : A → ℕ) where
   sum_oldest [] x e = absurd (subst IsSomeOf (sym e) tt)
   sum_oldest (y ∷ ys) x e = let r : f y ≡ f x = ap f (some_is y x e) in omega (arith, r)
 
+  sum_append : (xs ys : List A) → sum_of f (xs ++ ys) ≡ sum_of f xs + sum_of f ys
+  sum_append [] ys = omega arith
+  sum_append (x ∷ xs) ys = let r : sum_of f (xs ++ ys) ≡ sum_of f xs + sum_of f ys = sum_append xs ys in omega (arith, r)
+
+  sum_cut : (xs : List A) (i : ℕ) (x : A) → slice_get xs i ≡ Some x → sum_of f xs ≡ sum_of f (take i xs) + (f x + sum_of f (drop (suc i) xs))
+  sum_cut [] i x e = absurd (subst IsSomeOf (sym e) tt)
+  sum_cut (y ∷ ys) zero x e = let r : f y ≡ f x = ap f (some_is y x e) in omega (arith, r)
+  sum_cut (y ∷ ys) (suc i) x e = let r : sum_of f ys ≡ sum_of f (take i ys) + (f x + sum_of f (drop (suc i) ys)) = sum_cut ys i x e in omega (arith, r)
+
   sum_remove : (xs : List A) (i : ℕ) (x : A) → slice_get xs i ≡ Some x → sum_of f xs ≡ sum_of f (remove xs i) + f x
-  sum_remove [] i x e = absurd (subst IsSomeOf (sym e) tt)
-  sum_remove (y ∷ ys) zero x e = let r : f y ≡ f x = ap f (some_is y x e) in omega (arith, r)
-  sum_remove (y ∷ ys) (suc i) x e = let r : sum_of f ys ≡ sum_of f (remove ys i) + f x = sum_remove ys i x e in omega (arith, r)
+  sum_remove xs i x e =
+      let a : sum_of f xs ≡ sum_of f (take i xs) + (f x + sum_of f (drop (suc i) xs)) = sum_cut xs i x e in
+      let b : sum_of f (take i xs ++ drop (i + 1) xs) ≡ sum_of f (take i xs) + sum_of f (drop (i + 1) xs) = sum_append (take i xs) (drop (i + 1) xs) in
+      let k : i + 1 ≡ suc i = omega arith in
+      let d : sum_of f (drop (i + 1) xs) ≡ sum_of f (drop (suc i) xs) = ap (λ j. sum_of f (drop j xs)) k in
+      omega (arith, a, b, d)
 
   -- a worker's list is set to another one
   over_set : (ls : List (List A)) (w : ℕ) (l : List A) → w < length ls → sum_over f (slice_set ls w l) + sum_of f (of_worker ls w) ≡ sum_over f ls + sum_of f l
@@ -87,10 +99,10 @@ module _ {A : Type 0} (f : A → ℕ) where
       let b : sum_over f less + f x ≡ sum_over f ls = over_less ls w x e in
       omega (arith, a, b)
 
-goes_run : (n : ℕ) (p : Posted) (os : List Out) (x : Stage) → GoesOn p os x → run_by n x ≡ at n p.number
-goes_run n p os (Goes q) g = ap (at n) g.0
-goes_run n p os (Made m e) g = ap (at n) g.0
-goes_run n p os (Answered r) g = ap (at n) (sym g.0)
+goes_run : (n : ℕ) (p : Posted) (os : List Out) (x : Stage) → GoesOn p os x → run_by n x ≡ once n p.number
+goes_run n p os (Goes q) g = ap (once n) g.0
+goes_run n p os (Made m e) g = ap (once n) g.0
+goes_run n p os (Answered r) g = ap (once n) (sym g.0)
 
 goes_held : (n : ℕ) (p : Posted) (os : List Out) (x : Stage) → GoesOn p os x → held_by n x ≡ sum_of (held_at n) os
 goes_held n p os (Goes q) g = ap (sum_of (held_at n)) g.2
@@ -113,13 +125,13 @@ turned_placed s w p os x board o e g v =
     let old : Stage = Goes p in
     record {
       placed = λ n.
-          let run : sum_over (run_by n) (with_top (but_top s.begun w) w x) + at n p.number ≡ sum_over (run_by n) s.begun + run_by n x = over_turn (run_by n) s.begun w old x e in
+          let run : sum_over (run_by n) (with_top (but_top s.begun w) w x) + once n p.number ≡ sum_over (run_by n) s.begun + run_by n x = over_turn (run_by n) s.begun w old x e in
           let held : sum_over (held_by n) (with_top (but_top s.begun w) w x) + sum_of (held_at n) p.outs ≡ sum_over (held_by n) s.begun + held_by n x = over_turn (held_by n) s.begun w old x e in
           let out : sum_over (out_of n) (with_top (but_top s.begun w) w x) + sum_of (out_at n) p.outs ≡ sum_over (out_of n) s.begun + out_of n x = over_turn (out_of n) s.begun w old x e in
           omega (arith, run, held, out, goes_run n p os x g, goes_held n p os x g, goes_out n p os x g, v.counts n, o.placed n);
-      once = λ n.
+      single = λ n.
           let out : sum_over (out_of n) (with_top (but_top s.begun w) w x) + sum_of (out_at n) p.outs ≡ sum_over (out_of n) s.begun + out_of n x = over_turn (out_of n) s.begun w old x e in
-          omega (arith, out, goes_out n p os x g, v.fewer n, o.once n);
+          omega (arith, out, goes_out n p os x g, v.fewer n, o.single n);
       later = λ n lt.
           let out : sum_over (out_of n) (with_top (but_top s.begun w) w x) + sum_of (out_at n) p.outs ≡ sum_over (out_of n) s.begun + out_of n x = over_turn (out_of n) s.begun w old x e in
           omega (arith, out, goes_out n p os x g, v.fewer n, o.later n lt);
@@ -131,10 +143,10 @@ same_evens p board = record { counts = λ n. refl; fewer = λ n. omega arith }
 pub run_placed : (v : Verified) (s s' : Scene) (w : ℕ) → OnePlace s → Runs v s s' w → OnePlace s'
 run_placed v s s' w o d = subst OnePlace (sym d.is) (turned_placed s w d.at.post d.at.post.outs d.stage s.board o d.at.is d.comes.0 (same_evens d.at.post s.board))
 
-at_cases : (n m : ℕ) → (at n m ≡ 0) ⊎ ((n ≡ m) × (at n m ≡ 1))
-at_cases n m = by_test (nat_eq n m) refl
+pub once_cases : (n m : ℕ) → (once n m ≡ 0) ⊎ ((n ≡ m) × (once n m ≡ 1))
+once_cases n m = by_test (nat_eq n m) refl
   where
-    by_test : (b : Bool) → nat_eq n m ≡ b → (at n m ≡ 0) ⊎ ((n ≡ m) × (at n m ≡ 1))
+    by_test : (b : Bool) → nat_eq n m ≡ b → (once n m ≡ 0) ⊎ ((n ≡ m) × (once n m ≡ 1))
     by_test true e = inr (grind (arith, e), ap one_if e)
     by_test false e = inl (ap one_if e)
 
@@ -147,21 +159,21 @@ spawn_placed v s s' w o d =
     let x : Stage = Goes d.post in
     let old : Stage = Goes p in
     let g = d.comes.0 in
-    let out_is : (n : ℕ) → sum_over (out_of n) (with_top (but_top s.begun w) w x) ≡ sum_over (out_of n) s.begun + at n k = λ n.
+    let out_is : (n : ℕ) → sum_over (out_of n) (with_top (but_top s.begun w) w x) ≡ sum_over (out_of n) s.begun + once n k = λ n.
         let out : sum_over (out_of n) (with_top (but_top s.begun w) w x) + sum_of (out_at n) p.outs ≡ sum_over (out_of n) s.begun + out_of n x = over_turn (out_of n) s.begun w old x d.at.is in
-        let more : sum_of (out_at n) os ≡ sum_of (out_at n) p.outs + at n k = sum_pushed (out_at n) p.outs e in
+        let more : sum_of (out_at n) os ≡ sum_of (out_at n) p.outs + once n k = sum_pushed (out_at n) p.outs e in
         omega (arith, out, more, goes_out n p os x g) in
     subst OnePlace (sym d.is) (record {
       placed = λ n.
-          let run : sum_over (run_by n) (with_top (but_top s.begun w) w x) + at n p.number ≡ sum_over (run_by n) s.begun + run_by n x = over_turn (run_by n) s.begun w old x d.at.is in
+          let run : sum_over (run_by n) (with_top (but_top s.begun w) w x) + once n p.number ≡ sum_over (run_by n) s.begun + run_by n x = over_turn (run_by n) s.begun w old x d.at.is in
           let held : sum_over (held_by n) (with_top (but_top s.begun w) w x) + sum_of (held_at n) p.outs ≡ sum_over (held_by n) s.begun + held_by n x = over_turn (held_by n) s.begun w old x d.at.is in
-          let more : sum_of (held_at n) os ≡ sum_of (held_at n) p.outs + at n k = sum_pushed (held_at n) p.outs e in
+          let more : sum_of (held_at n) os ≡ sum_of (held_at n) p.outs + once n k = sum_pushed (held_at n) p.outs e in
           omega (arith, run, held, more, out_is n, goes_run n p os x g, goes_held n p os x g, o.placed n);
-      once = λ n. elim (at_cases n k) [
-        | inl z ↦ omega (arith, out_is n, z, o.once n)
+      single = λ n. elim (once_cases n k) [
+        | inl z ↦ omega (arith, out_is n, z, o.single n)
         | inr z ↦ let z0 = z.0 in omega (arith, out_is n, z.1, o.later n (omega (arith, z0)))
       ];
-      later = λ n lt. elim (at_cases n k) [
+      later = λ n lt. elim (once_cases n k) [
         | inl z ↦ let long : length (s.jobs ++ d.job ∷ []) ≡ length s.jobs + 1 = length_pushed s.jobs d.job in omega (arith, out_is n, z, o.later n (omega (arith, lt, long)))
         | inr z ↦ let long : length (s.jobs ++ d.job ∷ []) ≡ length s.jobs + 1 = length_pushed s.jobs d.job in let z0 = z.0 in absurd (omega (arith, lt, long, z0))
       ];
@@ -183,14 +195,14 @@ inline_placed s s' w o d =
     let os : List Out = d.at.older ++ new ∷ [] in
     subst OnePlace (sym d.is) (turned_placed s w p os (with_outs p os) s.board o d.at.at.is (refl, refl, refl) (record {
       counts = λ n.
-          let h : sum_of (held_at n) os ≡ sum_of (held_at n) d.at.older + at n d.number = sum_pushed (held_at n) d.at.older new in
-          let h' : sum_of (held_at n) p.outs ≡ sum_of (held_at n) d.at.older + at n d.number = pushed_held n p d.at.older old are in
-          let u : sum_of (out_at n) os ≡ sum_of (out_at n) d.at.older + at n d.number = sum_pushed (out_at n) d.at.older new in
-          let u' : sum_of (out_at n) p.outs ≡ sum_of (out_at n) d.at.older + at n d.number = pushed_out n p d.at.older old are in
+          let h : sum_of (held_at n) os ≡ sum_of (held_at n) d.at.older + once n d.number = sum_pushed (held_at n) d.at.older new in
+          let h' : sum_of (held_at n) p.outs ≡ sum_of (held_at n) d.at.older + once n d.number = pushed_held n p d.at.older old are in
+          let u : sum_of (out_at n) os ≡ sum_of (out_at n) d.at.older + once n d.number = sum_pushed (out_at n) d.at.older new in
+          let u' : sum_of (out_at n) p.outs ≡ sum_of (out_at n) d.at.older + once n d.number = pushed_out n p d.at.older old are in
           omega (arith, h, h', u, u');
       fewer = λ n.
-          let u : sum_of (out_at n) os ≡ sum_of (out_at n) d.at.older + at n d.number = sum_pushed (out_at n) d.at.older new in
-          let u' : sum_of (out_at n) p.outs ≡ sum_of (out_at n) d.at.older + at n d.number = pushed_out n p d.at.older old are in
+          let u : sum_of (out_at n) os ≡ sum_of (out_at n) d.at.older + once n d.number = sum_pushed (out_at n) d.at.older new in
+          let u' : sum_of (out_at n) p.outs ≡ sum_of (out_at n) d.at.older + once n d.number = pushed_out n p d.at.older old are in
           omega (arith, u, u');
     }))
 
@@ -205,14 +217,14 @@ offer_placed s s' w lt o d =
     subst OnePlace (sym d.is) (turned_placed s w p os (with_outs p os) _ o d.at.at.is (refl, refl, refl) (record {
       counts = λ n.
           let h : sum_of (held_at n) os ≡ sum_of (held_at n) d.at.older + 0 = sum_pushed (held_at n) d.at.older new in
-          let h' : sum_of (held_at n) p.outs ≡ sum_of (held_at n) d.at.older + at n d.number = pushed_held n p d.at.older old are in
-          let u : sum_of (out_at n) os ≡ sum_of (out_at n) d.at.older + at n d.number = sum_pushed (out_at n) d.at.older new in
-          let u' : sum_of (out_at n) p.outs ≡ sum_of (out_at n) d.at.older + at n d.number = pushed_out n p d.at.older old are in
-          let b : sum_over (offered_at n) (slice_set s.board.offers w (of_worker s.board.offers w ++ x ∷ [])) ≡ sum_over (offered_at n) s.board.offers + at n d.number = over_more (offered_at n) s.board.offers w x lt in
+          let h' : sum_of (held_at n) p.outs ≡ sum_of (held_at n) d.at.older + once n d.number = pushed_held n p d.at.older old are in
+          let u : sum_of (out_at n) os ≡ sum_of (out_at n) d.at.older + once n d.number = sum_pushed (out_at n) d.at.older new in
+          let u' : sum_of (out_at n) p.outs ≡ sum_of (out_at n) d.at.older + once n d.number = pushed_out n p d.at.older old are in
+          let b : sum_over (offered_at n) (slice_set s.board.offers w (of_worker s.board.offers w ++ x ∷ [])) ≡ sum_over (offered_at n) s.board.offers + once n d.number = over_more (offered_at n) s.board.offers w x lt in
           omega (arith, h, h', u, u', b);
       fewer = λ n.
-          let u : sum_of (out_at n) os ≡ sum_of (out_at n) d.at.older + at n d.number = sum_pushed (out_at n) d.at.older new in
-          let u' : sum_of (out_at n) p.outs ≡ sum_of (out_at n) d.at.older + at n d.number = pushed_out n p d.at.older old are in
+          let u : sum_of (out_at n) os ≡ sum_of (out_at n) d.at.older + once n d.number = sum_pushed (out_at n) d.at.older new in
+          let u' : sum_of (out_at n) p.outs ≡ sum_of (out_at n) d.at.older + once n d.number = pushed_out n p d.at.older old are in
           omega (arith, u, u');
     }))
 
@@ -220,36 +232,36 @@ number_at : (b : Boarded) (w m : ℕ) → newest_number b w ≡ Some m → (x : 
 number_at b w m e = by_newest (newest (of_worker b.offers w)) refl e
   where
     by_newest : (r : Option Offer) → newest (of_worker b.offers w) ≡ r → back_number r ≡ Some m → (x : Offer) × (newest (of_worker b.offers w) ≡ Some x) × (x.number ≡ m)
-    by_newest None is e = let no : ⊥ = cc in absurd no
+    by_newest None is e = let never : ⊥ = cc in absurd never
     by_newest (Some x) is e = (x, is, some_is x.number m e)
 
 retake_evens : (s : Scene) (w : ℕ) (p : Posted) (older : List Out) (o : Out) → p.outs ≡ older ++ o ∷ [] → IsAtBack s.board w o → Evens p older s.board (board_without s.board w o)
 retake_evens s w p older (out.Undecided m j) are back =
     record {
       counts = λ n.
-          let h : sum_of (held_at n) p.outs ≡ sum_of (held_at n) older + at n m = pushed_held n p older (out.Undecided m j) are in
-          let u : sum_of (out_at n) p.outs ≡ sum_of (out_at n) older + at n m = pushed_out n p older (out.Undecided m j) are in
+          let h : sum_of (held_at n) p.outs ≡ sum_of (held_at n) older + once n m = pushed_held n p older (out.Undecided m j) are in
+          let u : sum_of (out_at n) p.outs ≡ sum_of (out_at n) older + once n m = pushed_out n p older (out.Undecided m j) are in
           omega (arith, h, u);
-      fewer = λ n. let u : sum_of (out_at n) p.outs ≡ sum_of (out_at n) older + at n m = pushed_out n p older (out.Undecided m j) are in omega (arith, u);
+      fewer = λ n. let u : sum_of (out_at n) p.outs ≡ sum_of (out_at n) older + once n m = pushed_out n p older (out.Undecided m j) are in omega (arith, u);
     }
 retake_evens s w p older (out.Kept m j) are back =
     record {
       counts = λ n.
-          let h : sum_of (held_at n) p.outs ≡ sum_of (held_at n) older + at n m = pushed_held n p older (out.Kept m j) are in
-          let u : sum_of (out_at n) p.outs ≡ sum_of (out_at n) older + at n m = pushed_out n p older (out.Kept m j) are in
+          let h : sum_of (held_at n) p.outs ≡ sum_of (held_at n) older + once n m = pushed_held n p older (out.Kept m j) are in
+          let u : sum_of (out_at n) p.outs ≡ sum_of (out_at n) older + once n m = pushed_out n p older (out.Kept m j) are in
           omega (arith, h, u);
-      fewer = λ n. let u : sum_of (out_at n) p.outs ≡ sum_of (out_at n) older + at n m = pushed_out n p older (out.Kept m j) are in omega (arith, u);
+      fewer = λ n. let u : sum_of (out_at n) p.outs ≡ sum_of (out_at n) older + once n m = pushed_out n p older (out.Kept m j) are in omega (arith, u);
     }
 retake_evens s w p older (out.Offered m) are back =
     let f = number_at s.board w m back in
     record {
       counts = λ n.
           let h : sum_of (held_at n) p.outs ≡ sum_of (held_at n) older + 0 = pushed_held n p older (out.Offered m) are in
-          let u : sum_of (out_at n) p.outs ≡ sum_of (out_at n) older + at n m = pushed_out n p older (out.Offered m) are in
-          let b : sum_over (offered_at n) (slice_set s.board.offers w (but_newest (of_worker s.board.offers w))) + at n f.0.number ≡ sum_over (offered_at n) s.board.offers = over_less (offered_at n) s.board.offers w f.0 f.1 in
-          let same : at n f.0.number ≡ at n m = ap (at n) f.2 in
+          let u : sum_of (out_at n) p.outs ≡ sum_of (out_at n) older + once n m = pushed_out n p older (out.Offered m) are in
+          let b : sum_over (offered_at n) (slice_set s.board.offers w (but_newest (of_worker s.board.offers w))) + once n f.0.number ≡ sum_over (offered_at n) s.board.offers = over_less (offered_at n) s.board.offers w f.0 f.1 in
+          let same : once n f.0.number ≡ once n m = ap (once n) f.2 in
           omega (arith, h, u, b, same);
-      fewer = λ n. let u : sum_of (out_at n) p.outs ≡ sum_of (out_at n) older + at n m = pushed_out n p older (out.Offered m) are in omega (arith, u);
+      fewer = λ n. let u : sum_of (out_at n) p.outs ≡ sum_of (out_at n) older + once n m = pushed_out n p older (out.Offered m) are in omega (arith, u);
     }
 
 pub retake_placed : (v : Verified) (s s' : Scene) (w : ℕ) → OnePlace s → Retakes v s s' w → OnePlace s'
@@ -267,11 +279,11 @@ collect_placed v s s' w o d =
     subst OnePlace (sym d.is) (turned_placed s w p d.at.older d.stage _ o d.at.at.is d.comes.0 (record {
       counts = λ n.
           let h : sum_of (held_at n) p.outs ≡ sum_of (held_at n) d.at.older + 0 = pushed_held n p d.at.older old are in
-          let u : sum_of (out_at n) p.outs ≡ sum_of (out_at n) d.at.older + at n m = pushed_out n p d.at.older old are in
-          let b : sum_of (settled_at n) s.board.cells ≡ sum_of (settled_at n) (remove s.board.cells d.place) + at n f.item.number = sum_remove (settled_at n) s.board.cells d.place f.item f.is in
-          let k : at n f.item.number ≡ at n m = ap (at n) same in
+          let u : sum_of (out_at n) p.outs ≡ sum_of (out_at n) d.at.older + once n m = pushed_out n p d.at.older old are in
+          let b : sum_of (settled_at n) s.board.cells ≡ sum_of (settled_at n) (remove s.board.cells d.place) + once n f.item.number = sum_remove (settled_at n) s.board.cells d.place f.item f.is in
+          let k : once n f.item.number ≡ once n m = ap (once n) same in
           omega (arith, h, u, b, k);
-      fewer = λ n. let u : sum_of (out_at n) p.outs ≡ sum_of (out_at n) d.at.older + at n m = pushed_out n p d.at.older old are in omega (arith, u);
+      fewer = λ n. let u : sum_of (out_at n) p.outs ≡ sum_of (out_at n) d.at.older + once n m = pushed_out n p d.at.older old are in omega (arith, u);
     }))
 
 pub steal_placed : (v : Verified) (s s' : Scene) (w victim : ℕ) → OnePlace s → Steals v s s' w victim → OnePlace s'
@@ -286,10 +298,10 @@ steal_placed v s s' w victim o d =
       placed = λ n.
           let run : sum_over (run_by n) (with_top s.begun w x) ≡ sum_over (run_by n) s.begun + run_by n x = over_more (run_by n) s.begun w x d.there in
           let held : sum_over (held_by n) (with_top s.begun w x) ≡ sum_over (held_by n) s.begun + held_by n x = over_more (held_by n) s.begun w x d.there in
-          let b : sum_over (offered_at n) (slice_set s.board.offers victim (but_oldest (of_worker s.board.offers victim))) + at n d.offer.number ≡ sum_over (offered_at n) s.board.offers = over_first (offered_at n) s.board.offers victim d.offer d.oldest_is in
-          let same : at n p.number ≡ at n d.offer.number = ap (at n) d.begins.0 in
+          let b : sum_over (offered_at n) (slice_set s.board.offers victim (but_oldest (of_worker s.board.offers victim))) + once n d.offer.number ≡ sum_over (offered_at n) s.board.offers = over_first (offered_at n) s.board.offers victim d.offer d.oldest_is in
+          let same : once n p.number ≡ once n d.offer.number = ap (once n) d.begins.0 in
           omega (arith, run, held, b, same, out_is n, goes_run n p [] x g, goes_held n p [] x g, o.placed n);
-      once = λ n. omega (arith, out_is n, o.once n);
+      single = λ n. omega (arith, out_is n, o.single n);
       later = λ n lt. omega (arith, out_is n, o.later n lt);
     })
 
@@ -300,11 +312,11 @@ settle_placed s s' w o d =
     let out_is : (n : ℕ) → sum_over (out_of n) (but_top s.begun w) + 0 ≡ sum_over (out_of n) s.begun = λ n. over_less (out_of n) s.begun w x d.made in
     subst OnePlace (sym d.is) (record {
       placed = λ n.
-          let run : sum_over (run_by n) (but_top s.begun w) + at n d.number ≡ sum_over (run_by n) s.begun = over_less (run_by n) s.begun w x d.made in
+          let run : sum_over (run_by n) (but_top s.begun w) + once n d.number ≡ sum_over (run_by n) s.begun = over_less (run_by n) s.begun w x d.made in
           let held : sum_over (held_by n) (but_top s.begun w) + 0 ≡ sum_over (held_by n) s.begun = over_less (held_by n) s.begun w x d.made in
-          let b : sum_of (settled_at n) (s.board.cells ++ c ∷ []) ≡ sum_of (settled_at n) s.board.cells + at n d.number = sum_pushed (settled_at n) s.board.cells c in
+          let b : sum_of (settled_at n) (s.board.cells ++ c ∷ []) ≡ sum_of (settled_at n) s.board.cells + once n d.number = sum_pushed (settled_at n) s.board.cells c in
           omega (arith, run, held, b, out_is n, o.placed n);
-      once = λ n. omega (arith, out_is n, o.once n);
+      single = λ n. omega (arith, out_is n, o.single n);
       later = λ n lt. omega (arith, out_is n, o.later n lt);
     })
 
@@ -382,17 +394,17 @@ settled_root s (suc k) n e at h = subst (λ (l : List Stage). IsRootStage (oldes
 
 -- whichever event it is
 pub does_root : (v : Verified) (s s' : Scene) (e : Event) → RootIsFirst s → Does v e s s' → RootIsFirst s'
-does_root v s s' (event.Run w) h (inl d) = same_root s s' _ (ap (λ t. t.begun) d.is) (turned_root s w d.at.post d.at.post.outs d.stage h d.at.is d.comes.0)
-does_root v s s' (event.Run w) h (inr d) = same_root s s' _ (ap (λ t. t.begun) d.is) (turned_root s w d.at.post _ (Goes d.post) h d.at.is d.comes.0)
+does_root v s s' (event.Run w) h (inl d) = same_root s s' _ (ap (λ (t : Scene). t.begun) d.is) (turned_root s w d.at.post d.at.post.outs d.stage h d.at.is d.comes.0)
+does_root v s s' (event.Run w) h (inr d) = same_root s s' _ (ap (λ (t : Scene). t.begun) d.is) (turned_root s w d.at.post _ (Goes d.post) h d.at.is d.comes.0)
 does_root v s s' (event.Offer w) h d =
     let p = d.at.at.post in
     let os : List Out = d.at.older ++ out.Offered d.number ∷ [] in
-    same_root s s' _ (ap (λ t. t.begun) d.is) (turned_root s w p os (with_outs p os) h d.at.at.is (refl, refl, refl))
+    same_root s s' _ (ap (λ (t : Scene). t.begun) d.is) (turned_root s w p os (with_outs p os) h d.at.at.is (refl, refl, refl))
 does_root v s s' (event.Inline w) h d =
     let p = d.at.at.post in
     let os : List Out = d.at.older ++ out.Kept d.number d.job ∷ [] in
-    same_root s s' _ (ap (λ t. t.begun) d.is) (turned_root s w p os (with_outs p os) h d.at.at.is (refl, refl, refl))
-does_root v s s' (event.Retake w) h d = same_root s s' _ (ap (λ t. t.begun) d.is) (turned_root s w d.at.at.post d.at.older d.stage h d.at.at.is d.comes.0)
-does_root v s s' (event.Steal w victim) h d = same_root s s' _ (ap (λ t. t.begun) d.is) (stolen_root s w d.stage d.there h)
-does_root v s s' (event.Settle w) h d = same_root s s' _ (ap (λ t. t.begun) d.is) (settled_root s w d.number d.effect d.made h)
-does_root v s s' (event.Collect w) h d = same_root s s' _ (ap (λ t. t.begun) d.is) (turned_root s w d.at.at.post d.at.older d.stage h d.at.at.is d.comes.0)
+    same_root s s' _ (ap (λ (t : Scene). t.begun) d.is) (turned_root s w p os (with_outs p os) h d.at.at.is (refl, refl, refl))
+does_root v s s' (event.Retake w) h d = same_root s s' _ (ap (λ (t : Scene). t.begun) d.is) (turned_root s w d.at.at.post d.at.older d.stage h d.at.at.is d.comes.0)
+does_root v s s' (event.Steal w victim) h d = same_root s s' _ (ap (λ (t : Scene). t.begun) d.is) (stolen_root s w d.stage d.there h)
+does_root v s s' (event.Settle w) h d = same_root s s' _ (ap (λ (t : Scene). t.begun) d.is) (settled_root s w d.number d.effect d.made h)
+does_root v s s' (event.Collect w) h d = same_root s s' _ (ap (λ (t : Scene). t.begun) d.is) (turned_root s w d.at.at.post d.at.older d.stage h d.at.at.is d.comes.0)

@@ -29,13 +29,13 @@ waits_not_stopped s w h = true_false (sym h ∙ ap stops w)
 
 -- the flag is right where it says whether the strand has stopped
 pub stands_stopped : (p : Posted) → (p.at_join ≡ true → HasStopped p.strand) → (IsAtSync p.strand → p.at_join ≡ false → IsWaiting p.strand) → p.outs ≢ [] → StandsRight p
-stands_stopped p yes no some =
-    ((λ j. (stopped_at_sync p.strand (yes j), some)),
+stands_stopped p stopped waits some =
+    ((λ j. (stopped_at_sync p.strand (stopped j), some)),
      λ h _. by_flag p.at_join refl h)
   where
     by_flag : (b : Bool) → p.at_join ≡ b → HasStopped p.strand → p.at_join ≡ true
     by_flag true e h = e
-    by_flag false e h = absurd (waits_not_stopped p.strand (no (stopped_at_sync p.strand h) e) h)
+    by_flag false e h = absurd (waits_not_stopped p.strand (waits (stopped_at_sync p.strand h) e) h)
 
 -- with nothing out no flag is set
 pub stands_none : (p : Posted) → p.at_join ≡ false → p.outs ≡ [] → StandsRight p

@@ -62,11 +62,11 @@ turned_sound v s w x board h right b =
     }
 
 -- with one more job each thing is as right as before
-module _ (v : Verified) (jobs : List Job) (job : Job) where
-  kept_job : (n : ℕ) (j : Job) → IsJobOf jobs n j → IsJobOf (jobs ++ job ∷ []) n j
+module _ (jobs : List Job) (job : Job) where
+  pub kept_job : (n : ℕ) (j : Job) → IsJobOf jobs n j → IsJobOf (jobs ++ job ∷ []) n j
   kept_job n j e = get_pushed jobs job n j e
 
-  kept_own : (o : Out) → IsOwn jobs o → IsOwn (jobs ++ job ∷ []) o
+  pub kept_own : (o : Out) → IsOwn jobs o → IsOwn (jobs ++ job ∷ []) o
   kept_own (out.Undecided n j) h = kept_job n j h
   kept_own (out.Kept n j) h = kept_job n j h
   kept_own (out.Offered n) h = tt
@@ -84,29 +84,29 @@ module _ (v : Verified) (jobs : List Job) (job : Job) where
   kept_made : (n : ℕ) (e : Effect) → IsMade jobs n e → IsMade (jobs ++ job ∷ []) n e
   kept_made n e m = record { job = m.job; named = kept_job n m.job m.named; means = m.means }
 
-  kept_stage : HasRoot v jobs → (x : Stage) → IsStage v jobs x → IsStage v (jobs ++ job ∷ []) x
-  kept_stage r (Goes p) h = kept_works p h
-  kept_stage r (Made n e) h = kept_made n e h
-  kept_stage r (Answered a) h =
+  kept_stage : (v : Verified) → HasRoot v jobs → (x : Stage) → IsStage v jobs x → IsStage v (jobs ++ job ∷ []) x
+  kept_stage v r (Goes p) h = kept_works p h
+  kept_stage v r (Made n e) h = kept_made n e h
+  kept_stage v r (Answered a) h =
       λ args n burden root is_named is.
       let same : r.root ≡ root = some_is r.root root (sym (kept_job 0 r.root r.named) ∙ is_named) in
       h args n burden root (r.named ∙ ap (λ j. Some j) same) is
 
-  kept_root : HasRoot v jobs → HasRoot v (jobs ++ job ∷ [])
-  kept_root r = record { args = r.args; limit = r.limit; burden = r.burden; root = r.root; named = kept_job 0 r.root r.named; is = r.is }
+  kept_root : (v : Verified) → HasRoot v jobs → HasRoot v (jobs ++ job ∷ [])
+  kept_root v r = record { args = r.args; limit = r.limit; burden = r.burden; root = r.root; named = kept_job 0 r.root r.named; is = r.is }
 
 spawned_sound : (v : Verified) (s : Scene) (w : ℕ) (job : Job) (x : Stage) → Sound v s → IsStage v (s.jobs ++ job ∷ []) x
     → Sound v (record { jobs = s.jobs ++ job ∷ []; begun = with_top (but_top s.begun w) w x; board = s.board })
 spawned_sound v s w job x h right =
     let stages : AreStages v (s.jobs ++ job ∷ []) s.begun =
         each_weaken (Each (IsStage v s.jobs)) (Each (IsStage v (s.jobs ++ job ∷ []))) s.begun
-        (λ l g. each_weaken (IsStage v s.jobs) (IsStage v (s.jobs ++ job ∷ [])) l (kept_stage v s.jobs job h.root) g) h.begun in
+        (λ l g. each_weaken (IsStage v s.jobs) (IsStage v (s.jobs ++ job ∷ [])) l (kept_stage s.jobs job v h.root) g) h.begun in
     record {
-      root = kept_root v s.jobs job h.root;
+      root = kept_root s.jobs job v h.root;
       begun = more v _ (but_top s.begun w) w x (less v _ s.begun w stages) right;
       offers = each_weaken (Each (IsOffer s.jobs)) (Each (IsOffer (s.jobs ++ job ∷ []))) s.board.offers
-          (λ l g. each_weaken (IsOffer s.jobs) (IsOffer (s.jobs ++ job ∷ [])) l (λ o k. kept_job v s.jobs job o.number o.job k) g) h.offers;
-      cells = each_weaken (IsCell s.jobs) (IsCell (s.jobs ++ job ∷ [])) s.board.cells (λ c k. kept_made v s.jobs job c.number c.effect k) h.cells;
+          (λ l g. each_weaken (IsOffer s.jobs) (IsOffer (s.jobs ++ job ∷ [])) l (λ o k. kept_job s.jobs job o.number o.job k) g) h.offers;
+      cells = each_weaken (IsCell s.jobs) (IsCell (s.jobs ++ job ∷ [])) s.board.cells (λ c k. kept_made s.jobs job c.number c.effect k) h.cells;
       workers = h.workers ∙ sym (more_long (but_top s.begun w) w x ∙ less_long s.begun w);
     }
 
@@ -124,16 +124,28 @@ retaken_board v s w (out.Offered n) h =
       many = length_set s.board.offers w _;
     }
 
+each_append : {A : Type 0} (P : A → Type 0) (xs ys : List A) → Each P xs → Each P ys → Each P (xs ++ ys)
+each_append P [] ys h g = g
+each_append P (x ∷ xs) ys h g = (h.0, each_append P xs ys h.1 g)
+
+each_take : {A : Type 0} (P : A → Type 0) (xs : List A) (i : ℕ) → Each P xs → Each P (take i xs)
+each_take P xs zero h = tt
+each_take P [] (suc i) h = tt
+each_take P (x ∷ xs) (suc i) h = (h.0, each_take P xs i h.1)
+
+each_drop : {A : Type 0} (P : A → Type 0) (xs : List A) (i : ℕ) → Each P xs → Each P (drop i xs)
+each_drop P xs zero h = h
+each_drop P [] (suc i) h = tt
+each_drop P (x ∷ xs) (suc i) h = each_drop P xs i h.1
+
 each_remove : {A : Type 0} (P : A → Type 0) (xs : List A) (i : ℕ) → Each P xs → Each P (remove xs i)
-each_remove P [] i h = tt
-each_remove P (x ∷ xs) zero h = h.1
-each_remove P (x ∷ xs) (suc i) h = (h.0, each_remove P xs i h.1)
+each_remove P xs i h = each_append P (take i xs) (drop (i + 1) xs) (each_take P xs i h) (each_drop P xs (i + 1) h)
 
 pub run_sound : (v : Verified) (s s' : Scene) (w : ℕ) → Sound v s → Runs v s s' w → Sound v s'
-run_sound v s s' w h d = subst (λ t. Sound v t) (sym d.is) (turned_sound v s w d.stage s.board h d.comes.1 (same_board v s h))
+run_sound v s s' w h d = subst (λ (t : Scene). Sound v t) (sym d.is) (turned_sound v s w d.stage s.board h d.comes.1 (same_board v s h))
 
 pub spawn_sound : (v : Verified) (s s' : Scene) (w : ℕ) → Sound v s → Spawns v s s' w → Sound v s'
-spawn_sound v s s' w h d = subst (λ t. Sound v t) (sym d.is) (spawned_sound v s w d.job (Goes d.post) h d.comes.1)
+spawn_sound v s s' w h d = subst (λ (t : Scene). Sound v t) (sym d.is) (spawned_sound v s w d.job (Goes d.post) h d.comes.1)
 
 pub inline_sound : (v : Verified) (s s' : Scene) (w : ℕ) → Sound v s → Inlines s s' w → Sound v s'
 inline_sound v s s' w h d =
@@ -141,7 +153,7 @@ inline_sound v s s' w h d =
     let works : Works s.jobs p = top_stage v s w (Goes p) h d.at.at.is in
     let are : p.outs ≡ d.at.older ++ out.Undecided d.number d.job ∷ [] = d.at.are ∙ ap (λ o. d.at.older ++ o ∷ []) d.newest in
     let n = newest_out_of s.jobs p d.at.older (out.Undecided d.number d.job) works are in
-    subst (λ t. Sound v t) (sym d.is)
+    subst (λ (t : Scene). Sound v t) (sym d.is)
     (turned_sound v s w (Goes (record { number = p.number; strand = p.strand; at_join = p.at_join; outs = d.at.older ++ out.Kept d.number d.job ∷ [] })) s.board h
     (works_other s.jobs p d.at.older (out.Undecided d.number d.job) (out.Kept d.number d.job) works are refl n.this) (same_board v s h))
 
@@ -157,16 +169,16 @@ offer_sound v s s' w h d =
       cells = h.cells;
       many = length_set s.board.offers w _;
     } in
-    subst (λ t. Sound v t) (sym d.is)
+    subst (λ (t : Scene). Sound v t) (sym d.is)
     (turned_sound v s w (Goes (record { number = p.number; strand = p.strand; at_join = p.at_join; outs = d.at.older ++ out.Offered d.number ∷ [] })) _ h
     (works_other s.jobs p d.at.older (out.Undecided d.number d.job) (out.Offered d.number) works are refl tt) b)
 
 pub retake_sound : (v : Verified) (s s' : Scene) (w : ℕ) → Sound v s → Retakes v s s' w → Sound v s'
-retake_sound v s s' w h d = subst (λ t. Sound v t) (sym d.is) (turned_sound v s w d.stage _ h d.comes.1 (retaken_board v s w d.at.newest h))
+retake_sound v s s' w h d = subst (λ (t : Scene). Sound v t) (sym d.is) (turned_sound v s w d.stage _ h d.comes.1 (retaken_board v s w d.at.newest h))
 
 pub steal_sound : (v : Verified) (s s' : Scene) (w victim : ℕ) → Sound v s → Steals v s s' w victim → Sound v s'
 steal_sound v s s' w victim h d =
-    subst (λ t. Sound v t) (sym d.is) (record {
+    subst (λ (t : Scene). Sound v t) (sym d.is) (record {
       root = h.root;
       begun = more v s.jobs s.begun w d.stage h.begun d.comes.1;
       offers = fewer_offers s.jobs s.board victim _ h.offers
@@ -179,7 +191,7 @@ pub settle_sound : (v : Verified) (s s' : Scene) (w : ℕ) → Sound v s → Set
 settle_sound v s s' w h d =
     let made : IsMade s.jobs d.number d.effect = top_stage v s w (Made d.number d.effect) h d.made in
     let c : Cell = record { number = d.number; effect = d.effect } in
-    subst (λ t. Sound v t) (sym d.is) (record {
+    subst (λ (t : Scene). Sound v t) (sym d.is) (record {
       root = h.root;
       begun = less v s.jobs s.begun w h.begun;
       offers = h.offers;
@@ -189,7 +201,7 @@ settle_sound v s s' w h d =
 
 pub collect_sound : (v : Verified) (s s' : Scene) (w : ℕ) → Sound v s → Collects v s s' w → Sound v s'
 collect_sound v s s' w h d =
-    subst (λ t. Sound v t) (sym d.is)
+    subst (λ (t : Scene). Sound v t) (sym d.is)
     (turned_sound v s w d.stage _ h d.comes.1 (record { offers = h.offers; cells = each_remove (IsCell s.jobs) s.board.cells d.place h.cells; many = refl }))
 
 pub does_sound : (v : Verified) (s s' : Scene) (e : Event) → Sound v s → Does v e s s' → Sound v s'
@@ -207,11 +219,11 @@ same_jobs old new e = λ root h. ap (λ l. slice_get l 0) e ∙ h
 
 -- the jobs of the world after an event
 pub does_jobs : (v : Verified) (s s' : Scene) (e : Event) → Does v e s s' → KeepsRuns s.jobs s'.jobs
-does_jobs v s s' (event.Run w) (inl d) = same_jobs s.jobs s'.jobs (ap (λ t. t.jobs) d.is)
-does_jobs v s s' (event.Run w) (inr d) = λ root h. ap (λ t. slice_get t.jobs 0) d.is ∙ get_pushed s.jobs d.job 0 root h
-does_jobs v s s' (event.Offer w) d = same_jobs s.jobs s'.jobs (ap (λ t. t.jobs) d.is)
-does_jobs v s s' (event.Inline w) d = same_jobs s.jobs s'.jobs (ap (λ t. t.jobs) d.is)
-does_jobs v s s' (event.Retake w) d = same_jobs s.jobs s'.jobs (ap (λ t. t.jobs) d.is)
-does_jobs v s s' (event.Steal w victim) d = same_jobs s.jobs s'.jobs (ap (λ t. t.jobs) d.is)
-does_jobs v s s' (event.Settle w) d = same_jobs s.jobs s'.jobs (ap (λ t. t.jobs) d.is)
-does_jobs v s s' (event.Collect w) d = same_jobs s.jobs s'.jobs (ap (λ t. t.jobs) d.is)
+does_jobs v s s' (event.Run w) (inl d) = same_jobs s.jobs s'.jobs (ap (λ (t : Scene). t.jobs) d.is)
+does_jobs v s s' (event.Run w) (inr d) = λ root h. ap (λ (t : Scene). slice_get t.jobs 0) d.is ∙ get_pushed s.jobs d.job 0 root h
+does_jobs v s s' (event.Offer w) d = same_jobs s.jobs s'.jobs (ap (λ (t : Scene). t.jobs) d.is)
+does_jobs v s s' (event.Inline w) d = same_jobs s.jobs s'.jobs (ap (λ (t : Scene). t.jobs) d.is)
+does_jobs v s s' (event.Retake w) d = same_jobs s.jobs s'.jobs (ap (λ (t : Scene). t.jobs) d.is)
+does_jobs v s s' (event.Steal w victim) d = same_jobs s.jobs s'.jobs (ap (λ (t : Scene). t.jobs) d.is)
+does_jobs v s s' (event.Settle w) d = same_jobs s.jobs s'.jobs (ap (λ (t : Scene). t.jobs) d.is)
+does_jobs v s s' (event.Collect w) d = same_jobs s.jobs s'.jobs (ap (λ (t : Scene). t.jobs) d.is)

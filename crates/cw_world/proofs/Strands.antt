@@ -70,7 +70,7 @@ pub comes_stays : (v : Verified) (jobs : List Job) (old new : Posted) (list : Li
     → IsJobOf jobs old.number (its_job old.strand) → jobs_at jobs list ≡ named left → Each (IsOwn jobs) list → ComesTo v jobs old list (Goes new)
 comes_stays v jobs old new list left s n lent own = ((s.numbered, s.of, s.outs_are), works_stays jobs old new list left s n lent own)
 
-ended_stage : (v : Verified) (jobs : List Job) (old new : Posted) (e : Effect) (x : Stage) → IsJobOf jobs old.number (its_job old.strand)
+pub ended_stage : (v : Verified) (jobs : List Job) (old new : Posted) (e : Effect) (x : Stage) → IsJobOf jobs old.number (its_job old.strand)
     → new.number ≡ old.number → IsMeaningOf (its_job old.strand) e → old.outs ≡ [] → IsBegun v new (Some e) x → ComesTo v jobs old old.outs x
 ended_stage v jobs old new e (Goes q) h same means none b = absurd b
 ended_stage v jobs old new e (Made n d) h same means none b =

@@ -1,5 +1,5 @@
 -- What events do, by what a post came to and what was laid on its worker's list.
-use Rattle.std.proofs.Common.{◌≡◌, ◌≢◌, ◌⊎◌, ◌∙◌, ℕ, zero, suc, ◌+◌, ◌<◌, true, false, List, [], ◌∷◌, ◌++◌, Option, Some, None, refl, sym, ap, subst, length, reverse, inl, inr}
+use Rattle.std.proofs.Common.{◌≡◌, ◌≢◌, ◌⊎◌, ◌∙◌, ℕ, zero, suc, ◌+◌, ◌<◌, Bool, true, false, List, [], ◌∷◌, ◌++◌, Option, Some, None, refl, sym, ap, subst, length, reverse, inl, inr}
 use Rattle.std.specs.Prelude.{map, slice_get, slice_set, IfSome, Ok}
 use Rattle.cw_verify.specs.declared.verified.Verified.{Verified}
 use Rattle.cw_jobs.specs.declared.effect.Effect.{Effect}
@@ -92,7 +92,7 @@ goes_same p mid os (Made k e) n of g = (g.0 ∙ n, (λ z. g.1 (n ∙ z)), g.2)
 goes_same p mid os (Answered r) n of g = (sym n ∙ g.0, g.1)
 
 -- its newest job out is back
-pub came_back : (v : Verified) (jobs : List Job) (p q : Posted) (older : List Out) (o : Out) (flag : _) (ended : Option Effect) (x : Stage) → Works jobs p → p.outs ≡ older ++ o ∷ []
+pub came_back : (v : Verified) (jobs : List Job) (p q : Posted) (older : List Out) (o : Out) (flag : Bool) (ended : Option Effect) (x : Stage) → Works jobs p → p.outs ≡ older ++ o ∷ []
     → ((job : Job) (others : List Job) → outs p.strand ≡ job ∷ others → IsJobOf jobs (out_number o) job → Comes ended (record { number = p.number; strand = p.strand; at_join = flag; outs = older }) q others)
     → IsBegun v q ended x → ComesTo v jobs p older x
 came_back v jobs p q older o flag ended x works are comes b =
@@ -101,7 +101,7 @@ came_back v jobs p q older o flag ended x works are comes b =
     let c = comes_to v jobs mid q ended n.others x (comes n.job n.others n.is n.named_is) works.named n.older_are n.own b in
     (goes_same p mid older x refl refl c.0, c.1)
 
-pub back_whole : (v : Verified) (jobs : List Job) (p q : Posted) (older : List Out) (o : Out) (flag : _) (ended : Option Effect) → HasRoot v jobs → Works jobs p → p.outs ≡ older ++ o ∷ []
+pub back_whole : (v : Verified) (jobs : List Job) (p q : Posted) (older : List Out) (o : Out) (flag : Bool) (ended : Option Effect) → HasRoot v jobs → Works jobs p → p.outs ≡ older ++ o ∷ []
     → ((job : Job) (others : List Job) → outs p.strand ≡ job ∷ others → IsJobOf jobs (out_number o) job → Comes ended (record { number = p.number; strand = p.strand; at_join = flag; outs = older }) q others)
     → q.number ≡ 0 → IfSome ended (λ e. ∥ IsOfWhole v e ∥₁)
 back_whole v jobs p q older o flag ended r works are comes z =

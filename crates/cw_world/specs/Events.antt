@@ -11,7 +11,7 @@ use Rattle.cw_machine.specs.Runs.{RunsAsCode}
 use Rattle.cw_jobs.specs.declared.effect.Effect.{Effect}
 use Rattle.cw_jobs.specs.declared.job.Job.{Job}
 use Rattle.cw_strand.specs.Holds.{its_job}
-use Rattle.cw_sched.specs.Board.{of_worker, pushed, but_newest, oldest}
+use Rattle.cw_sched.specs.Board.{of_worker, pushed, newest, but_newest, oldest}
 use Rattle.cw_world.specs.declared.board.Offer.{Offer}
 use Rattle.cw_world.specs.declared.event.Refused.{Refused}
 use Rattle.cw_world.specs.declared.event.Event.{Event}
@@ -106,6 +106,12 @@ board_without b w _ = b
 abbrev pub IsAtBack : Boarded → (w : ℕ) → Out → Type 0
 IsAtBack b w (out.Offered n) = newest_number b w ≡ Some n
 IsAtBack b w _ = Unit {0}
+
+-- this job lies there, or was kept
+abbrev pub IsBack : Boarded → (w : ℕ) → Out → Job → Type 0
+IsBack b w (out.Offered n) job = newest (of_worker b.offers w) ≡ Some (record { number = n; job = job })
+IsBack b w (out.Kept n kept) job = kept ≡ job
+IsBack b w (out.Undecided n kept) job = ⊥
 
 -- RETAKE: the strand has its newest job back
 pub record Retakes (v : Verified) (s s' : Scene) (w : ℕ) : Type 0 where

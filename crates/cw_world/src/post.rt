@@ -37,6 +37,21 @@ pub struct Post {
     pub(crate) outs: Vec<Out>,
 }
 
+// The newest job out is back unrun.
+fn unrun(strand: &mut Strand, rest: Job)
+    requires at_sync { IsRunning strand.old × IsAtSync strand.old }
+    requires newest { (others : List jobs.Job) × (outs strand.old ≡ rest ∷ others) }
+    ensures of { strand.new.of ≡ strand.old.of }
+    ensures running { IsRunning strand.new }
+    ensures outs { rest ∷ outs strand.new ≡ outs strand.old }
+{
+    if strand.stopped() {
+        strand.skip(rest);
+    } else {
+        strand.take_back(rest);
+    }
+}
+
 impl Post {
     /// Begins a job. The error is want of memory, and gives the job back as it was.
     pub(crate) fn start(alloc: Global, number: usize, job: Job) -> Result<Post, Job>
@@ -115,11 +130,7 @@ impl Post {
         ensures { (others : List jobs.Job) → outs self.old.strand ≡ rest ∷ others
             → Comes result (posted self.old) (posted self.new) others }
     {
-        if self.strand.stopped() {
-            self.strand.skip(rest);
-        } else {
-            self.strand.take_back(rest);
-        }
+        unrun(&mut self.strand, rest);
         self.stand()
     }
 

@@ -16,7 +16,7 @@ ghost use Rattle.cw_world.specs.Sound.{KeepsRuns};
 ghost use Rattle.cw_world.specs.Worlds.{has_ended, IsSound, IsStarted, IsNotStarted, IsWorldOf};
 ghost use Rattle.cw_world.specs.Table as table;
 ghost use Rattle.cw_world.specs.Table.{is_possible};
-ghost use Rattle.cw_world.specs.Events.{but_top, with_top, Does, DoesOr, HasRoomIn, IsBegun, Turns};
+ghost use Rattle.cw_world.specs.Events.{board_without, but_top, with_top, Does, DoesOr, HasRoomIn, IsBack, IsBegun, Turns};
 
 use crate::board::{Board, Offer};
 use crate::copy::copy_of;
@@ -183,6 +183,19 @@ fn can_retake(board: &Board, w: usize, out: Option<&Out>) -> bool
     }
 }
 
+// A job that was kept, or lies at the back of the worker's deque, comes back unrun.
+fn unrun(board: &mut Board, w: usize, out: Out) -> Job
+    requires { table.can_retake (boarded board.old) w (Some out) ≡ true }
+    ensures job { IsBack (boarded board.old) w out result }
+    ensures board { boarded board.new ≡ board_without (boarded board.old) w out }
+{
+    match out {
+        Out::Kept(_, job) => job,
+        Out::Offered(number) => board.retake(w, number),
+        Out::Undecided(_, _) => unreachable!(),
+    }
+}
+
 // Whether the effect of this job is in its cell.
 fn is_settled(board: &Board, out: Option<&Out>) -> bool
     ensures { result ≡ table.is_settled (boarded board.now) (out_of out.entry) }
@@ -294,6 +307,7 @@ impl World {
         requires sound { IsSound self.old }
         requires possible { is_possible (scene self.old) (event.Run w) ≡ true }
         ensures code { self.new.code ≡ self.old.code }
+        ensures memory { IfErr result (λ e. e ≡ refused.Memory) }
         ensures does { DoesOr (arc_value self.old.code) (event.Run w) result (scene self.old) (scene self.new) }
     {
         let mut post = take(&mut self.begun, w);
@@ -314,6 +328,7 @@ impl World {
         requires sound { IsSound self.old }
         requires possible { is_possible (scene self.old) (event.Offer w) ≡ true }
         ensures code { self.new.code ≡ self.old.code }
+        ensures memory { IfErr result (λ e. e ≡ refused.Memory) }
         ensures does { DoesOr (arc_value self.old.code) (event.Offer w) result (scene self.old) (scene self.new) }
     {
         let mut post = take(&mut self.begun, w);
@@ -357,11 +372,10 @@ impl World {
         ensures does { Does (arc_value self.old.code) (event.Retake w) (scene self.old) (scene self.new) }
     {
         let mut post = take(&mut self.begun, w);
-        let rest = match post.outs.pop() {
-            Some(Out::Kept(_, job)) => job,
-            Some(Out::Offered(number)) => self.board.retake(w, number),
-            _ => unreachable!(),
+        let Some(out) = post.outs.pop() else {
+            unreachable!()
         };
+        let rest = unrun(&mut self.board, w, out);
         let ended = post.take_in(rest);
         self.turn(w, post, ended);
     }
@@ -371,6 +385,7 @@ impl World {
         requires sound { IsSound self.old }
         requires possible { is_possible (scene self.old) (event.Steal w v) ≡ true }
         ensures code { self.new.code ≡ self.old.code }
+        ensures memory { IfErr result (λ e. e ≡ refused.Memory) }
         ensures does { DoesOr (arc_value self.old.code) (event.Steal w v) result (scene self.old) (scene self.new) }
     {
         room(&mut self.begun, w)?;
@@ -393,6 +408,7 @@ impl World {
         requires sound { IsSound self.old }
         requires possible { is_possible (scene self.old) (event.Settle w) ≡ true }
         ensures code { self.new.code ≡ self.old.code }
+        ensures memory { IfErr result (λ e. e ≡ refused.Memory) }
         ensures does { DoesOr (arc_value self.old.code) (event.Settle w) result (scene self.old) (scene self.new) }
     {
         self.board.room_to_settle()?;

@@ -10,7 +10,7 @@ use Rattle.cw_world.specs.Boards.{back_number}
 use Rattle.cw_world.proofs.board.Board.retake.Goals as goal
 
 there : (l : List Offer) (n : _) → back_number (newest l) ≡ Some n → newest l ≢ None
-there l n e none = let no : ⊥ = cc in absurd no
+there l n e none = let never : ⊥ = cc in absurd never
 
 numbered : (o : Offer) (n : _) → back_number (Some o) ≡ Some n → Some o ≡ Some (record { number = n; job = o.job })
 numbered o n e = let same : o.number ≡ n = cc in ap (λ m. Some (record { number = m; job = o.job })) same
