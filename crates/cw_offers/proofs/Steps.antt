@@ -1,5 +1,5 @@
 -- What a move makes of a board's parts is the move of what they show.
-use Rattle.std.proofs.Common.{◌≡◌, ◌∙◌, ℕ, Bool, true, List, Option, Some, None, refl, sym, ap, subst}
+use Rattle.std.proofs.Common.{◌≡◌, ◌∙◌, ℕ, Bool, true, List, [], replicate, Option, Some, None, refl, sym, ap, subst}
 use Rattle.std.specs.Prelude.{slice_set}
 use Rattle.std.specs.Ordering.{nat_cmp}
 use Rattle.std.specs.Map.{remove_entry, set_value}
@@ -9,11 +9,14 @@ use Rattle.cw_offers.specs.declared.board.State.{State}
 use Rattle.cw_offers.specs.declared.board.State.TheVariants.{Offered, Stolen, Settled}
 use Rattle.cw_offers.specs.Boards.{Offers, list_of, state_of, can_offer, offer, retake, retake_of, steal, steal_of, settle, collect, is_stolen, is_settled}
 use Rattle.cw_offers.specs.Laws.{IsBoard}
-use Rattle.cw_offers.specs.lemmas.Moves.{offer_keeps, retake_keeps, steal_keeps, settle_keeps, collect_keeps}
+use Rattle.cw_offers.specs.lemmas.Moves.{opened_keeps, offer_keeps, retake_keeps, steal_keeps, settle_keeps, collect_keeps}
 
 both_are : (lists lists' : List (List ℕ)) (states states' : List (ℕ × State)) → lists ≡ lists' → states ≡ states'
     → (let b : Offers = record { lists = lists; states = states } in b) ≡ record { lists = lists'; states = states' }
 both_are lists lists' states states' e f = ap (λ l. record { lists = l; states = states }) e ∙ ap (λ s. record { lists = lists'; states = s }) f
+
+pub opened_as : (workers : ℕ) (lists : List (List ℕ)) (states : List (ℕ × State)) → lists ≡ replicate workers [] → states ≡ [] → IsBoard record { lists = lists; states = states }
+opened_as workers lists states e f = subst IsBoard (sym (both_are lists (replicate workers []) states [] e f)) (opened_keeps workers)
 
 module _ (b : Offers) (k : IsBoard b) (lists : List (List ℕ)) (states : List (ℕ × State)) where
   pub offered_keeps : (w n : ℕ) → can_offer w n b ≡ true → lists ≡ slice_set b.lists w (pushed (list_of b w) n) → states ≡ insert_entry nat_cmp b.states n Offered

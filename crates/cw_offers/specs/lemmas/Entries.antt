@@ -19,13 +19,13 @@ all_weaken P Q (k ∷ ks) more h = (more k h.0, all_weaken P Q ks more h.1)
 -- nothing is set where nothing is
 pub set_absent : {K X : Type 0} (test : K → Bool) (es : List (K × X)) (w : X) → lookup test es ≡ None → set_value test es w ≡ es
 set_absent test [] w h = refl
-set_absent test (e ∷ es) w h = step (test e.0) refl
+set_absent test (e ∷ es) w h = step (test e.0) refl (set_absent test es w)
   where
-    step : (b : Bool) → test e.0 ≡ b → cond b ((e.0, w) ∷ es) (e ∷ set_value test es w) ≡ e ∷ es
-    step true g =
+    step : (b : Bool) → test e.0 ≡ b → (lookup test es ≡ None → set_value test es w ≡ es) → cond b ((e.0, w) ∷ es) (e ∷ set_value test es w) ≡ e ∷ es
+    step true g rest =
         let there : Some e.1 ≡ None = ap (λ b. cond b (Some e.1) (lookup test es)) (sym g) ∙ h in
         cc
-    step false g = ap (λ l. e ∷ l) (set_absent test es w (ap (λ b. cond b (Some e.1) (lookup test es)) (sym g) ∙ h))
+    step false g rest = ap (λ l. e ∷ l) (rest (ap (λ b. cond b (Some e.1) (lookup test es)) (sym g) ∙ h))
 
 pub one_key : {K : Type 0} {R : K → K → Ordering} (o : IsTotalOrder R) (k x y : K) → is_at (R k) x ≡ true → is_at (R k) y ≡ eq_by_cmp R x y
 one_key o k x y h = (eq_by_cmp_equiv o).congr k x y h
@@ -36,7 +36,7 @@ module _ {K X : Type 0} {R : K → K → Ordering} (o : IsTotalOrder R) where
     pub lookup_inserted : (q : K) (es : List (K × X)) → lookup (is_at (R k)) es ≡ None
         → lookup (is_at (R q)) (insert_entry R es k v) ≡ cond (is_at (R q) k) (Some v) (lookup (is_at (R q)) es)
     lookup_inserted q [] h = refl
-    lookup_inserted q (e ∷ es) h = step (R k e.0) refl
+    lookup_inserted q (e ∷ es) h = step (R k e.0) refl (lookup_inserted q es)
       where
         apart : (b c : Bool) → is_at (R q) k ≡ b → is_at (R q) e.0 ≡ c → R k e.0 ≡ Greater
             → cond c (Some e.1) (cond b (Some v) (lookup (is_at (R q)) es)) ≡ cond b (Some v) (cond c (Some e.1) (lookup (is_at (R q)) es))
@@ -48,53 +48,55 @@ module _ {K X : Type 0} {R : K → K → Ordering} (o : IsTotalOrder R) where
             cc
 
         step : (r : Ordering) → R k e.0 ≡ r
+            → (lookup (is_at (R k)) es ≡ None → lookup (is_at (R q)) (insert_entry R es k v) ≡ cond (is_at (R q) k) (Some v) (lookup (is_at (R q)) es))
             → lookup (is_at (R q)) (match_ordering r ((k, v) ∷ e ∷ es) ((e.0, v) ∷ es) (e ∷ insert_entry R es k v))
             ≡ cond (is_at (R q) k) (Some v) (lookup (is_at (R q)) (e ∷ es))
-        step Less g = refl
-        step Equal g =
+        step Less g more = refl
+        step Equal g more =
             let there : Some e.1 ≡ None = ap (λ r. cond (is_eq r) (Some e.1) (lookup (is_at (R k)) es)) (sym g) ∙ h in
             cc
-        step Greater g =
+        step Greater g more =
             let rest : lookup (is_at (R k)) es ≡ None = ap (λ r. cond (is_eq r) (Some e.1) (lookup (is_at (R k)) es)) (sym g) ∙ h in
-            ap (λ l. cond (is_at (R q) e.0) (Some e.1) l) (lookup_inserted q es rest)
+            ap (λ l. cond (is_at (R q) e.0) (Some e.1) l) (more rest)
             ∙ apart (is_at (R q) k) (is_at (R q) e.0) refl refl g
 
     all_inserted : (P : K → Type 0) (es : List (K × X)) → P k → AllByRecursion P (keys_of es) → AllByRecursion P (keys_of (insert_entry R es k v))
     all_inserted P [] p h = (p, tt)
-    all_inserted P (e ∷ es) p h = step (R k e.0)
+    all_inserted P (e ∷ es) p h = step (R k e.0) (all_inserted P es p h.1)
       where
-        step : (r : Ordering) → AllByRecursion P (keys_of (match_ordering r ((k, v) ∷ e ∷ es) ((e.0, v) ∷ es) (e ∷ insert_entry R es k v)))
-        step Less = (p, h)
-        step Equal = h
-        step Greater = (h.0, all_inserted P es p h.1)
+        step : (r : Ordering) → AllByRecursion P (keys_of (insert_entry R es k v)) → AllByRecursion P (keys_of (match_ordering r ((k, v) ∷ e ∷ es) ((e.0, v) ∷ es) (e ∷ insert_entry R es k v)))
+        step Less more = (p, h)
+        step Equal more = h
+        step Greater more = (h.0, more)
 
     -- keys that rise still do
     pub sorted_inserted : (es : List (K × X)) → IsStrictlySortedBy R (keys_of es) → IsStrictlySortedBy R (keys_of (insert_entry R es k v))
     unfolding IsStrictlySortedBy
     sorted_inserted [] h = (tt, tt)
-    sorted_inserted (e ∷ es) h = step (R k e.0) refl
+    sorted_inserted (e ∷ es) h = step (R k e.0) refl (sorted_inserted es h.1)
       where
-        step : (r : Ordering) → R k e.0 ≡ r → IsStrictlySortedBy R (keys_of (match_ordering r ((k, v) ∷ e ∷ es) ((e.0, v) ∷ es) (e ∷ insert_entry R es k v)))
-        step Less g = ((g, all_weaken (λ y. R e.0 y ≡ Less) (λ y. R k y ≡ Less) (keys_of es) (λ y below. o.trans k e.0 y g below) h.0), h)
-        step Equal g = h
-        step Greater g = (all_inserted (λ y. R e.0 y ≡ Less) es (o.antisymm e.0 k ∙ ap ordering_reverse g) h.0, sorted_inserted es h.1)
+        step : (r : Ordering) → R k e.0 ≡ r → IsStrictlySortedBy R (keys_of (insert_entry R es k v))
+            → IsStrictlySortedBy R (keys_of (match_ordering r ((k, v) ∷ e ∷ es) ((e.0, v) ∷ es) (e ∷ insert_entry R es k v)))
+        step Less g more = ((g, all_weaken (λ y. R e.0 y ≡ Less) (λ y. R k y ≡ Less) (keys_of es) (λ y below. o.trans k e.0 y g below) h.0), h)
+        step Equal g more = h
+        step Greater g more = (all_inserted (λ y. R e.0 y ≡ Less) es (o.antisymm e.0 k ∙ ap ordering_reverse g) h.0, more)
 
   all_removed : (test : K → Bool) (P : K → Type 0) (es : List (K × X)) → AllByRecursion P (keys_of es) → AllByRecursion P (keys_of (remove_entry test es))
   all_removed test P [] h = tt
-  all_removed test P (e ∷ es) h = step (test e.0)
+  all_removed test P (e ∷ es) h = step (test e.0) (all_removed test P es h.1)
     where
-      step : (b : Bool) → AllByRecursion P (keys_of (cond b es (e ∷ remove_entry test es)))
-      step true = h.1
-      step false = (h.0, all_removed test P es h.1)
+      step : (b : Bool) → AllByRecursion P (keys_of (remove_entry test es)) → AllByRecursion P (keys_of (cond b es (e ∷ remove_entry test es)))
+      step true more = h.1
+      step false more = (h.0, more)
 
   pub sorted_removed : (test : K → Bool) (es : List (K × X)) → IsStrictlySortedBy R (keys_of es) → IsStrictlySortedBy R (keys_of (remove_entry test es))
   unfolding IsStrictlySortedBy
   sorted_removed test [] h = tt
-  sorted_removed test (e ∷ es) h = step (test e.0)
+  sorted_removed test (e ∷ es) h = step (test e.0) (sorted_removed test es h.1)
     where
-      step : (b : Bool) → IsStrictlySortedBy R (keys_of (cond b es (e ∷ remove_entry test es)))
-      step true = h.1
-      step false = (all_removed test (λ y. R e.0 y ≡ Less) es h.0, sorted_removed test es h.1)
+      step : (b : Bool) → IsStrictlySortedBy R (keys_of (remove_entry test es)) → IsStrictlySortedBy R (keys_of (cond b es (e ∷ remove_entry test es)))
+      step true more = h.1
+      step false more = (all_removed test (λ y. R e.0 y ≡ Less) es h.0, more)
 
   pub sorted_set : (test : K → Bool) (es : List (K × X)) (w : X) → IsStrictlySortedBy R (keys_of es) → IsStrictlySortedBy R (keys_of (set_value test es w))
   sorted_set test es w h = subst (IsStrictlySortedBy R) (sym (keys-set_value test es w)) h

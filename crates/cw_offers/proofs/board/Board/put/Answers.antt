@@ -2,7 +2,7 @@ use Rattle.std.proofs.Common.{◌≡◌, ◌∙◌, ℕ, ◌+◌, ◌<◌, ◌�
 use Rattle.cw_sched.specs.Board.{newest, oldest, of_worker}
 use Rattle.cw_offers.specs.declared.board.State.TheVariants.{Offered, Stolen, Settled}
 use Rattle.cw_offers.specs.Boards.{Offers, lists_of, state_of, can_offer, with_newest, without_newest, without_oldest, HasRoomAt}
-use Rattle.cw_offers.proofs.Lists.{given_back}
+use Rattle.cw_offers.proofs.Queues.{given_back}
 use Rattle.cw_offers.proofs.Steps.{offered_keeps, retaken_keeps, stolen_keeps, settled_keeps, collected_keeps}
 use Rattle.std.proofs.Common.{Bool, true}
 use Rattle.cw_offers.proofs.board.Board.put.Goals as goal
@@ -11,7 +11,7 @@ pub invariant_of-self-2 : goal.invariant_of-self-2
 invariant_of-self-2 c =
     let v = c.self.inside.lists in
     let b : Offers = record { lists = lists_of v.items; states = c.self.inside.states.entries } in
-    let at = c.deref_mut.ensures.value in
+    let at = c.deref_mut-lists.ensures.value in
     let many : v.len ≡ length v.items = omega arith in
     let as_long : length c.push.new.lists ≡ length v.items = c.push.auto.lists ∙ c.reserve.auto.lists ∙ ap length at in
     let h : can_offer c.args.worker c.args.number b ≡ true = ap (can_offer c.args.worker c.args.number) c.self.view_is ∙ c.requires in
