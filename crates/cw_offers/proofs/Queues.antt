@@ -1,9 +1,9 @@
 -- Lists of queues, one of which changes.
-use Rattle.std.proofs.Common.{◌≡◌, ◌∙◌, ℕ, zero, suc, ◌+◌, ◌-◌, ◌<◌, ◌≤◌, List, [], ◌∷◌, ◌++◌, Option, Some, None, Result, Ok, Err, IsSome, OnSome, IfNone, OnOk, refl, sym, ap, length, replicate, get_or, arith}
+use Rattle.std.proofs.Common.{◌≡◌, ◌∙◌, ℕ, zero, suc, ◌+◌, ◌-◌, ◌<◌, ◌≤◌, List, [], ◌∷◌, ◌++◌, Option, Some, None, Result, Ok, Err, IsSome, OnSome, IfNone, OnOk, refl, sym, ap, length, get_or, arith}
 use Rattle.std.proofs.lemmas.Option.{slice_get_read}
 use Rattle.std.specs.Prelude.{map, slice_get, slice_set, take, drop, is_some, false, true}
 use Rattle.std.specs.Option.{option_to_list}
-use Rattle.cw_sched.specs.Board.{pushed, newest, but_newest, oldest, but_oldest, of_worker}
+use Rattle.cw_sched.specs.Board.{newest, but_newest, but_oldest, of_worker}
 
 pub newest_pushed : {A : Type 0} (xs : List A) (x : A) → newest (xs ++ x ∷ []) ≡ Some x
 newest_pushed [] x = refl

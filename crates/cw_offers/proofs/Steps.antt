@@ -1,5 +1,5 @@
 -- What a move makes of a board's parts is the move of what they show.
-use Rattle.std.proofs.Common.{◌≡◌, ◌∙◌, ℕ, Bool, true, List, [], replicate, Option, Some, None, refl, sym, ap, subst}
+use Rattle.std.proofs.Common.{◌≡◌, ◌∙◌, ℕ, true, List, [], replicate, Some, sym, ap, subst}
 use Rattle.std.specs.Prelude.{slice_set}
 use Rattle.std.specs.Ordering.{nat_cmp}
 use Rattle.std.specs.Map.{remove_entry, set_value}
@@ -7,7 +7,7 @@ use Rattle.std.specs.BTreeMap.{insert_entry, is_at}
 use Rattle.cw_sched.specs.Board.{pushed, newest, but_newest, oldest, but_oldest}
 use Rattle.cw_offers.specs.declared.board.State.{State}
 use Rattle.cw_offers.specs.declared.board.State.TheVariants.{Offered, Stolen, Settled}
-use Rattle.cw_offers.specs.Boards.{Offers, list_of, state_of, can_offer, offer, retake, retake_of, steal, steal_of, settle, collect, is_stolen, is_settled}
+use Rattle.cw_offers.specs.Boards.{Offers, list_of, state_of, can_offer, offer, retake_of, steal_of, settle, collect, is_stolen, is_settled}
 use Rattle.cw_offers.specs.Laws.{IsBoard}
 use Rattle.cw_offers.specs.lemmas.Moves.{opened_keeps, offer_keeps, retake_keeps, steal_keeps, settle_keeps, collect_keeps}
 

@@ -1,11 +1,11 @@
 -- What every board keeps through each move, what each does to the states, and that the moves are the scheduler's.
-use Rattle.std.proofs.Common.{◌≡◌, ◌≢◌, ◌⊎◌, ℕ, zero, suc, ◌+◌, ◌<◌, Bool, true, false, cond, ◌&&◌, nat_eq, nat_lt, List, [], ◌∷◌, ◌++◌, length, replicate, Option, Some, None, IsSome, is_none, refl, sym, ap, subst, ◌∙◌, inl, inr, arith}
+use Rattle.std.proofs.Common.{◌≡◌, ◌≢◌, ℕ, zero, suc, ◌+◌, ◌<◌, Bool, true, false, cond, ◌&&◌, nat_eq, nat_lt, List, [], ◌∷◌, length, replicate, Option, Some, None, IsSome, is_none, refl, sym, ap, subst, ◌∙◌, inl, inr, arith}
 use Rattle.std.specs.Prelude.{slice_get, slice_set}
 use Rattle.std.proofs.lemmas.Bool.{ltb-true}
 use Rattle.std.proofs.lemmas.Bool.Decides.{eqb_tells}
 use Rattle.std.specs.Ordering.{nat_cmp}
 use Rattle.std.specs.List.Sorted.{IsStrictlySortedBy}
-use Rattle.std.specs.Map.{keys_of, lookup}
+use Rattle.std.specs.Map.{keys_of}
 use Rattle.std.specs.BTreeMap.{is_at}
 use Rattle.std.specs.Cmp.{nat_cmp_total}
 use Rattle.cw_sched.specs.Board as sched
@@ -14,7 +14,7 @@ use Rattle.cw_sched.specs.Laws.{times, one_if}
 use Rattle.cw_offers.specs.declared.board.State.{State}
 use Rattle.cw_offers.specs.declared.board.State.TheVariants.{Offered, Stolen, Settled}
 use Rattle.cw_offers.specs.Boards.{Offers, list_of, state_of, opened, can_offer, offer, retake, retake_of, steal, steal_of, can_settle, settle, can_collect, collect, is_stolen, is_settled}
-use Rattle.cw_offers.specs.Laws.{times_in, is_offered, IsBoard, Becomes, MovesKeep, MovesTell, Known, Nothing, IsOut, IsSettled, known, known_there, Tells, MovesAreTheSchedulers}
+use Rattle.cw_offers.specs.Laws.{times_in, is_offered, IsBoard, Becomes, MovesKeep, MovesTell, Nothing, known, known_there, Tells, MovesAreTheSchedulers}
 use Rattle.cw_offers.specs.lemmas.Entries.{put_in, taken_out, changed, sorted_inserted, sorted_removed, sorted_set}
 
 -- numbers in lists

@@ -1,4 +1,4 @@
-use Rattle.std.proofs.Common.{◌≡◌, ◌∙◌, ℕ, ◌+◌, ◌<◌, ◌≤◌, List, [], ◌∷◌, ◌++◌, Option, Some, None, refl, sym, ap, subst, length, get_or, arith}
+use Rattle.std.proofs.Common.{◌≡◌, ◌∙◌, ◌<◌, ◌≤◌, sym, ap, length, get_or, arith}
 use Rattle.cw_sched.specs.Board.{newest}
 use Rattle.cw_offers.proofs.Queues.{worker_read, worker_past, last_read, none_read}
 use Rattle.cw_offers.proofs.lists.newest.Goals as goal

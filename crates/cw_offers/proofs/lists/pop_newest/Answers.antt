@@ -1,5 +1,5 @@
-use Rattle.std.proofs.Common.{◌≡◌, ◌∙◌, ℕ, ◌+◌, ◌<◌, ◌≤◌, List, [], ◌∷◌, ◌++◌, Option, Some, None, refl, sym, ap, subst, length, get_or, arith}
-use Rattle.cw_sched.specs.Board.{newest, oldest}
+use Rattle.std.proofs.Common.{◌∙◌, sym, ap, length, get_or}
+use Rattle.cw_sched.specs.Board.{newest}
 use Rattle.cw_offers.proofs.Queues.{worker_read, worker_past, back_left, back_kept, none_if, back_given}
 use Rattle.cw_offers.proofs.lists.pop_newest.Goals as goal
 

@@ -1,6 +1,6 @@
-use Rattle.std.proofs.Common.{◌≡◌, ◌∙◌, ℕ, ◌+◌, ◌<◌, ◌≤◌, List, [], ◌∷◌, ◌++◌, Option, Some, None, refl, sym, ap, subst, length, get_or, arith}
-use Rattle.cw_sched.specs.Board.{newest, oldest}
-use Rattle.cw_offers.proofs.Queues.{worker_read, worker_past, front_left, front_kept, none_if}
+use Rattle.std.proofs.Common.{◌∙◌, sym, ap}
+use Rattle.cw_sched.specs.Board.{oldest}
+use Rattle.cw_offers.proofs.Queues.{worker_past, front_left, front_kept}
 use Rattle.cw_offers.proofs.lists.pop_oldest.Goals as goal
 
 pub returns-then-worker-lists-clause-same : goal.returns-then-worker-lists-clause-same

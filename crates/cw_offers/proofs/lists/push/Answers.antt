@@ -1,4 +1,4 @@
-use Rattle.std.proofs.Common.{◌≡◌, ◌∙◌, ℕ, ◌+◌, ◌<◌, ◌≤◌, List, [], ◌∷◌, ◌++◌, Option, Some, None, refl, sym, ap, subst, length, get_or, arith}
+use Rattle.std.proofs.Common.{◌∙◌, sym, ap}
 use Rattle.cw_sched.specs.Board.{pushed}
 use Rattle.cw_offers.proofs.Queues.{worker_set, get_within}
 use Rattle.cw_offers.proofs.lists.push.Goals as goal

@@ -1,4 +1,4 @@
-use Rattle.std.proofs.Common.{◌≡◌, ◌∙◌, ℕ, ◌+◌, ◌<◌, ◌≤◌, List, [], ◌∷◌, ◌++◌, Option, Some, None, refl, sym, ap, subst, length, get_or, arith}
+use Rattle.std.proofs.Common.{◌∙◌, ◌+◌, ◌≤◌, sym, ap, arith}
 use Rattle.std.specs.VecDeque.{deque_len, deque_capacity}
 use Rattle.cw_offers.specs.Boards.{HasRoomAt}
 use Rattle.std.specs.Prelude.{slice_set}

@@ -1,7 +1,3 @@
-use Rattle.std.proofs.Common.{◌≡◌, List, [], sym, subst}
-use Rattle.cw_offers.specs.declared.board.State.{State}
-use Rattle.cw_offers.specs.Boards.{Offers, opened}
-use Rattle.cw_offers.specs.Laws.{IsBoard}
 use Rattle.cw_offers.proofs.Steps.{opened_as}
 use Rattle.cw_offers.proofs.board.Board.open.Goals as goal
 

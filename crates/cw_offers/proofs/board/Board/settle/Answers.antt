@@ -1,9 +1,7 @@
-use Rattle.std.proofs.Common.{◌≡◌, ◌∙◌, ℕ, ◌+◌, ◌<◌, ◌≤◌, List, [], ◌∷◌, ◌++◌, Option, Some, None, refl, sym, ap, subst, length, get_or, arith}
-use Rattle.cw_sched.specs.Board.{newest, oldest, of_worker}
-use Rattle.cw_offers.specs.declared.board.State.TheVariants.{Offered, Stolen, Settled}
-use Rattle.cw_offers.specs.Boards.{Offers, lists_of, state_of, can_offer, with_newest, without_newest, without_oldest, HasRoomAt}
-use Rattle.cw_offers.proofs.Queues.{given_back}
-use Rattle.cw_offers.proofs.Steps.{offered_keeps, retaken_keeps, stolen_keeps, settled_keeps, collected_keeps}
+use Rattle.std.proofs.Common.{◌≡◌, ◌∙◌, Some, refl, ap}
+use Rattle.cw_offers.specs.declared.board.State.TheVariants.{Stolen}
+use Rattle.cw_offers.specs.Boards.{Offers, lists_of, state_of}
+use Rattle.cw_offers.proofs.Steps.{settled_keeps}
 use Rattle.cw_offers.proofs.board.Board.settle.Goals as goal
 
 pub invariant_of-self : goal.invariant_of-self
