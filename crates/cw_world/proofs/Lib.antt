@@ -8,3 +8,5 @@ pub mod Placed
 pub mod Tops
 pub mod Begins
 pub mod After
+pub mod Doing
+pub mod Copies

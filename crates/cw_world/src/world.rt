@@ -1,6 +1,6 @@
 //! Worlds.
 
-ghost use Rattle.std.specs.Prelude.{◌≡◌, ◌<◌, ◌≤◌, ◌↔◌, false, true, ℕ, ℤ, List, None, Some, length, IfSome, IfErr, OnOk, MatchResult, IsSome, Err};
+ghost use Rattle.std.specs.Prelude.{◌≡◌, ◌≢◌, ◌<◌, ◌≤◌, ◌↔◌, false, true, ℕ, ℤ, List, None, Some, length, IfSome, IfErr, OnOk, MatchResult, IsSome, Err};
 ghost use Rattle.std.specs.Arc.{arc_value};
 ghost use Rattle.cw_code.specs.Code.{code_view};
 ghost use Rattle.cw_model.specs.declared.burden.Burden.{Burden};
@@ -11,7 +11,8 @@ ghost use Rattle.cw_world.specs.declared.event.Event.TheVariants as event;
 ghost use Rattle.cw_world.specs.declared.event.Refused.TheVariants as refused;
 ghost use Rattle.cw_world.specs.Scenes.{top, posted, scene, stacks, stage_of, staged, out_of, Goes, Made};
 ghost use Rattle.cw_verify.specs.declared.verified.Verified.{Verified};
-ghost use Rattle.cw_world.specs.Boards.{boarded};
+ghost use Rattle.cw_world.specs.declared.post.Out.TheVariants as out;
+ghost use Rattle.cw_world.specs.Boards.{boarded, cell_of};
 ghost use Rattle.cw_world.specs.Sound.{KeepsRuns};
 ghost use Rattle.cw_world.specs.Worlds.{has_ended, IsSound, IsStarted, IsNotStarted, IsWorldOf};
 ghost use Rattle.cw_world.specs.Table as table;
@@ -86,7 +87,9 @@ fn take(begun: &mut Vec<Vec<Begun>>, w: usize) -> Post
 {
     match begun[w].pop() {
         Some(Begun::Goes(post)) => post,
-        _ => unreachable!(),
+        Some(Begun::Made(_, _)) => unreachable!(),
+        Some(Begun::Answered(_)) => unreachable!(),
+        None => unreachable!(),
     }
 }
 
@@ -98,6 +101,23 @@ fn put(begun: &mut Vec<Vec<Begun>>, w: usize, next: Begun)
     begun[w].push_reserved(next);
 }
 
+// The newest strand of a worker goes on from what it came to.
+fn turn(
+    begun: &mut Vec<Vec<Begun>>,
+    code: &Verified,
+    w: usize,
+    post: Post,
+    ended: Option<Effect>,
+)
+    requires room { HasRoomIn begun.old w }
+    requires root { post.number ≡ 0 → IfSome ended (λ e. ∥ IsOfWhole code.now e ∥₁) }
+    ensures { Turns code.now (posted post) ended (stacks begun.old) w (stacks begun.new) }
+{
+    let alloc = *begun.allocator();
+    let next = as_begun(alloc, code, post, ended);
+    put(begun, w, next);
+}
+
 // What a worker has begun last, which is a stolen job that has ended: its number and its effect.
 fn take_made(begun: &mut Vec<Vec<Begun>>, w: usize) -> (usize, Effect)
     requires { table.has_made (newest (of_worker (stacks begun.old) w)) ≡ true }
@@ -106,7 +126,9 @@ fn take_made(begun: &mut Vec<Vec<Begun>>, w: usize) -> (usize, Effect)
 {
     match begun[w].pop() {
         Some(Begun::Made(number, effect)) => (number, effect),
-        _ => unreachable!(),
+        Some(Begun::Goes(_)) => unreachable!(),
+        Some(Begun::Answered(_)) => unreachable!(),
+        None => unreachable!(),
     }
 }
 
@@ -183,16 +205,48 @@ fn can_retake(board: &Board, w: usize, out: Option<&Out>) -> bool
     }
 }
 
-// A job that was kept, or lies at the back of the worker's deque, comes back unrun.
-fn unrun(board: &mut Board, w: usize, out: Out) -> Job
-    requires { table.can_retake (boarded board.old) w (Some out) ≡ true }
-    ensures job { IsBack (boarded board.old) w out result }
-    ensures board { boarded board.new ≡ board_without (boarded board.old) w out }
+// A job at a spawn to decide, with its number.
+fn undecided(latest: Option<Out>) -> (usize, Job)
+    requires { table.is_undecided latest.entry ≡ true }
+    ensures { latest.entry ≡ Some (out.Undecided result.0 result.1) }
 {
-    match out {
-        Out::Kept(_, job) => job,
-        Out::Offered(number) => board.retake(w, number),
-        Out::Undecided(_, _) => unreachable!(),
+    match latest {
+        Some(Out::Undecided(number, job)) => (number, job),
+        Some(Out::Kept(_, _)) => unreachable!(),
+        Some(Out::Offered(_)) => unreachable!(),
+        None => unreachable!(),
+    }
+}
+
+// A job that was kept, or lies at the back of the worker's deque, comes back unrun.
+fn unrun(board: &mut Board, w: usize, latest: Option<Out>) -> Job
+    requires { table.can_retake (boarded board.old) w latest.entry ≡ true }
+    ensures job { IfSome latest.entry (λ o. IsBack (boarded board.old) w o result) }
+    ensures some { latest.entry ≢ None }
+    ensures board { IfSome latest.entry (λ o. boarded board.new ≡ board_without (boarded board.old) w o) }
+{
+    match latest {
+        Some(Out::Kept(_, job)) => job,
+        Some(Out::Offered(number)) => board.retake(w, number),
+        Some(Out::Undecided(_, _)) => unreachable!(),
+        None => unreachable!(),
+    }
+}
+
+// The number of a job whose effect is in its cell, and where the cell is.
+fn settled(board: &Board, latest: Option<Out>) -> (usize, usize)
+    requires { table.is_settled (boarded board.now) latest.entry ≡ true }
+    ensures number { latest.entry ≡ Some (out.Offered result.0) }
+    ensures place { cell_of (boarded board.now) result.0 ≡ Some result.1 }
+{
+    match latest {
+        Some(Out::Offered(number)) => match board.cell(number) {
+            Some(place) => (number, place),
+            None => unreachable!(),
+        },
+        Some(Out::Kept(_, _)) => unreachable!(),
+        Some(Out::Undecided(_, _)) => unreachable!(),
+        None => unreachable!(),
     }
 }
 
@@ -289,19 +343,6 @@ impl World {
         }
     }
 
-    // The newest strand of a worker goes on from what it came to.
-    fn turn(&mut self, w: usize, post: Post, ended: Option<Effect>)
-        requires room { HasRoomIn self.old.begun w }
-        requires root { post.number ≡ 0 → IfSome ended (λ e. ∥ IsOfWhole (arc_value self.old.code) e ∥₁) }
-        ensures rest { self.new ≡ record self.old { begun = self.new.begun } }
-        ensures turns { Turns (arc_value self.old.code) (posted post) ended (stacks self.old.begun) w
-            (stacks self.new.begun) }
-    {
-        let alloc = *self.begun.allocator();
-        let next = as_begun(alloc, &self.code, post, ended);
-        put(&mut self.begun, w, next);
-    }
-
     // One instruction of a worker's strand.
     fn run(&mut self, w: usize) -> Result<(), Refused>
         requires sound { IsSound self.old }
@@ -313,7 +354,7 @@ impl World {
         let mut post = take(&mut self.begun, w);
         match post.step(&mut self.jobs) {
             Ok(ended) => {
-                self.turn(w, post, ended);
+                turn(&mut self.begun, &self.code, w, post, ended);
                 Ok(())
             }
             Err(_) => {
@@ -332,9 +373,8 @@ impl World {
         ensures does { DoesOr (arc_value self.old.code) (event.Offer w) result (scene self.old) (scene self.new) }
     {
         let mut post = take(&mut self.begun, w);
-        let Some(Out::Undecided(number, job)) = post.outs.pop() else {
-            unreachable!()
-        };
+        let latest = post.outs.pop();
+        let (number, job) = undecided(latest);
         match self.board.offer(w, number, job) {
             Ok(()) => {
                 post.outs.push_reserved(Out::Offered(number));
@@ -357,9 +397,8 @@ impl World {
         ensures does { Does (arc_value self.old.code) (event.Inline w) (scene self.old) (scene self.new) }
     {
         let mut post = take(&mut self.begun, w);
-        let Some(Out::Undecided(number, job)) = post.outs.pop() else {
-            unreachable!()
-        };
+        let latest = post.outs.pop();
+        let (number, job) = undecided(latest);
         post.outs.push_reserved(Out::Kept(number, job));
         put(&mut self.begun, w, Begun::Goes(post));
     }
@@ -372,12 +411,10 @@ impl World {
         ensures does { Does (arc_value self.old.code) (event.Retake w) (scene self.old) (scene self.new) }
     {
         let mut post = take(&mut self.begun, w);
-        let Some(out) = post.outs.pop() else {
-            unreachable!()
-        };
-        let rest = unrun(&mut self.board, w, out);
+        let latest = post.outs.pop();
+        let rest = unrun(&mut self.board, w, latest);
         let ended = post.take_in(rest);
-        self.turn(w, post, ended);
+        turn(&mut self.begun, &self.code, w, post, ended);
     }
 
     // The oldest job of a deque is begun.
@@ -393,7 +430,7 @@ impl World {
         match Post::start(*self.begun.allocator(), number, job) {
             Ok(mut post) => {
                 let ended = post.stand();
-                self.turn(w, post, ended);
+                turn(&mut self.begun, &self.code, w, post, ended);
                 Ok(())
             }
             Err(job) => {
@@ -425,15 +462,11 @@ impl World {
         ensures does { Does (arc_value self.old.code) (event.Collect w) (scene self.old) (scene self.new) }
     {
         let mut post = take(&mut self.begun, w);
-        let Some(Out::Offered(number)) = post.outs.pop() else {
-            unreachable!()
-        };
-        let Some(place) = self.board.cell(number) else {
-            unreachable!()
-        };
+        let latest = post.outs.pop();
+        let (number, place) = settled(&self.board, latest);
         let effect = self.board.collect(place, number);
         let ended = post.give(effect);
-        self.turn(w, post, ended);
+        turn(&mut self.begun, &self.code, w, post, ended);
     }
 
     /// One event happens.
