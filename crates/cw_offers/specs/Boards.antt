@@ -29,7 +29,8 @@ with_list b w list = record { lists = slice_set b.lists w list; states = b.state
 
 -- a number that has a state has this one now
 abbrev pub with_state : Offers → (number : ℕ) → State → Offers
-with_state b n state = record { lists = b.lists; states = set_value (is_at (nat_cmp n)) b.states state }
+with_state b n state =
+    record { lists = b.lists; states = set_value (is_at (nat_cmp n)) b.states state }
 
 -- a number that had no state has this one
 abbrev pub counted : Offers → (number : ℕ) → State → Offers
@@ -98,7 +99,8 @@ lists_of lists = map (λ q. q.items) lists
 
 -- a worker's list is there, and has room for one more
 abbrev pub HasRoomAt : List (VecDeque ℕ Global) → (worker : ℕ) → Type 0
-HasRoomAt lists w = (q : VecDeque ℕ Global) × (slice_get lists w ≡ Some q) × (deque_len q < deque_capacity q)
+HasRoomAt lists w =
+    (q : VecDeque ℕ Global) × (slice_get lists w ≡ Some q) × (deque_len q < deque_capacity q)
 
 -- the lists with a number more at the back of a worker's; without the one at its back; and without the one at its front
 abbrev pub with_newest : List (List ℕ) → (worker number : ℕ) → List (List ℕ)

@@ -40,13 +40,24 @@ pub record MovesKeep : Type 0 where
 abbrev pub Becomes : (b b' : Offers) → (n : ℕ) → Option State → Type 0
 Becomes b b' n state = (m : ℕ) → state_of b' m ≡ (if nat_eq n m then state else state_of b m)
 
+-- the number that a worker would take back, and that a thief would steal from it
+abbrev pub IsNewest : (w n : ℕ) → Offers → Type 0
+IsNewest w n b = newest (list_of b w) ≡ Some n
+
+abbrev pub IsOldest : (v n : ℕ) → Offers → Type 0
+IsOldest v n b = oldest (list_of b v) ≡ Some n
+
 -- each move changes the state of its number, and of no other
 pub record MovesTell : Type 0 where
-  pub offer : (w n : ℕ) (b : Offers) → IsBoard b → can_offer w n b ≡ true → Becomes b (offer w n b) n (Some Offered)
-  pub retake : (w n : ℕ) (b : Offers) → IsBoard b → newest (list_of b w) ≡ Some n → Becomes b (retake w b) n None
-  pub steal : (v n : ℕ) (b : Offers) → IsBoard b → oldest (list_of b v) ≡ Some n → Becomes b (steal v b) n (Some Stolen)
-  pub settle : (n : ℕ) (b : Offers) → IsBoard b → can_settle n b ≡ true → Becomes b (settle n b) n (Some Settled)
-  pub collect : (n : ℕ) (b : Offers) → IsBoard b → can_collect n b ≡ true → Becomes b (collect n b) n None
+  pub offer : (w n : ℕ) (b : Offers) → IsBoard b → can_offer w n b ≡ true
+      → Becomes b (offer w n b) n (Some Offered)
+  pub retake : (w n : ℕ) (b : Offers) → IsBoard b → IsNewest w n b → Becomes b (retake w b) n None
+  pub steal : (v n : ℕ) (b : Offers) → IsBoard b → IsOldest v n b
+      → Becomes b (steal v b) n (Some Stolen)
+  pub settle : (n : ℕ) (b : Offers) → IsBoard b → can_settle n b ≡ true
+      → Becomes b (settle n b) n (Some Settled)
+  pub collect : (n : ℕ) (b : Offers) → IsBoard b → can_collect n b ≡ true
+      → Becomes b (collect n b) n None
 
 -- what the scheduler's board says of a number, as far as a board keeps it: a number that is out was offered or stolen,
 -- and one that was not offered, was retaken or collected, or is not there, has no state
@@ -76,11 +87,11 @@ pub record Tells (b : Offers) (s : sched.Board) : Type 0 where
 
 -- each move is the scheduler's
 pub record MovesAreTheSchedulers : Type 0 where
-  pub offer : (w n : ℕ) (b : Offers) (s : sched.Board) → IsBoard b → can_offer w n b ≡ true → n < length s.states
-      → Tells b s → Tells (offer w n b) (sched.offer w n s)
-  pub retake : (w n : ℕ) (b : Offers) (s : sched.Board) → IsBoard b → newest (list_of b w) ≡ Some n
+  pub offer : (w n : ℕ) (b : Offers) (s : sched.Board) → IsBoard b → can_offer w n b ≡ true
+      → n < length s.states → Tells b s → Tells (offer w n b) (sched.offer w n s)
+  pub retake : (w n : ℕ) (b : Offers) (s : sched.Board) → IsBoard b → IsNewest w n b
       → Tells b s → Tells (retake w b) (sched.retake w n s)
-  pub steal : (v n : ℕ) (b : Offers) (s : sched.Board) → IsBoard b → oldest (list_of b v) ≡ Some n
+  pub steal : (v n : ℕ) (b : Offers) (s : sched.Board) → IsBoard b → IsOldest v n b
       → Tells b s → Tells (steal v b) (sched.steal v s)
   pub settle : (n : ℕ) (b : Offers) (s : sched.Board) → IsBoard b → can_settle n b ≡ true
       → Tells b s → Tells (settle n b) (sched.settle n s)

@@ -48,7 +48,10 @@ impl Model for Board {
 
     ghost view = { λ b. record { lists = lists_of b.lists.items; states = b.states.entries } };
 
-    ghost invariant = { λ b. IsBoard record { lists = lists_of b.lists.items; states = b.states.entries } };
+    ghost invariant = { λ b. IsBoard (record {
+      lists = lists_of b.lists.items;
+      states = b.states.entries;
+    }) };
 }
 
 impl From<AllocError> for Refused {
@@ -117,7 +120,8 @@ impl Board {
     /// The error is `NotNow` exactly where there is no such worker or the number is not spent; otherwise `Memory`, where
     /// memory runs out. After either the board is as it was.
     pub fn offer(&mut self, worker: usize, number: usize) -> Result<(), Refused>
-        ensures not_now { (result ≡ Err Refused.NotNow) ↔ (can_offer worker number self.old ≡ false) }
+        ensures not_now { (result ≡ Err Refused.NotNow)
+            ↔ (can_offer worker number self.old ≡ false) }
         ensures offered { OnOk result (self.new ≡ boards.offer worker number self.old) }
         ensures same { OnErr result (self.new ≡ self.old) }
     {

@@ -22,7 +22,8 @@ pub(crate) fn insert(
     number: usize,
     state: State,
 ) -> Result<(), AllocError>
-    ensures inserted { OnOk result (states.new.entries ≡ insert_entry nat_cmp states.old.entries number state) }
+    ensures inserted { OnOk result
+        (states.new.entries ≡ insert_entry nat_cmp states.old.entries number state) }
     ensures same { OnErr result (states.new.entries ≡ states.old.entries) }
 {
     match states.insert(number, state) {
