@@ -8,10 +8,12 @@ use Rattle.cw_jobs.specs.declared.job.Job.{Job}
 use Rattle.cw_jobs.specs.Jobs.{IsRoot}
 use Rattle.cw_strand.specs.Holds.{its_job, outs, IsRunning}
 use Rattle.cw_world.specs.Boards.{Each, opened}
-use Rattle.cw_world.specs.Scenes.{Posted, Stage, Goes, Scene}
+use Rattle.cw_world.specs.Scenes.{Posted, Stage, Goes, Scene, scene}
 use Rattle.cw_world.specs.Sound.{IsJobOf, IsOwn, out_number, Works, IsStage, IsOffer, HasRoot, Sound}
 use Rattle.cw_world.specs.Places.{once, sum_of, sum_over, OnePlace, RootIsFirst, held_by, run_by, out_of, offered_at}
-use Rattle.cw_world.specs.Worlds.{idle}
+use Rattle.std.specs.Arc.{arc_value}
+use Rattle.cw_world.specs.declared.world.World.{World}
+use Rattle.cw_world.specs.Worlds.{idle, IsStarted}
 use Rattle.cw_world.proofs.Lists.{named}
 use Rattle.cw_world.proofs.Posts.{stands_none}
 use Rattle.cw_world.proofs.Placed.{once_cases}
@@ -76,3 +78,24 @@ first_places root post workers number none =
 
 pub first_root : (root : Job) (post : Posted) (workers : ℕ) → post.number ≡ 0 → RootIsFirst (first_scene root post workers)
 first_root root post workers number = number
+
+-- it begins so, whatever scene shows it
+pub begins : (v : Verified) (args : List ℤ) (n : ℕ) (burden : Burden) (workers : ℕ) (w : World) (root : Job) (post : Posted) → 0 < workers → IsRoot v args n burden root.parts.value → arc_value w.code ≡ v
+    → scene w ≡ first_scene root post workers → post.number ≡ 0 → its_job post.strand ≡ root → IsRunning post.strand → outs post.strand ≡ [] → post.outs ≡ [] → post.at_join ≡ false → IsStarted v args n burden workers w
+begins v args n burden workers w root post some is code scene_is number of running none none' flag =
+    record {
+      is = record {
+        sound = record {
+          right = subst (λ (t : Scene). Sound (arc_value w.code) t) (sym scene_is)
+              (subst (λ (x : Verified). Sound x (first_scene root post workers)) (sym code) (first_sound v args n burden root post workers some is number of running none none' flag));
+          places = subst (λ (t : Scene). OnePlace t) (sym scene_is) (first_places root post workers number none');
+          first = subst (λ (t : Scene). RootIsFirst t) (sym scene_is) (first_root root post workers number);
+        };
+        code_is = code;
+        run = (root, ap (λ (t : Scene). slice_get t.jobs 0) scene_is, is);
+      };
+      post = post;
+      root = (number, none');
+      begun = ap (λ (t : Scene). t.begun) scene_is;
+      board = ap (λ (t : Scene). t.board) scene_is;
+    }

@@ -224,3 +224,10 @@ offer_there v s w p h at =
     let some : of_worker s.begun w ≢ [] = λ none. absurd (subst IsSomeOf (sym at ∙ ap newest none) tt) in
     let lt : w < length s.begun = within_worker s.begun w some in
     omega (arith, h.workers, lt)
+
+map_long : {A B : Type 0} (f : A → B) (xs : List A) → length (map f xs) ≡ length xs
+map_long f [] = refl
+map_long f (x ∷ xs) = ap (λ n. suc n) (map_long f xs)
+
+pub offer_long : {A B : Type 0} (w : ℕ) (f : A → B) (xs : List A) → w < length (map f xs) → w < length xs
+offer_long w f xs lt = subst (λ n. w < n) (map_long f xs) lt

@@ -10,3 +10,5 @@ pub mod Begins
 pub mod After
 pub mod Doing
 pub mod Copies
+pub mod Ends
+pub mod Rooms

@@ -59,10 +59,8 @@ module _ {A : Type 0} (f : A → ℕ) where
   sum_remove : (xs : List A) (i : ℕ) (x : A) → slice_get xs i ≡ Some x → sum_of f xs ≡ sum_of f (remove xs i) + f x
   sum_remove xs i x e =
       let a : sum_of f xs ≡ sum_of f (take i xs) + (f x + sum_of f (drop (suc i) xs)) = sum_cut xs i x e in
-      let b : sum_of f (take i xs ++ drop (i + 1) xs) ≡ sum_of f (take i xs) + sum_of f (drop (i + 1) xs) = sum_append (take i xs) (drop (i + 1) xs) in
-      let k : i + 1 ≡ suc i = omega arith in
-      let d : sum_of f (drop (i + 1) xs) ≡ sum_of f (drop (suc i) xs) = ap (λ j. sum_of f (drop j xs)) k in
-      omega (arith, a, b, d)
+      let b : sum_of f (take i xs ++ drop (suc i) xs) ≡ sum_of f (take i xs) + sum_of f (drop (suc i) xs) = sum_append (take i xs) (drop (suc i) xs) in
+      omega (arith, a, b)
 
   -- a worker's list is set to another one
   over_set : (ls : List (List A)) (w : ℕ) (l : List A) → w < length ls → sum_over f (slice_set ls w l) + sum_of f (of_worker ls w) ≡ sum_over f ls + sum_of f l

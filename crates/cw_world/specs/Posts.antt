@@ -1,5 +1,5 @@
 -- What a post comes to.
-use Rattle.std.specs.Prelude.{◌≡◌, ◌≢◌, ◌⊎◌, ℕ, ◌<◌, true, List, [], ◌∷◌, length, Option, Some, None, Result, Ok, Err}
+use Rattle.std.specs.Prelude.{◌≡◌, ◌≢◌, ◌⊎◌, ℕ, ◌<◌, true, false, List, [], ◌∷◌, length, Option, Some, None, Result, Ok, Err}
 use Rattle.std.specs.Global.{Vec}
 use Rattle.std.specs.Vec.{vec_len, vec_capacity}
 use Rattle.std.specs.declared.alloc.AllocError.{AllocError}
@@ -20,6 +20,7 @@ pub record Begins (number : ℕ) (job : Job) (p : Post) : Type 0 where
   pub running : IsRunning p.strand
   pub none : outs p.strand ≡ []
   pub outs_are : p.outs.items ≡ []
+  pub goes : p.at_join ≡ false
 
 -- at a join only with a strand that is at a join, and with jobs out; and there where it has stopped with jobs out
 abbrev pub StandsRight : Posted → Type 0

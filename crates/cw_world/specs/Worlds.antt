@@ -1,5 +1,5 @@
 -- Worlds, and how they begin.
-use Rattle.std.specs.Prelude.{◌≡◌, ◌⊎◌, ℕ, ◌-◌, ◌<◌, ◌≤◌, ℤ, Bool, true, false, List, [], ◌∷◌, Option, Some, replicate}
+use Rattle.std.specs.Prelude.{◌≡◌, ◌⊎◌, ℕ, ◌-◌, ◌<◌, ◌≤◌, ℤ, Bool, true, false, List, [], ◌∷◌, Option, Some, None, Result, replicate}
 use Rattle.std.specs.Arc.{arc_value}
 use Rattle.cw_model.specs.declared.burden.Burden.{Burden}
 use Rattle.cw_text.specs.declared.fault.Fault.{Fault}
@@ -7,6 +7,7 @@ use Rattle.cw_text.specs.declared.fault.Fault.TheVariants as fault
 use Rattle.cw_code.specs.Code.{Code}
 use Rattle.cw_verify.specs.declared.verified.Verified.{Verified}
 use Rattle.cw_jobs.specs.Jobs.{is_request}
+use Rattle.cw_machine.specs.declared.alone.Ended as alone
 use Rattle.cw_sched.specs.Board.{of_worker, oldest}
 use Rattle.cw_world.specs.declared.world.World.{World}
 use Rattle.cw_world.specs.declared.world.TheConstants.{MOST_WORKERS}
@@ -31,6 +32,10 @@ pub record IsWorldOf (v : Verified) (args : List ℤ) (n : ℕ) (burden : Burden
 abbrev pub is_answered : Option Stage → Bool
 is_answered (Some (Answered r)) = true
 is_answered _ = false
+
+abbrev pub answer_in : Option Stage → Option (Result alone.Ended Fault)
+answer_in (Some (Answered r)) = Some r
+answer_in _ = None
 
 abbrev pub has_ended : Scene → Bool
 has_ended s = is_answered (oldest (of_worker s.begun 0))

@@ -42,7 +42,17 @@ fn copy_fault(alloc: Global, fault: &Fault) -> Fault
                 Err(_) => Fault::Memory,
             }
         }
-        _ => Fault::Memory,
+        Fault::Arguments => Fault::Arguments,
+        Fault::Memory => Fault::Memory,
+        // no run answers any of these
+        Fault::Lexical(_) => Fault::Memory,
+        Fault::Syntax(_) => Fault::Memory,
+        Fault::Types(_) => Fault::Memory,
+        Fault::Ownership(_) => Fault::Memory,
+        Fault::Size(_) => Fault::Memory,
+        Fault::Code => Fault::Memory,
+        Fault::Write => Fault::Memory,
+        Fault::Strands => Fault::Memory,
     }
 }
 
@@ -52,7 +62,10 @@ pub(crate) fn copy_of(alloc: Global, answer: &Result<Ended, Fault>) -> Result<En
         → RunsAsCode code args n burden result }
 {
     match answer {
-        Ok(ended) => Ok(copy_ended(alloc, ended)?),
+        Ok(ended) => {
+            let copy = copy_ended(alloc, ended)?;
+            Ok(copy)
+        }
         Err(fault) => Err(copy_fault(alloc, fault)),
     }
 }

@@ -1,20 +1,23 @@
 //! Worlds.
 
-ghost use Rattle.std.specs.Prelude.{◌≡◌, ◌≢◌, ◌<◌, ◌≤◌, ◌↔◌, false, true, ℕ, ℤ, List, None, Some, length, IfSome, IfErr, OnOk, MatchResult, IsSome, Err};
+ghost use Rattle.std.specs.Prelude.{◌≡◌, ◌≢◌, ◌<◌, ◌≤◌, ◌↔◌, false, true, ℕ, ◌-◌, ℤ, List, [], ◌∷◌, None, Some, length, IfOk, IfSome, IfErr, OnOk, MatchResult, IsSome, Err};
 ghost use Rattle.std.specs.Arc.{arc_value};
+ghost use Rattle.std.specs.Option.{option_copied};
 ghost use Rattle.cw_code.specs.Code.{code_view};
 ghost use Rattle.cw_model.specs.declared.burden.Burden.{Burden};
 ghost use Rattle.cw_machine.specs.Answering.{IsOfWhole};
 ghost use Rattle.cw_machine.specs.Runs.{RunsAsCode};
-ghost use Rattle.cw_sched.specs.Board.{newest, of_worker};
+ghost use Rattle.cw_sched.specs.Board.{newest, oldest, of_worker};
 ghost use Rattle.cw_world.specs.declared.event.Event.TheVariants as event;
 ghost use Rattle.cw_world.specs.declared.event.Refused.TheVariants as refused;
-ghost use Rattle.cw_world.specs.Scenes.{top, posted, scene, stacks, stage_of, staged, out_of, Goes, Made};
+ghost use Rattle.cw_world.specs.Scenes.{jobs_of, top, posted, scene, stacks, stage_of, staged, out_of, Goes, Made};
 ghost use Rattle.cw_verify.specs.declared.verified.Verified.{Verified};
 ghost use Rattle.cw_world.specs.declared.post.Out.TheVariants as out;
 ghost use Rattle.cw_world.specs.Boards.{boarded, cell_of};
-ghost use Rattle.cw_world.specs.Sound.{KeepsRuns};
-ghost use Rattle.cw_world.specs.Worlds.{has_ended, IsSound, IsStarted, IsNotStarted, IsWorldOf};
+ghost use Rattle.cw_text.specs.declared.fault.Fault.TheVariants as fault;
+ghost use Rattle.cw_world.specs.Posts.{Begins};
+ghost use Rattle.cw_world.specs.Sound.{KeepsRuns, Sound};
+ghost use Rattle.cw_world.specs.Worlds.{answer_in, has_ended, idle, IsSound, IsStarted, IsNotStarted, IsWorldOf};
 ghost use Rattle.cw_world.specs.Table as table;
 ghost use Rattle.cw_world.specs.Table.{is_possible};
 ghost use Rattle.cw_world.specs.Events.{board_without, but_top, with_top, Does, DoesOr, HasRoomIn, IsBack, IsBegun, Turns};
@@ -104,14 +107,14 @@ fn put(begun: &mut Vec<Vec<Begun>>, w: usize, next: Begun)
 // The newest strand of a worker goes on from what it came to.
 fn turn(
     begun: &mut Vec<Vec<Begun>>,
-    code: &Verified,
+    code: &Arc<Verified>,
     w: usize,
     post: Post,
     ended: Option<Effect>,
 )
     requires room { HasRoomIn begun.old w }
-    requires root { post.number ≡ 0 → IfSome ended (λ e. ∥ IsOfWhole code.now e ∥₁) }
-    ensures { Turns code.now (posted post) ended (stacks begun.old) w (stacks begun.new) }
+    requires root { post.number ≡ 0 → IfSome ended (λ e. ∥ IsOfWhole (arc_value code.now) e ∥₁) }
+    ensures { Turns (arc_value code.now) (posted post) ended (stacks begun.old) w (stacks begun.new) }
 {
     let alloc = *begun.allocator();
     let next = as_begun(alloc, code, post, ended);
@@ -130,6 +133,40 @@ fn take_made(begun: &mut Vec<Vec<Begun>>, w: usize) -> (usize, Effect)
         Some(Begun::Answered(_)) => unreachable!(),
         None => unreachable!(),
     }
+}
+
+// The root has number 0.
+fn first_jobs(alloc: Global, root: &Job) -> Result<Vec<Snapshot<Job>>, AllocError>
+    ensures { IfOk result (λ jobs. jobs_of jobs ≡ root.now ∷ []) }
+{
+    let mut jobs = Vec::with_capacity(alloc, 1)?;
+    jobs.push_reserved(Snapshot::of(root));
+    Ok(jobs)
+}
+
+// The root's strand begins.
+fn first_post(alloc: Global, root: Job) -> Result<Post, Fault>
+    ensures { MatchResult result (Begins 0 root) (λ e. e ≡ fault.Memory) }
+{
+    match Post::start(alloc, 0, root) {
+        Ok(post) => Ok(post),
+        Err(_) => Err(Fault::Memory),
+    }
+}
+
+// Worker 0 has begun this, all others are idle.
+fn first_begun(alloc: Global, workers: usize, post: Post) -> Result<Vec<Vec<Begun>>, AllocError>
+    requires { 0 < workers }
+    ensures { IfOk result (λ begun. stacks begun ≡ (Goes (posted post) ∷ []) ∷ idle (workers - 1)) }
+{
+    let mut begun = Vec::with_capacity(alloc, workers)?;
+    let mut first = Vec::with_capacity(alloc, 1)?;
+    first.push_reserved(Begun::Goes(post));
+    begun.push_reserved(first);
+    for _ in 0..workers - 1 {
+        begun.push_reserved(Vec::new(alloc));
+    }
+    Ok(begun)
 }
 
 // Room for one more.
@@ -191,6 +228,16 @@ fn has_made(top: Option<&Begun>) -> bool
     }
 }
 
+// What the run answers, if this is the root and has ended.
+fn answered(first: Option<&Begun>) -> Option<&Result<Ended, Fault>>
+    ensures { option_copied result ≡ answer_in (staged first.entry) }
+{
+    match first {
+        Some(Begun::Answered(answer)) => Some(answer),
+        _ => None,
+    }
+}
+
 // Whether this job is kept, or at the back of the worker's deque.
 fn can_retake(board: &Board, w: usize, out: Option<&Out>) -> bool
     ensures { result ≡ table.can_retake (boarded board.now) w (out_of out.entry) }
@@ -207,8 +254,8 @@ fn can_retake(board: &Board, w: usize, out: Option<&Out>) -> bool
 
 // A job at a spawn to decide, with its number.
 fn undecided(latest: Option<Out>) -> (usize, Job)
-    requires { table.is_undecided latest.entry ≡ true }
-    ensures { latest.entry ≡ Some (out.Undecided result.0 result.1) }
+    requires { table.is_undecided latest ≡ true }
+    ensures { latest ≡ Some (out.Undecided result.0 result.1) }
 {
     match latest {
         Some(Out::Undecided(number, job)) => (number, job),
@@ -220,10 +267,10 @@ fn undecided(latest: Option<Out>) -> (usize, Job)
 
 // A job that was kept, or lies at the back of the worker's deque, comes back unrun.
 fn unrun(board: &mut Board, w: usize, latest: Option<Out>) -> Job
-    requires { table.can_retake (boarded board.old) w latest.entry ≡ true }
-    ensures job { IfSome latest.entry (λ o. IsBack (boarded board.old) w o result) }
-    ensures some { latest.entry ≢ None }
-    ensures board { IfSome latest.entry (λ o. boarded board.new ≡ board_without (boarded board.old) w o) }
+    requires { table.can_retake (boarded board.old) w latest ≡ true }
+    ensures job { IfSome latest (λ o. IsBack (boarded board.old) w o result) }
+    ensures some { latest ≢ None }
+    ensures board { IfSome latest (λ o. boarded board.new ≡ board_without (boarded board.old) w o) }
 {
     match latest {
         Some(Out::Kept(_, job)) => job,
@@ -235,8 +282,8 @@ fn unrun(board: &mut Board, w: usize, latest: Option<Out>) -> Job
 
 // The number of a job whose effect is in its cell, and where the cell is.
 fn settled(board: &Board, latest: Option<Out>) -> (usize, usize)
-    requires { table.is_settled (boarded board.now) latest.entry ≡ true }
-    ensures number { latest.entry ≡ Some (out.Offered result.0) }
+    requires { table.is_settled (boarded board.now) latest ≡ true }
+    ensures number { latest ≡ Some (out.Offered result.0) }
     ensures place { cell_of (boarded board.now) result.0 ≡ Some result.1 }
 {
     match latest {
@@ -284,19 +331,10 @@ impl World {
         }
         let root = Job::root(alloc, code, args, n, burden)?;
         let code = Arc::try_clone(&root.parts.code)?;
-        let mut jobs = Vec::with_capacity(alloc, 1)?;
-        jobs.push_reserved(Snapshot::of(&root));
+        let jobs = first_jobs(alloc, &root)?;
         let board = Board::open(alloc, workers)?;
-        let mut begun = Vec::with_capacity(alloc, workers)?;
-        let mut first = Vec::with_capacity(alloc, 1)?;
-        match Post::start(alloc, 0, root) {
-            Ok(post) => first.push_reserved(Begun::Goes(post)),
-            Err(_) => return Err(Fault::Memory),
-        }
-        begun.push_reserved(first);
-        for _ in 1..workers {
-            begun.push_reserved(Vec::new(alloc));
-        }
+        let post = first_post(alloc, root)?;
+        let begun = first_begun(alloc, workers, post)?;
         Ok(World {
             code,
             jobs,
@@ -311,6 +349,16 @@ impl World {
     {
         match self.begun.get(w) {
             Some(stack) => stack.as_slice().last(),
+            None => None,
+        }
+    }
+
+    // What worker 0 has begun first and not settled.
+    fn first(&self) -> Option<&Begun>
+        ensures { staged result ≡ oldest (of_worker (stacks self.now.begun) 0) }
+    {
+        match self.begun.get(0) {
+            Some(stack) => stack.as_slice().first(),
             None => None,
         }
     }
@@ -417,15 +465,16 @@ impl World {
         turn(&mut self.begun, &self.code, w, post, ended);
     }
 
-    // The oldest job of a deque is begun.
-    fn steal(&mut self, w: usize, v: usize) -> Result<(), Refused>
-        requires sound { IsSound self.old }
-        requires possible { is_possible (scene self.old) (event.Steal w v) ≡ true }
+    // The oldest job of a deque is begun, where there is room on the thief's list.
+    fn begin_stolen(&mut self, w: usize, v: usize) -> Result<(), Refused>
+        requires sound { Sound (arc_value self.old.code) (scene self.old) }
+        requires there { w < length (scene self.old).begun }
+        requires some { oldest (of_worker (scene self.old).board.offers v) ≢ None }
+        requires room { HasRoomIn self.old.begun w }
         ensures code { self.new.code ≡ self.old.code }
         ensures memory { IfErr result (λ e. e ≡ refused.Memory) }
         ensures does { DoesOr (arc_value self.old.code) (event.Steal w v) result (scene self.old) (scene self.new) }
     {
-        room(&mut self.begun, w)?;
         let Offer { number, job } = self.board.steal(v);
         match Post::start(*self.begun.allocator(), number, job) {
             Ok(mut post) => {
@@ -440,6 +489,20 @@ impl World {
         }
     }
 
+    // The oldest job of a deque is begun.
+    fn steal(&mut self, w: usize, v: usize) -> Result<(), Refused>
+        requires sound { IsSound self.old }
+        requires possible { is_possible (scene self.old) (event.Steal w v) ≡ true }
+        ensures code { self.new.code ≡ self.old.code }
+        ensures memory { IfErr result (λ e. e ≡ refused.Memory) }
+        ensures does { DoesOr (arc_value self.old.code) (event.Steal w v) result (scene self.old) (scene self.new) }
+    {
+        match room(&mut self.begun, w) {
+            Ok(()) => self.begin_stolen(w, v),
+            Err(_) => Err(Refused::Memory),
+        }
+    }
+
     // The effect of a stolen job goes to its cell.
     fn settle(&mut self, w: usize) -> Result<(), Refused>
         requires sound { IsSound self.old }
@@ -448,10 +511,14 @@ impl World {
         ensures memory { IfErr result (λ e. e ≡ refused.Memory) }
         ensures does { DoesOr (arc_value self.old.code) (event.Settle w) result (scene self.old) (scene self.new) }
     {
-        self.board.room_to_settle()?;
-        let (number, effect) = take_made(&mut self.begun, w);
-        self.board.settle(number, effect);
-        Ok(())
+        match self.board.room_to_settle() {
+            Ok(()) => {
+                let (number, effect) = take_made(&mut self.begun, w);
+                self.board.settle(number, effect);
+                Ok(())
+            }
+            Err(_) => Err(Refused::Memory),
+        }
     }
 
     // The effect of the newest job out is given.
@@ -513,9 +580,9 @@ impl World {
         ensures answers { (v : Verified) (args : List ℤ) (n : ℕ) (burden : Burden) → IsWorldOf v args n burden self.now
             → IfSome result (RunsAsCode (code_view v.code) args n burden) }
     {
-        match self.begun[0].as_slice().first() {
-            Some(Begun::Answered(answer)) => Some(copy_of(*self.begun.allocator(), answer)),
-            _ => None,
+        match answered(self.first()) {
+            Some(answer) => Some(copy_of(*self.begun.allocator(), answer)),
+            None => None,
         }
     }
 }

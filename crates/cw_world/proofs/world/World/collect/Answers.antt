@@ -14,11 +14,11 @@ use Rattle.cw_world.proofs.Turns.{scene_of, ran, ran_whole, came_back, back_whol
 use Rattle.cw_world.proofs.Doing.{and_left, and_right, scene_is, turned_scene, put_back, taken_works, at_sync, newest_is, lacks_back, comes_of, at_back, gives, popped, popped_are, popped_room, spawn_out, retake_out, settled_out, spawn_goes, join_goes, some_of, if_some, retake_some, offer_there, is_there, oldest_some}
 use Rattle.cw_world.proofs.world.World.collect.Goals as goal
 
-pub take-requires : goal.take-requires
-take-requires c = join_goes (top (scene c.args.self.now) c.args.w) (and_left (table.is_at_join (top (scene c.args.self.now) c.args.w)) _ c.requires.possible)
+pub take-post-requires : goal.take-post-requires
+take-post-requires c = join_goes (top (scene c.args.self.now) c.args.w) (and_left (table.is_at_join (top (scene c.args.self.now) c.args.w)) _ c.requires.possible)
 
-pub settled-requires : goal.settled-requires
-settled-requires c =
+pub settled-number-requires : goal.settled-number-requires
+settled-number-requires c =
     let v = arc_value c.args.self.now.code in
     let s = scene c.args.self.now in
     let p = posted c.take-post.result in
@@ -27,8 +27,8 @@ settled-requires c =
     let same = popped c.take-post.result.outs c.pop-latest.new.self latest c.pop-latest.ensures.items c.pop-latest.ensures.cases in
     settled_out s.board p (top s c.args.w) latest c.take-post.ensures.top same (and_right (table.is_at_join (top s c.args.w)) _ c.requires.possible)
 
-pub give-requires-clause-at_sync : goal.give-requires-clause-at_sync
-give-requires-clause-at_sync c =
+pub give-ended-requires-clause-at_sync : goal.give-ended-requires-clause-at_sync
+give-ended-requires-clause-at_sync c =
     let v = arc_value c.args.self.now.code in
     let s = scene c.args.self.now in
     let p = posted c.take-post.result in
@@ -37,32 +37,32 @@ give-requires-clause-at_sync c =
     let same = popped c.take-post.result.outs c.pop-latest.new.self latest c.pop-latest.ensures.items c.pop-latest.ensures.cases in
     at_sync s.jobs p (top s c.args.w) works c.take-post.ensures.top (and_left (table.is_at_join (top s c.args.w)) _ c.requires.possible)
 
-pub give-requires-clause-lacks : goal.give-requires-clause-lacks
-give-requires-clause-lacks c =
+pub give-ended-requires-clause-lacks : goal.give-ended-requires-clause-lacks
+give-ended-requires-clause-lacks c =
     let v = arc_value c.args.self.now.code in
     let s = scene c.args.self.now in
     let p = posted c.take-post.result in
     let works = taken_works v s c.args.w p c.requires.sound.right c.take-post.ensures.top in
     let latest = c.pop-latest.result in
     let same = popped c.take-post.result.outs c.pop-latest.new.self latest c.pop-latest.ensures.items c.pop-latest.ensures.cases in
-    let n = c.settled-number-place.result.0 in
+    let n = c.settled-number.result.0 in
     let older = c.pop-latest.new.self.items in
-    let are = popped_are c.take-post.result.outs c.pop-latest.new.self latest (out.Offered n) c.pop-latest.ensures.items c.settled-number-place.ensures.number in
-    let g = gives v s p older n c.settled-number-place.result.1 c.collect-effect.result c.requires.sound.right works are c.collect-effect.ensures.cell in
+    let are = popped_are c.take-post.result.outs c.pop-latest.new.self latest (out.Offered n) c.pop-latest.ensures.items c.settled-number.ensures.number in
+    let g = gives v s p older n c.settled-number.result.1 c.collect-effect.result c.requires.sound.right works are c.collect-effect.ensures.cell in
     (g.out, record { others = g.others; are = g.are; even = g.even })
 
-pub give-requires-clause-given : goal.give-requires-clause-given
-give-requires-clause-given c =
+pub give-ended-requires-clause-given : goal.give-ended-requires-clause-given
+give-ended-requires-clause-given c =
     let v = arc_value c.args.self.now.code in
     let s = scene c.args.self.now in
     let p = posted c.take-post.result in
     let works = taken_works v s c.args.w p c.requires.sound.right c.take-post.ensures.top in
     let latest = c.pop-latest.result in
     let same = popped c.take-post.result.outs c.pop-latest.new.self latest c.pop-latest.ensures.items c.pop-latest.ensures.cases in
-    let n = c.settled-number-place.result.0 in
+    let n = c.settled-number.result.0 in
     let older = c.pop-latest.new.self.items in
-    let are = popped_are c.take-post.result.outs c.pop-latest.new.self latest (out.Offered n) c.pop-latest.ensures.items c.settled-number-place.ensures.number in
-    let g = gives v s p older n c.settled-number-place.result.1 c.collect-effect.result c.requires.sound.right works are c.collect-effect.ensures.cell in
+    let are = popped_are c.take-post.result.outs c.pop-latest.new.self latest (out.Offered n) c.pop-latest.ensures.items c.settled-number.ensures.number in
+    let g = gives v s p older n c.settled-number.result.1 c.collect-effect.result c.requires.sound.right works are c.collect-effect.ensures.cell in
     record { out = g.out; others = g.others; are = g.are; means = g.means }
 
 pub turn-requires-clause-root : goal.turn-requires-clause-root
@@ -73,10 +73,10 @@ turn-requires-clause-root c =
     let works = taken_works v s c.args.w p c.requires.sound.right c.take-post.ensures.top in
     let latest = c.pop-latest.result in
     let same = popped c.take-post.result.outs c.pop-latest.new.self latest c.pop-latest.ensures.items c.pop-latest.ensures.cases in
-    let n = c.settled-number-place.result.0 in
+    let n = c.settled-number.result.0 in
     let older = c.pop-latest.new.self.items in
-    let are = popped_are c.take-post.result.outs c.pop-latest.new.self latest (out.Offered n) c.pop-latest.ensures.items c.settled-number-place.ensures.number in
-    let g = gives v s p older n c.settled-number-place.result.1 c.collect-effect.result c.requires.sound.right works are c.collect-effect.ensures.cell in
+    let are = popped_are c.take-post.result.outs c.pop-latest.new.self latest (out.Offered n) c.pop-latest.ensures.items c.settled-number.ensures.number in
+    let g = gives v s p older n c.settled-number.result.1 c.collect-effect.result c.requires.sound.right works are c.collect-effect.ensures.cell in
     back_whole v s.jobs p (posted c.give-ended.new.self) older (out.Offered n) p.at_join c.give-ended.result c.requires.sound.right.root works are (λ job others is _. c.give-ended.ensures job others is)
 
 pub returns-clause-does : goal.returns-clause-does
@@ -87,17 +87,17 @@ returns-clause-does c =
     let works = taken_works v s c.args.w p c.requires.sound.right c.take-post.ensures.top in
     let latest = c.pop-latest.result in
     let same = popped c.take-post.result.outs c.pop-latest.new.self latest c.pop-latest.ensures.items c.pop-latest.ensures.cases in
-    let n = c.settled-number-place.result.0 in
+    let n = c.settled-number.result.0 in
     let older = c.pop-latest.new.self.items in
-    let are = popped_are c.take-post.result.outs c.pop-latest.new.self latest (out.Offered n) c.pop-latest.ensures.items c.settled-number-place.ensures.number in
-    let g = gives v s p older n c.settled-number-place.result.1 c.collect-effect.result c.requires.sound.right works are c.collect-effect.ensures.cell in
+    let are = popped_are c.take-post.result.outs c.pop-latest.new.self latest (out.Offered n) c.pop-latest.ensures.items c.settled-number.ensures.number in
+    let g = gives v s p older n c.settled-number.result.1 c.collect-effect.result c.requires.sound.right works are c.collect-effect.ensures.cell in
     let x = c.turn.ensures.stage in
     record {
       at = record { at = record { post = p; is = c.take-post.ensures.top }; older = older; newest = out.Offered n; are = are };
       number = n;
       newest = refl;
-      place = c.settled-number-place.result.1;
-      waits = c.settled-number-place.ensures.place;
+      place = c.settled-number.result.1;
+      waits = c.settled-number.ensures.place;
       stage = x;
       comes = came_back v s.jobs p (posted c.give-ended.new.self) older (out.Offered n) p.at_join c.give-ended.result x works are (λ job others is _. c.give-ended.ensures job others is) c.turn.ensures.begun;
       is = turned_scene s c.args.w x x (stacks c.take-post.new.begun) (stacks c.turn.new.begun) _ _ c.take-post.ensures.left c.turn.ensures.is refl c.collect-effect.ensures.collected;

@@ -14,11 +14,11 @@ use Rattle.cw_world.proofs.Turns.{scene_of, ran, ran_whole, came_back, back_whol
 use Rattle.cw_world.proofs.Doing.{and_left, and_right, scene_is, turned_scene, put_back, taken_works, at_sync, newest_is, lacks_back, comes_of, at_back, gives, popped, popped_are, popped_room, spawn_out, retake_out, settled_out, spawn_goes, join_goes, some_of, if_some, retake_some, offer_there, is_there, oldest_some}
 use Rattle.cw_world.proofs.world.World.inline.Goals as goal
 
-pub take-requires : goal.take-requires
-take-requires c = spawn_goes (top (scene c.args.self.now) c.args.w) c.requires.possible
+pub take-post-requires : goal.take-post-requires
+take-post-requires c = spawn_goes (top (scene c.args.self.now) c.args.w) c.requires.possible
 
-pub undecided-requires : goal.undecided-requires
-undecided-requires c =
+pub undecided-number-requires : goal.undecided-number-requires
+undecided-number-requires c =
     let v = arc_value c.args.self.now.code in
     let s = scene c.args.self.now in
     let p = posted c.take-post.result in
@@ -29,7 +29,7 @@ undecided-requires c =
 
 pub push_reserved-requires : goal.push_reserved-requires
 push_reserved-requires c =
-    popped_room c.take-post.result.outs c.pop-latest.new.self c.pop-latest.result _ c.undecided-number-job.ensures c.pop-latest.ensures.cases c.pop-latest.ensures.capacity
+    popped_room c.take-post.result.outs c.pop-latest.new.self c.pop-latest.result _ c.undecided-number.ensures c.pop-latest.ensures.cases c.pop-latest.ensures.capacity
 
 pub returns-clause-does : goal.returns-clause-does
 returns-clause-does c =
@@ -39,9 +39,9 @@ returns-clause-does c =
     let works = taken_works v s c.args.w p c.requires.sound.right c.take-post.ensures.top in
     let latest = c.pop-latest.result in
     let same = popped c.take-post.result.outs c.pop-latest.new.self latest c.pop-latest.ensures.items c.pop-latest.ensures.cases in
-    let n = c.undecided-number-job.result.0 in
-    let j = c.undecided-number-job.result.1 in
-    let are = popped_are c.take-post.result.outs c.pop-latest.new.self latest (out.Undecided n j) c.pop-latest.ensures.items c.undecided-number-job.ensures in
+    let n = c.undecided-number.result.0 in
+    let j = c.undecided-number.result.1 in
+    let are = popped_are c.take-post.result.outs c.pop-latest.new.self latest (out.Undecided n j) c.pop-latest.ensures.items c.undecided-number.ensures in
     record {
       at = record { at = record { post = p; is = c.take-post.ensures.top }; older = c.pop-latest.new.self.items; newest = out.Undecided n j; are = are };
       number = n;

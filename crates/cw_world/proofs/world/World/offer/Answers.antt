@@ -11,14 +11,14 @@ use Rattle.cw_world.specs.Table as table
 use Rattle.cw_world.specs.Events.{with_top, but_top, turned, with_outs, board_without, IsBack}
 use Rattle.cw_world.proofs.Strands.{is_even}
 use Rattle.cw_world.proofs.Turns.{scene_of, ran, ran_whole, came_back, back_whole}
-use Rattle.cw_world.proofs.Doing.{and_left, and_right, scene_is, turned_scene, put_back, taken_works, at_sync, newest_is, lacks_back, comes_of, at_back, gives, popped, popped_are, popped_room, spawn_out, retake_out, settled_out, spawn_goes, join_goes, some_of, if_some, retake_some, offer_there, is_there, oldest_some}
+use Rattle.cw_world.proofs.Doing.{and_left, and_right, scene_is, turned_scene, put_back, taken_works, at_sync, newest_is, lacks_back, comes_of, at_back, gives, popped, popped_are, popped_room, spawn_out, retake_out, settled_out, spawn_goes, join_goes, some_of, if_some, retake_some, offer_there, offer_long, is_there, oldest_some}
 use Rattle.cw_world.proofs.world.World.offer.Goals as goal
 
-pub take-requires : goal.take-requires
-take-requires c = spawn_goes (top (scene c.args.self.now) c.args.w) c.requires.possible
+pub take-post-requires : goal.take-post-requires
+take-post-requires c = spawn_goes (top (scene c.args.self.now) c.args.w) c.requires.possible
 
-pub undecided-requires : goal.undecided-requires
-undecided-requires c =
+pub undecided-number-requires : goal.undecided-number-requires
+undecided-number-requires c =
     let v = arc_value c.args.self.now.code in
     let s = scene c.args.self.now in
     let p = posted c.take-post.result in
@@ -27,18 +27,19 @@ undecided-requires c =
     let same = popped c.take-post.result.outs c.pop-latest.new.self latest c.pop-latest.ensures.items c.pop-latest.ensures.cases in
     spawn_out p (top s c.args.w) latest c.take-post.ensures.top same c.requires.possible
 
-pub offer-requires : goal.offer-requires
-offer-requires c =
+pub offer-requires-clause-worker : goal.offer-requires-clause-worker
+offer-requires-clause-worker c =
     let right = c.requires.sound.right in
-    offer_there (arc_value c.args.self.now.code) (scene c.args.self.now) c.args.w (posted c.take-post.result) right c.take-post.ensures.top
+    offer_long c.args.w (λ q. q.items) c.args.self.now.board.lists.items
+    (offer_there (arc_value c.args.self.now.code) (scene c.args.self.now) c.args.w (posted c.take-post.result) right c.take-post.ensures.top)
 
-pub push_reserved-requires-in-Ok : goal.push_reserved-requires-in-Ok
-push_reserved-requires-in-Ok c =
-    popped_room c.take-post.result.outs c.pop-latest.new.self c.pop-latest.result _ c.undecided-number-job.ensures c.pop-latest.ensures.cases c.pop-latest.ensures.capacity
+pub push_reserved-requires : goal.push_reserved-requires
+push_reserved-requires c =
+    popped_room c.take-post.result.outs c.pop-latest.new.self c.pop-latest.result _ c.undecided-number.ensures c.pop-latest.ensures.cases c.pop-latest.ensures.capacity
 
 pub push_reserved-requires-in-Err : goal.push_reserved-requires-in-Err
 push_reserved-requires-in-Err c =
-    popped_room c.take-post.result.outs c.pop-latest.new.self c.pop-latest.result _ c.undecided-number-job.ensures c.pop-latest.ensures.cases c.pop-latest.ensures.capacity
+    popped_room c.take-post.result.outs c.pop-latest.new.self c.pop-latest.result _ c.undecided-number.ensures c.pop-latest.ensures.cases c.pop-latest.ensures.capacity
 
 pub returns-in-Ok-clause-does : goal.returns-in-Ok-clause-does
 returns-in-Ok-clause-does c =
@@ -48,9 +49,9 @@ returns-in-Ok-clause-does c =
     let works = taken_works v s c.args.w p c.requires.sound.right c.take-post.ensures.top in
     let latest = c.pop-latest.result in
     let same = popped c.take-post.result.outs c.pop-latest.new.self latest c.pop-latest.ensures.items c.pop-latest.ensures.cases in
-    let n = c.undecided-number-job.result.0 in
-    let j = c.undecided-number-job.result.1 in
-    let are = popped_are c.take-post.result.outs c.pop-latest.new.self latest (out.Undecided n j) c.pop-latest.ensures.items c.undecided-number-job.ensures in
+    let n = c.undecided-number.result.0 in
+    let j = c.undecided-number.result.1 in
+    let are = popped_are c.take-post.result.outs c.pop-latest.new.self latest (out.Undecided n j) c.pop-latest.ensures.items c.undecided-number.ensures in
     record {
       at = record { at = record { post = p; is = c.take-post.ensures.top }; older = c.pop-latest.new.self.items; newest = out.Undecided n j; are = are };
       number = n;
@@ -68,10 +69,10 @@ returns-in-Err-clause-does c =
     let works = taken_works v s c.args.w p c.requires.sound.right c.take-post.ensures.top in
     let latest = c.pop-latest.result in
     let same = popped c.take-post.result.outs c.pop-latest.new.self latest c.pop-latest.ensures.items c.pop-latest.ensures.cases in
-    let n = c.undecided-number-job.result.0 in
-    let j = c.undecided-number-job.result.1 in
-    let are = popped_are c.take-post.result.outs c.pop-latest.new.self latest (out.Undecided n j) c.pop-latest.ensures.items c.undecided-number-job.ensures in
+    let n = c.undecided-number.result.0 in
+    let j = c.undecided-number.result.1 in
+    let are = popped_are c.take-post.result.outs c.pop-latest.new.self latest (out.Undecided n j) c.pop-latest.ensures.items c.undecided-number.ensures in
     let back : out.Undecided n c.in-Err.job ≡ out.Undecided n j = ap (λ k. out.Undecided n k) c.in-Err.ensures.back in
-    put_back s c.args.w (Goes p) (with_outs p c.push_reserved.new.self.items) s.jobs (stacks c.take-post.new.begun) (stacks c.put.new.begun) _
-    c.take-post.ensures.top c.take-post.ensures.left c.put.ensures
-    (ap (λ (l : List Out). with_outs p l) (c.push_reserved.ensures.items ∙ (ap (λ o. c.pop-latest.new.self.items ++ o ∷ []) back ∙ sym are))) refl c.in-Err.ensures.same
+    put_back s c.args.w (Goes p) (with_outs p c.push_reserved-in-Err.new.self.items) s.jobs (stacks c.take-post.new.begun) (stacks c.put-in-Err.new.begun) _
+    c.take-post.ensures.top c.take-post.ensures.left c.put-in-Err.ensures
+    (ap (λ (l : List Out). with_outs p l) (c.push_reserved-in-Err.ensures.items ∙ (ap (λ o. c.pop-latest.new.self.items ++ o ∷ []) back ∙ sym are))) refl c.in-Err.ensures.same

@@ -14,11 +14,11 @@ use Rattle.cw_world.proofs.Turns.{scene_of, ran, ran_whole, came_back, back_whol
 use Rattle.cw_world.proofs.Doing.{and_left, and_right, scene_is, turned_scene, put_back, taken_works, at_sync, newest_is, lacks_back, comes_of, at_back, gives, popped, popped_are, popped_room, spawn_out, retake_out, settled_out, spawn_goes, join_goes, some_of, if_some, retake_some, offer_there, is_there, oldest_some}
 use Rattle.cw_world.proofs.world.World.retake.Goals as goal
 
-pub take-requires : goal.take-requires
-take-requires c = join_goes (top (scene c.args.self.now) c.args.w) (and_left (table.is_at_join (top (scene c.args.self.now) c.args.w)) _ c.requires.possible)
+pub take-post-requires : goal.take-post-requires
+take-post-requires c = join_goes (top (scene c.args.self.now) c.args.w) (and_left (table.is_at_join (top (scene c.args.self.now) c.args.w)) _ c.requires.possible)
 
-pub unrun-requires : goal.unrun-requires
-unrun-requires c =
+pub unrun-rest-requires : goal.unrun-rest-requires
+unrun-rest-requires c =
     let v = arc_value c.args.self.now.code in
     let s = scene c.args.self.now in
     let p = posted c.take-post.result in
@@ -27,8 +27,8 @@ unrun-requires c =
     let same = popped c.take-post.result.outs c.pop-latest.new.self latest c.pop-latest.ensures.items c.pop-latest.ensures.cases in
     retake_out s.board c.args.w p (top s c.args.w) latest c.take-post.ensures.top same (and_right (table.is_at_join (top s c.args.w)) _ c.requires.possible)
 
-pub take_in-requires-clause-at_sync : goal.take_in-requires-clause-at_sync
-take_in-requires-clause-at_sync c =
+pub take_in-ended-requires-clause-at_sync : goal.take_in-ended-requires-clause-at_sync
+take_in-ended-requires-clause-at_sync c =
     let v = arc_value c.args.self.now.code in
     let s = scene c.args.self.now in
     let p = posted c.take-post.result in
@@ -37,8 +37,8 @@ take_in-requires-clause-at_sync c =
     let same = popped c.take-post.result.outs c.pop-latest.new.self latest c.pop-latest.ensures.items c.pop-latest.ensures.cases in
     at_sync s.jobs p (top s c.args.w) works c.take-post.ensures.top (and_left (table.is_at_join (top s c.args.w)) _ c.requires.possible)
 
-pub take_in-requires-clause-lacks : goal.take_in-requires-clause-lacks
-take_in-requires-clause-lacks c =
+pub take_in-ended-requires-clause-lacks : goal.take_in-ended-requires-clause-lacks
+take_in-ended-requires-clause-lacks c =
     let v = arc_value c.args.self.now.code in
     let s = scene c.args.self.now in
     let p = posted c.take-post.result in

@@ -14,13 +14,18 @@ use Rattle.cw_world.proofs.Turns.{scene_of, ran, ran_whole, came_back, back_whol
 use Rattle.cw_world.proofs.Doing.{and_left, and_right, scene_is, turned_scene, put_back, taken_works, at_sync, newest_is, lacks_back, comes_of, at_back, gives, popped, popped_are, popped_room, spawn_out, retake_out, settled_out, spawn_goes, join_goes, some_of, if_some, retake_some, offer_there, is_there, oldest_some}
 use Rattle.cw_world.proofs.world.World.settle.Goals as goal
 
-pub returns-clause-does : goal.returns-clause-does
-returns-clause-does c =
+pub returns-in-Ok-clause-does : goal.returns-in-Ok-clause-does
+returns-in-Ok-clause-does c =
     let s = scene c.args.self.now in
     record {
-      number = c.take_made-number-effect.result.0;
-      effect = c.take_made-number-effect.result.1;
-      made = c.take_made-number-effect.ensures.top;
-      is = scene_is s.jobs s.jobs (stacks c.take_made-number-effect.new.begun) (but_top s.begun c.args.w) _ _ refl c.take_made-number-effect.ensures.left
-          (c.settle.ensures ∙ ap (λ (b : Boarded). settled b (record { number = c.take_made-number-effect.result.0; effect = c.take_made-number-effect.result.1 })) c.room_to_settle.ensures.same);
+      number = c.take_made-number.result.0;
+      effect = c.take_made-number.result.1;
+      made = c.take_made-number.ensures.top;
+      is = scene_is s.jobs s.jobs (stacks c.take_made-number.new.begun) (but_top s.begun c.args.w) _ _ refl c.take_made-number.ensures.left
+          (c.settle.ensures ∙ ap (λ (b : Boarded). settled b (record { number = c.take_made-number.result.0; effect = c.take_made-number.result.1 })) c.room_to_settle.ensures.same);
     }
+
+pub returns-in-Err-clause-does : goal.returns-in-Err-clause-does
+returns-in-Err-clause-does c =
+    let s = scene c.args.self.now in
+    scene_is s.jobs s.jobs s.begun s.begun _ s.board refl refl c.room_to_settle.ensures.same

@@ -1,23 +1,52 @@
 use Rattle.std.proofs.Common.{◌≡◌, ◌∙◌, ◌++◌, ℕ, Bool, true, Some, None, List, [], ◌∷◌, refl, sym, ap, subst, length, inl, inr}
-use Rattle.std.specs.Prelude.{map}
+use Rattle.std.specs.Prelude.{map, slice_set, slice_get, is_some, not, ◌&&◌, ◌||◌}
 use Rattle.std.specs.Arc.{arc_value}
 use Rattle.cw_jobs.specs.declared.job.Job.{Job}
 use Rattle.cw_sched.specs.Board.{newest, oldest, of_worker}
 use Rattle.cw_world.specs.declared.post.Out.{Out}
 use Rattle.cw_world.specs.declared.post.Out.TheVariants as out
-use Rattle.cw_world.specs.Boards.{Boarded, boarded, settled}
+use Rattle.cw_world.specs.declared.board.Offer.{Offer}
+use Rattle.cw_world.specs.declared.board.Cell.{Cell}
+use Rattle.cw_world.specs.Boards.{Boarded, boarded, settled, returned, stolen}
 use Rattle.cw_world.specs.Scenes.{Posted, Stage, Goes, Made, Scene, posted, scene, stacks, jobs_of, top, stages}
 use Rattle.cw_world.specs.Table as table
 use Rattle.cw_world.specs.Events.{with_top, but_top, turned, with_outs, board_without, IsBack}
 use Rattle.cw_world.proofs.Strands.{is_even}
 use Rattle.cw_world.proofs.Turns.{scene_of, ran, ran_whole, came_back, back_whole}
-use Rattle.cw_world.proofs.Doing.{and_left, and_right, scene_is, turned_scene, put_back, taken_works, at_sync, newest_is, lacks_back, comes_of, at_back, gives, popped, popped_are, popped_room, spawn_out, retake_out, settled_out, spawn_goes, join_goes, some_of, if_some, retake_some, offer_there, is_there, oldest_some}
+use Rattle.cw_world.proofs.Doing.{and_left, and_right, scene_is, turned_scene, put_back, taken_works, at_sync, newest_is, lacks_back, comes_of, at_back, gives, popped, popped_are, popped_room, spawn_out, retake_out, settled_out, spawn_goes, join_goes, some_of, if_some, retake_some, offer_there, is_there, there_in, oldest_some, stolen_to, stolen_whole, offer_job, set_back}
+use Rattle.std.proofs.Common.{◌<◌}
+use Rattle.cw_world.specs.declared.event.Event.TheVariants as event
+use Rattle.cw_world.specs.Sound.{Sound}
+use Rattle.cw_world.specs.Events.{DoesOr}
+use Rattle.cw_world.proofs.Rooms.{steal_room}
 use Rattle.cw_world.proofs.world.World.steal.Goals as goal
 
 pub room-requires : goal.room-requires
 room-requires c =
     let s = scene c.args.self.now in
-    is_there stages c.args.self.now.begun.items c.args.w (and_left _ _ c.requires.possible)
+    is_there stages c.args.self.now.begun.items c.args.w (and_left (is_some (slice_get s.begun c.args.w)) _ c.requires.possible)
 
-pub steal-requires : goal.steal-requires
-steal-requires c = oldest_some _ (and_right _ _ (and_right _ _ c.requires.possible))
+pub begin_stolen-requires-clause-sound : goal.begin_stolen-requires-clause-sound
+begin_stolen-requires-clause-sound c =
+    subst (λ (t : Scene). Sound (arc_value c.args.self.now.code) t) (sym (steal_room c.args.self.now c.room.new.begun c.room.ensures.same)) c.requires.sound.right
+
+pub begin_stolen-requires-clause-there : goal.begin_stolen-requires-clause-there
+begin_stolen-requires-clause-there c =
+    let s = scene c.args.self.now in
+    subst (λ (t : Scene). c.args.w < length t.begun) (sym (steal_room c.args.self.now c.room.new.begun c.room.ensures.same))
+    (there_in s.begun c.args.w (and_left (is_some (slice_get s.begun c.args.w)) _ c.requires.possible))
+
+pub begin_stolen-requires-clause-some : goal.begin_stolen-requires-clause-some
+begin_stolen-requires-clause-some c =
+    let s = scene c.args.self.now in
+    let e = oldest (of_worker s.board.offers c.args.v) in
+    oldest_some e (and_right (not (is_some (top s c.args.w)) || table.is_at_join (top s c.args.w)) (is_some e)
+    (and_right (is_some (slice_get s.begun c.args.w)) _ c.requires.possible))
+
+pub returns-in-Ok-clause-does : goal.returns-in-Ok-clause-does
+returns-in-Ok-clause-does c =
+    subst (λ (t : Scene). DoesOr (arc_value c.args.self.now.code) (event.Steal c.args.w c.args.v) c.begin_stolen.result t (scene c.begin_stolen.new.self))
+    (steal_room c.args.self.now c.room.new.begun c.room.ensures.same) c.begin_stolen.ensures.does
+
+pub returns-in-Err-clause-does : goal.returns-in-Err-clause-does
+returns-in-Err-clause-does c = steal_room c.args.self.now c.room.new.begun c.room.ensures.same
