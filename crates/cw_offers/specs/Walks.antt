@@ -1,6 +1,6 @@
 -- A walk by hand: two workers, two numbers.
-use Rattle.std.specs.Prelude.{◌≡◌, Bool, true, false, [], ◌∷◌}
-use Rattle.cw_offers.specs.declared.board.State.TheVariants.{Offered, Stolen, Settled}
+use Rattle.std.specs.Prelude.{◌≡◌, true, false, [], ◌∷◌}
+use Rattle.cw_offers.specs.declared.board.State.TheVariants.{Offered, Stolen}
 use Rattle.cw_offers.specs.Boards.{Offers, opened, can_offer, offer, retake, steal, can_settle, settle, can_collect, collect}
 
 -- worker 0 has offered 7, and then 3

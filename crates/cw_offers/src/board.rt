@@ -54,12 +54,6 @@ impl Model for Board {
     }) };
 }
 
-impl From<AllocError> for Refused {
-    fn from(_: AllocError) -> Refused {
-        Refused::Memory
-    }
-}
-
 impl Board {
     /// The board of so many workers, numbered from 0, with nothing offered. The error is want of memory.
     pub fn open(alloc: Global, workers: usize) -> Result<Board, AllocError>
