@@ -40,3 +40,9 @@ copied code args n burden e c r value lines totals measure ks vs ts rs =
       tags = ts ∙ r.tags;
       regions = subst (λ x. AreRegionRows burden code.tags r.tree x) (sym rs) r.regions;
     }
+
+pub zip_twice : {A B C : Type 0} (R : A → A → Type 0) (f : A → B) (g : B → C) (xs ys : List A) → ((x y : A) → R x y → g (f y) ≡ g (f x)) → AllZip R xs ys → map g (map f ys) ≡ map g (map f xs)
+zip_twice R f g [] [] h z = refl
+zip_twice R f g [] (y ∷ ys) h z = absurd z
+zip_twice R f g (x ∷ xs) [] h z = absurd z
+zip_twice R f g (x ∷ xs) (y ∷ ys) h z = ap (λ k. k ∷ map g (map f ys)) (h x y z.0) ∙ ap (λ l. g (f x) ∷ l) (zip_twice R f g xs ys h z.1)

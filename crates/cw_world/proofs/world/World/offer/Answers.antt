@@ -27,11 +27,10 @@ undecided-number-requires c =
     let same = popped c.take-post.result.outs c.pop-latest.new.self latest c.pop-latest.ensures.items c.pop-latest.ensures.cases in
     spawn_out p (top s c.args.w) latest c.take-post.ensures.top same c.requires.possible
 
-pub offer-requires-clause-worker : goal.offer-requires-clause-worker
-offer-requires-clause-worker c =
-    let right = c.requires.sound.right in
-    offer_long c.args.w (λ q. q.items) c.args.self.now.board.lists.items
-    (offer_there (arc_value c.args.self.now.code) (scene c.args.self.now) c.args.w (posted c.take-post.result) right c.take-post.ensures.top)
+pub offer-requires : goal.offer-requires
+offer-requires c =
+    let lt = offer_there (arc_value c.args.self.now.code) (scene c.args.self.now) c.args.w (posted c.take-post.result) c.requires.sound.right c.take-post.ensures.top in
+    record { worker = offer_long c.args.w (λ q. q.items) c.args.self.now.board.lists.items lt }
 
 pub push_reserved-requires : goal.push_reserved-requires
 push_reserved-requires c =

@@ -12,7 +12,7 @@ use Rattle.cw_world.proofs.world.World.outcome.Goals as goal
 pub returns-in-Some-clause-ended : goal.returns-in-Some-clause-ended
 returns-in-Some-clause-ended c =
     let first : Some c.in-Some.answer.now ≡ answer_in (oldest (of_worker (stacks c.args.self.now.begun) 0)) = c.in-Some.ensures ∙ ap answer_in c.first.ensures in
-    ((λ _. ap is_answered (answer_is _ _ first)), (λ _. tt))
+    ((λ _. ap is_answered (answer_is _ _ first)), (λ _. refl))
 
 pub returns-in-Some-clause-answers : goal.returns-in-Some-clause-answers
 returns-in-Some-clause-answers c =
@@ -24,4 +24,4 @@ pub returns-in-None-clause-ended : goal.returns-in-None-clause-ended
 returns-in-None-clause-ended c =
     let first : None ≡ answer_in (oldest (of_worker (stacks c.args.self.now.begun) 0)) = c.in-None.ensures ∙ ap answer_in c.first.ensures in
     let not : is_answered (oldest (of_worker (stacks c.args.self.now.begun) 0)) ≡ false = answer_none _ first in
-    ((λ x. absurd x), λ e. let bad : true ≡ false = sym e ∙ not in let never : ⊥ = cc in absurd never)
+    ((λ x. let never : ⊥ = cc in absurd never), λ e. let bad : true ≡ false = sym e ∙ not in let never : ⊥ = cc in absurd never)

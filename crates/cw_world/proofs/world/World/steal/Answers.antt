@@ -18,13 +18,13 @@ use Rattle.std.proofs.Common.{◌<◌}
 use Rattle.cw_world.specs.declared.event.Event.TheVariants as event
 use Rattle.cw_world.specs.Sound.{Sound}
 use Rattle.cw_world.specs.Events.{DoesOr}
-use Rattle.cw_world.proofs.Rooms.{steal_room}
+use Rattle.cw_world.proofs.Rooms.{steal_room, steal_there, steal_some}
 use Rattle.cw_world.proofs.world.World.steal.Goals as goal
 
 pub room-requires : goal.room-requires
 room-requires c =
     let s = scene c.args.self.now in
-    is_there stages c.args.self.now.begun.items c.args.w (and_left (is_some (slice_get s.begun c.args.w)) _ c.requires.possible)
+    is_there stages c.args.self.now.begun.items c.args.w (steal_there s c.args.w c.args.v c.requires.possible)
 
 pub begin_stolen-requires-clause-sound : goal.begin_stolen-requires-clause-sound
 begin_stolen-requires-clause-sound c =
@@ -34,14 +34,12 @@ pub begin_stolen-requires-clause-there : goal.begin_stolen-requires-clause-there
 begin_stolen-requires-clause-there c =
     let s = scene c.args.self.now in
     subst (λ (t : Scene). c.args.w < length t.begun) (sym (steal_room c.args.self.now c.room.new.begun c.room.ensures.same))
-    (there_in s.begun c.args.w (and_left (is_some (slice_get s.begun c.args.w)) _ c.requires.possible))
+    (there_in s.begun c.args.w (steal_there s c.args.w c.args.v c.requires.possible))
 
 pub begin_stolen-requires-clause-some : goal.begin_stolen-requires-clause-some
 begin_stolen-requires-clause-some c =
     let s = scene c.args.self.now in
-    let e = oldest (of_worker s.board.offers c.args.v) in
-    oldest_some e (and_right (not (is_some (top s c.args.w)) || table.is_at_join (top s c.args.w)) (is_some e)
-    (and_right (is_some (slice_get s.begun c.args.w)) _ c.requires.possible))
+    oldest_some (oldest (of_worker s.board.offers c.args.v)) (steal_some s c.args.w c.args.v c.requires.possible)
 
 pub returns-in-Ok-clause-does : goal.returns-in-Ok-clause-does
 returns-in-Ok-clause-does c =
