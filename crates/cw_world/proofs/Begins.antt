@@ -55,9 +55,9 @@ first_sound v args n burden root post workers some is number of running none non
 pub first_places : (root : Job) (post : Posted) (workers : ℕ) → post.number ≡ 0 → post.outs ≡ [] → OnePlace (first_scene root post workers)
 first_places root post workers number none =
     let owners_are : (n : ℕ) → sum_over (out_of n) ((Goes post ∷ []) ∷ idle (workers - 1)) ≡ 0 = λ n.
-        let a : sum_over (out_of n) (idle (workers - 1)) ≡ 0 = sum_none (out_of n) (workers - 1) in
-        let b : out_of n (Goes post) ≡ 0 = ap (sum_of _) none in
-        omega (arith, a, b) in
+    let a : sum_over (out_of n) (idle (workers - 1)) ≡ 0 = sum_none (out_of n) (workers - 1) in
+    let b : out_of n (Goes post) ≡ 0 = ap (sum_of _) none in
+    omega (arith, a, b) in
     record {
       placed = λ n.
           let a : sum_over (held_by n) (idle (workers - 1)) ≡ 0 = sum_none (held_by n) (workers - 1) in

@@ -158,9 +158,9 @@ spawn_placed v s s' w o d =
     let old : Stage = Goes p in
     let g = d.comes.0 in
     let out_is : (n : ℕ) → sum_over (out_of n) (with_top (but_top s.begun w) w x) ≡ sum_over (out_of n) s.begun + once n k = λ n.
-        let out : sum_over (out_of n) (with_top (but_top s.begun w) w x) + sum_of (out_at n) p.outs ≡ sum_over (out_of n) s.begun + out_of n x = over_turn (out_of n) s.begun w old x d.at.is in
-        let more : sum_of (out_at n) os ≡ sum_of (out_at n) p.outs + once n k = sum_pushed (out_at n) p.outs e in
-        omega (arith, out, more, goes_out n p os x g) in
+    let out : sum_over (out_of n) (with_top (but_top s.begun w) w x) + sum_of (out_at n) p.outs ≡ sum_over (out_of n) s.begun + out_of n x = over_turn (out_of n) s.begun w old x d.at.is in
+    let more : sum_of (out_at n) os ≡ sum_of (out_at n) p.outs + once n k = sum_pushed (out_at n) p.outs e in
+    omega (arith, out, more, goes_out n p os x g) in
     subst OnePlace (sym d.is) (record {
       placed = λ n.
           let run : sum_over (run_by n) (with_top (but_top s.begun w) w x) + once n p.number ≡ sum_over (run_by n) s.begun + run_by n x = over_turn (run_by n) s.begun w old x d.at.is in
@@ -290,8 +290,8 @@ steal_placed v s s' w victim o d =
     let x = d.stage in
     let g = d.comes.0 in
     let out_is : (n : ℕ) → sum_over (out_of n) (with_top s.begun w x) ≡ sum_over (out_of n) s.begun + 0 = λ n.
-        let out : sum_over (out_of n) (with_top s.begun w x) ≡ sum_over (out_of n) s.begun + out_of n x = over_more (out_of n) s.begun w x d.there in
-        omega (arith, out, goes_out n p [] x g) in
+    let out : sum_over (out_of n) (with_top s.begun w x) ≡ sum_over (out_of n) s.begun + out_of n x = over_more (out_of n) s.begun w x d.there in
+    omega (arith, out, goes_out n p [] x g) in
     subst OnePlace (sym d.is) (record {
       placed = λ n.
           let run : sum_over (run_by n) (with_top s.begun w x) ≡ sum_over (run_by n) s.begun + run_by n x = over_more (run_by n) s.begun w x d.there in

@@ -29,9 +29,10 @@ waits_not_stopped s w h = true_false (sym h ∙ ap stops w)
 
 -- the flag is right where it says whether the strand has stopped
 pub stands_stopped : (p : Posted) → (p.at_join ≡ true → HasStopped p.strand) → (IsAtSync p.strand → p.at_join ≡ false → IsWaiting p.strand) → p.outs ≢ [] → StandsRight p
-stands_stopped p stopped waits some =
-    ((λ j. (stopped_at_sync p.strand (stopped j), some)),
-     λ h _. by_flag p.at_join refl h)
+stands_stopped p stopped waits some = (
+  (λ j. (stopped_at_sync p.strand (stopped j), some)),
+  λ h _. by_flag p.at_join refl h,
+)
   where
     by_flag : (b : Bool) → p.at_join ≡ b → HasStopped p.strand → p.at_join ≡ true
     by_flag true e h = e
@@ -58,14 +59,17 @@ ends (Some x) old new n os of none flag e = (n, e.0, none)
 pub steps_on : (r : Option Effect) (old mid new : Posted) (jobs jobs' : List Job) → mid.number ≡ old.number → mid.outs ≡ old.outs → its_job mid.strand ≡ its_job old.strand
     → outs mid.strand ≡ outs old.strand → Comes r mid new (outs mid.strand) → jobs' ≡ jobs → Steps (Ok r) old new jobs jobs'
 steps_on None old mid new jobs jobs' n os of left s j =
-    inl (record {
-      numbered = s.numbered ∙ n;
-      of = s.of ∙ of;
-      running = s.running;
-      outs_are = s.outs_are ∙ os;
-      left_are = s.left_are ∙ left;
-      stands = s.stands;
-    }, j)
+    inl (
+      record {
+        numbered = s.numbered ∙ n;
+        of = s.of ∙ of;
+        running = s.running;
+        outs_are = s.outs_are ∙ os;
+        left_are = s.left_are ∙ left;
+        stands = s.stands;
+      },
+      j,
+    )
 steps_on (Some e) old mid new jobs jobs' n os of left s j =
     ((s.0 ∙ n, subst (λ k. IsMeaningOf k e) of s.1, sym os ∙ s.2), j)
 
@@ -74,14 +78,17 @@ pub steps_to_join : (old new : Posted) (jobs jobs' : List Job) → new.number �
     → length old.outs ≡ length (outs old.strand) → new.at_join ≡ true → KeptBy step.AtSync old.strand new.strand → jobs' ≡ jobs → Steps (Ok None) old new jobs jobs'
 steps_to_join old new jobs jobs' n os of even flag k j =
     let some : new.outs ≢ [] = λ none. some_out old.outs (outs old.strand) even k.2 (sym os ∙ none) in
-    inl (record {
-      numbered = n;
-      of = of;
-      running = k.0;
-      outs_are = os;
-      left_are = k.1;
-      stands = ((λ _. (k.3, some)), λ _ _. flag);
-    }, j)
+    inl (
+      record {
+        numbered = n;
+        of = of;
+        running = k.0;
+        outs_are = os;
+        left_are = k.1;
+        stands = ((λ _. (k.3, some)), λ _ _. flag);
+      },
+      j,
+    )
 
 -- it has handed a job out
 pub steps_to_spawn : (old new : Posted) (jobs jobs' : List Job) (job : Job) → new.number ≡ old.number → new.outs ≡ old.outs ++ out.Undecided (length jobs) job ∷ []

@@ -99,8 +99,8 @@ spawned_sound : (v : Verified) (s : Scene) (w : ℕ) (job : Job) (x : Stage) →
     → Sound v (record { jobs = s.jobs ++ job ∷ []; begun = with_top (but_top s.begun w) w x; board = s.board })
 spawned_sound v s w job x h right =
     let stages : AreStages v (s.jobs ++ job ∷ []) s.begun =
-        each_weaken (Each (IsStage v s.jobs)) (Each (IsStage v (s.jobs ++ job ∷ []))) s.begun
-        (λ l g. each_weaken (IsStage v s.jobs) (IsStage v (s.jobs ++ job ∷ [])) l (kept_stage s.jobs job v h.root) g) h.begun in
+    each_weaken (Each (IsStage v s.jobs)) (Each (IsStage v (s.jobs ++ job ∷ []))) s.begun
+    (λ l g. each_weaken (IsStage v s.jobs) (IsStage v (s.jobs ++ job ∷ [])) l (kept_stage s.jobs job v h.root) g) h.begun in
     record {
       root = kept_root s.jobs job v h.root;
       begun = more v _ (but_top s.begun w) w x (less v _ s.begun w stages) right;

@@ -80,9 +80,10 @@ ended_stage v jobs old new e (Made n d) h same means none b =
       means = subst (λ k. IsMeaningOf (its_job old.strand) k) (sym b.2) means;
     } in
     ((b.0 ∙ same, (λ z. b.1 (same ∙ z)), none), m)
-ended_stage v jobs old new e (Answered r) h same means none b =
-    ((sym same ∙ b.0, none),
-     λ args n burden root is_named is. b.1 args n burden root is (subst (λ j. IsMeaningOf j e) (same_job jobs old.number 0 (its_job old.strand) root (sym same ∙ b.0) h is_named) means))
+ended_stage v jobs old new e (Answered r) h same means none b = (
+  (sym same ∙ b.0, none),
+  λ args n burden root is_named is. b.1 args n burden root is (subst (λ j. IsMeaningOf j e) (same_job jobs old.number 0 (its_job old.strand) root (sym same ∙ b.0) h is_named) means),
+)
 
 -- what it comes to is laid down
 pub comes_to : (v : Verified) (jobs : List Job) (old new : Posted) (ended : Option Effect) (left : List Job) (x : Stage) → Comes ended old new left

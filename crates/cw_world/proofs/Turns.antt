@@ -61,7 +61,7 @@ spawned v s w p q jobs' begun' x at works h b is =
     let more : List Job = s.jobs ++ h.job ∷ [] in
     let o : Out = out.Undecided (length s.jobs) h.job in
     let own : Each (IsOwn more) (p.outs ++ o ∷ []) =
-        each_pushed (IsOwn more) p.outs o (each_weaken (IsOwn s.jobs) (IsOwn more) p.outs (kept_own s.jobs h.job) works.own) (get_last s.jobs h.job) in
+    each_pushed (IsOwn more) p.outs o (each_weaken (IsOwn s.jobs) (IsOwn more) p.outs (kept_own s.jobs h.job) works.own) (get_last s.jobs h.job) in
     record {
       at = record { post = p; is = at };
       job = h.job;

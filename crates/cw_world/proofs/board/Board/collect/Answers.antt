@@ -20,5 +20,5 @@ returns-clause-cell c =
     let cells = c.args.self.now.cells.items in
     let f = found (λ x. nat_eq x.number c.args.number) cells c.args.place c.requires in
     let is : c.remove-effect.result ≡ f.item =
-        c.remove-effect.ensures.value ∙ get_or_from_slice_get cells c.args.place f.item c.remove-effect.result f.is in
+    c.remove-effect.ensures.value ∙ get_or_from_slice_get cells c.args.place f.item c.remove-effect.result f.is in
     f.is ∙ ap (λ x. Some x) (of_number f.item c.args.number f.passes ∙ ap (λ (x : Cell). record { number = c.args.number; effect = x.effect }) (sym is))

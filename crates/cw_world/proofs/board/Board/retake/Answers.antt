@@ -21,7 +21,7 @@ returns-clause-job c =
     let lt = newest_there (λ q. q.items) b.lists.items c.args.w (there (of_worker (map (λ q. q.items) b.lists.items) c.args.w) c.args.number c.requires) in
     let read = worker_read (λ q. q.items) b.lists.items c.args.w c.index_mut.result.now lt c.index_mut.ensures.value in
     let is : newest (of_worker (map (λ q. q.items) b.lists.items) c.args.w) ≡ Some c.in-Some.offer =
-        ap newest (read ∙ c.in-Some.ensures.items) ∙ newest_pushed c.pop_back.new.self.items c.in-Some.offer in
+    ap newest (read ∙ c.in-Some.ensures.items) ∙ newest_pushed c.pop_back.new.self.items c.in-Some.offer in
     is ∙ numbered c.in-Some.offer c.args.number (ap back_number (sym is) ∙ c.requires)
 
 pub returns-clause-retaken : goal.returns-clause-retaken

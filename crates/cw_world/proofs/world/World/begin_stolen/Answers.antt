@@ -62,4 +62,3 @@ returns-in-Err-clause-does c =
     ∙ (ap (λ (y : Boarded). returned y c.args.v (record { number = o.number; job = c.in-Err.job })) c.steal-number.ensures.stolen
     ∙ (ap (λ (y : Offer). returned (stolen s.board c.args.v) c.args.v y) same
     ∙ ap (λ (l : List (List Offer)). record { offers = l; cells = s.board.cells }) (set_back s.board.offers c.args.v o c.steal-number.ensures.oldest))))
-
