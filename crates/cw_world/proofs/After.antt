@@ -1,5 +1,5 @@
 -- A world after an event, done or refused.
-use Rattle.std.proofs.Common.{◌≡◌, ◌≢◌, ◌⊎◌, ◌∙◌, ◌↔◌, ℕ, ℤ, Bool, true, false, List, Option, Some, None, refl, sym, ap, subst}
+use Rattle.std.proofs.Common.{◌≡◌, ◌∙◌, ◌↔◌, ℕ, ℤ, Bool, true, false, List, sym, ap, subst}
 use Rattle.std.specs.Prelude.{Result, Ok, Err, IfErr}
 use Rattle.std.specs.Arc.{arc_value}
 use Rattle.cw_model.specs.declared.burden.Burden.{Burden}
@@ -12,7 +12,7 @@ use Rattle.cw_world.specs.Scenes.{Scene, scene}
 use Rattle.cw_world.specs.Sound.{Sound, KeepsRuns}
 use Rattle.cw_world.specs.Places.{OnePlace, RootIsFirst}
 use Rattle.cw_world.specs.Worlds.{IsSound, IsWorldOf}
-use Rattle.cw_world.specs.Events.{Does, DoesOr}
+use Rattle.cw_world.specs.Events.{DoesOr}
 use Rattle.cw_world.proofs.Sounds.{does_sound, does_jobs}
 use Rattle.cw_world.proofs.Placed.{does_placed, does_root}
 

@@ -1,5 +1,5 @@
 -- A world as it begins is sound.
-use Rattle.std.proofs.Common.{◌≡◌, ◌≢◌, ◌⊎◌, ◌∙◌, ℕ, zero, suc, ◌+◌, ◌-◌, ◌<◌, ◌≤◌, ℤ, true, false, List, [], ◌∷◌, Option, Some, None, refl, sym, ap, subst, length, reverse, inl, inr, arith}
+use Rattle.std.proofs.Common.{◌≡◌, ◌∙◌, ℕ, zero, suc, ◌-◌, ◌<◌, ℤ, false, List, [], ◌∷◌, Some, refl, sym, ap, subst, length, reverse, inl, inr, arith}
 use Rattle.std.proofs.lemmas.List.{length-replicate}
 use Rattle.std.specs.Prelude.{map, slice_get, replicate}
 use Rattle.cw_model.specs.declared.burden.Burden.{Burden}
@@ -9,7 +9,7 @@ use Rattle.cw_jobs.specs.Jobs.{IsRoot}
 use Rattle.cw_strand.specs.Holds.{its_job, outs, IsRunning}
 use Rattle.cw_world.specs.Boards.{Each, opened}
 use Rattle.cw_world.specs.Scenes.{Posted, Stage, Goes, Scene, scene}
-use Rattle.cw_world.specs.Sound.{IsJobOf, IsOwn, out_number, Works, IsStage, IsOffer, HasRoot, Sound}
+use Rattle.cw_world.specs.Sound.{IsOwn, out_number, Works, IsStage, IsOffer, Sound}
 use Rattle.cw_world.specs.Places.{once, sum_of, sum_over, OnePlace, RootIsFirst, held_by, run_by, out_of, offered_at}
 use Rattle.std.specs.Arc.{arc_value}
 use Rattle.cw_world.specs.declared.world.World.{World}

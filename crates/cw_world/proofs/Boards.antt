@@ -1,9 +1,9 @@
 -- Lists of deques, one of which changes.
-use Rattle.std.proofs.Common.{◌≡◌, ◌≢◌, ◌∙◌, ℕ, zero, suc, ◌+◌, ◌-◌, ◌<◌, ◌≤◌, Bool, true, false, cond, not, List, [], ◌∷◌, ◌++◌, Option, Some, None, refl, sym, ap, subst, length, get_or, arith}
+use Rattle.std.proofs.Common.{◌≡◌, ◌≢◌, ◌∙◌, ℕ, zero, suc, ◌+◌, ◌-◌, ◌<◌, ◌≤◌, Bool, true, false, cond, not, List, [], ◌∷◌, ◌++◌, Some, None, refl, sym, ap, subst, length, get_or, arith}
 use Rattle.std.proofs.lemmas.Option.{slice_get_read}
 use Rattle.std.specs.Prelude.{map, slice_get, slice_set, position}
 use Rattle.std.specs.List.{position_or_len}
-use Rattle.cw_sched.specs.Board.{pushed, newest, but_newest, oldest, but_oldest, of_worker}
+use Rattle.cw_sched.specs.Board.{newest, oldest, of_worker}
 use Rattle.cw_world.proofs.Lists.{set_same}
 
 pub map_set : {A B : Type 0} (f : A → B) (xs : List A) (k : ℕ) (y : A) → map f (slice_set xs k y) ≡ slice_set (map f xs) k (f y)

@@ -1,6 +1,6 @@
 -- What events do, from what their parts did.
-use Rattle.std.proofs.Common.{◌≡◌, ◌≢◌, ◌⊎◌, ◌∙◌, ℕ, zero, suc, ◌+◌, ◌<◌, Bool, true, false, ◌&&◌, List, [], ◌∷◌, ◌++◌, Option, Some, None, refl, sym, ap, subst, length, reverse, inl, inr, arith, Vec, Global}
-use Rattle.std.specs.Prelude.{map, slice_get, slice_set, IfSome, Ok, is_some}
+use Rattle.std.proofs.Common.{◌≡◌, ◌≢◌, ◌∙◌, ℕ, zero, suc, ◌+◌, ◌<◌, Bool, true, false, ◌&&◌, List, [], ◌∷◌, ◌++◌, Option, Some, None, refl, sym, ap, subst, length, arith, Vec, Global}
+use Rattle.std.specs.Prelude.{map, slice_get, slice_set, IfSome, is_some}
 use Rattle.std.specs.Option.{option_to_list, MatchOption}
 use Rattle.std.specs.Vec.{vec_len, vec_capacity}
 use Rattle.cw_verify.specs.declared.verified.Verified.{Verified}
@@ -8,22 +8,19 @@ use Rattle.cw_jobs.specs.declared.effect.Effect.{Effect}
 use Rattle.cw_jobs.specs.declared.job.Job.{Job}
 use Rattle.cw_jobs.specs.Means.{IsMeaningOf}
 use Rattle.cw_machine.specs.Answering.{IsOfWhole}
-use Rattle.cw_strand.specs.declared.strand.Strand.{Strand}
 use Rattle.cw_strand.specs.Holds.{its_job, outs, IsRunning, IsAtSync}
-use Rattle.cw_sched.specs.Board.{pushed, newest, but_newest, oldest, but_oldest, of_worker}
+use Rattle.cw_sched.specs.Board.{newest, oldest, but_oldest, of_worker}
 use Rattle.cw_world.specs.declared.board.Offer.{Offer}
-use Rattle.cw_world.specs.declared.board.Cell.{Cell}
 use Rattle.cw_world.specs.declared.post.Out.{Out}
 use Rattle.cw_world.specs.declared.post.Out.TheVariants as out
 use Rattle.cw_world.specs.Boards.{Each, Boarded, newest_number}
 use Rattle.cw_world.specs.Scenes.{Posted, Stage, Goes, Made, Answered, Scene, top}
 use Rattle.cw_world.specs.Posts.{Comes}
 use Rattle.cw_world.specs.Sound.{IsJobOf, IsOwn, IsOffer, IsCell, IsMade, out_number, Works, Sound}
-use Rattle.cw_world.specs.Table.{goes, newest_out, is_at_spawn, is_undecided, is_at_join, can_retake, is_same, is_settled, has_made}
-use Rattle.cw_world.specs.Events.{with_top, but_top, turned, board_without, ComesTo, IsBack, IsAtBack, IsBegun}
+use Rattle.cw_world.specs.Table.{goes, newest_out, is_at_spawn, is_undecided, is_at_join, can_retake, is_same, is_settled}
+use Rattle.cw_world.specs.Events.{with_top, but_top, turned, ComesTo, IsBack, IsAtBack, IsBegun}
 use Rattle.cw_world.proofs.Lists.{named, some_is, IsSomeOf, each_newest, each_oldest, each_worker, each_at, laid_back, newest_pushed, none_from_length, within_worker, of_worker_set, set_set, set_same}
-use Rattle.cw_world.proofs.Boards.{found}
-use Rattle.cw_world.proofs.Strands.{Newest, newest_out_of, is_even, jobs_at, comes_to, comes_whole}
+use Rattle.cw_world.proofs.Strands.{newest_out_of, is_even, jobs_at, comes_to, comes_whole}
 use Rattle.cw_world.proofs.Sounds.{top_stage}
 use Rattle.cw_world.proofs.Turns.{scene_of}
 

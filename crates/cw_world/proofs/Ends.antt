@@ -1,6 +1,6 @@
 -- What a world answers, once its root has ended.
-use Rattle.std.proofs.Common.{◌≡◌, ◌≢◌, ◌∙◌, ◌↔◌, ℕ, zero, suc, ◌+◌, ◌<◌, ◌≤◌, ℤ, Bool, true, false, List, [], ◌∷◌, Option, Some, None, refl, sym, ap, subst, length, arith, Bor}
-use Rattle.std.specs.Prelude.{map, slice_get, Result, IfSome, IsSome}
+use Rattle.std.proofs.Common.{◌≡◌, ℕ, ℤ, false, List, [], ◌∷◌, Option, Some, None, refl, sym, ap, subst, Bor}
+use Rattle.std.specs.Prelude.{map, slice_get, Result}
 use Rattle.std.specs.Option.{option_copied}
 use Rattle.std.specs.Arc.{arc_value}
 use Rattle.cw_model.specs.declared.burden.Burden.{Burden}
@@ -13,9 +13,9 @@ use Rattle.cw_machine.specs.Runs.{RunsAsCode}
 use Rattle.cw_sched.specs.Board.{oldest, of_worker}
 use Rattle.cw_world.specs.declared.world.Begun.{Begun}
 use Rattle.cw_world.specs.declared.world.World.{World}
-use Rattle.cw_world.specs.Scenes.{Stage, Goes, Made, Answered, Scene, scene, staged, stage_of}
-use Rattle.cw_world.specs.Sound.{IsAnswer, IsStage, Sound}
-use Rattle.cw_world.specs.Worlds.{IsWorldOf, answer_in, is_answered, has_ended}
+use Rattle.cw_world.specs.Scenes.{Stage, Goes, Made, Answered, scene, staged, stage_of}
+use Rattle.cw_world.specs.Sound.{IsAnswer, IsStage}
+use Rattle.cw_world.specs.Worlds.{IsWorldOf, answer_in, is_answered}
 use Rattle.cw_world.proofs.Lists.{each_oldest, each_worker}
 
 first_staged : (r : Option (Bor Begun)) (xs : List Begun) → option_copied r ≡ slice_get xs 0 → staged r ≡ oldest (map stage_of xs)

@@ -1,9 +1,9 @@
 -- Each event leaves each job in one place, and the root first with worker 0.
-use Rattle.std.proofs.Common.{◌≡◌, ◌≢◌, ◌⊎◌, ◌∙◌, ℕ, zero, suc, ◌+◌, ◌<◌, ◌≤◌, Bool, true, false, List, [], ◌∷◌, ◌++◌, Option, Some, None, refl, sym, ap, subst, length, inl, inr, arith}
+use Rattle.std.proofs.Common.{◌≡◌, ◌⊎◌, ◌∙◌, ℕ, zero, suc, ◌+◌, ◌<◌, ◌≤◌, Bool, true, false, List, [], ◌∷◌, ◌++◌, Option, Some, None, refl, sym, ap, subst, length, inl, inr, arith}
 use Rattle.std.specs.Prelude.{slice_get, slice_set, nat_eq, take, drop}
 use Rattle.std.specs.List.{remove}
 use Rattle.cw_verify.specs.declared.verified.Verified.{Verified}
-use Rattle.cw_sched.specs.Board.{pushed, newest, but_newest, oldest, but_oldest, of_worker}
+use Rattle.cw_sched.specs.Board.{newest, but_newest, oldest, but_oldest, of_worker}
 use Rattle.cw_world.specs.declared.board.Offer.{Offer}
 use Rattle.cw_world.specs.declared.board.Cell.{Cell}
 use Rattle.cw_world.specs.declared.event.Event.{Event}
@@ -14,8 +14,7 @@ use Rattle.cw_jobs.specs.declared.effect.Effect.{Effect}
 use Rattle.cw_sched.specs.Laws.{one_if}
 use Rattle.cw_world.specs.Boards.{Boarded, back_number, newest_number}
 use Rattle.cw_world.specs.Scenes.{Posted, Stage, Goes, Made, Answered, Scene, top}
-use Rattle.cw_world.specs.Sound.{out_number}
-use Rattle.cw_world.specs.Places.{once, sum_of, sum_over, out_at, out_of, held_at, held_by, run_by, offered_at, settled_at, places, owners, OnePlace, IsRootStage, RootIsFirst}
+use Rattle.cw_world.specs.Places.{once, sum_of, sum_over, out_at, out_of, held_at, held_by, run_by, offered_at, settled_at, OnePlace, IsRootStage, RootIsFirst}
 use Rattle.cw_world.specs.Events.{with_top, but_top, turned, board_without, with_outs, IsAtBack, GoesOn, Runs, Spawns, Offers, Inlines, Retakes, Steals, Settles, Collects, Does}
 use Rattle.cw_world.proofs.Lists.{some_is, IsSomeOf, within_worker, of_worker_set, length_set}
 use Rattle.cw_world.proofs.Boards.{found}

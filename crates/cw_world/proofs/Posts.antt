@@ -1,22 +1,18 @@
 -- What a post comes to, by what its strand comes to.
-use Rattle.std.proofs.Common.{◌≡◌, ◌≢◌, ◌⊎◌, ◌∙◌, ℕ, zero, suc, ◌+◌, ◌<◌, Bool, true, false, List, [], ◌∷◌, ◌++◌, Option, Some, None, refl, sym, ap, subst, length, inl, inr, arith}
+use Rattle.std.proofs.Common.{◌≡◌, ◌≢◌, ◌∙◌, Bool, true, false, List, [], ◌∷◌, ◌++◌, Option, Some, None, refl, sym, ap, subst, length, inl, inr}
 use Rattle.std.specs.Prelude.{Ok}
 use Rattle.cw_jobs.specs.declared.effect.Effect.{Effect}
 use Rattle.cw_jobs.specs.declared.job.Job.{Job}
 use Rattle.cw_jobs.specs.Means.{IsMeaningOf}
 use Rattle.cw_strand.specs.declared.strand.Strand.{Strand}
-use Rattle.cw_strand.specs.declared.strand.Mode.{Mode}
-use Rattle.cw_strand.specs.declared.strand.Mode.TheVariants as mode
 use Rattle.cw_strand.specs.declared.strand.Step.TheVariants as step
-use Rattle.cw_strand.specs.declared.strand.Advance.TheVariants as advance
-use Rattle.cw_strand.specs.Holds.{its_job, outs, stops, IsRunning, IsAtSync, IsWaiting, HasStopped}
-use Rattle.cw_strand.specs.Moves.{EndsBy, KeptBy, AdvancesBy}
-use Rattle.cw_sched.specs.Board.{pushed}
+use Rattle.cw_strand.specs.Holds.{its_job, outs, stops, IsAtSync, IsWaiting, HasStopped}
+use Rattle.cw_strand.specs.Moves.{EndsBy, KeptBy}
 use Rattle.cw_world.specs.declared.post.Out.{Out}
 use Rattle.cw_world.specs.declared.post.Out.TheVariants as out
 use Rattle.cw_world.specs.Scenes.{Posted}
-use Rattle.cw_world.specs.Posts.{StandsRight, Stays, Comes, HandsOut, Steps}
-use Rattle.cw_world.proofs.Lists.{tail_of, none_from_length, newest_pushed, IsSomeOf}
+use Rattle.cw_world.specs.Posts.{StandsRight, Comes, Steps}
+use Rattle.cw_world.proofs.Lists.{none_from_length}
 
 true_false : true ≡ false → ⊥
 true_false e = cc

@@ -1,11 +1,11 @@
 -- Each event leaves a sound world sound.
-use Rattle.std.proofs.Common.{◌≡◌, ◌≢◌, ◌⊎◌, ◌∙◌, ℕ, zero, suc, ◌+◌, ◌<◌, true, false, List, [], ◌∷◌, ◌++◌, Option, Some, None, refl, sym, ap, subst, length, reverse, inl, inr}
-use Rattle.std.specs.Prelude.{map, slice_get, slice_set, take, drop}
+use Rattle.std.proofs.Common.{◌≡◌, ◌∙◌, ℕ, zero, suc, List, [], ◌∷◌, ◌++◌, Some, refl, sym, ap, subst, length, reverse, inl, inr}
+use Rattle.std.specs.Prelude.{slice_get, slice_set, take, drop}
 use Rattle.std.specs.List.{remove}
 use Rattle.cw_verify.specs.declared.verified.Verified.{Verified}
 use Rattle.cw_jobs.specs.declared.effect.Effect.{Effect}
 use Rattle.cw_jobs.specs.declared.job.Job.{Job}
-use Rattle.cw_sched.specs.Board.{pushed, newest, but_newest, oldest, but_oldest, of_worker}
+use Rattle.cw_sched.specs.Board.{pushed, but_newest, of_worker}
 use Rattle.cw_world.specs.declared.board.Offer.{Offer}
 use Rattle.cw_world.specs.declared.board.Cell.{Cell}
 use Rattle.cw_world.specs.declared.event.Event.{Event}
@@ -16,8 +16,8 @@ use Rattle.cw_world.specs.Boards.{Each, Boarded}
 use Rattle.cw_world.specs.Scenes.{Posted, Stage, Goes, Made, Answered, Scene, top}
 use Rattle.cw_world.specs.Sound.{IsJobOf, IsOwn, IsOffer, IsCell, out_number, Works, IsMade, IsStage, HasRoot, Sound, KeepsRuns}
 use Rattle.cw_world.specs.Events.{with_top, but_top, turned, board_without, Runs, Spawns, Offers, Inlines, Retakes, Steals, Settles, Collects, Does}
-use Rattle.cw_world.proofs.Lists.{each_weaken, each_at, each_set, each_worker, each_but_newest, each_pushed, each_newest, each_but_oldest, each_oldest, get_pushed, some_is, same_names, length_set}
-use Rattle.cw_world.proofs.Strands.{same_job, newest_out_of, works_other}
+use Rattle.cw_world.proofs.Lists.{each_weaken, each_set, each_worker, each_but_newest, each_pushed, each_newest, each_but_oldest, get_pushed, some_is, same_names, length_set}
+use Rattle.cw_world.proofs.Strands.{newest_out_of, works_other}
 
 -- all that workers have begun
 abbrev pub AreStages : Verified → List Job → List (List Stage) → Type 0

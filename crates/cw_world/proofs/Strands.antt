@@ -1,20 +1,19 @@
 -- What a strand comes to is right for its jobs.
-use Rattle.std.proofs.Common.{◌≡◌, ◌≢◌, ◌⊎◌, ◌∙◌, ℕ, ◌+◌, ◌<◌, true, false, List, [], ◌∷◌, ◌++◌, Option, Some, None, refl, sym, ap, subst, length, reverse, inl, inr}
-use Rattle.std.specs.Prelude.{map, slice_get, IfSome, Ok}
+use Rattle.std.proofs.Common.{◌≡◌, ◌≢◌, ◌∙◌, ℕ, List, [], ◌∷◌, ◌++◌, Option, Some, None, refl, sym, ap, subst, length, reverse}
+use Rattle.std.specs.Prelude.{map, slice_get, IfSome}
 use Rattle.cw_verify.specs.declared.verified.Verified.{Verified}
 use Rattle.cw_jobs.specs.declared.effect.Effect.{Effect}
 use Rattle.cw_jobs.specs.declared.job.Job.{Job}
 use Rattle.cw_jobs.specs.Means.{IsMeaningOf}
 use Rattle.cw_machine.specs.Answering.{IsOfWhole}
 use Rattle.cw_strand.specs.Holds.{its_job, outs}
-use Rattle.cw_sched.specs.Board.{pushed, newest}
+use Rattle.cw_sched.specs.Board.{newest}
 use Rattle.cw_world.specs.declared.post.Out.{Out}
-use Rattle.cw_world.specs.declared.post.Out.TheVariants as out
 use Rattle.cw_world.specs.Boards.{Each}
 use Rattle.cw_world.specs.Scenes.{Posted, Stage, Goes, Made, Answered}
-use Rattle.cw_world.specs.Posts.{StandsRight, Stays, Comes}
-use Rattle.cw_world.specs.Sound.{IsJobOf, IsOwn, out_number, Works, IsMade, IsStage, HasRoot}
-use Rattle.cw_world.specs.Events.{GoesOn, ComesTo, IsBegun}
+use Rattle.cw_world.specs.Posts.{Stays, Comes}
+use Rattle.cw_world.specs.Sound.{IsJobOf, IsOwn, out_number, Works, IsMade, HasRoot}
+use Rattle.cw_world.specs.Events.{ComesTo, IsBegun}
 use Rattle.cw_world.proofs.Lists.{named, head_or, tail_of, IsCons, some_is, IsSomeOf, each_pushed, reverse_pushed, as_many, length_reverse, newest_pushed}
 
 -- the jobs of numbers

@@ -1,9 +1,9 @@
 -- What a worker has begun last, as it is taken from its list and laid there.
-use Rattle.std.proofs.Common.{◌≡◌, ◌≢◌, ◌∙◌, ℕ, zero, suc, ◌+◌, ◌-◌, ◌<◌, ◌≤◌, Bool, true, false, List, [], ◌∷◌, ◌++◌, Option, Some, None, refl, sym, ap, subst, length, get_or, arith, Vec, Global, Bor}
+use Rattle.std.proofs.Common.{◌≡◌, ◌≢◌, ◌∙◌, ℕ, zero, suc, ◌+◌, ◌-◌, ◌<◌, true, false, List, [], ◌∷◌, ◌++◌, Option, Some, None, refl, sym, ap, length, get_or, arith, Vec, Global, Bor}
 use Rattle.std.proofs.lemmas.Option.{get_or_from_slice_get}
 use Rattle.std.specs.Prelude.{map, slice_get, slice_set, Result, Ok, Err, OnOk}
 use Rattle.std.specs.Option.{option_copied}
-use Rattle.cw_sched.specs.Board.{pushed, newest, but_newest, oldest, of_worker}
+use Rattle.cw_sched.specs.Board.{pushed, newest, but_newest, of_worker}
 use Rattle.cw_text.specs.declared.fault.Fault.{Fault}
 use Rattle.cw_jobs.specs.declared.effect.Effect.{Effect}
 use Rattle.cw_machine.specs.declared.alone.Ended as alone
@@ -11,11 +11,11 @@ use Rattle.cw_world.specs.declared.post.Post.{Post}
 use Rattle.cw_world.specs.declared.world.Begun.{Begun}
 use Rattle.cw_world.specs.declared.world.Begun.TheVariants as begun
 use Rattle.cw_world.specs.declared.post.Out.{Out}
-use Rattle.cw_world.specs.Scenes.{Stage, Goes, Made, Answered, stage_of, stages, staged, out_of}
+use Rattle.cw_world.specs.Scenes.{Stage, stage_of, stages, staged, out_of}
 use Rattle.cw_world.specs.Table.{goes, has_made}
-use Rattle.cw_world.specs.Events.{but_top, with_top, HasRoomIn}
-use Rattle.cw_world.proofs.Lists.{newest_pushed, but_newest_pushed, none_from_length, get_within, IsSomeOf}
-use Rattle.cw_world.proofs.Boards.{map_pushed, worker_read, worker_set, worker_kept, newest_there, get_set}
+use Rattle.cw_world.specs.Events.{but_top, with_top}
+use Rattle.cw_world.proofs.Lists.{newest_pushed, but_newest_pushed, none_from_length}
+use Rattle.cw_world.proofs.Boards.{map_pushed, worker_read, worker_set, worker_kept, newest_there}
 
 pub goes_some : (o : Option Stage) → goes o ≡ true → o ≢ None
 goes_some None e none = let never : ⊥ = cc in never

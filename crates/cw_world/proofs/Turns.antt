@@ -1,21 +1,20 @@
 -- What events do, by what a post came to and what was laid on its worker's list.
-use Rattle.std.proofs.Common.{◌≡◌, ◌≢◌, ◌⊎◌, ◌∙◌, ℕ, zero, suc, ◌+◌, ◌<◌, Bool, true, false, List, [], ◌∷◌, ◌++◌, Option, Some, None, refl, sym, ap, subst, length, reverse, inl, inr}
-use Rattle.std.specs.Prelude.{map, slice_get, slice_set, IfSome, Ok}
+use Rattle.std.proofs.Common.{◌≡◌, ◌⊎◌, ◌∙◌, ℕ, Bool, List, [], ◌∷◌, ◌++◌, Option, Some, None, refl, sym, ap, subst, length, reverse, inl, inr}
+use Rattle.std.specs.Prelude.{map, slice_get, IfSome, Ok}
 use Rattle.cw_verify.specs.declared.verified.Verified.{Verified}
 use Rattle.cw_jobs.specs.declared.effect.Effect.{Effect}
 use Rattle.cw_jobs.specs.declared.job.Job.{Job}
 use Rattle.cw_machine.specs.Answering.{IsOfWhole}
 use Rattle.cw_strand.specs.Holds.{its_job, outs}
-use Rattle.cw_sched.specs.Board.{pushed, newest, but_newest, of_worker}
 use Rattle.cw_world.specs.declared.post.Out.{Out}
 use Rattle.cw_world.specs.declared.post.Out.TheVariants as out
 use Rattle.cw_world.specs.Boards.{Each, Boarded}
 use Rattle.cw_world.specs.Scenes.{Posted, Stage, Goes, Made, Answered, Scene, top}
 use Rattle.cw_world.specs.Posts.{Stays, Comes, HandsOut, Steps}
-use Rattle.cw_world.specs.Sound.{IsJobOf, IsOwn, out_number, Works, IsStage, HasRoot, Sound}
-use Rattle.cw_world.specs.Events.{with_top, but_top, turned, GoesOn, ComesTo, IsBegun, AtPost, AtOut, Runs, Spawns}
+use Rattle.cw_world.specs.Sound.{IsJobOf, IsOwn, out_number, Works, HasRoot, Sound}
+use Rattle.cw_world.specs.Events.{with_top, but_top, GoesOn, ComesTo, IsBegun, Runs, Spawns}
 use Rattle.cw_world.proofs.Lists.{named, each_weaken, each_pushed, get_pushed, get_last, same_names, reverse_pushed}
-use Rattle.cw_world.proofs.Strands.{jobs_at, same_job, Newest, newest_out_of, comes_stays, comes_to, ended_stage, comes_whole, whole}
+use Rattle.cw_world.proofs.Strands.{jobs_at, newest_out_of, comes_stays, comes_to, ended_stage, comes_whole}
 use Rattle.cw_world.proofs.Sounds.{top_stage, kept_job, kept_own}
 
 -- the parts of a scene

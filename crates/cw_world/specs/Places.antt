@@ -6,7 +6,7 @@ use Rattle.cw_world.specs.declared.board.Offer.{Offer}
 use Rattle.cw_world.specs.declared.board.Cell.{Cell}
 use Rattle.cw_world.specs.declared.post.Out.{Out}
 use Rattle.cw_world.specs.declared.post.Out.TheVariants as out
-use Rattle.cw_world.specs.Scenes.{Posted, Stage, Goes, Made, Answered, Scene}
+use Rattle.cw_world.specs.Scenes.{Stage, Goes, Made, Answered, Scene}
 use Rattle.cw_world.specs.Sound.{out_number}
 
 -- once, if it is the same number

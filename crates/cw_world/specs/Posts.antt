@@ -11,7 +11,7 @@ use Rattle.cw_sched.specs.Board.{pushed}
 use Rattle.cw_world.specs.declared.post.Out.{Out}
 use Rattle.cw_world.specs.declared.post.Out.TheVariants as out
 use Rattle.cw_world.specs.declared.post.Post.{Post}
-use Rattle.cw_world.specs.Scenes.{Posted, posted}
+use Rattle.cw_world.specs.Scenes.{Posted}
 
 -- it begins this job, with nothing out
 pub record Begins (number : ℕ) (job : Job) (p : Post) : Type 0 where

@@ -1,11 +1,11 @@
 -- Which event is possible in a world.
-use Rattle.std.specs.Prelude.{ℕ, Bool, true, false, ◌&&◌, ◌||◌, not, nat_eq, List, Option, Some, None, is_some, slice_get}
+use Rattle.std.specs.Prelude.{ℕ, Bool, true, false, ◌&&◌, ◌||◌, not, nat_eq, Option, Some, None, is_some, slice_get}
 use Rattle.cw_sched.specs.Board.{newest, oldest, of_worker}
 use Rattle.cw_world.specs.declared.event.Event.{Event}
 use Rattle.cw_world.specs.declared.event.Event.TheVariants as event
 use Rattle.cw_world.specs.declared.post.Out.{Out}
 use Rattle.cw_world.specs.declared.post.Out.TheVariants as out
-use Rattle.cw_world.specs.Scenes.{Stage, Goes, Made, Answered, Scene, top}
+use Rattle.cw_world.specs.Scenes.{Stage, Goes, Made, Scene, top}
 use Rattle.cw_world.specs.Boards.{Boarded, newest_number, cell_of}
 
 -- it has not ended

@@ -1,5 +1,4 @@
-use Rattle.std.proofs.Common.{◌≡◌, ◌∙◌, List, refl, sym, ap, rules, to_z, of_z, w64}
-use Rattle.std.specs.Prelude.{map}
+use Rattle.std.proofs.Common.{◌≡◌, ◌∙◌, refl, rules, to_z, of_z, w64}
 use Rattle.std.proofs.lemmas.Int.{to_z-of_z}
 use Rattle.cw_world.proofs.Copies.{copied, zip_map, zip_same, zip_twice}
 use Rattle.cw_world.proofs.copy.copy_ended.Goals as goal

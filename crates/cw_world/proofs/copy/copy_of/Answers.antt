@@ -1,4 +1,4 @@
-use Rattle.std.proofs.Common.{◌≡◌, subst}
+use Rattle.std.proofs.Common.{subst}
 use Rattle.cw_machine.specs.Runs.{RunsAsCode}
 use Rattle.cw_world.proofs.copy.copy_of.Goals as goal
 

@@ -1,11 +1,8 @@
-use Rattle.std.proofs.Common.{◌≡◌, ◌∙◌, ℕ, ◌<◌, ◌+◌, true, Some, None, refl, sym, ap, subst, length, get_or, arith}
+use Rattle.std.proofs.Common.{◌∙◌, Some, sym, ap, arith}
 use Rattle.cw_sched.specs.Board.{newest, of_worker}
-use Rattle.cw_world.specs.declared.world.Begun.TheVariants as begun
-use Rattle.cw_world.specs.Scenes.{Goes, Made, Answered, stacks, stages, stage_of, staged, posted, top, scene}
-use Rattle.cw_world.specs.Table as table
-use Rattle.cw_world.proofs.Lists.{get_within}
-use Rattle.cw_world.proofs.Boards.{get_set, worker_read, worker_past}
-use Rattle.cw_world.proofs.Tops.{goes_some, made_some, goes_not, made_not, top_popped, left_popped, none_popped, top_laid, same_laid, made_never, answered_never, goes_never, told_never, there, staged_last, out_last, on_ok}
+use Rattle.cw_world.specs.Scenes.{stacks, stage_of}
+use Rattle.cw_world.proofs.Boards.{get_set}
+use Rattle.cw_world.proofs.Tops.{goes_some, goes_not, top_popped, left_popped, none_popped, made_never, answered_never, there}
 use Rattle.cw_world.proofs.world.take.Goals as goal
 
 pub returns-clause-top : goal.returns-clause-top

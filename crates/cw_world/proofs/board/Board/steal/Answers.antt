@@ -1,11 +1,7 @@
-use Rattle.std.proofs.Common.{◌≡◌, ◌≢◌, ◌∙◌, ◌++◌, List, [], ◌∷◌, Some, None, refl, sym, ap, subst, length, arith}
-use Rattle.std.specs.Prelude.{map, slice_set}
-use Rattle.cw_sched.specs.Board.{pushed, newest, but_newest, oldest, but_oldest, of_worker}
-use Rattle.cw_world.specs.Boards.{Boarded}
+use Rattle.std.proofs.Common.{List, sym, ap, arith}
+use Rattle.cw_sched.specs.Board.{but_oldest}
 use Rattle.cw_world.specs.declared.board.Offer.{Offer}
-use Rattle.cw_world.specs.declared.board.Cell.{Cell}
-use Rattle.cw_world.proofs.Lists.{newest_pushed, but_newest_pushed}
-use Rattle.cw_world.proofs.Boards.{worker_read, worker_set, worker_kept, worker_none, get_set, newest_there, oldest_there, map_pushed}
+use Rattle.cw_world.proofs.Boards.{worker_set, get_set, oldest_there}
 use Rattle.cw_world.proofs.board.Board.steal.Goals as goal
 
 pub returns-clause-stolen : goal.returns-clause-stolen

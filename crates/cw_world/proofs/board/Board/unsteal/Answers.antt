@@ -1,11 +1,7 @@
-use Rattle.std.proofs.Common.{◌≡◌, ◌≢◌, ◌∙◌, ◌++◌, List, [], ◌∷◌, Some, None, refl, sym, ap, subst, length, arith}
-use Rattle.std.specs.Prelude.{map, slice_set}
-use Rattle.cw_sched.specs.Board.{pushed, newest, but_newest, oldest, but_oldest, of_worker}
-use Rattle.cw_world.specs.Boards.{Boarded}
+use Rattle.std.proofs.Common.{List, ◌∷◌, ap}
 use Rattle.cw_world.specs.declared.board.Offer.{Offer}
-use Rattle.cw_world.specs.declared.board.Cell.{Cell}
 use Rattle.cw_world.proofs.Lists.{get_within}
-use Rattle.cw_world.proofs.Boards.{worker_read, worker_set, worker_kept, worker_none, get_set, newest_there, oldest_there, map_pushed}
+use Rattle.cw_world.proofs.Boards.{worker_set}
 use Rattle.cw_world.proofs.board.Board.unsteal.Goals as goal
 
 pub returns : goal.returns

@@ -1,12 +1,11 @@
 use Rattle.std.proofs.Common.{◌≡◌, ◌∙◌, ◌++◌, List, [], ◌∷◌, refl, sym, ap, subst, length}
 use Rattle.std.specs.Prelude.{map}
 use Rattle.cw_jobs.specs.declared.job.Job as jobs
-use Rattle.cw_strand.specs.Holds.{its_job, outs}
+use Rattle.cw_strand.specs.Holds.{its_job}
 use Rattle.cw_strand.specs.Moves.{KeptBy}
 use Rattle.cw_world.specs.declared.post.Out.TheVariants as out
 use Rattle.cw_world.specs.Scenes.{Posted, jobs_of, posted}
-use Rattle.cw_world.proofs.Lists.{tail_of}
-use Rattle.cw_world.proofs.Posts.{comes_back, steps_on, steps_to_spawn}
+use Rattle.cw_world.proofs.Posts.{steps_on, steps_to_spawn}
 use Rattle.cw_world.proofs.post.Post.step.Goals as goal
 
 pub returns-in-Ran : goal.returns-in-Ran

@@ -1,6 +1,5 @@
-use Rattle.std.proofs.Common.{◌≡◌, true, refl, sym, subst, rules}
+use Rattle.std.proofs.Common.{◌≡◌, true, rules}
 use Rattle.std.specs.Prelude.{Ok}
-use Rattle.std.specs.Arc.{arc_value}
 use Rattle.cw_world.specs.declared.event.Event.TheVariants as event
 use Rattle.cw_world.specs.Scenes.{scene}
 use Rattle.cw_world.specs.Table.{is_possible}

@@ -1,12 +1,9 @@
-use Rattle.std.proofs.Common.{◌≡◌, ◌∙◌, ◌-◌, ℕ, ◌<◌, ◌+◌, true, false, Some, None, refl, sym, ap, subst, length, get_or, arith}
+use Rattle.std.proofs.Common.{◌≡◌, ◌∙◌, ◌<◌, sym, ap, length, get_or, arith}
 use Rattle.std.specs.Prelude.{slice_get}
-use Rattle.std.specs.Arc.{arc_value}
-use Rattle.cw_code.specs.Code.{code_view}
-use Rattle.cw_sched.specs.Board.{newest, oldest, of_worker}
-use Rattle.cw_world.specs.Scenes.{Stage, Answered, stacks, stages, stage_of, staged, scene}
-use Rattle.cw_world.specs.Worlds.{answer_in, is_answered}
+use Rattle.cw_sched.specs.Board.{oldest}
+use Rattle.cw_world.specs.Scenes.{stages}
 use Rattle.cw_world.proofs.Boards.{worker_read, worker_past}
-use Rattle.cw_world.proofs.Ends.{staged_first, answer_is, answer_none, root_answer}
+use Rattle.cw_world.proofs.Ends.{staged_first}
 use Rattle.cw_world.proofs.world.World.first.Goals as goal
 
 pub returns-in-Some : goal.returns-in-Some

@@ -1,7 +1,7 @@
-use Rattle.std.proofs.Common.{◌≡◌, ◌∙◌, ◌-◌, ◌<◌, ◌≤◌, Some, [], ◌∷◌, refl, sym, ap, subst, arith}
+use Rattle.std.proofs.Common.{◌≡◌, ◌∙◌, ◌-◌, ◌<◌, [], ◌∷◌, ap, arith}
 use Rattle.std.specs.Arc.{arc_value}
-use Rattle.cw_world.specs.Boards.{boarded, opened}
-use Rattle.cw_world.specs.Scenes.{Scene, Goes, posted, scene, stacks, jobs_of}
+use Rattle.cw_world.specs.Boards.{opened}
+use Rattle.cw_world.specs.Scenes.{Goes, posted}
 use Rattle.cw_world.specs.Worlds.{idle}
 use Rattle.cw_world.proofs.Begins.{begins}
 use Rattle.cw_world.proofs.Doing.{scene_is}
