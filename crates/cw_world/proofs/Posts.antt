@@ -5,9 +5,10 @@ use Rattle.cw_jobs.specs.declared.effect.Effect.{Effect}
 use Rattle.cw_jobs.specs.declared.job.Job.{Job}
 use Rattle.cw_jobs.specs.Means.{IsMeaningOf}
 use Rattle.cw_strand.specs.declared.strand.Strand.{Strand}
+use Rattle.cw_strand.specs.declared.strand.Advance.TheVariants as advance
 use Rattle.cw_strand.specs.declared.strand.Step.TheVariants as step
 use Rattle.cw_strand.specs.Holds.{its_job, outs, stops, IsAtSync, IsWaiting, HasStopped}
-use Rattle.cw_strand.specs.Moves.{EndsBy, KeptBy}
+use Rattle.cw_strand.specs.Moves.{AdvancesBy, EndsBy, KeptBy}
 use Rattle.cw_world.specs.declared.post.Out.{Out}
 use Rattle.cw_world.specs.declared.post.Out.TheVariants as out
 use Rattle.cw_world.specs.Scenes.{Posted}
@@ -53,20 +54,21 @@ ends (Some x) old new n os of none flag e = (n, e.0, none)
 
 -- the same, by another strand of the same job
 pub steps_on : (r : Option Effect) (old mid new : Posted) (jobs jobs' : List Job) → mid.number ≡ old.number → mid.outs ≡ old.outs → its_job mid.strand ≡ its_job old.strand
-    → outs mid.strand ≡ outs old.strand → Comes r mid new (outs mid.strand) → jobs' ≡ jobs → Steps (Ok r) old new jobs jobs'
-steps_on None old mid new jobs jobs' n os of left s j =
+    → AdvancesBy advance.Ran old.strand mid.strand → Comes r mid new (outs mid.strand) → jobs' ≡ jobs → Steps (Ok r) old new jobs jobs'
+steps_on None old mid new jobs jobs' n os of ran s j =
     inl (
       record {
         numbered = s.numbered ∙ n;
         of = s.of ∙ of;
         running = s.running;
         outs_are = s.outs_are ∙ os;
-        left_are = s.left_are ∙ left;
+        left_are = s.left_are ∙ ran.1;
         stands = s.stands;
       },
       j,
+      inl (mid.strand, ran, (s.running, s.left_are)),
     )
-steps_on (Some e) old mid new jobs jobs' n os of left s j =
+steps_on (Some e) old mid new jobs jobs' n os of ran s j =
     ((s.0 ∙ n, subst (λ k. IsMeaningOf k e) of s.1, sym os ∙ s.2), j)
 
 -- it waits
@@ -84,6 +86,7 @@ steps_to_join old new jobs jobs' n os of even flag k j =
         stands = ((λ _. (k.3, some)), λ _ _. flag);
       },
       j,
+      inr (k, flag),
     )
 
 -- it has handed a job out

@@ -10,9 +10,9 @@ use Rattle.cw_world.specs.declared.post.Out.{Out}
 use Rattle.cw_world.specs.declared.post.Out.TheVariants as out
 use Rattle.cw_world.specs.Boards.{Each, Boarded}
 use Rattle.cw_world.specs.Scenes.{Posted, Stage, Goes, Made, Answered, Scene, top}
-use Rattle.cw_world.specs.Posts.{Stays, Comes, HandsOut, Steps}
+use Rattle.cw_world.specs.Posts.{Stays, Comes, HandsOut, Steps, Went}
 use Rattle.cw_world.specs.Sound.{IsJobOf, IsOwn, out_number, Works, HasRoot, Sound}
-use Rattle.cw_world.specs.Events.{with_top, but_top, GoesOn, ComesTo, IsBegun, Runs, Spawns}
+use Rattle.cw_world.specs.Events.{with_top, but_top, GoesOn, ComesTo, IsBegun, Runs, Spawns, WentOn}
 use Rattle.cw_world.proofs.Lists.{named, each_weaken, each_pushed, get_pushed, get_last, same_names, reverse_pushed}
 use Rattle.cw_world.proofs.Strands.{jobs_at, newest_out_of, comes_stays, comes_to, ended_stage, comes_whole}
 use Rattle.cw_world.proofs.Sounds.{top_stage, kept_job, kept_own}
@@ -27,14 +27,20 @@ abbrev pub scene_of : (jobs : List Job) (begun : List (List Stage)) (board : Boa
 scene_of jobs begun board = record { jobs = jobs; begun = begun; board = board }
 
 ran_on : (v : Verified) (s : Scene) (w : ℕ) (p q : Posted) (jobs' : List Job) (begun' : List (List Stage)) (x : Stage) → top s w ≡ Some (Goes p) → Works s.jobs p
-    → Stays p q p.outs (outs p.strand) → jobs' ≡ s.jobs → x ≡ Goes q → begun' ≡ with_top (but_top s.begun w) w x → Runs v s (scene_of jobs' begun' s.board) w
-ran_on v s w p q jobs' begun' x at works stays same b is =
+    → Stays p q p.outs (outs p.strand) → jobs' ≡ s.jobs → Went p q → x ≡ Goes q → begun' ≡ with_top (but_top s.begun w) w x → Runs v s (scene_of jobs' begun' s.board) w
+ran_on v s w p q jobs' begun' x at works stays same went b is =
     record {
       at = record { post = p; is = at };
       stage = x;
       comes = subst (λ y. ComesTo v s.jobs p p.outs y) (sym b) (comes_stays v s.jobs p q p.outs (outs p.strand) stays works.named works.lent works.own);
+      went = subst (λ y. WentOn p y) (sym b) went;
       is = same_scene jobs' s.jobs begun' (with_top (but_top s.begun w) w x) s.board same is;
     }
+
+went_out : (v : Verified) (p q : Posted) (e : Effect) (x : Stage) → IsBegun v q (Some e) x → WentOn p x
+went_out v p q e (Goes k) b = absurd b
+went_out v p q e (Made n d) b = tt
+went_out v p q e (Answered r) b = tt
 
 ran_out : (v : Verified) (s : Scene) (w : ℕ) (p q : Posted) (e : Effect) (jobs' : List Job) (begun' : List (List Stage)) (x : Stage) → top s w ≡ Some (Goes p) → Works s.jobs p
     → Comes (Some e) p q [] → jobs' ≡ s.jobs → IsBegun v q (Some e) x → begun' ≡ with_top (but_top s.begun w) w x → Runs v s (scene_of jobs' begun' s.board) w
@@ -43,6 +49,7 @@ ran_out v s w p q e jobs' begun' x at works c same b is =
       at = record { post = p; is = at };
       stage = x;
       comes = ended_stage v s.jobs p q e x works.named c.0 c.1 c.2 b;
+      went = went_out v p q e x b;
       is = same_scene jobs' s.jobs begun' (with_top (but_top s.begun w) w x) s.board same is;
     }
 
@@ -73,7 +80,7 @@ spawned v s w p q jobs' begun' x at works h b is =
 pub ran : (v : Verified) (s : Scene) (w : ℕ) (p q : Posted) (ended : Option Effect) (jobs' : List Job) (begun' : List (List Stage)) (x : Stage) → Sound v s → top s w ≡ Some (Goes p)
     → Steps (Ok ended) p q s.jobs jobs' → IsBegun v q ended x → begun' ≡ with_top (but_top s.begun w) w x
     → Runs v s (scene_of jobs' begun' s.board) w ⊎ Spawns v s (scene_of jobs' begun' s.board) w
-ran v s w p q None jobs' begun' x h at (inl c) b is = inl (ran_on v s w p q jobs' begun' x at (top_stage v s w (Goes p) h at) c.0 c.1 b is)
+ran v s w p q None jobs' begun' x h at (inl c) b is = inl (ran_on v s w p q jobs' begun' x at (top_stage v s w (Goes p) h at) c.0 c.1 c.2 b is)
 ran v s w p q None jobs' begun' x h at (inr c) b is = inr (spawned v s w p q jobs' begun' x at (top_stage v s w (Goes p) h at) c b is)
 ran v s w p q (Some e) jobs' begun' x h at c b is = inl (ran_out v s w p q e jobs' begun' x at (top_stage v s w (Goes p) h at) c.0 c.1 b is)
 

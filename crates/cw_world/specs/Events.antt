@@ -21,6 +21,7 @@ use Rattle.cw_world.specs.declared.post.Out.TheVariants as out
 use Rattle.cw_world.specs.declared.world.Begun.{Begun}
 use Rattle.cw_world.specs.Boards.{Boarded, offered, retaken, stolen, settled, collected, cell_of, newest_number}
 use Rattle.cw_world.specs.Scenes.{Posted, Stage, Goes, Made, Answered, Scene, top}
+use Rattle.cw_world.specs.Posts.{Went}
 use Rattle.cw_world.specs.Sound.{IsStage}
 
 -- the newest of a worker's is taken away, and another one laid there
@@ -57,11 +58,18 @@ pub record AtOut (s : Scene) (w : ℕ) : Type 0 where
   pub newest : Out
   pub are : at.post.outs ≡ pushed older newest
 
+-- where it goes on, it has done one instruction, or waits from now on
+abbrev pub WentOn : Posted → Stage → Type 0
+WentOn p (Goes q) = Went p q
+WentOn p (Made n e) = Unit {0}
+WentOn p (Answered r) = Unit {0}
+
 -- RUN: one instruction, by which a strand goes on or ends
 pub record Runs (v : Verified) (s s' : Scene) (w : ℕ) : Type 0 where
   pub at : AtPost s w
   pub stage : Stage
   pub comes : ComesTo v s.jobs at.post at.post.outs stage
+  pub went : WentOn at.post stage
   pub is : s' ≡ turned s w stage s.board
 
 -- or a spawn, whose rest gets the next number

@@ -6,6 +6,10 @@ use Rattle.std.specs.declared.alloc.AllocError.{AllocError}
 use Rattle.cw_jobs.specs.declared.effect.Effect.{Effect}
 use Rattle.cw_jobs.specs.declared.job.Job.{Job}
 use Rattle.cw_jobs.specs.Means.{IsMeaningOf}
+use Rattle.cw_strand.specs.declared.strand.Strand.{Strand}
+use Rattle.cw_strand.specs.declared.strand.Advance.TheVariants as advance
+use Rattle.cw_strand.specs.declared.strand.Step.TheVariants as step
+use Rattle.cw_strand.specs.Moves.{AdvancesBy, EndsBy, KeptBy}
 use Rattle.cw_strand.specs.Holds.{its_job, outs, IsRunning, IsAtSync, HasStopped}
 use Rattle.cw_sched.specs.Board.{pushed}
 use Rattle.cw_world.specs.declared.post.Out.{Out}
@@ -66,9 +70,15 @@ pub record HandsOut (old new : Posted) (jobs jobs' : List Job) : Type 0 where
   pub stays : Stays old new (pushed old.outs (out.Undecided (length jobs) job)) (job ∷ outs old.strand)
   pub jobs_are : jobs' ≡ pushed jobs job
 
+-- one instruction was done, after which its strand had not come to its end; or none, and it waits from now on
+abbrev pub Went : (old new : Posted) → Type 0
+Went old new =
+    ((mid : Strand) × AdvancesBy advance.Ran old.strand mid × EndsBy None mid new.strand)
+    ⊎ (KeptBy step.AtSync old.strand new.strand × (new.at_join ≡ true))
+
 -- one instruction: it goes on, has handed out a job, or has ended; or memory was wanting, and all is as it was
 abbrev pub Steps : Result (Option Effect) AllocError → (old new : Posted) (jobs jobs' : List Job) → Type 0
 Steps (Err e) old new jobs jobs' = (new ≡ old) × (jobs' ≡ jobs)
 Steps (Ok None) old new jobs jobs' =
-    (Stays old new old.outs (outs old.strand) × (jobs' ≡ jobs)) ⊎ HandsOut old new jobs jobs'
+    (Stays old new old.outs (outs old.strand) × (jobs' ≡ jobs) × Went old new) ⊎ HandsOut old new jobs jobs'
 Steps (Ok (Some e)) old new jobs jobs' = Comes (Some e) old new [] × (jobs' ≡ jobs)
