@@ -93,6 +93,9 @@ fn event_of(kind: u64, w: usize, v: usize) -> Event {
 
 // Events one after the other, as they come by numbers that begin with this one, as long as the run goes on.
 fn wander(world: &mut World, workers: u64, seed: u64) -> Option<Result<Ended, Fault>> {
+    if workers == 0 {
+        return None;
+    }
     let mut number = seed;
     for _ in 0..100_000 {
         if let Some(answer) = world.outcome() {
