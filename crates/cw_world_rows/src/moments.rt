@@ -59,6 +59,21 @@ fn is_moment(world: &mut World, possible: &[Event]) -> bool
     right
 }
 
+// Whether exactly these events are possible now; the first of them happens then.
+fn passes_one(world: &mut World, possible: &[Event]) -> bool
+    requires { IsSound world.old }
+    ensures { IsSound world.new }
+{
+    let is_right = is_moment(world, possible);
+    match possible.first() {
+        Some(event) => {
+            let happens = world.apply(*event).is_ok();
+            is_right && happens
+        }
+        None => is_right,
+    }
+}
+
 // Moments, each with the events that are possible, the first of which happens then.
 fn passes(world: &mut World, moments: &[&[Event]]) -> bool
     requires { IsSound world.old }
@@ -66,10 +81,8 @@ fn passes(world: &mut World, moments: &[&[Event]]) -> bool
 {
     let mut right = true;
     for possible in moments {
-        right = right && is_moment(world, possible);
-        if let Some(event) = possible.first() {
-            right = right && world.apply(*event).is_ok();
-        }
+        let is_right = passes_one(world, possible);
+        right = right && is_right;
     }
     right
 }
