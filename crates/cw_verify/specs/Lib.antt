@@ -1,3 +1,4 @@
+pub mod Fast
 pub mod Table
 pub mod Meetings
 pub mod Numbers

@@ -1,6 +1,7 @@
 //! Code that a run can trust.
 #![tactic(auto)]
 
+pub mod fast;
 mod found;
 mod leave;
 mod meet;
