@@ -3,6 +3,7 @@
 
 pub mod fast;
 mod found;
+pub mod fuse;
 mod leave;
 mod meet;
 mod meeting;
