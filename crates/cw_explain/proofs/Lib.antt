@@ -1,11 +1,17 @@
+mod Alike
 mod Breaking
 mod Heading
+mod Lending
+mod Lent
 mod Misuse
+mod Moves
 mod Nesting
 mod Owned
 mod Passing
 mod Pieces
+mod Refusing
 mod Repeating
 mod Sets
 mod Telling
 mod Walking
+mod Wrongs

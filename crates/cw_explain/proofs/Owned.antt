@@ -43,3 +43,10 @@ last_fails false true true false h = refl
 last_fails false true false false h = refl
 last_fails false false true false h = refl
 last_fails false false false false h = refl
+
+pub two_fail : (a b f m : Bool) → true ≡ not (f && m) → true ≡ not (a && b && f && m)
+two_fail true true true true h = h
+two_fail true true true false h = refl
+two_fail true true false m h = refl
+two_fail true false f m h = refl
+two_fail false b f m h = refl

@@ -1,8 +1,13 @@
+pub mod Disowned
+pub mod Doings
 pub mod Held
+pub mod Laws
 pub mod Limits
 pub mod Lines
 pub mod Loops
+pub mod Moments
 pub mod Names
+pub mod Owners
 pub mod Parts
 pub mod Places
 pub mod Reasons
@@ -11,5 +16,5 @@ pub mod Rules
 pub mod Standing
 pub mod Told
 pub mod Touched
-pub mod Uses
 pub mod Unread
+pub mod Uses

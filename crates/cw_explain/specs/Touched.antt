@@ -13,12 +13,8 @@ IsTakenBy taken x touch (reason.Taken word how holder line) =
     (word.text.now ≡ x) × (how ≡ touch) × (has_taken x (holder_of holder) taken ≡ true)
 IsTakenBy taken x touch _ = ⊥
 
--- the reason is of a name that is still taken, by what the reason says
-abbrev pub IsStillTaken : Taken → Disowned → Type 0
-IsStillTaken taken (reason.EndsTaken word holder line) = has_taken word.text.now (holder_of holder) taken ≡ true
-IsStillTaken taken _ = ⊥
-
--- the names that a block declares, each with its line, behind those before
-abbrev pub declared_in : Block → Declared → Declared
-declared_in End declared = declared
-declared_in (Then line s b) declared = declared_in b (declared_by line s declared)
+-- the reason is of this name, which is still taken by what the reason says
+abbrev pub IsStillTaken : Taken → Name → Disowned → Type 0
+IsStillTaken taken x (reason.EndsTaken word holder line) =
+    (word.text.now ≡ x) × (has_taken x (holder_of holder) taken ≡ true)
+IsStillTaken taken x _ = ⊥

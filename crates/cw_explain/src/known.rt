@@ -24,6 +24,7 @@ ghost use Rattle.cw_explain.specs.Names.{
   local_view,
   locals_of,
   names_of,
+  param_names,
 };
 ghost use Rattle.cw_explain.specs.Places.{
   after_stmt,
@@ -78,6 +79,22 @@ impl<'a> Known<'a> {
             known.add(&param.name, param.is_array, function.line)?;
         }
         Ok(known)
+    }
+
+    /// The parameters of a function, at the line of its head, the first one first.
+    pub fn in_order(alloc: Global, function: &'a Function) -> Result<Known<'a>, AllocError>
+        ensures { IfOk result (λ known.
+            known_names (names_of known) ≡ param_names (map param_of function.now.params.items)) }
+    {
+        let mut locals = Vec::new(alloc);
+        for param in function.params.as_slice() {
+            locals.push(Local {
+                name: Word::of(&param.name),
+                is_array: param.is_array,
+                line: function.line,
+            })?;
+        }
+        Ok(Known { locals })
     }
 
     /// How many names are known.

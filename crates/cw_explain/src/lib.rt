@@ -3,6 +3,7 @@
 
 mod excerpt;
 mod known;
+pub mod laws;
 mod lexical;
 mod limits;
 mod owning;
@@ -10,6 +11,7 @@ mod reading;
 mod rules;
 mod statements;
 mod taken;
+mod touched;
 mod traps;
 mod typing;
 mod word;

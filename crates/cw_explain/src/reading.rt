@@ -1,30 +1,57 @@
 //! Which rule of ownership a line breaks.
 
-ghost use Rattle.std.specs.Prelude.{◌≡◌, ◌∷◌, ◌&&◌, [], IfSome, Some, is_some, not};
-ghost use Rattle.cw_explain.specs.Loops.{around_of};
+ghost use Rattle.std.specs.Prelude.{
+  ◌≡◌,
+  ◌≤◌,
+  ◌∷◌,
+  ◌==◌,
+  ◌&&◌,
+  ◌+◌,
+  [],
+  Contains,
+  IfOk,
+  IfSome,
+  false,
+  flat_map,
+  is_some,
+  length,
+  not,
+};
+ghost use Rattle.cw_explain.specs.Disowned.{
+  IsDisowned,
+  IsDisownedAmong,
+  IsLeftTaken,
+  IsWrongStmt,
+  where_at,
+};
+ghost use Rattle.cw_explain.specs.Held.{AreSame, taken_of};
+ghost use Rattle.cw_explain.specs.Loops.{closing, loop_of, spot_of};
+ghost use Rattle.cw_explain.specs.Moments.{
+  declared_in,
+  moments_among,
+  moments_in,
+  moments_inside,
+  moments_of,
+  in_parts as parts_of,
+  in_turn as turn_of,
+  moments_at,
+  seen_by,
+};
 ghost use Rattle.cw_explain.specs.Names.{locals_of};
-ghost use Rattle.cw_model.specs.Names.{is_among};
-ghost use Rattle.cw_tree.specs.SyntaxView.{expr_of};
-ghost use Rattle.cw_explain.specs.Held.{taken_of};
-ghost use Rattle.cw_explain.specs.Touched.{IsStillTaken, IsTakenBy};
+ghost use Rattle.cw_explain.specs.Owners.{block_faults, faults_among, faults_inside, keeps_owners, statement_faults};
+ghost use Rattle.cw_explain.specs.Places.{oldest};
+ghost use Rattle.cw_explain.specs.Rules.{has_line};
+ghost use Rattle.cw_explain.specs.Touched.{IsStillTaken};
 ghost use Rattle.cw_model.specs.Ownership as rule;
+ghost use Rattle.cw_tree.specs.SyntaxView.{block_of, function_of, program_of, stmt_of};
 
 use crate::known::Known;
-use crate::owning::{Disowned, Touch};
-use crate::taken::{Taken, after, array_given};
+use crate::owning::Disowned;
+use crate::taken::{Taken, after, deeper};
+use crate::touched::{Loop, of_stmt};
 use crate::word::Word;
-use cw_tree::syntax::{Ast, Call, Cut, Expr, Head, Line, Name, Stmt};
+use cw_tree::syntax::{Ast, Cut, Function, Head, Line, Name, Stmt};
 use std::alloc::{AllocError, Global};
-
-/// The innermost loop around: its head and the line of that, and how many of the known names are from outside its body.
-#[derive(Clone, Copy)]
-struct Loop<'a> {
-    head: &'a Head,
-    line: u32,
-    outer: usize,
-    // The head of a further loop names no array of this one.
-    in_head: bool,
-}
 
 // Where a rule is looked for: a program, the line that breaks one, how many sync blocks are around, and the loop.
 #[derive(Clone, Copy)]
@@ -38,31 +65,51 @@ struct Place<'a> {
 
 impl<'a> Place<'a> {
     // The same in a sync block.
-    fn inside(self) -> Place<'a> {
-        Place {
-            depth: self.depth.saturating_add(1),
-            ..self
-        }
-    }
-
-    // The same in the head of a further loop.
-    fn in_head(self) -> Place<'a> {
-        Place {
-            around: self.around.map(|around| Loop {
-                in_head: true,
-                ..around
-            }),
-            ..self
-        }
+    fn inside(self) -> Result<Place<'a>, AllocError>
+        ensures ast { IfOk result (λ inner. inner.ast.now ≡ self.entry.ast.now) }
+        ensures line { IfOk result (λ inner. inner.line ≡ self.entry.line) }
+        ensures depth { IfOk result (λ inner. inner.depth ≡ self.entry.depth + 1) }
+        ensures around { IfOk result (λ inner. inner.around ≡ self.entry.around) }
+    {
+        let depth = deeper(self.depth)?;
+        Ok(Place { depth, ..self })
     }
 }
 
-/// A rule of ownership that this line breaks, if one is found.
+/// A rule of ownership that this line breaks: one is told exactly where the line breaks one. An error where memory is
+/// refused, or, as for that, where more sync blocks lie inside one another than 32 bits count.
 pub fn broken_ownership<'a>(
     alloc: Global,
     ast: &'a Ast,
     line: u32,
-) -> Result<Option<Disowned<'a>>, AllocError> {
+) -> Result<Option<Disowned<'a>>, AllocError>
+    ensures decides { IfOk result (λ found.
+        is_some found ≡ has_line line (rule.ownership_faults (program_of ast.now))) }
+    ensures holds { IfOk result (λ found. IfSome found (IsDisowned (program_of ast.now) line)) }
+{
+    for function in ast.functions.as_slice() {
+        let found = in_function(alloc, ast, line, function)?;
+        if found.is_some() {
+            return Ok(found);
+        }
+    }
+    Ok(None)
+}
+
+// A rule that this line of a function breaks.
+fn in_function<'a>(
+    alloc: Global,
+    ast: &'a Ast,
+    line: u32,
+    function: &'a Function,
+) -> Result<Option<Disowned<'a>>, AllocError>
+    ensures decides { IfOk result (λ found. is_some found
+        ≡ has_line line
+        (rule.owner_faults_of (program_of ast.now).functions (function_of function.now))) }
+    ensures holds { IfOk result (λ found. IfSome found
+        (IsDisownedAmong (program_of ast.now).functions line
+        (moments_of (program_of ast.now).functions (function_of function.now)))) }
+{
     let place = Place {
         alloc,
         ast,
@@ -70,15 +117,16 @@ pub fn broken_ownership<'a>(
         depth: 1,
         around: None,
     };
-    for function in ast.functions.as_slice() {
-        let mut known = Known::of_params(alloc, function)?;
-        let mut taken = Taken::none(alloc);
-        let body = function.body.as_slice();
-        if let Some(reason) = in_block(place, &mut known, &mut taken, body, true)? {
-            return Ok(Some(reason));
-        }
-    }
-    Ok(None)
+    let mut known = Known::in_order(alloc, function)?;
+    let mut taken = Taken::none(alloc);
+    let found = in_block(
+        place,
+        &mut known,
+        &mut taken,
+        function.body.as_slice(),
+        true,
+    )?;
+    Ok(found)
 }
 
 // A rule that this line of a block breaks; a sync block joins its spawns as it ends.
@@ -89,41 +137,108 @@ fn in_block<'a>(
     taken: &mut Taken<'a>,
     lines: &'a [Line],
     joins: bool,
-) -> Result<Option<Disowned<'a>>, AllocError> {
+) -> Result<Option<Disowned<'a>>, AllocError>
+    requires around { IfSome place.around (λ l. l.outer ≤ length (locals_of known.now)) }
+    ensures decides { IfOk result (λ found. is_some found
+        ≡ has_line place.entry.line
+        (block_faults (program_of place.entry.ast.now).functions
+        (spot_of (locals_of known.old) place.entry.around place.entry.depth) (closing joins)
+        (taken_of taken.old) (block_of lines.now))) }
+    ensures left { IfOk result (λ found.
+        is_some found ≡ false → locals_of known.new ≡ locals_of known.old) }
+    ensures holds { IfOk result (λ found. IfSome found
+        (IsDisownedAmong (program_of place.entry.ast.now).functions place.entry.line
+        (moments_in (program_of place.entry.ast.now).functions
+        (spot_of (locals_of known.old) place.entry.around place.entry.depth) (closing joins)
+        (taken_of taken.old) (block_of lines.now)))) }
+{
     let before = known.len();
+    let found = in_lines(place, known, taken, lines)?;
+    if found.is_some() {
+        return Ok(found);
+    }
+    known.leave(before);
+    end_block(taken, joins, place.depth);
+    let found = still_taken(place.line, taken, lines);
+    Ok(found)
+}
+
+// What is taken as a block ends: a sync block joins its spawns.
+fn end_block(taken: &mut Taken<'_>, joins: bool, depth: u32)
+    ensures { taken_of taken.new ≡ rule.at_end (closing joins) depth (taken_of taken.old) }
+{
+    if joins {
+        taken.free(depth);
+    }
+}
+
+// A rule that this line of the statements of a block breaks.
+#[cycle(walking)]
+fn in_lines<'a>(
+    place: Place<'a>,
+    known: &mut Known<'a>,
+    taken: &mut Taken<'a>,
+    lines: &'a [Line],
+) -> Result<Option<Disowned<'a>>, AllocError>
+    requires around { IfSome place.around (λ l. l.outer ≤ length (locals_of known.now)) }
+    ensures decides { IfOk result (λ found. is_some found
+        ≡ has_line place.entry.line
+        (faults_among (program_of place.entry.ast.now).functions
+        (spot_of (locals_of known.old) place.entry.around place.entry.depth) (taken_of taken.old)
+        (block_of lines.now))) }
+    ensures kept { IfOk result (λ found. is_some found ≡ false →
+        oldest (length (locals_of known.old)) (locals_of known.new) ≡ locals_of known.old) }
+    ensures after { IfOk result (λ found. is_some found ≡ false →
+        AreSame (taken_of taken.new)
+        (rule.taken_after_all (program_of place.entry.ast.now).functions place.entry.depth
+        (block_of lines.now) (taken_of taken.old))) }
+    ensures holds { IfOk result (λ found. IfSome found
+        (IsDisownedAmong (program_of place.entry.ast.now).functions place.entry.line
+        (moments_among (program_of place.entry.ast.now).functions
+        (spot_of (locals_of known.old) place.entry.around place.entry.depth) (taken_of taken.old)
+        (block_of lines.now)))) }
+{
     for line in lines {
-        if let Some(reason) = in_line(place, known, taken, line)? {
-            return Ok(Some(reason));
+        let found = in_line(place, known, taken, line)?;
+        if found.is_some() {
+            return Ok(found);
         }
         known.declare(line)?;
         after(place.alloc, place.ast, place.depth, line, taken)?;
     }
-    known.leave(before);
-    if joins {
-        taken.free(place.depth);
-    }
-    Ok(still_taken(place.line, taken, lines))
+    Ok(None)
 }
 
 // A name that this line declares in a block is still taken as the block ends.
 fn still_taken<'a>(line: u32, taken: &Taken<'a>, lines: &'a [Line]) -> Option<Disowned<'a>>
-    ensures holds { IfSome result (IsStillTaken (taken_of taken.now)) }
+    ensures decides { is_some result
+        ≡ has_line line
+        (rule.left_taken (declared_in (block_of lines.now) []) (taken_of taken.now)) }
+    ensures holds { IfSome result
+        (IsLeftTaken (declared_in (block_of lines.now) []) (taken_of taken.now) line) }
 {
     for declaring in lines {
-        if declaring.line == line {
-            if let Some(reason) = ends_taken(taken, &declaring.stmt) {
-                return Some(reason);
-            }
+        if let Some(reason) = left_taken(line, taken, declaring) {
+            return Some(reason);
         }
     }
     None
 }
 
-// The name that a statement declares is still taken.
-fn ends_taken<'a>(taken: &Taken<'a>, stmt: &'a Stmt) -> Option<Disowned<'a>>
-    ensures holds { IfSome result (IsStillTaken (taken_of taken.now)) }
+// The name that a statement declares, if that is of this line, is still taken.
+fn left_taken<'a>(line: u32, taken: &Taken<'a>, declaring: &'a Line) -> Option<Disowned<'a>>
+    ensures decides { is_some result
+        ≡ has_line line
+        (rule.left_taken (rule.declared_by declaring.now.line (stmt_of declaring.now.stmt) [])
+        (taken_of taken.now)) }
+    ensures holds { IfSome result
+        (IsLeftTaken (rule.declared_by declaring.now.line (stmt_of declaring.now.stmt) [])
+        (taken_of taken.now) line) }
 {
-    match stmt {
+    if declaring.line != line {
+        return None;
+    }
+    match &declaring.stmt {
         Stmt::Declare(x, _) => Some(of_ending(taken, x)?),
         Stmt::DeclareArray(a, _) => Some(of_ending(taken, a)?),
         _ => None,
@@ -133,7 +248,7 @@ fn ends_taken<'a>(taken: &Taken<'a>, stmt: &'a Stmt) -> Option<Disowned<'a>>
 // A name that ends is still taken.
 fn of_ending<'a>(taken: &Taken<'a>, name: &'a Name) -> Option<Disowned<'a>>
     ensures decides { is_some result ≡ rule.is_taken (taken_of taken.now) name.now }
-    ensures holds { IfSome result (IsStillTaken (taken_of taken.now)) }
+    ensures holds { IfSome result (IsStillTaken (taken_of taken.now) name.now) }
 {
     let held = taken.holder(name.as_bytes())?;
     Some(Disowned::EndsTaken(Word::of(name), held.holder, held.line))
@@ -146,17 +261,94 @@ fn in_line<'a>(
     known: &mut Known<'a>,
     taken: &Taken<'a>,
     line: &'a Line,
-) -> Result<Option<Disowned<'a>>, AllocError> {
-    let mut seen = taken.copied(place.alloc)?;
-    if let Stmt::While(_, _) = &line.stmt {
-        after(place.alloc, place.ast, place.depth, line, &mut seen)?;
+) -> Result<Option<Disowned<'a>>, AllocError>
+    requires around { IfSome place.around (λ l. l.outer ≤ length (locals_of known.now)) }
+    ensures decides { IfOk result (λ found. is_some found
+        ≡ has_line place.entry.line
+        (statement_faults (program_of place.entry.ast.now).functions
+        (spot_of (locals_of known.old) place.entry.around place.entry.depth) (taken_of taken.now)
+        line.now.line (stmt_of line.now.stmt))) }
+    ensures left { IfOk result (λ found.
+        is_some found ≡ false → locals_of known.new ≡ locals_of known.old) }
+    ensures holds { IfOk result (λ found. IfSome found
+        (IsDisownedAmong (program_of place.entry.ast.now).functions place.entry.line
+        (moments_at (program_of place.entry.ast.now).functions
+        (spot_of (locals_of known.old) place.entry.around place.entry.depth) (taken_of taken.now)
+        line.now.line (stmt_of line.now.stmt)))) }
+{
+    let mut seen = seen(place, taken, line)?;
+    let found = of_line(place, known, &seen, line)?;
+    if found.is_some() {
+        return Ok(found);
     }
-    if line.line == place.line {
-        if let Some(reason) = of_stmt(place, known, &seen, &line.stmt) {
-            return Ok(Some(reason));
+    let found = inside(place, known, &mut seen, line)?;
+    Ok(found)
+}
+
+// What is taken for a statement: for a while also what any number of its turns leaves.
+#[tactic(auto, using(crate::proofs::Alike::seen_while))]
+fn seen<'a>(place: Place<'a>, taken: &Taken<'a>, line: &'a Line) -> Result<Taken<'a>, AllocError>
+    ensures { IfOk result (λ seen. AreSame (taken_of seen)
+        (seen_by (program_of place.entry.ast.now).functions place.entry.depth (taken_of taken.now)
+        (stmt_of line.now.stmt))) }
+{
+    match &line.stmt {
+        Stmt::While(_, _) => {
+            let mut seen = taken.copied(place.alloc)?;
+            after(place.alloc, place.ast, place.depth, line, &mut seen)?;
+            Ok(seen)
+        }
+        Stmt::Declare(_, _)
+        | Stmt::DeclareArray(_, _)
+        | Stmt::Assign(_, _)
+        | Stmt::AssignElement(_, _, _)
+        | Stmt::Reduce(_, _, _)
+        | Stmt::Call(_)
+        | Stmt::Sync
+        | Stmt::If(_, _)
+        | Stmt::IfElse(_, _, _)
+        | Stmt::For(_, _)
+        | Stmt::Scope(_)
+        | Stmt::Cut(_, _)
+        | Stmt::Region(_, _)
+        | Stmt::Print(_)
+        | Stmt::Return(_) => {
+            let seen = taken.copied(place.alloc)?;
+            Ok(seen)
         }
     }
-    inside(place, known, &mut seen, line)
+}
+
+// A rule that a statement of this line breaks, the blocks in it aside.
+fn of_line<'a>(
+    place: Place<'a>,
+    known: &Known<'a>,
+    taken: &Taken<'a>,
+    line: &'a Line,
+) -> Result<Option<Disowned<'a>>, AllocError>
+    ensures decides { IfOk result (λ found. is_some found
+        ≡ ((line.now.line == place.entry.line)
+        && not (keeps_owners (program_of place.entry.ast.now).functions
+        (loop_of (locals_of known.now) place.entry.around) (taken_of taken.now)
+        (stmt_of line.now.stmt)))) }
+    ensures at_line { IfOk result (λ found. IfSome found (λ _. line.now.line ≡ place.entry.line)) }
+    ensures holds { IfOk result (λ found. IfSome found
+        (IsWrongStmt (program_of place.entry.ast.now).functions
+        (where_at (spot_of (locals_of known.now) place.entry.around place.entry.depth)
+        (taken_of taken.now) (stmt_of line.now.stmt)) (stmt_of line.now.stmt))) }
+{
+    if line.line != place.line {
+        return Ok(None);
+    }
+    let found = of_stmt(
+        place.alloc,
+        place.ast,
+        place.around,
+        known,
+        taken,
+        &line.stmt,
+    )?;
+    Ok(found)
 }
 
 // A rule that this line breaks in the blocks of a statement, which see so much as taken.
@@ -166,329 +358,121 @@ fn inside<'a>(
     known: &mut Known<'a>,
     seen: &mut Taken<'a>,
     line: &'a Line,
-) -> Result<Option<Disowned<'a>>, AllocError> {
-    let before = known.len();
-    let inner = place.inside();
+) -> Result<Option<Disowned<'a>>, AllocError>
+    requires around { IfSome place.around (λ l. l.outer ≤ length (locals_of known.now)) }
+    ensures decides { IfOk result (λ found. is_some found
+        ≡ has_line place.entry.line
+        (faults_inside (program_of place.entry.ast.now).functions
+        (spot_of (locals_of known.old) place.entry.around place.entry.depth) (taken_of seen.old)
+        line.now.line (stmt_of line.now.stmt))) }
+    ensures left { IfOk result (λ found.
+        is_some found ≡ false → locals_of known.new ≡ locals_of known.old) }
+    ensures holds { IfOk result (λ found. IfSome found
+        (IsDisownedAmong (program_of place.entry.ast.now).functions place.entry.line
+        (moments_inside (program_of place.entry.ast.now).functions
+        (spot_of (locals_of known.old) place.entry.around place.entry.depth) (taken_of seen.old)
+        line.now.line (stmt_of line.now.stmt)))) }
+{
     match &line.stmt {
-        Stmt::If(_, b) | Stmt::While(_, b) => in_block(place, known, seen, b.as_slice(), false),
+        Stmt::If(_, b) | Stmt::While(_, b) => {
+            let found = in_block(place, known, seen, b.as_slice(), false)?;
+            Ok(found)
+        }
         Stmt::IfElse(_, b, c) => {
             let mut other = seen.copied(place.alloc)?;
-            if let Some(reason) = in_block(place, known, seen, b.as_slice(), false)? {
-                return Ok(Some(reason));
+            let first = in_block(place, known, seen, b.as_slice(), false)?;
+            if first.is_some() {
+                return Ok(first);
             }
-            in_block(place, known, &mut other, c.as_slice(), false)
+            let second = in_block(place, known, &mut other, c.as_slice(), false)?;
+            Ok(second)
         }
-        Stmt::Scope(b) | Stmt::Region(_, b) => in_block(inner, known, seen, b.as_slice(), true),
+        Stmt::Scope(b) | Stmt::Region(_, b) => {
+            let found = in_block(place.inside()?, known, seen, b.as_slice(), true)?;
+            Ok(found)
+        }
         Stmt::For(head, b) => {
-            known.add(&head.variable, false, line.line)?;
-            let around = Some(Loop {
-                head: &**head,
-                line: line.line,
-                outer: known.len(),
-                in_head: false,
-            });
-            let found = in_block(Place { around, ..inner }, known, seen, b.as_slice(), true)?;
-            known.leave(before);
+            let found = in_turn(place, known, seen, line.line, head, b.as_slice())?;
             Ok(found)
         }
         Stmt::Cut(cut, b) => {
-            seen.cut(&cut.array, line.line)?;
-            known.add(&cut.left, true, line.line)?;
-            known.add(&cut.right, true, line.line)?;
-            let found = in_block(inner, known, seen, b.as_slice(), true)?;
-            known.leave(before);
+            let found = in_parts(place, known, seen, line.line, cut, b.as_slice())?;
             Ok(found)
         }
         _ => Ok(None),
     }
 }
 
-// A rule that a statement breaks, the blocks in it aside.
-fn of_stmt<'a>(
+// A rule that this line breaks in the turns of a loop.
+#[cycle(walking)]
+fn in_turn<'a>(
     place: Place<'a>,
-    known: &Known<'a>,
-    taken: &Taken<'a>,
-    stmt: &'a Stmt,
-) -> Option<Disowned<'a>> {
-    let around = place.around;
-    match stmt {
-        Stmt::Declare(_, e)
-        | Stmt::DeclareArray(_, e)
-        | Stmt::Reduce(_, _, e)
-        | Stmt::If(e, _)
-        | Stmt::IfElse(e, _, _)
-        | Stmt::While(e, _)
-        | Stmt::Print(e)
-        | Stmt::Return(Some(e)) => of_expr(around, known, taken, e),
-        Stmt::Assign(x, e) => of_assign(around, known, taken, x, e),
-        Stmt::AssignElement(a, i, e) => of_assign_element(around, known, taken, a, i, e),
-        Stmt::Call(call) => of_call(place, known, taken, call),
-        Stmt::For(head, _) => of_head(place.in_head(), known, taken, head),
-        Stmt::Cut(cut, _) => of_cut(around, known, taken, cut),
-        Stmt::Sync | Stmt::Scope(_) | Stmt::Region(_, _) | Stmt::Return(None) => None,
-    }
-}
-
-// A name is taken.
-fn of_touch<'a>(taken: &Taken<'a>, name: &'a Name, touch: Touch) -> Option<Disowned<'a>>
-    ensures decides { is_some result ≡ rule.is_taken (taken_of taken.now) name.now }
-    ensures holds { IfSome result (IsTakenBy (taken_of taken.now) name.now touch) }
-{
-    let held = taken.holder(name.as_bytes())?;
-    Some(Disowned::Taken(Word::of(name), touch, held.holder, held.line))
-}
-
-// The loop around, where the name is from outside its body.
-fn outside<'a>(around: Option<Loop<'a>>, known: &Known<'a>, name: &Name) -> Option<Loop<'a>>
-    ensures decides { is_some result
-        ≡ rule.is_outer (around_of (locals_of known.now) around.entry) name.now }
-    ensures same { IfSome result (λ loop. around.entry ≡ Some loop) }
-{
-    let around = around?;
-    if known.is_among_first(around.outer, name.as_bytes()) {
-        return Some(around);
-    }
-    None
-}
-
-// An integer from outside the loop around is written.
-fn of_written<'a>(
-    around: Option<Loop<'a>>,
-    known: &Known<'a>,
-    name: &'a Name,
-) -> Option<Disowned<'a>>
-    ensures decides { is_some result
-        ≡ rule.is_outer (around_of (locals_of known.now) around.entry) name.now }
-{
-    let around = outside(around, known, name)?;
-    Some(Disowned::OuterWritten(Word::of(name), around.line))
-}
-
-// An array from outside the loop around is named otherwise than by an element of it.
-fn of_array<'a>(around: Option<Loop<'a>>, known: &Known<'a>, name: &'a Name) -> Option<Disowned<'a>>
-    ensures decides { is_some result
-        ≡ rule.is_outer (around_of (locals_of known.now) around.entry) name.now }
-{
-    let around = outside(around, known, name)?;
-    let word = Word::of(name);
-    if is_over(around, name) {
-        let variable = Word::of(&around.head.variable);
-        return Some(Disowned::OtherElement(word, variable, around.line));
-    }
-    Some(Disowned::OuterArray(word, around.line))
-}
-
-// Whether a loop is over an array.
-fn is_over(around: Loop<'_>, name: &Name) -> bool
-    ensures { result ≡ is_among name.now around.entry.head.now.over.items }
-{
-    for a in around.head.over.as_slice() {
-        if name.as_bytes() == a.as_bytes() {
-            return true;
-        }
-    }
-    false
-}
-
-// An element of an array from outside the loop around is none that it may touch.
-fn of_element<'a>(
-    around: Option<Loop<'a>>,
-    known: &Known<'a>,
-    name: &'a Name,
-    index: &Expr,
-) -> Option<Disowned<'a>>
-    ensures decides { is_some result
-        ≡ not (rule.may_index (around_of (locals_of known.now) around.entry) name.now (expr_of index.now)) }
-{
-    if let (Some(around), Expr::Variable(i)) = (around, index) {
-        let own = around.head.variable.as_bytes() == i.as_bytes();
-        if own && !around.in_head && is_over(around, name) {
-            return None;
-        }
-    }
-    let reason = of_array(around, known, name)?;
-    Some(reason)
-}
-
-// An expression names what is taken, or an array that the loop around may not touch.
-fn of_expr<'a>(
-    around: Option<Loop<'a>>,
-    known: &Known<'a>,
-    taken: &Taken<'a>,
-    e: &'a Expr,
-) -> Option<Disowned<'a>>
-    ensures decides { is_some result
-        ≡ not (rule.may_read (around_of (locals_of known.now) around.entry) (taken_of taken.now) (expr_of e.now)) }
-{
-    match e {
-        Expr::Number(_) => None,
-        Expr::Variable(x) => Some(of_touch(taken, x, Touch::Read)?),
-        Expr::Element(a, e) => {
-            if let Some(reason) = of_touch(taken, a, Touch::Read) {
-                return Some(reason);
-            }
-            if let Some(reason) = of_expr(around, known, taken, e) {
-                return Some(reason);
-            }
-            let reason = of_element(around, known, a, e)?;
-            Some(reason)
-        }
-        Expr::Length(a) => {
-            if let Some(reason) = of_touch(taken, a, Touch::Read) {
-                return Some(reason);
-            }
-            let reason = of_array(around, known, a)?;
-            Some(reason)
-        }
-        Expr::Negative(e) => Some(of_expr(around, known, taken, e)?),
-        Expr::Not(e) => Some(of_expr(around, known, taken, e)?),
-        Expr::Binary(_, d, e) => {
-            if let Some(reason) = of_expr(around, known, taken, d) {
-                return Some(reason);
-            }
-            let reason = of_expr(around, known, taken, e)?;
-            Some(reason)
-        }
-    }
-}
-
-// An assignment breaks a rule.
-fn of_assign<'a>(
-    around: Option<Loop<'a>>,
-    known: &Known<'a>,
-    taken: &Taken<'a>,
-    x: &'a Name,
-    e: &'a Expr,
-) -> Option<Disowned<'a>>
-    ensures decides { is_some result
-        ≡ not (rule.may_read (around_of (locals_of known.now) around.entry) (taken_of taken.now) (expr_of e.now)
-        && rule.may_write (around_of (locals_of known.now) around.entry) (taken_of taken.now) (x.now ∷ [])) }
-{
-    if let Some(reason) = of_expr(around, known, taken, e) {
-        return Some(reason);
-    }
-    if let Some(reason) = of_touch(taken, x, Touch::Written) {
-        return Some(reason);
-    }
-    let reason = of_written(around, known, x)?;
-    Some(reason)
-}
-
-// An assignment to an element breaks a rule.
-fn of_assign_element<'a>(
-    around: Option<Loop<'a>>,
-    known: &Known<'a>,
-    taken: &Taken<'a>,
-    a: &'a Name,
-    i: &'a Expr,
-    e: &'a Expr,
-) -> Option<Disowned<'a>>
-    ensures decides { is_some result
-        ≡ not (rule.may_read (around_of (locals_of known.now) around.entry) (taken_of taken.now) (expr_of i.now)
-        && rule.may_read (around_of (locals_of known.now) around.entry) (taken_of taken.now) (expr_of e.now)
-        && rule.are_free (taken_of taken.now) (a.now ∷ [])
-        && rule.may_index (around_of (locals_of known.now) around.entry) a.now (expr_of i.now)) }
-{
-    if let Some(reason) = of_expr(around, known, taken, i) {
-        return Some(reason);
-    }
-    if let Some(reason) = of_expr(around, known, taken, e) {
-        return Some(reason);
-    }
-    if let Some(reason) = of_touch(taken, a, Touch::Written) {
-        return Some(reason);
-    }
-    let reason = of_element(around, known, a, i)?;
-    Some(reason)
-}
-
-// A cut breaks a rule.
-fn of_cut<'a>(
-    around: Option<Loop<'a>>,
-    known: &Known<'a>,
-    taken: &Taken<'a>,
-    cut: &'a Cut,
-) -> Option<Disowned<'a>>
-    ensures decides { is_some result
-        ≡ not (rule.may_read (around_of (locals_of known.now) around.entry) (taken_of taken.now)
-        (expr_of cut.now.at)
-        && rule.may_write (around_of (locals_of known.now) around.entry) (taken_of taken.now)
-        (cut.now.array ∷ [])) }
-{
-    if let Some(reason) = of_expr(around, known, taken, &cut.at) {
-        return Some(reason);
-    }
-    if let Some(reason) = of_touch(taken, &cut.array, Touch::Cut) {
-        return Some(reason);
-    }
-    let reason = of_array(around, known, &cut.array)?;
-    Some(reason)
-}
-
-// A call breaks a rule.
-fn of_call<'a>(
-    place: Place<'a>,
-    known: &Known<'a>,
-    taken: &Taken<'a>,
-    call: &'a Call,
-) -> Option<Disowned<'a>> {
-    for i in 0..call.arguments.len() {
-        let found = match array_given(place.ast, call, i) {
-            Some(a) => of_touch(taken, a, Touch::Passed)
-                .or(of_array(place.around, known, a))
-                .or(given_before(place.ast, call, i, a)),
-            None => of_expr(place.around, known, taken, &call.arguments[i]),
-        };
-        if found.is_some() {
-            return found;
-        }
-    }
-    let target = call.target.as_ref()?;
-    of_touch(taken, target, Touch::Written).or(of_written(place.around, known, target))
-}
-
-// An array is given at an earlier place too.
-fn given_before<'a>(
-    ast: &'a Ast,
-    call: &'a Call,
-    place: usize,
-    name: &'a Name,
-) -> Option<Disowned<'a>> {
-    for i in 0..place {
-        if let Some(a) = array_given(ast, call, i) {
-            if a.as_bytes() == name.as_bytes() {
-                return Some(Disowned::GivenTwice(Word::of(name), Word::of(&call.callee)));
-            }
-        }
-    }
-    None
-}
-
-// The head of a loop breaks a rule.
-fn of_head<'a>(
-    place: Place<'a>,
-    known: &Known<'a>,
-    taken: &Taken<'a>,
+    known: &mut Known<'a>,
+    seen: &mut Taken<'a>,
+    line: u32,
     head: &'a Head,
-) -> Option<Disowned<'a>> {
-    let around = place.around;
-    let ends = of_expr(around, known, taken, &head.from).or(of_expr(
-        around, known, taken, &head.to,
-    ));
-    if ends.is_some() {
-        return ends;
-    }
-    for i in 0..head.over.len() {
-        let a = &head.over[i];
-        let found = of_touch(taken, a, Touch::NamedInOver).or(of_array(around, known, a));
-        if found.is_some() {
-            return found;
-        }
-        for j in 0..i {
-            if head.over[j].as_bytes() == a.as_bytes() {
-                return Some(Disowned::OverTwice(Word::of(a)));
-            }
-        }
-    }
-    None
+    lines: &'a [Line],
+) -> Result<Option<Disowned<'a>>, AllocError>
+    ensures decides { IfOk result (λ found. is_some found
+        ≡ has_line place.entry.line
+        (block_faults (program_of place.entry.ast.now).functions
+        (turn_of line head.now.variable head.now.over.items
+        (spot_of (locals_of known.old) place.entry.around place.entry.depth)) rule.Joins
+        (taken_of seen.old) (block_of lines.now))) }
+    ensures left { IfOk result (λ found.
+        is_some found ≡ false → locals_of known.new ≡ locals_of known.old) }
+    ensures holds { IfOk result (λ found. IfSome found
+        (IsDisownedAmong (program_of place.entry.ast.now).functions place.entry.line
+        (moments_in (program_of place.entry.ast.now).functions
+        (turn_of line head.now.variable head.now.over.items
+        (spot_of (locals_of known.old) place.entry.around place.entry.depth)) rule.Joins
+        (taken_of seen.old) (block_of lines.now)))) }
+{
+    let before = known.len();
+    known.add(&head.variable, false, line)?;
+    let inner = place.inside()?;
+    let around = Some(Loop {
+        head,
+        line,
+        outer: known.len(),
+    });
+    let found = in_block(Place { around, ..inner }, known, seen, lines, true)?;
+    known.leave(before);
+    Ok(found)
+}
+
+// A rule that this line breaks in a cut.
+#[cycle(walking)]
+fn in_parts<'a>(
+    place: Place<'a>,
+    known: &mut Known<'a>,
+    seen: &mut Taken<'a>,
+    line: u32,
+    cut: &'a Cut,
+    lines: &'a [Line],
+) -> Result<Option<Disowned<'a>>, AllocError>
+    requires around { IfSome place.around (λ l. l.outer ≤ length (locals_of known.now)) }
+    ensures decides { IfOk result (λ found. is_some found
+        ≡ has_line place.entry.line
+        (block_faults (program_of place.entry.ast.now).functions
+        (parts_of cut.now.left cut.now.right
+        (spot_of (locals_of known.old) place.entry.around place.entry.depth)) rule.Joins
+        ((cut.now.array, rule.CutOf) ∷ taken_of seen.old) (block_of lines.now))) }
+    ensures left { IfOk result (λ found.
+        is_some found ≡ false → locals_of known.new ≡ locals_of known.old) }
+    ensures holds { IfOk result (λ found. IfSome found
+        (IsDisownedAmong (program_of place.entry.ast.now).functions place.entry.line
+        (moments_in (program_of place.entry.ast.now).functions
+        (parts_of cut.now.left cut.now.right
+        (spot_of (locals_of known.old) place.entry.around place.entry.depth)) rule.Joins
+        ((cut.now.array, rule.CutOf) ∷ taken_of seen.old) (block_of lines.now)))) }
+{
+    let before = known.len();
+    seen.cut(&cut.array, line)?;
+    known.add(&cut.left, true, line)?;
+    known.add(&cut.right, true, line)?;
+    let inner = place.inside()?;
+    let found = in_block(inner, known, seen, lines, true)?;
+    known.leave(before);
+    Ok(found)
 }

@@ -232,8 +232,9 @@ impl<'a> Taken<'a> {
     }
 }
 
-// One sync block deeper; as many inside one another as 32 bits count are told as a want of memory.
-fn deeper(depth: u32) -> Result<u32, AllocError>
+/// One sync block deeper. An error, as for a want of memory, where more of them lie inside one another than 32 bits
+/// count.
+pub fn deeper(depth: u32) -> Result<u32, AllocError>
     ensures { IfOk result (λ inner. inner ≡ depth + 1) }
 {
     match depth.checked_add(1) {
@@ -242,8 +243,8 @@ fn deeper(depth: u32) -> Result<u32, AllocError>
     }
 }
 
-// With each name in an expression.
-fn add_names<'a>(names: &mut Vec<Word<'a>>, e: &'a Expr) -> Result<(), AllocError>
+/// With each name in an expression, behind those that are there. An error where memory is refused.
+pub fn add_names<'a>(names: &mut Vec<Word<'a>>, e: &'a Expr) -> Result<(), AllocError>
     ensures { OnOk result
         (spelled names.new.items ≡ spelled names.old.items ++ rule.names_in (expr_of e.now)) }
 {
@@ -319,18 +320,6 @@ fn given<'a>(alloc: Global, ast: &Ast, call: &'a Call) -> Result<Vec<Word<'a>>, 
     }
 }
 
-/// The array that is given for a parameter, by its place among the arguments, if that is one.
-pub fn array_given<'a>(ast: &'a Ast, call: &'a Call, place: usize) -> Option<&'a Name> {
-    let function = function_named(ast, call.callee.as_bytes())?;
-    if place >= function.params.len() || place >= call.arguments.len() {
-        return None;
-    }
-    match &call.arguments[place] {
-        Expr::Variable(a) if function.params[place].is_array => Some(a),
-        _ => None,
-    }
-}
-
 // A spawn in a line takes these arrays.
 fn take_all<'a>(
     depth: u32,
@@ -394,7 +383,8 @@ fn after_spawn<'a>(
     Ok(())
 }
 
-/// What is taken after a statement that lies in so many sync blocks.
+/// What is taken after a statement that lies in so many sync blocks. An error where memory is refused, or by `deeper`;
+/// what is held as taken is then of no statement.
 #[cycle(taking)]
 pub fn after<'a>(
     alloc: Global,
