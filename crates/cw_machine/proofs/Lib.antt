@@ -55,4 +55,5 @@ pub mod Bursting
 pub mod BurstingIn
 pub mod GoingOn
 pub mod BurstRuns
+pub mod BurstSteps
 pub mod MainRuns
