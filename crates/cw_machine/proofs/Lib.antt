@@ -56,4 +56,5 @@ pub mod BurstingIn
 pub mod GoingOn
 pub mod BurstRuns
 pub mod BurstSteps
+pub mod BurstRecords
 pub mod MainRuns
