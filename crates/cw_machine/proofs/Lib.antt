@@ -55,4 +55,6 @@ pub mod Bursting
 pub mod BurstingIn
 pub mod GoingOn
 pub mod BurstRuns
+pub mod BurstSteps
+pub mod BurstRecords
 pub mod MainRuns
