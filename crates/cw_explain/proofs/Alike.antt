@@ -1,17 +1,17 @@
 -- What is taken decides the rules as a set: what is refused, and what a reason may tell.
-use Rattle.std.proofs.Common.{Bool, true, false, not, ◌&&◌, ◌||◌, if◌then◌else◌, ◌≡◌, ◌<◌, ℕ, zero, suc, ◌+◌, List, [], ◌∷◌, ◌++◌, Option, Some, None, Contains, ◌⊎◌, ⊎_elim, inl, inr, flat_map, map, slice_index_or, subst, refl, sym, ap, ◌∙◌, arith}
+use Rattle.std.proofs.Common.{Bool, true, false, not, ◌&&◌, ◌||◌, if◌then◌else◌, ◌≡◌, ◌<◌, ℕ, zero, suc, ◌+◌, List, [], ◌∷◌, ◌++◌, Some, None, Contains, ◌⊎◌, inl, inr, slice_index_or, subst, refl, sym, ap, ◌∙◌, arith}
 use Rattle.std.specs.List.{list_any, list_all}
 use Rattle.std.proofs.lemmas.List.{append-nil}
 use Rattle.std.proofs.lemmas.List.Elements.{Contains-append_left, Contains-append_right, Contains-append_cases}
 use Rattle.cw_model.specs.Lines.{unless}
-use Rattle.cw_model.specs.Names.{differ, is_among, same_name}
-use Rattle.cw_model.specs.Ownership.{Around, Closing, CutOf, Declared, Holder, Joins, Leaves, Taken, are_free, are_inner, at_end, declared_by, for_head, given, is_taken, keeps_loop, left_taken, may_index, may_read, may_write, names_in, owner_faults, owner_faults_in, taken_after, taken_after_all, target_names}
+use Rattle.cw_model.specs.Names.{differ, same_name}
+use Rattle.cw_model.specs.Ownership.{Around, Closing, CutOf, Declared, Holder, Joins, Leaves, Taken, are_free, are_inner, at_end, declared_by, for_head, given, is_taken, keeps_loop, left_taken, may_index, may_read, may_write, names_in, owner_faults_in, taken_after, taken_after_all, target_names}
 use Rattle.cw_model.specs.Syntax.{Name, Expr, Stmt, Declare, DeclareArray, Assign, AssignElement, Reduce, Call, Start, Begin, Sync, If, IfElse, While, For, Scope, Cut, Region, Print, Return, Block, End, Then, Function}
 use Rattle.cw_explain.specs.Disowned.{Does, IsDisownedAmong, IsDisownedAt, IsLeftTaken, IsWrongDoing, IsWrongStmt, Lends, where_at}
 use Rattle.cw_explain.specs.Doings.{Doing, name_of}
 use Rattle.cw_explain.specs.Held.{AreSame, has_taken, holder_of, same_holder}
-use Rattle.cw_explain.specs.Moments.{Before, Ending, Moment, Spot, behind, declared_in, ending, in_parts, in_sync, in_turn, moments_among, moments_at, moments_in, moments_inside, seen_by}
-use Rattle.cw_explain.specs.Owners.{block_faults, faults_among, faults_inside, keeps_call, keeps_owners, statement_faults}
+use Rattle.cw_explain.specs.Moments.{Before, Ending, Moment, Spot, behind, declared_in, ending, in_parts, in_sync, in_turn, moments_among, moments_in, moments_inside, seen_by}
+use Rattle.cw_explain.specs.Owners.{block_faults, faults_among, faults_inside, keeps_owners, statement_faults}
 use Rattle.cw_explain.specs.declared.owning.Disowned.{Disowned}
 use Rattle.cw_explain.specs.declared.owning.Disowned.TheVariants as reason
 use Rattle.cw_explain.proofs.Sets.{same_after, same_all, same_freed, same_holder_self, same_more}

@@ -1,12 +1,12 @@
 -- Names that are lent, and the arguments of a call, one after another.
-use Rattle.std.proofs.Common.{Bool, true, false, not, ◌&&◌, ◌||◌, if◌then◌else◌, ◌≡◌, ℕ, List, [], ◌∷◌, ◌++◌, Option, drop, map, refl, sym, ap, ◌∙◌, append_assoc, bytes_eq}
+use Rattle.std.proofs.Common.{Bool, true, false, not, ◌&&◌, ◌||◌, if◌then◌else◌, ◌≡◌, List, [], ◌∷◌, ◌++◌, Option, drop, refl, sym, ap, ◌∙◌, append_assoc}
 use Rattle.std.specs.List.{list_any, list_all}
 use Rattle.std.proofs.lemmas.List.{append-nil}
 use Rattle.std.proofs.lemmas.List.Folds.{list_any-append}
 use Rattle.cw_model.specs.Names.{differ, is_among, same_name}
 use Rattle.cw_model.specs.Ownership.{Around, InLoop, NoLoop, Taken, are_free, are_inner, arrays_given, is_outer, is_taken, keeps_loop, may_index, may_read, may_write, names_in, target_names}
 use Rattle.cw_model.specs.Syntax.{Name, Expr, Number, Variable, Element, Length, Negative, Not, Binary, Param}
-use Rattle.cw_explain.specs.Doings.{Doing, doings_in_argument, doings_in_arguments}
+use Rattle.cw_explain.specs.Doings.{doings_in_argument, doings_in_arguments}
 use Rattle.cw_explain.specs.Owners.{is_array_first, keeps_argument, lend_behind, may_lend}
 use Rattle.cw_explain.proofs.Heading.{turned}
 use Rattle.cw_explain.proofs.Walking.{among_append}

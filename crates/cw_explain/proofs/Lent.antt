@@ -2,14 +2,13 @@
 use Rattle.std.proofs.Common.{Bool, true, false, not, ◌&&◌, ◌||◌, if◌then◌else◌, ◌≡◌, ◌<◌, ℕ, ◌+◌, List, [], ◌∷◌, ◌++◌, Contains, drop, get_or, length, map, suc, take, zero, Option, Some, None, IfSome, subst, refl, sym, ap, ◌∙◌, append_assoc, arith}
 use Rattle.std.proofs.lemmas.List.{drop-map, drop_at, length-map, map_more, take-map, take_at}
 use Rattle.std.proofs.lemmas.List.Elements.{Contains-append_left, Contains-append_right}
-use Rattle.std.specs.List.{list_any, list_all}
-use Rattle.cw_model.specs.Names.{differ, is_among}
-use Rattle.cw_model.specs.Ownership.{Around, InLoop, NoLoop, Taken, arrays_given, for_head, is_outer, is_taken, may_read, may_write, names_in}
+use Rattle.cw_model.specs.Names.{is_among}
+use Rattle.cw_model.specs.Ownership.{Around, InLoop, NoLoop, Taken, arrays_given, for_head, is_outer, is_taken, may_write, names_in}
 use Rattle.cw_model.specs.Syntax.{Name, Expr, Param}
-use Rattle.cw_explain.specs.Disowned.{Does, IsGivenTwice, IsOverTwice, IsWrongAmong, IsWrongOr, Lends, Where}
+use Rattle.cw_explain.specs.Disowned.{Does, IsGivenTwice, IsOverTwice, IsWrongAmong, IsWrongOr, Where}
 use Rattle.cw_explain.specs.Doings.{Doing, NamesInOver, Passes, doings_in_argument, doings_in_arguments}
 use Rattle.cw_explain.specs.Held.{spelled}
-use Rattle.cw_explain.specs.Owners.{IsTwiceIn, IsWrongWhole, is_array_first, keeps_argument, lend_behind, lent_to, may_lend, touch_by}
+use Rattle.cw_explain.specs.Owners.{IsTwiceIn, IsWrongWhole, is_array_first, keeps_argument, lend_behind, lent_to, touch_by}
 use Rattle.cw_explain.specs.Told.{AreBothIn}
 use Rattle.cw_explain.specs.declared.owning.Disowned.{Disowned}
 use Rattle.cw_explain.specs.declared.owning.Disowned.TheVariants as reason

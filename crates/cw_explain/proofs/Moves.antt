@@ -1,21 +1,18 @@
 -- Where a walk is: places, blocks and what is told there, as the definitions have them.
-use Rattle.std.proofs.Common.{Bool, true, false, not, ◌&&◌, ◌||◌, ◌==◌, if◌then◌else◌, ◌≡◌, ◌≤◌, ◌-◌, ℕ, ◌+◌, List, [], ◌∷◌, ◌++◌, Option, Some, None, IfSome, Contains, drop, flat_map, length, map, subst, refl, sym, ap, ◌∙◌, arith, append_assoc}
-use Rattle.std.proofs.lemmas.Bool.Decides.{nat_tests}
-use Rattle.std.proofs.lemmas.List.{append-nil}
+use Rattle.std.proofs.Common.{Bool, true, false, not, ◌&&◌, ◌||◌, ◌==◌, if◌then◌else◌, ◌≡◌, ◌≤◌, ◌-◌, ℕ, ◌+◌, List, [], ◌∷◌, ◌++◌, Option, Some, None, IfSome, Contains, drop, flat_map, length, subst, refl, sym, ap, ◌∙◌, arith, append_assoc}
 use Rattle.std.proofs.lemmas.List.Elements.{Contains-append_left, Contains-append_right}
 use Rattle.cw_model.specs.Lines.{unless}
-use Rattle.cw_model.specs.Ownership.{Around, Closing, CutOf, Declared as Named, InLoop, Joins, Leaves, NoLoop, Taken, at_end, declared_by, is_taken, known_after, left_taken, owner_faults_in, owner_faults_of, taken_after, taken_after_all}
+use Rattle.cw_model.specs.Ownership.{Around, Closing, Declared as Named, InLoop, NoLoop, Taken, at_end, declared_by, is_taken, known_after, left_taken, owner_faults_in, owner_faults_of, taken_after, taken_after_all}
 use Rattle.cw_model.specs.Syntax.{Name, Stmt, Declare, DeclareArray, Assign, AssignElement, Reduce, Call, Start, Begin, Sync, If, IfElse, While, For, Scope, Cut, Region, Print, Return, Block, End, Then, Function, Program}
 use Rattle.cw_explain.specs.Disowned.{IsDisowned, IsDisownedAmong, IsLeftTaken, IsWrongStmt, where_at}
-use Rattle.cw_explain.specs.Held.{AreSame, has_taken, holder_of}
+use Rattle.cw_explain.specs.Held.{AreSame}
 use Rattle.cw_explain.specs.Loops.{around_in, head_line, loop_of, spot_of}
-use Rattle.cw_explain.specs.Moments.{Before, Ending, Moment, Spot, at_first, behind, declared_in, ending, in_parts, in_sync, in_turn, moments_among, moments_at, moments_in, moments_inside, moments_of, seen_by}
+use Rattle.cw_explain.specs.Moments.{Before, Ending, Moment, Spot, at_first, behind, declared_in, ending, in_parts, in_turn, moments_among, moments_at, moments_in, moments_inside, moments_of, seen_by}
 use Rattle.cw_explain.specs.Names.{known_names, param_names}
 use Rattle.cw_explain.specs.Owners.{block_faults, faults_among, faults_inside, keeps_owners, statement_faults}
 use Rattle.cw_explain.specs.Places.{Declared, after_stmt, kinds, oldest, with_local}
 use Rattle.cw_explain.specs.Rules.{has_line}
 use Rattle.cw_explain.specs.Standing.{in_cut, in_loop}
-use Rattle.cw_explain.specs.Touched.{IsStillTaken}
 use Rattle.cw_explain.specs.declared.owning.Disowned.{Disowned}
 use Rattle.cw_explain.specs.declared.owning.Disowned.TheVariants as reason
 use Rattle.cw_explain.specs.declared.touched.Loop.{Loop}
@@ -376,70 +373,6 @@ left_told n line s b all taken split from within r h =
 pub left_there : (line : ℕ) (s : Stmt) (b all : Block) → all ≡ Then line s b → (d : Name × ℕ) → Contains (declared_in b []) d → Contains (declared_in all []) d
 left_there line s b all split d h = subst (λ (ls : Block). Contains (declared_in ls []) d) (sym split) (declared_later line s b d h)
 
--- one name
-pub left_one : (x : Name) (line n : ℕ) (taken : Taken) (r : Disowned) → line ≡ n → IsStillTaken taken x r → IsLeftTaken ((x, line) ∷ []) taken n r
-left_one x line n taken (reason.EndsTaken word holder other) at h = (
-  subst (λ (m : ℕ). Contains {X = Name × ℕ} ((x, line) ∷ []) (word.text.now, m)) at
-      (subst (λ (y : Name). Contains {X = Name × ℕ} ((x, line) ∷ []) (y, line)) (sym h.0) (0, omega arith, refl)),
-  subst (λ (y : Name). has_taken y (holder_of holder) taken ≡ true) (sym h.0) h.1,
-)
-left_one x line n taken (reason.Taken word how holder other) at h = h
-left_one x line n taken (reason.GivenTwice word callee) at h = h
-left_one x line n taken (reason.OverTwice word) at h = h
-left_one x line n taken (reason.OuterWritten word other) at h = h
-left_one x line n taken (reason.OuterArray word other) at h = h
-left_one x line n taken (reason.OtherElement word variable other) at h = h
-
-pub left_single : (x : Name) (line n : ℕ) (taken : Taken) → line ≡ n → has_line n (left_taken ((x, line) ∷ []) taken) ≡ is_taken taken x
-left_single x line n taken at =
-    let same : (line == n) ≡ true = grind (arith, nat_tests, at) in
-    ap (has_line n) (append-nil (unless (not (is_taken taken x)) line))
-    ∙ has_unless n (not (is_taken taken x)) line
-    ∙ ap (λ b. not (not (is_taken taken x)) && b) same
-    ∙ twice (is_taken taken x)
-  where
-    twice : (b : Bool) → (not (not b) && true) ≡ b
-    twice true = refl
-    twice false = refl
-
--- no name of another line
-pub left_elsewhere : (n line : ℕ) (s : Stmt) (taken : Taken) → (line ≡ n → ⊥) → has_line n (left_taken (declared_by line s []) taken) ≡ false
-left_elsewhere n line s taken apart = either s
-  where
-    other : (line == n) ≡ false
-    other = grind (arith, nat_tests, apart)
-
-    none : (b : Bool) → (b && false) ≡ false
-    none true = refl
-    none false = refl
-
-    one : (x : Name) → has_line n (left_taken ((x, line) ∷ []) taken) ≡ false
-    one x =
-        ap (has_line n) (append-nil (unless (not (is_taken taken x)) line))
-        ∙ has_unless n (not (is_taken taken x)) line
-        ∙ ap (λ b. not (not (is_taken taken x)) && b) other
-        ∙ none (not (not (is_taken taken x)))
-
-    either : (s : Stmt) → has_line n (left_taken (declared_by line s []) taken) ≡ false
-    either (Declare x e) = one x
-    either (DeclareArray a e) = one a
-    either (Assign x e) = refl
-    either (AssignElement a i e) = refl
-    either (Reduce how s e) = refl
-    either (Call kind site target f es) = refl
-    either (Start kind f es) = refl
-    either (Begin f from to captured over) = refl
-    either Sync = refl
-    either (If e b) = refl
-    either (IfElse e b c) = refl
-    either (While e b) = refl
-    either (For x y z from to grain over b) = refl
-    either (Scope b) = refl
-    either (Cut a e l r b) = refl
-    either (Region tag b) = refl
-    either (Print e) = refl
-    either (Return e) = refl
-
 -- lines of functions, one after another
 pub flat_found : (n : ℕ) (fs : List Function) (f : Function) (rest all : List Function) → all ≡ f ∷ rest → (found : Bool) →
     found ≡ has_line n (owner_faults_of fs f) → found ≡ true → found ≡ has_line n (flat_map (owner_faults_of fs) all)
@@ -470,11 +403,6 @@ parted_spot line depth at l r locals more around other grown deeper same h =
     ∙ ap (λ (d : ℕ). spot_of (in_cut line l r locals) other d) deeper
     ∙ ap (λ (o : Option Loop). spot_of (in_cut line l r locals) o (depth + 1)) same
     ∙ spot_parts line l r locals around depth h
-
-pub synced_spot : (depth at : ℕ) (locals : List Declared) (around other : Option Loop) → at ≡ depth + 1 → other ≡ around →
-    spot_of locals other at ≡ in_sync (spot_of locals around depth)
-synced_spot depth at locals around other deeper same =
-    ap (λ (d : ℕ). spot_of locals other d) deeper ∙ ap (λ (o : Option Loop). spot_of locals o (depth + 1)) same
 
 -- a block elsewhere, as the code has its place
 pub moved_found : (n m : ℕ) (fs gs : List Function) (spot next : Spot) (closing : Closing) (taken now : Taken) (b : Block) (found : Bool) → m ≡ n → gs ≡ fs →

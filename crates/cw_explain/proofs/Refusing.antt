@@ -1,5 +1,5 @@
 -- Where a reason of ownership holds, the definition refuses the line.
-use Rattle.std.proofs.Common.{Bool, true, false, not, ◌&&◌, ◌||◌, ◌==◌, if◌then◌else◌, ◌≡◌, ◌<◌, ℕ, zero, suc, ◌+◌, List, [], ◌∷◌, ◌++◌, Option, Some, None, Contains, length, ◌⊎◌, ⊎_elim, inl, inr, flat_map, map, slice_get, slice_index_or, bytes_eq, subst, refl, sym, ap, ◌∙◌, arith}
+use Rattle.std.proofs.Common.{Bool, true, false, not, ◌&&◌, ◌||◌, ◌==◌, if◌then◌else◌, ◌≡◌, ◌<◌, ℕ, zero, suc, ◌+◌, List, [], ◌∷◌, ◌++◌, Option, Some, None, length, ◌⊎◌, ⊎_elim, inl, inr, flat_map, map, slice_get, slice_index_or, subst, refl, sym, ap, ◌∙◌, arith}
 use Rattle.std.specs.List.{list_any, list_all}
 use Rattle.std.proofs.lemmas.Bool.Decides.{nat_tests}
 use Rattle.std.proofs.lemmas.Slice.Eq.{bytes_eq-Decides}
@@ -9,8 +9,8 @@ use Rattle.cw_model.specs.Meaning.{function_named}
 use Rattle.cw_model.specs.Names.{differ, is_among, same_name}
 use Rattle.cw_model.specs.Ownership.{Around, Closing, CutOf, Declared, Holder, InLoop, Joins, Leaves, NoLoop, Taken, are_free, are_inner, arrays_given, at_end, for_head, given, is_outer, is_taken, keeps_loop, left_taken, may_index, may_read, may_write, names_in, owner_faults_of, ownership_faults, taken_after, taken_after_all, target_names}
 use Rattle.cw_model.specs.Syntax.{Name, Expr, Number, Variable, Element, Length, Negative, Not, Binary, Stmt, Declare, DeclareArray, Assign, AssignElement, Reduce, Call, Start, Begin, Sync, If, IfElse, While, For, Scope, Cut, Region, Print, Return, Block, End, Then, Param, Function, Program}
-use Rattle.cw_explain.specs.Disowned.{Does, IsDisowned, IsGivenTwice, IsOverTwice, IsDisownedAmong, IsDisownedAt, IsLeftTaken, IsLentTwice, IsWrongAmong, IsWrongDoing, IsWrongStmt, Lends, Where, judged, where_at}
-use Rattle.cw_explain.specs.Doings.{Cuts, Doing, NamesInOver, Passes, Reads, ReadsElement, Writes, WritesElement, doings, doings_in, doings_in_argument, doings_in_arguments, doings_of_target, may_be, name_of}
+use Rattle.cw_explain.specs.Disowned.{Does, IsDisowned, IsGivenTwice, IsOverTwice, IsDisownedAmong, IsDisownedAt, IsLeftTaken, IsLentTwice, IsWrongDoing, IsWrongStmt, Lends, Where, judged, where_at}
+use Rattle.cw_explain.specs.Doings.{Cuts, Doing, NamesInOver, Passes, Writes, WritesElement, doings, doings_in, doings_in_argument, doings_in_arguments, doings_of_target, may_be, name_of}
 use Rattle.cw_explain.specs.Held.{has_taken, holder_of}
 use Rattle.cw_explain.specs.Moments.{Before, Ending, Moment, Spot, at_first, behind, declared_in, ending, in_parts, in_sync, in_turn, moments_among, moments_at, moments_in, moments_inside, moments_of, seen_by}
 use Rattle.cw_explain.specs.Owners.{block_faults, faults_among, faults_inside, keeps_owners, statement_faults}

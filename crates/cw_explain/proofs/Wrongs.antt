@@ -1,16 +1,15 @@
 -- What is done breaks a rule in the loop around, and so in the whole of what a statement does.
-use Rattle.std.proofs.Common.{Bool, true, false, not, ◌&&◌, ◌||◌, if◌then◌else◌, ◌≡◌, ◌<◌, ℕ, zero, suc, List, [], ◌∷◌, ◌++◌, Option, Some, None, IfSome, Contains, drop, get_or, length, map, refl, subst, sym, ap, ◌∙◌, arith}
+use Rattle.std.proofs.Common.{Bool, true, false, not, if◌then◌else◌, ◌≡◌, ◌<◌, ℕ, zero, suc, List, [], ◌∷◌, ◌++◌, Option, Some, None, Contains, drop, get_or, length, map, refl, subst, sym, ap, ◌∙◌, arith}
 use Rattle.std.proofs.lemmas.List.Elements.{Contains-append_left, Contains-append_right}
 use Rattle.cw_model.specs.Meaning.{function_named}
 use Rattle.cw_model.specs.Names.{same_name}
 use Rattle.cw_model.specs.Ownership.{for_head, is_outer}
-use Rattle.cw_model.specs.Syntax.{Name, Param, Function}
+use Rattle.cw_model.specs.Syntax.{Name, Function}
 use Rattle.cw_model.specs.Typing.{called}
 use Rattle.cw_tree.specs.declared.syntax.Param.{Param as CodeParam}
 use Rattle.cw_tree.specs.SyntaxView.{param_of}
 use Rattle.cw_explain.specs.Disowned.{Does, IsWrongAmong, IsWrongDoing, IsWrongOr, Lends, Where, judged}
 use Rattle.cw_explain.specs.Doings.{Doing, is_of_array, may_be, name_of, touch_of}
-use Rattle.cw_explain.specs.Held.{taken_of}
 use Rattle.cw_explain.specs.Loops.{around_in, around_of, where_of}
 use Rattle.cw_explain.specs.Owners.{IsOuterArray, IsWrongWhole, is_array_first}
 use Rattle.cw_explain.specs.Places.{Declared}

@@ -1,5 +1,5 @@
 -- The innermost loop around, as the definitions have it, and what the code knows of a place.
-use Rattle.std.specs.Prelude.{ℕ, Bool, true, false, [], List, Option, Some, None, if◌then◌else◌}
+use Rattle.std.specs.Prelude.{ℕ, Bool, false, [], List, Option, Some, None, if◌then◌else◌}
 use Rattle.cw_model.specs.Ownership.{Around, Closing, InLoop, Joins, Leaves, NoLoop, Taken}
 use Rattle.cw_explain.specs.Disowned.{Where}
 use Rattle.cw_explain.specs.Moments.{Spot}

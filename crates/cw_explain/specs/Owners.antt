@@ -7,7 +7,7 @@ use Rattle.cw_model.specs.Syntax.{Name, Expr, Stmt, Declare, DeclareArray, Assig
 use Rattle.cw_explain.specs.Disowned.{HasVariable, IsGivenTwice, IsOverTwice, Where, is_over, judged}
 use Rattle.cw_explain.specs.Doings.{Doing, NamesInOver, Passes}
 use Rattle.cw_explain.specs.Held.{has_taken, holder_of}
-use Rattle.cw_explain.specs.Moments.{Spot, behind, in_parts, in_sync, in_turn, seen_by}
+use Rattle.cw_explain.specs.Moments.{Spot, behind, in_parts, in_sync, in_turn}
 use Rattle.cw_explain.specs.declared.owning.Disowned.{Disowned}
 use Rattle.cw_explain.specs.declared.owning.Disowned.TheVariants as reason
 use Rattle.cw_explain.specs.declared.owning.Touch.{Touch}

@@ -1,7 +1,7 @@
 -- What it means that a reason says of a name what took it.
 use Rattle.std.specs.Prelude.{◌≡◌, true}
-use Rattle.cw_model.specs.Ownership.{Declared, Taken, declared_by}
-use Rattle.cw_model.specs.Syntax.{Name, Block, End, Then}
+use Rattle.cw_model.specs.Ownership.{Taken}
+use Rattle.cw_model.specs.Syntax.{Name}
 use Rattle.cw_explain.specs.Held.{has_taken, holder_of}
 use Rattle.cw_explain.specs.declared.owning.Disowned.{Disowned}
 use Rattle.cw_explain.specs.declared.owning.Disowned.TheVariants as reason

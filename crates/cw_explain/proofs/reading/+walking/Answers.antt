@@ -1,4 +1,4 @@
-use Rattle.std.proofs.Common.{◌≡◌, ◌≤◌, ◌∷◌, ◌++◌, ◌+◌, ◌||◌, [], List, Option, Some, IfSome, arith, drop, is_some, length, true, false, refl, subst, sym, ap, ◌∙◌}
+use Rattle.std.proofs.Common.{◌≡◌, ◌≤◌, ◌∷◌, ◌++◌, ◌+◌, ◌||◌, List, Some, IfSome, arith, drop, is_some, length, true, false, refl, subst, sym, ap, ◌∙◌}
 use Rattle.std.proofs.lemmas.Grind.{common_steps}
 use Rattle.cw_model.specs.Ownership.{CutOf, Joins, Leaves, Taken, taken_after, taken_after_all}
 use Rattle.cw_model.specs.Syntax as model
@@ -9,9 +9,9 @@ use Rattle.cw_tree.specs.SyntaxView.{block_of, expr_of, program_of, stmt_of}
 use Rattle.cw_explain.specs.Disowned.{IsDisownedAmong}
 use Rattle.cw_explain.specs.Held.{AreSame, taken_of}
 use Rattle.cw_explain.specs.Loops.{closing, spot_of}
-use Rattle.cw_explain.specs.Moments.{Spot, behind, in_parts as parts_of, in_turn as turn_of, moments_among, moments_at, moments_in, moments_inside, seen_by}
+use Rattle.cw_explain.specs.Moments.{behind, in_parts as parts_of, in_turn as turn_of, moments_among, moments_in, moments_inside}
 use Rattle.cw_explain.specs.Names.{locals_of}
-use Rattle.cw_explain.specs.Owners.{block_faults, faults_among, faults_inside, statement_faults}
+use Rattle.cw_explain.specs.Owners.{block_faults, faults_inside}
 use Rattle.cw_explain.specs.Places.{Declared, after_stmt, oldest, with_local}
 use Rattle.cw_explain.specs.Rules.{has_line}
 use Rattle.cw_explain.specs.declared.touched.Loop.{Loop}

@@ -1,7 +1,6 @@
 use Rattle.std.proofs.Common.{◌≡◌, ◌≤◌, drop, length}
 use Rattle.cw_model.specs.Ownership.{taken_after_all}
 use Rattle.cw_tree.specs.SyntaxView.{block_of, program_of}
-use Rattle.cw_explain.specs.Disowned.{IsDisownedAmong}
 use Rattle.cw_explain.specs.Held.{AreSame, taken_of}
 use Rattle.cw_explain.specs.Loops.{spot_of}
 use Rattle.cw_explain.specs.Moments.{moments_among}

@@ -1,10 +1,9 @@
-use Rattle.std.proofs.Common.{◌≡◌, [], List, Option, None, ap, subst, sym, IfSome, ◌∙◌}
+use Rattle.std.proofs.Common.{[], List, ap, subst, IfSome, ◌∙◌}
 use Rattle.cw_model.specs.Ownership.{Joins, Taken}
 use Rattle.cw_tree.specs.declared.syntax.Line.{Line}
 use Rattle.cw_tree.specs.SyntaxView.{block_of, function_of, program_of}
 use Rattle.cw_explain.specs.Disowned.{IsDisownedAmong}
 use Rattle.cw_explain.specs.Held.{taken_of}
-use Rattle.cw_explain.specs.Loops.{spot_of}
 use Rattle.cw_explain.specs.Moments.{Spot, at_first, moments_in}
 use Rattle.cw_explain.specs.Names.{locals_of}
 use Rattle.cw_explain.specs.Owners.{block_faults}

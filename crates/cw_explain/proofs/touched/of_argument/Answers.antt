@@ -1,4 +1,4 @@
-use Rattle.std.proofs.Common.{◌≡◌, ◌∙◌, ◌++◌, Bool, IfSome, List, ap, arith, drop, length, map, not, subst, sym, take, true}
+use Rattle.std.proofs.Common.{◌≡◌, ◌∙◌, Bool, IfSome, List, ap, arith, drop, length, map, not, subst, sym, take, true}
 use Rattle.std.proofs.lemmas.Grind.{common_steps}
 use Rattle.cw_model.specs.Ownership.{names_in}
 use Rattle.cw_model.specs.Syntax.{Name}

@@ -1,8 +1,8 @@
-use Rattle.std.proofs.Common.{◌≡◌, ◌∷◌, ◌++◌, ◌+◌, ◌&&◌, [], List, Option, IfSome, Some, arith, drop, if◌then◌else◌, is_some, map, not, true, false, subst, sym, ap, ◌∙◌}
+use Rattle.std.proofs.Common.{◌≡◌, ◌∷◌, ◌+◌, ◌&&◌, [], List, IfSome, arith, drop, is_some, map, not, false, subst, sym, ap, ◌∙◌}
 use Rattle.std.proofs.lemmas.Grind.{common_steps}
 use Rattle.std.proofs.lemmas.List.{drop-drop}
 use Rattle.cw_model.specs.Meaning.{function_named}
-use Rattle.cw_model.specs.Ownership.{arrays_given, may_read, names_in}
+use Rattle.cw_model.specs.Ownership.{arrays_given, may_read}
 use Rattle.std.specs.List.{list_all}
 use Rattle.cw_model.specs.Syntax as model
 use Rattle.cw_tree.specs.declared.syntax.Expr.{Expr}
@@ -12,9 +12,9 @@ use Rattle.cw_explain.specs.Doings.{doings_in_arguments}
 use Rattle.cw_explain.specs.Held.{spelled, taken_of}
 use Rattle.cw_explain.specs.Loops.{around_of, where_of}
 use Rattle.cw_explain.specs.Names.{locals_of}
-use Rattle.cw_explain.specs.Owners.{is_array_first, keeps_argument, keep_arguments, may_lend}
+use Rattle.cw_explain.specs.Owners.{keeps_argument, keep_arguments, may_lend}
 use Rattle.cw_explain.proofs.Lending.{keep_rest, rest_all}
-use Rattle.cw_explain.proofs.Lent.{argument_among, argument_step, arguments_later, call_found, call_on, given_step, argument_told}
+use Rattle.cw_explain.proofs.Lent.{argument_step, arguments_later, call_found, call_on, given_step, argument_told}
 use Rattle.cw_explain.proofs.touched.of_arguments.Goals as goal
 
 pub loop-i-preserved : goal.loop-i-preserved

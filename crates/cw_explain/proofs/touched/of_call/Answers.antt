@@ -1,4 +1,4 @@
-use Rattle.std.proofs.Common.{◌≡◌, is_some, false, sym}
+use Rattle.std.proofs.Common.{is_some, sym}
 use Rattle.cw_model.specs.Ownership.{given, may_read, may_write, target_names}
 use Rattle.std.specs.List.{list_all}
 use Rattle.cw_model.specs.Meaning.{function_named}

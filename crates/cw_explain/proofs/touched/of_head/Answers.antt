@@ -1,9 +1,9 @@
-use Rattle.std.proofs.Common.{◌≡◌, ◌++◌, [], ◌&&◌, List, Option, IfSome, Some, ap, map, not, subst, ◌∙◌, refl, sym, true, false}
+use Rattle.std.proofs.Common.{◌≡◌, ◌++◌, [], ◌&&◌, List, IfSome, ap, map, not, subst, ◌∙◌, refl, true}
 use Rattle.cw_model.specs.Names.{differ}
 use Rattle.cw_model.specs.Ownership.{Around, for_head, may_read, may_write}
 use Rattle.cw_model.specs.Syntax.{Name}
 use Rattle.cw_tree.specs.SyntaxView.{expr_of}
-use Rattle.cw_explain.specs.Disowned.{Does, IsOverTwice, IsWrongOr, Where}
+use Rattle.cw_explain.specs.Disowned.{Does, IsOverTwice, IsWrongOr}
 use Rattle.cw_explain.specs.Doings.{NamesInOver, doings_in, doings_in_head}
 use Rattle.cw_explain.specs.Held.{spelled, taken_of}
 use Rattle.cw_explain.specs.Loops.{loop_of, where_of}

@@ -1,14 +1,10 @@
-use Rattle.std.proofs.Common.{◌≡◌, ◌∷◌, ◌++◌, ◌+◌, List, [], Contains, ap, drop, get_or, map, not, subst, sym, take, ◌∙◌}
+use Rattle.std.proofs.Common.{◌≡◌, ◌∷◌, ◌+◌, List, [], Contains, ap, drop, get_or, map, subst, sym, take, ◌∙◌}
 use Rattle.std.proofs.lemmas.List.Elements.{Contains-append_right}
-use Rattle.cw_model.specs.Names.{is_among}
-use Rattle.cw_model.specs.Ownership.{is_outer, is_taken}
 use Rattle.cw_model.specs.Syntax.{Name}
-use Rattle.cw_explain.specs.Doings.{Doing}
 use Rattle.cw_explain.specs.Held.{spelled, taken_of}
 use Rattle.cw_explain.specs.Loops.{around_of, where_of}
 use Rattle.cw_explain.specs.Names.{locals_of}
 use Rattle.cw_explain.specs.Owners.{lend_behind, lent_to}
-use Rattle.cw_explain.specs.declared.word.Word.{Word}
 use Rattle.cw_explain.proofs.Lent.{all_split, goes_on, lend_step, lent_among, stops, words_more}
 use Rattle.cw_explain.proofs.Sets.{dropped, no_word}
 use Rattle.cw_explain.proofs.touched.of_lent.Goals as goal

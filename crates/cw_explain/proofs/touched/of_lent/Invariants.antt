@@ -1,4 +1,4 @@
-use Rattle.std.proofs.Common.{◌≡◌, ◌≤◌, Contains, drop, map, take}
+use Rattle.std.proofs.Common.{◌≡◌, Contains, drop, map, take}
 use Rattle.cw_explain.specs.Doings.{Doing}
 use Rattle.cw_explain.specs.Held.{spelled, taken_of}
 use Rattle.cw_explain.specs.Loops.{around_of}

@@ -1,4 +1,4 @@
-use Rattle.std.proofs.Common.{subst, sym}
+use Rattle.std.proofs.Common.{subst}
 use Rattle.cw_model.specs.Names.{is_among}
 use Rattle.cw_model.specs.Ownership.{is_outer, is_taken}
 use Rattle.cw_explain.specs.Disowned.{Lends}
