@@ -1,0 +1,4 @@
+pub mod Boards
+pub mod Laws
+pub mod Walks
+pub mod lemmas

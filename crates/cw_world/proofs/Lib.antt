@@ -1,0 +1,14 @@
+pub mod Lists
+pub mod Boards
+pub mod Strands
+pub mod Posts
+pub mod Sounds
+pub mod Turns
+pub mod Placed
+pub mod Tops
+pub mod Begins
+pub mod After
+pub mod Doing
+pub mod Copies
+pub mod Ends
+pub mod Rooms

@@ -1,0 +1,116 @@
+-- What events do, by what a post came to and what was laid on its worker's list.
+use Rattle.std.proofs.Common.{◌≡◌, ◌⊎◌, ◌∙◌, ℕ, Bool, List, [], ◌∷◌, ◌++◌, Option, Some, None, refl, sym, ap, subst, length, reverse, inl, inr}
+use Rattle.std.specs.Prelude.{map, slice_get, IfSome, Ok}
+use Rattle.cw_verify.specs.declared.verified.Verified.{Verified}
+use Rattle.cw_jobs.specs.declared.effect.Effect.{Effect}
+use Rattle.cw_jobs.specs.declared.job.Job.{Job}
+use Rattle.cw_machine.specs.Answering.{IsOfWhole}
+use Rattle.cw_strand.specs.Holds.{its_job, outs}
+use Rattle.cw_world.specs.declared.post.Out.{Out}
+use Rattle.cw_world.specs.declared.post.Out.TheVariants as out
+use Rattle.cw_world.specs.Boards.{Each, Boarded}
+use Rattle.cw_world.specs.Scenes.{Posted, Stage, Goes, Made, Answered, Scene, top}
+use Rattle.cw_world.specs.Posts.{Stays, Comes, HandsOut, Steps, Went}
+use Rattle.cw_world.specs.Sound.{IsJobOf, IsOwn, out_number, Works, HasRoot, Sound}
+use Rattle.cw_world.specs.Events.{with_top, but_top, GoesOn, ComesTo, IsBegun, Runs, Spawns, WentOn}
+use Rattle.cw_world.proofs.Lists.{named, each_weaken, each_pushed, get_pushed, get_last, same_names, reverse_pushed}
+use Rattle.cw_world.proofs.Strands.{jobs_at, newest_out_of, comes_stays, comes_to, ended_stage, comes_whole}
+use Rattle.cw_world.proofs.Sounds.{top_stage, kept_job, kept_own}
+
+-- the parts of a scene
+pub same_scene : (jobs jobs' : List Job) (begun begun' : List (List Stage)) (board : Boarded) → jobs ≡ jobs' → begun ≡ begun'
+    → ◌≡◌ {A = Scene} (record { jobs = jobs; begun = begun; board = board }) (record { jobs = jobs'; begun = begun'; board = board })
+same_scene jobs jobs' begun begun' board j b =
+    ap (λ (k : List Job). record { jobs = k; begun = begun; board = board }) j ∙ ap (λ (l : List (List Stage)). record { jobs = jobs'; begun = l; board = board }) b
+
+abbrev pub scene_of : (jobs : List Job) (begun : List (List Stage)) (board : Boarded) → Scene
+scene_of jobs begun board = record { jobs = jobs; begun = begun; board = board }
+
+ran_on : (v : Verified) (s : Scene) (w : ℕ) (p q : Posted) (jobs' : List Job) (begun' : List (List Stage)) (x : Stage) → top s w ≡ Some (Goes p) → Works s.jobs p
+    → Stays p q p.outs (outs p.strand) → jobs' ≡ s.jobs → Went p q → x ≡ Goes q → begun' ≡ with_top (but_top s.begun w) w x → Runs v s (scene_of jobs' begun' s.board) w
+ran_on v s w p q jobs' begun' x at works stays same went b is =
+    record {
+      at = record { post = p; is = at };
+      stage = x;
+      comes = subst (λ y. ComesTo v s.jobs p p.outs y) (sym b) (comes_stays v s.jobs p q p.outs (outs p.strand) stays works.named works.lent works.own);
+      went = subst (λ y. WentOn p y) (sym b) went;
+      is = same_scene jobs' s.jobs begun' (with_top (but_top s.begun w) w x) s.board same is;
+    }
+
+went_out : (v : Verified) (p q : Posted) (e : Effect) (x : Stage) → IsBegun v q (Some e) x → WentOn p x
+went_out v p q e (Goes k) b = absurd b
+went_out v p q e (Made n d) b = tt
+went_out v p q e (Answered r) b = tt
+
+ran_out : (v : Verified) (s : Scene) (w : ℕ) (p q : Posted) (e : Effect) (jobs' : List Job) (begun' : List (List Stage)) (x : Stage) → top s w ≡ Some (Goes p) → Works s.jobs p
+    → Comes (Some e) p q [] → jobs' ≡ s.jobs → IsBegun v q (Some e) x → begun' ≡ with_top (but_top s.begun w) w x → Runs v s (scene_of jobs' begun' s.board) w
+ran_out v s w p q e jobs' begun' x at works c same b is =
+    record {
+      at = record { post = p; is = at };
+      stage = x;
+      comes = ended_stage v s.jobs p q e x works.named c.0 c.1 c.2 b;
+      went = went_out v p q e x b;
+      is = same_scene jobs' s.jobs begun' (with_top (but_top s.begun w) w x) s.board same is;
+    }
+
+spawned_names : (jobs : List Job) (p : Posted) (job : Job) → Works jobs p
+    → jobs_at (jobs ++ job ∷ []) (p.outs ++ out.Undecided (length jobs) job ∷ []) ≡ named (job ∷ outs p.strand)
+spawned_names jobs p job works =
+    let g : Out → Option Job = λ o. slice_get (jobs ++ job ∷ []) (out_number o) in
+    ap (map g) (reverse_pushed p.outs (out.Undecided (length jobs) job))
+    ∙ (ap (λ k. k ∷ map g (reverse p.outs)) (get_last jobs job)
+    ∙ ap (λ l. Some job ∷ l) (same_names (λ o. slice_get jobs (out_number o)) g (reverse p.outs) (outs p.strand) (λ o j e. get_pushed jobs job (out_number o) j e) works.lent))
+
+spawned : (v : Verified) (s : Scene) (w : ℕ) (p q : Posted) (jobs' : List Job) (begun' : List (List Stage)) (x : Stage) → top s w ≡ Some (Goes p) → Works s.jobs p
+    → HandsOut p q s.jobs jobs' → x ≡ Goes q → begun' ≡ with_top (but_top s.begun w) w x → Spawns v s (scene_of jobs' begun' s.board) w
+spawned v s w p q jobs' begun' x at works h b is =
+    let more : List Job = s.jobs ++ h.job ∷ [] in
+    let o : Out = out.Undecided (length s.jobs) h.job in
+    let own : Each (IsOwn more) (p.outs ++ o ∷ []) =
+    each_pushed (IsOwn more) p.outs o (each_weaken (IsOwn s.jobs) (IsOwn more) p.outs (kept_own s.jobs h.job) works.own) (get_last s.jobs h.job) in
+    record {
+      at = record { post = p; is = at };
+      job = h.job;
+      post = q;
+      comes = comes_stays v more p q (p.outs ++ o ∷ []) (h.job ∷ outs p.strand) h.stays (kept_job s.jobs h.job p.number (its_job p.strand) works.named) (spawned_names s.jobs p h.job works) own;
+      is = same_scene jobs' more begun' (with_top (but_top s.begun w) w (Goes q)) s.board h.jobs_are (is ∙ ap (with_top (but_top s.begun w) w) b);
+    }
+
+-- one instruction
+pub ran : (v : Verified) (s : Scene) (w : ℕ) (p q : Posted) (ended : Option Effect) (jobs' : List Job) (begun' : List (List Stage)) (x : Stage) → Sound v s → top s w ≡ Some (Goes p)
+    → Steps (Ok ended) p q s.jobs jobs' → IsBegun v q ended x → begun' ≡ with_top (but_top s.begun w) w x
+    → Runs v s (scene_of jobs' begun' s.board) w ⊎ Spawns v s (scene_of jobs' begun' s.board) w
+ran v s w p q None jobs' begun' x h at (inl c) b is = inl (ran_on v s w p q jobs' begun' x at (top_stage v s w (Goes p) h at) c.0 c.1 c.2 b is)
+ran v s w p q None jobs' begun' x h at (inr c) b is = inr (spawned v s w p q jobs' begun' x at (top_stage v s w (Goes p) h at) c b is)
+ran v s w p q (Some e) jobs' begun' x h at c b is = inl (ran_out v s w p q e jobs' begun' x at (top_stage v s w (Goes p) h at) c.0 c.1 b is)
+
+-- the root's effect is that of a whole run, by one instruction
+pub ran_whole : (v : Verified) (s : Scene) (w : ℕ) (p q : Posted) (ended : Option Effect) (jobs' : List Job) → Sound v s → top s w ≡ Some (Goes p)
+    → Steps (Ok ended) p q s.jobs jobs' → q.number ≡ 0 → IfSome ended (λ e. ∥ IsOfWhole v e ∥₁)
+ran_whole v s w p q None jobs' h at c z = tt
+ran_whole v s w p q (Some e) jobs' h at c z =
+    let works : Works s.jobs p = top_stage v s w (Goes p) h at in
+    comes_whole v s.jobs p q (Some e) [] h.root c.0 works.named z
+
+goes_same : (p mid : Posted) (os : List Out) (x : Stage) → mid.number ≡ p.number → its_job mid.strand ≡ its_job p.strand → GoesOn mid os x → GoesOn p os x
+goes_same p mid os (Goes q) n of g = (g.0 ∙ n, g.1 ∙ of, g.2)
+goes_same p mid os (Made k e) n of g = (g.0 ∙ n, (λ z. g.1 (n ∙ z)), g.2)
+goes_same p mid os (Answered r) n of g = (sym n ∙ g.0, g.1)
+
+-- its newest job out is back
+pub came_back : (v : Verified) (jobs : List Job) (p q : Posted) (older : List Out) (o : Out) (flag : Bool) (ended : Option Effect) (x : Stage) → Works jobs p → p.outs ≡ older ++ o ∷ []
+    → ((job : Job) (others : List Job) → outs p.strand ≡ job ∷ others → IsJobOf jobs (out_number o) job → Comes ended (record { number = p.number; strand = p.strand; at_join = flag; outs = older }) q others)
+    → IsBegun v q ended x → ComesTo v jobs p older x
+came_back v jobs p q older o flag ended x works are comes b =
+    let n = newest_out_of jobs p older o works are in
+    let mid : Posted = record { number = p.number; strand = p.strand; at_join = flag; outs = older } in
+    let c = comes_to v jobs mid q ended n.others x (comes n.job n.others n.is n.named_is) works.named n.older_are n.own b in
+    (goes_same p mid older x refl refl c.0, c.1)
+
+pub back_whole : (v : Verified) (jobs : List Job) (p q : Posted) (older : List Out) (o : Out) (flag : Bool) (ended : Option Effect) → HasRoot v jobs → Works jobs p → p.outs ≡ older ++ o ∷ []
+    → ((job : Job) (others : List Job) → outs p.strand ≡ job ∷ others → IsJobOf jobs (out_number o) job → Comes ended (record { number = p.number; strand = p.strand; at_join = flag; outs = older }) q others)
+    → q.number ≡ 0 → IfSome ended (λ e. ∥ IsOfWhole v e ∥₁)
+back_whole v jobs p q older o flag ended r works are comes z =
+    let n = newest_out_of jobs p older o works are in
+    let mid : Posted = record { number = p.number; strand = p.strand; at_join = flag; outs = older } in
+    comes_whole v jobs mid q ended n.others r (comes n.job n.others n.is n.named_is) works.named z

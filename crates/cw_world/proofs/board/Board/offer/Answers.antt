@@ -1,0 +1,18 @@
+use Rattle.std.proofs.Common.{List, ap}
+use Rattle.cw_sched.specs.Board.{pushed}
+use Rattle.cw_world.specs.declared.board.Offer.{Offer}
+use Rattle.cw_world.proofs.Boards.{worker_set, worker_kept}
+use Rattle.cw_world.proofs.board.Board.offer.Goals as goal
+
+pub returns-in-Ok-clause-offered : goal.returns-in-Ok-clause-offered
+returns-in-Ok-clause-offered c =
+    let b = c.args.self.now in
+    let o : Offer = record { number = c.args.number; job = c.args.job } in
+    ap (λ (l : List (List Offer)). record { offers = l; cells = b.cells.items })
+    (worker_set (λ q. q.items) b.lists.items c.args.w c.index_mut.result.now c.push_back.new.self (λ l. pushed l o) c.requires.worker c.index_mut.ensures.value c.in-Ok.ensures.items)
+
+pub returns-in-Err-clause-same : goal.returns-in-Err-clause-same
+returns-in-Err-clause-same c =
+    let b = c.args.self.now in
+    ap (λ (l : List (List Offer)). record { offers = l; cells = b.cells.items })
+    (worker_kept (λ q. q.items) b.lists.items c.args.w c.index_mut.result.now c.push_back.new.self c.requires.worker c.index_mut.ensures.value c.in-Err.ensures.items)

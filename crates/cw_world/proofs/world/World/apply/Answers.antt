@@ -1,0 +1,69 @@
+use Rattle.std.proofs.Common.{◌≡◌, true, rules}
+use Rattle.std.specs.Prelude.{Ok}
+use Rattle.cw_world.specs.declared.event.Event.TheVariants as event
+use Rattle.cw_world.specs.Scenes.{scene}
+use Rattle.cw_world.specs.Table.{is_possible}
+use Rattle.cw_world.proofs.After.{kept_world, kept_run, not_not_now}
+use Rattle.cw_world.proofs.world.World.apply.Goals as goal
+
+pub returns-in-Run-clause-sound : goal.returns-in-Run-clause-sound
+returns-in-Run-clause-sound c = kept_world c.args.self.now c.run.new.self (event.Run c.in-Run.w) c.run.result c.requires c.run.ensures.code c.run.ensures.does
+
+pub returns-in-Run-clause-run : goal.returns-in-Run-clause-run
+returns-in-Run-clause-run c = kept_run c.args.self.now c.run.new.self (event.Run c.in-Run.w) c.run.result c.requires c.run.ensures.does
+
+pub returns-in-Run-clause-not_now : goal.returns-in-Run-clause-not_now
+returns-in-Run-clause-not_now c =
+    let possible : is_possible (scene c.args.self.now) c.args.event ≡ true = search rules in
+    not_not_now c.run.result (is_possible (scene c.args.self.now) c.args.event) possible c.run.ensures.memory
+
+pub returns-in-Offer-clause-sound : goal.returns-in-Offer-clause-sound
+returns-in-Offer-clause-sound c = kept_world c.args.self.now c.offer.new.self (event.Offer c.in-Offer.w) c.offer.result c.requires c.offer.ensures.code c.offer.ensures.does
+
+pub returns-in-Offer-clause-run : goal.returns-in-Offer-clause-run
+returns-in-Offer-clause-run c = kept_run c.args.self.now c.offer.new.self (event.Offer c.in-Offer.w) c.offer.result c.requires c.offer.ensures.does
+
+pub returns-in-Offer-clause-not_now : goal.returns-in-Offer-clause-not_now
+returns-in-Offer-clause-not_now c =
+    let possible : is_possible (scene c.args.self.now) c.args.event ≡ true = search rules in
+    not_not_now c.offer.result (is_possible (scene c.args.self.now) c.args.event) possible c.offer.ensures.memory
+
+pub returns-in-Inline-clause-sound : goal.returns-in-Inline-clause-sound
+returns-in-Inline-clause-sound c = kept_world c.args.self.now c.inline.new.self (event.Inline c.in-Inline.w) (Ok tt) c.requires c.inline.ensures.code c.inline.ensures.does
+
+pub returns-in-Inline-clause-run : goal.returns-in-Inline-clause-run
+returns-in-Inline-clause-run c = kept_run c.args.self.now c.inline.new.self (event.Inline c.in-Inline.w) (Ok tt) c.requires c.inline.ensures.does
+
+pub returns-in-Retake-clause-sound : goal.returns-in-Retake-clause-sound
+returns-in-Retake-clause-sound c = kept_world c.args.self.now c.retake.new.self (event.Retake c.in-Retake.w) (Ok tt) c.requires c.retake.ensures.code c.retake.ensures.does
+
+pub returns-in-Retake-clause-run : goal.returns-in-Retake-clause-run
+returns-in-Retake-clause-run c = kept_run c.args.self.now c.retake.new.self (event.Retake c.in-Retake.w) (Ok tt) c.requires c.retake.ensures.does
+
+pub returns-in-Steal-clause-sound : goal.returns-in-Steal-clause-sound
+returns-in-Steal-clause-sound c = kept_world c.args.self.now c.steal.new.self (event.Steal c.in-Steal.w c.in-Steal.v) c.steal.result c.requires c.steal.ensures.code c.steal.ensures.does
+
+pub returns-in-Steal-clause-run : goal.returns-in-Steal-clause-run
+returns-in-Steal-clause-run c = kept_run c.args.self.now c.steal.new.self (event.Steal c.in-Steal.w c.in-Steal.v) c.steal.result c.requires c.steal.ensures.does
+
+pub returns-in-Steal-clause-not_now : goal.returns-in-Steal-clause-not_now
+returns-in-Steal-clause-not_now c =
+    let possible : is_possible (scene c.args.self.now) c.args.event ≡ true = search rules in
+    not_not_now c.steal.result (is_possible (scene c.args.self.now) c.args.event) possible c.steal.ensures.memory
+
+pub returns-in-Settle-clause-sound : goal.returns-in-Settle-clause-sound
+returns-in-Settle-clause-sound c = kept_world c.args.self.now c.settle.new.self (event.Settle c.in-Settle.w) c.settle.result c.requires c.settle.ensures.code c.settle.ensures.does
+
+pub returns-in-Settle-clause-run : goal.returns-in-Settle-clause-run
+returns-in-Settle-clause-run c = kept_run c.args.self.now c.settle.new.self (event.Settle c.in-Settle.w) c.settle.result c.requires c.settle.ensures.does
+
+pub returns-in-Settle-clause-not_now : goal.returns-in-Settle-clause-not_now
+returns-in-Settle-clause-not_now c =
+    let possible : is_possible (scene c.args.self.now) c.args.event ≡ true = search rules in
+    not_not_now c.settle.result (is_possible (scene c.args.self.now) c.args.event) possible c.settle.ensures.memory
+
+pub returns-in-Collect-clause-sound : goal.returns-in-Collect-clause-sound
+returns-in-Collect-clause-sound c = kept_world c.args.self.now c.collect.new.self (event.Collect c.in-Collect.w) (Ok tt) c.requires c.collect.ensures.code c.collect.ensures.does
+
+pub returns-in-Collect-clause-run : goal.returns-in-Collect-clause-run
+returns-in-Collect-clause-run c = kept_run c.args.self.now c.collect.new.self (event.Collect c.in-Collect.w) (Ok tt) c.requires c.collect.ensures.does

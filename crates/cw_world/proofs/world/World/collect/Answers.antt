@@ -1,0 +1,97 @@
+use Rattle.std.proofs.Common.{refl}
+use Rattle.std.specs.Arc.{arc_value}
+use Rattle.cw_world.specs.declared.post.Out.TheVariants as out
+use Rattle.cw_world.specs.Scenes.{posted, scene, stacks, top}
+use Rattle.cw_world.specs.Table as table
+use Rattle.cw_world.proofs.Turns.{came_back, back_whole}
+use Rattle.cw_world.proofs.Doing.{and_left, and_right, turned_scene, taken_works, at_sync, gives, popped, popped_are, settled_out, join_goes}
+use Rattle.cw_world.proofs.world.World.collect.Goals as goal
+
+pub take-post-requires : goal.take-post-requires
+take-post-requires c = join_goes (top (scene c.args.self.now) c.args.w) (and_left (table.is_at_join (top (scene c.args.self.now) c.args.w)) _ c.requires.possible)
+
+pub settled-number-requires : goal.settled-number-requires
+settled-number-requires c =
+    let v = arc_value c.args.self.now.code in
+    let s = scene c.args.self.now in
+    let p = posted c.take-post.result in
+    let works = taken_works v s c.args.w p c.requires.sound.right c.take-post.ensures.top in
+    let latest = c.pop-latest.result in
+    let same = popped c.take-post.result.outs c.pop-latest.new.self latest c.pop-latest.ensures.items c.pop-latest.ensures.cases in
+    settled_out s.board p (top s c.args.w) latest c.take-post.ensures.top same (and_right (table.is_at_join (top s c.args.w)) _ c.requires.possible)
+
+pub give-ended-requires-clause-at_sync : goal.give-ended-requires-clause-at_sync
+give-ended-requires-clause-at_sync c =
+    let v = arc_value c.args.self.now.code in
+    let s = scene c.args.self.now in
+    let p = posted c.take-post.result in
+    let works = taken_works v s c.args.w p c.requires.sound.right c.take-post.ensures.top in
+    let latest = c.pop-latest.result in
+    let same = popped c.take-post.result.outs c.pop-latest.new.self latest c.pop-latest.ensures.items c.pop-latest.ensures.cases in
+    at_sync s.jobs p (top s c.args.w) works c.take-post.ensures.top (and_left (table.is_at_join (top s c.args.w)) _ c.requires.possible)
+
+pub give-ended-requires-clause-lacks : goal.give-ended-requires-clause-lacks
+give-ended-requires-clause-lacks c =
+    let v = arc_value c.args.self.now.code in
+    let s = scene c.args.self.now in
+    let p = posted c.take-post.result in
+    let works = taken_works v s c.args.w p c.requires.sound.right c.take-post.ensures.top in
+    let latest = c.pop-latest.result in
+    let same = popped c.take-post.result.outs c.pop-latest.new.self latest c.pop-latest.ensures.items c.pop-latest.ensures.cases in
+    let n = c.settled-number.result.0 in
+    let older = c.pop-latest.new.self.items in
+    let are = popped_are c.take-post.result.outs c.pop-latest.new.self latest (out.Offered n) c.pop-latest.ensures.items c.settled-number.ensures.number in
+    let g = gives v s p older n c.settled-number.result.1 c.collect-effect.result c.requires.sound.right works are c.collect-effect.ensures.cell in
+    (g.out, record { others = g.others; are = g.are; even = g.even })
+
+pub give-ended-requires-clause-given : goal.give-ended-requires-clause-given
+give-ended-requires-clause-given c =
+    let v = arc_value c.args.self.now.code in
+    let s = scene c.args.self.now in
+    let p = posted c.take-post.result in
+    let works = taken_works v s c.args.w p c.requires.sound.right c.take-post.ensures.top in
+    let latest = c.pop-latest.result in
+    let same = popped c.take-post.result.outs c.pop-latest.new.self latest c.pop-latest.ensures.items c.pop-latest.ensures.cases in
+    let n = c.settled-number.result.0 in
+    let older = c.pop-latest.new.self.items in
+    let are = popped_are c.take-post.result.outs c.pop-latest.new.self latest (out.Offered n) c.pop-latest.ensures.items c.settled-number.ensures.number in
+    let g = gives v s p older n c.settled-number.result.1 c.collect-effect.result c.requires.sound.right works are c.collect-effect.ensures.cell in
+    record { out = g.out; others = g.others; are = g.are; means = g.means }
+
+pub turn-requires-clause-root : goal.turn-requires-clause-root
+turn-requires-clause-root c =
+    let v = arc_value c.args.self.now.code in
+    let s = scene c.args.self.now in
+    let p = posted c.take-post.result in
+    let works = taken_works v s c.args.w p c.requires.sound.right c.take-post.ensures.top in
+    let latest = c.pop-latest.result in
+    let same = popped c.take-post.result.outs c.pop-latest.new.self latest c.pop-latest.ensures.items c.pop-latest.ensures.cases in
+    let n = c.settled-number.result.0 in
+    let older = c.pop-latest.new.self.items in
+    let are = popped_are c.take-post.result.outs c.pop-latest.new.self latest (out.Offered n) c.pop-latest.ensures.items c.settled-number.ensures.number in
+    let g = gives v s p older n c.settled-number.result.1 c.collect-effect.result c.requires.sound.right works are c.collect-effect.ensures.cell in
+    back_whole v s.jobs p (posted c.give-ended.new.self) older (out.Offered n) p.at_join c.give-ended.result c.requires.sound.right.root works are (λ job others is _. c.give-ended.ensures job others is)
+
+pub returns-clause-does : goal.returns-clause-does
+returns-clause-does c =
+    let v = arc_value c.args.self.now.code in
+    let s = scene c.args.self.now in
+    let p = posted c.take-post.result in
+    let works = taken_works v s c.args.w p c.requires.sound.right c.take-post.ensures.top in
+    let latest = c.pop-latest.result in
+    let same = popped c.take-post.result.outs c.pop-latest.new.self latest c.pop-latest.ensures.items c.pop-latest.ensures.cases in
+    let n = c.settled-number.result.0 in
+    let older = c.pop-latest.new.self.items in
+    let are = popped_are c.take-post.result.outs c.pop-latest.new.self latest (out.Offered n) c.pop-latest.ensures.items c.settled-number.ensures.number in
+    let g = gives v s p older n c.settled-number.result.1 c.collect-effect.result c.requires.sound.right works are c.collect-effect.ensures.cell in
+    let x = c.turn.ensures.stage in
+    record {
+      at = record { at = record { post = p; is = c.take-post.ensures.top }; older = older; newest = out.Offered n; are = are };
+      number = n;
+      newest = refl;
+      place = c.settled-number.result.1;
+      waits = c.settled-number.ensures.place;
+      stage = x;
+      comes = came_back v s.jobs p (posted c.give-ended.new.self) older (out.Offered n) p.at_join c.give-ended.result x works are (λ job others is _. c.give-ended.ensures job others is) c.turn.ensures.begun;
+      is = turned_scene s c.args.w x x (stacks c.take-post.new.begun) (stacks c.turn.new.begun) _ _ c.take-post.ensures.left c.turn.ensures.is refl c.collect-effect.ensures.collected;
+    }

@@ -1,0 +1,65 @@
+-- The board: each worker's deque, and the effects that wait in their cells, each with its number.
+use Rattle.std.specs.Prelude.{◌≡◌, ℕ, nat_eq, List, [], ◌∷◌, map, Option, Some, None, slice_get, slice_set, position, replicate, ◌<◌}
+use Rattle.std.specs.VecDeque.{deque_len, deque_capacity}
+use Rattle.std.specs.List.{remove}
+use Rattle.cw_sched.specs.Board.{pushed, newest, but_newest, but_oldest, of_worker}
+use Rattle.cw_world.specs.declared.board.Board.{Board}
+use Rattle.cw_world.specs.declared.board.Offer.{Offer}
+use Rattle.cw_world.specs.declared.board.Cell.{Cell}
+
+-- the deque of each worker, the oldest first; and the effects that wait in their cells
+pub record Boarded : Type 0 where
+  pub offers : List (List Offer)
+  pub cells : List Cell
+
+abbrev pub boarded : Board → Boarded
+boarded b = record { offers = map (λ q. q.items) b.lists.items; cells = b.cells.items }
+
+-- the board of so many workers
+abbrev pub opened : (workers : ℕ) → Boarded
+opened workers = record { offers = replicate workers []; cells = [] }
+
+-- one is laid at the back of a worker's deque
+abbrev pub offered : Boarded → (w : ℕ) → Offer → Boarded
+offered b w o = record { offers = slice_set b.offers w (pushed (of_worker b.offers w) o); cells = b.cells }
+
+-- the one at the back leaves it
+abbrev pub retaken : Boarded → (w : ℕ) → Boarded
+retaken b w = record { offers = slice_set b.offers w (but_newest (of_worker b.offers w)); cells = b.cells }
+
+-- the one at the front leaves it
+abbrev pub stolen : Boarded → (v : ℕ) → Boarded
+stolen b v = record { offers = slice_set b.offers v (but_oldest (of_worker b.offers v)); cells = b.cells }
+
+-- one that was stolen stands at the front again
+abbrev pub returned : Boarded → (v : ℕ) → Offer → Boarded
+returned b v o = record { offers = slice_set b.offers v (o ∷ of_worker b.offers v); cells = b.cells }
+
+-- an effect is laid in its cell
+abbrev pub settled : Boarded → Cell → Boarded
+settled b c = record { offers = b.offers; cells = pushed b.cells c }
+
+-- the effect of this cell is taken
+abbrev pub collected : Boarded → (place : ℕ) → Boarded
+collected b place = record { offers = b.offers; cells = remove b.cells place }
+
+-- a worker's deque has room for one more
+abbrev pub HasRoomAt : Board → (v : ℕ) → Type 0
+HasRoomAt b v = (q : _) × (slice_get b.lists.items v ≡ Some q) × (deque_len q < deque_capacity q)
+
+-- the number at the back of a worker's deque
+abbrev pub back_number : Option Offer → Option ℕ
+back_number None = None
+back_number (Some o) = Some o.number
+
+abbrev pub newest_number : Boarded → (w : ℕ) → Option ℕ
+newest_number b w = back_number (newest (of_worker b.offers w))
+
+-- where the effect of a number waits
+abbrev pub cell_of : Boarded → (n : ℕ) → Option ℕ
+cell_of b n = position (λ c. nat_eq c.number n) b.cells
+
+-- every one of them
+abbrev pub Each : {A : Type 0} → (A → Type 0) → List A → Type 0
+Each P [] = Unit {0}
+Each P (x ∷ xs) = P x × Each P xs

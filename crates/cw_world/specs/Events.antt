@@ -1,0 +1,199 @@
+-- What each event does.
+use Rattle.std.specs.Prelude.{◌≡◌, ◌≢◌, ◌⊎◌, ℕ, ◌<◌, ℤ, Result, Ok, Err, slice_get, List, [], length, Option, Some, None, slice_set}
+use Rattle.std.specs.Global.{Vec}
+use Rattle.std.specs.Vec.{vec_len, vec_capacity}
+use Rattle.cw_model.specs.declared.burden.Burden.{Burden}
+use Rattle.cw_code.specs.Code.{code_view}
+use Rattle.cw_verify.specs.declared.verified.Verified.{Verified}
+use Rattle.cw_jobs.specs.Jobs.{IsRoot}
+use Rattle.cw_jobs.specs.Means.{IsMeaningOf}
+use Rattle.cw_machine.specs.Runs.{RunsAsCode}
+use Rattle.cw_jobs.specs.declared.effect.Effect.{Effect}
+use Rattle.cw_jobs.specs.declared.job.Job.{Job}
+use Rattle.cw_strand.specs.Holds.{its_job}
+use Rattle.cw_sched.specs.Board.{of_worker, pushed, newest, but_newest, oldest}
+use Rattle.cw_world.specs.declared.board.Offer.{Offer}
+use Rattle.cw_world.specs.declared.event.Refused.{Refused}
+use Rattle.cw_world.specs.declared.event.Event.{Event}
+use Rattle.cw_world.specs.declared.event.Event.TheVariants as event
+use Rattle.cw_world.specs.declared.post.Out.{Out}
+use Rattle.cw_world.specs.declared.post.Out.TheVariants as out
+use Rattle.cw_world.specs.declared.world.Begun.{Begun}
+use Rattle.cw_world.specs.Boards.{Boarded, offered, retaken, stolen, settled, collected, cell_of, newest_number}
+use Rattle.cw_world.specs.Scenes.{Posted, Stage, Goes, Made, Answered, Scene, top}
+use Rattle.cw_world.specs.Posts.{Went}
+use Rattle.cw_world.specs.Sound.{IsStage}
+
+-- the newest of a worker's is taken away, and another one laid there
+abbrev pub but_top : List (List Stage) → (w : ℕ) → List (List Stage)
+but_top begun w = slice_set begun w (but_newest (of_worker begun w))
+
+abbrev pub with_top : List (List Stage) → (w : ℕ) → Stage → List (List Stage)
+with_top begun w x = slice_set begun w (pushed (of_worker begun w) x)
+
+-- w's newest strand comes to this, and the board to that
+abbrev pub turned : Scene → (w : ℕ) → Stage → Boarded → Scene
+turned s w x board = record { jobs = s.jobs; begun = with_top (but_top s.begun w) w x; board = board }
+
+-- a strand of the same job goes on, with these jobs out; or it has ended, and none was out: the root, which is number 0,
+-- with the run's answer, another one with its effect
+abbrev pub GoesOn : Posted → (outs : List Out) → Stage → Type 0
+GoesOn p outs (Goes q) = (q.number ≡ p.number) × (its_job q.strand ≡ its_job p.strand) × (q.outs ≡ outs)
+GoesOn p outs (Made n e) = (n ≡ p.number) × (p.number ≢ 0) × (outs ≡ [])
+GoesOn p outs (Answered r) = (p.number ≡ 0) × (outs ≡ [])
+
+-- and what it comes to is right for these jobs
+abbrev pub ComesTo : Verified → List Job → Posted → (outs : List Out) → Stage → Type 0
+ComesTo v jobs p outs x = GoesOn p outs x × IsStage v jobs x
+
+-- w's newest strand
+pub record AtPost (s : Scene) (w : ℕ) : Type 0 where
+  pub post : Posted
+  pub is : top s w ≡ Some (Goes post)
+
+-- it has this newest job out
+pub record AtOut (s : Scene) (w : ℕ) : Type 0 where
+  pub at : AtPost s w
+  pub older : List Out
+  pub newest : Out
+  pub are : at.post.outs ≡ pushed older newest
+
+-- where it goes on, it has done one instruction, or waits from now on
+abbrev pub WentOn : Posted → Stage → Type 0
+WentOn p (Goes q) = Went p q
+WentOn p (Made n e) = Unit {0}
+WentOn p (Answered r) = Unit {0}
+
+-- RUN: one instruction, by which a strand goes on or ends
+pub record Runs (v : Verified) (s s' : Scene) (w : ℕ) : Type 0 where
+  pub at : AtPost s w
+  pub stage : Stage
+  pub comes : ComesTo v s.jobs at.post at.post.outs stage
+  pub went : WentOn at.post stage
+  pub is : s' ≡ turned s w stage s.board
+
+-- or a spawn, whose rest gets the next number
+pub record Spawns (v : Verified) (s s' : Scene) (w : ℕ) : Type 0 where
+  pub at : AtPost s w
+  pub job : Job
+  pub post : Posted
+  pub comes : ComesTo v (pushed s.jobs job) at.post (pushed at.post.outs (out.Undecided (length s.jobs) job)) (Goes post)
+  pub is : s' ≡ record {
+    jobs = pushed s.jobs job;
+    begun = with_top (but_top s.begun w) w (Goes post);
+    board = s.board;
+  }
+
+-- the same strand with other jobs in its list
+abbrev pub with_outs : Posted → List Out → Stage
+with_outs p outs = Goes (record { number = p.number; strand = p.strand; at_join = p.at_join; outs = outs })
+
+-- OFFER: the newest job out goes to the back of the deque
+pub record Offers (s s' : Scene) (w : ℕ) : Type 0 where
+  pub at : AtOut s w
+  pub number : ℕ
+  pub job : Job
+  pub newest : at.newest ≡ out.Undecided number job
+  pub is : s' ≡ turned s w (with_outs at.at.post (pushed at.older (out.Offered number)))
+      (offered s.board w (record { number = number; job = job }))
+
+-- INLINE: it is kept
+pub record Inlines (s s' : Scene) (w : ℕ) : Type 0 where
+  pub at : AtOut s w
+  pub number : ℕ
+  pub job : Job
+  pub newest : at.newest ≡ out.Undecided number job
+  pub is : s' ≡ turned s w (with_outs at.at.post (pushed at.older (out.Kept number job))) s.board
+
+-- one that was offered leaves the back of the deque
+abbrev pub board_without : Boarded → (w : ℕ) → Out → Boarded
+board_without b w (out.Offered n) = retaken b w
+board_without b w _ = b
+
+-- and it lies there
+abbrev pub IsAtBack : Boarded → (w : ℕ) → Out → Type 0
+IsAtBack b w (out.Offered n) = newest_number b w ≡ Some n
+IsAtBack b w _ = Unit {0}
+
+-- this job lies there, or was kept
+abbrev pub IsBack : Boarded → (w : ℕ) → Out → Job → Type 0
+IsBack b w (out.Offered n) job = newest (of_worker b.offers w) ≡ Some (record { number = n; job = job })
+IsBack b w (out.Kept n kept) job = kept ≡ job
+IsBack b w (out.Undecided n kept) job = ⊥
+
+-- RETAKE: the strand has its newest job back
+pub record Retakes (v : Verified) (s s' : Scene) (w : ℕ) : Type 0 where
+  pub at : AtOut s w
+  pub back : IsAtBack s.board w at.newest
+  pub stage : Stage
+  pub comes : ComesTo v s.jobs at.at.post at.older stage
+  pub is : s' ≡ turned s w stage (board_without s.board w at.newest)
+
+-- STEAL: a strand begins the oldest job of a deque
+pub record Steals (v : Verified) (s s' : Scene) (w victim : ℕ) : Type 0 where
+  pub there : w < length s.begun
+  pub offer : Offer
+  pub oldest_is : oldest (of_worker s.board.offers victim) ≡ Some offer
+  pub stage : Stage
+  pub post : Posted
+  pub begins : (post.number ≡ offer.number) × (its_job post.strand ≡ offer.job) × (post.outs ≡ [])
+  pub comes : ComesTo v s.jobs post [] stage
+  pub is : s' ≡ record { jobs = s.jobs; begun = with_top s.begun w stage; board = stolen s.board victim }
+
+-- SETTLE: the effect goes to its cell
+pub record Settles (s s' : Scene) (w : ℕ) : Type 0 where
+  pub number : ℕ
+  pub effect : Effect
+  pub made : top s w ≡ Some (Made number effect)
+  pub is : s' ≡ record {
+    jobs = s.jobs;
+    begun = but_top s.begun w;
+    board = settled s.board (record { number = number; effect = effect });
+  }
+
+-- COLLECT: the strand is given the effect
+pub record Collects (v : Verified) (s s' : Scene) (w : ℕ) : Type 0 where
+  pub at : AtOut s w
+  pub number : ℕ
+  pub newest : at.newest ≡ out.Offered number
+  pub place : ℕ
+  pub waits : cell_of s.board number ≡ Some place
+  pub stage : Stage
+  pub comes : ComesTo v s.jobs at.at.post at.older stage
+  pub is : s' ≡ turned s w stage (collected s.board place)
+
+-- WHAT AN EVENT DOES, in a world of this code
+abbrev pub Does : Verified → Event → Scene → Scene → Type 0
+Does v (event.Run w) s s' = Runs v s s' w ⊎ Spawns v s s' w
+Does v (event.Offer w) s s' = Offers s s' w
+Does v (event.Inline w) s s' = Inlines s s' w
+Does v (event.Retake w) s s' = Retakes v s s' w
+Does v (event.Steal w victim) s s' = Steals v s s' w victim
+Does v (event.Settle w) s s' = Settles s s' w
+Does v (event.Collect w) s s' = Collects v s s' w
+
+-- it does so; or nothing, where it is refused
+abbrev pub DoesOr : Verified → Event → Result (Unit {0}) Refused → Scene → Scene → Type 0
+DoesOr v event (Ok x) s s' = Does v event s s'
+DoesOr v event (Err e) s s' = s' ≡ s
+
+-- a worker's list has room for one more
+abbrev pub HasRoomIn : Vec (Vec Begun) → (w : ℕ) → Type 0
+HasRoomIn begun w = (v : Vec Begun) × (slice_get begun.items w ≡ Some v) × (vec_len v < vec_capacity v)
+
+-- a post that goes on, or what it ended with: of the root, what the run answers
+abbrev pub IsBegun : Verified → Posted → Option Effect → Stage → Type 0
+IsBegun v p None x = x ≡ Goes p
+IsBegun v p (Some e) (Goes q) = ⊥
+IsBegun v p (Some e) (Made n d) = (n ≡ p.number) × (p.number ≢ 0) × (d ≡ e)
+IsBegun v p (Some e) (Answered r) =
+    (p.number ≡ 0)
+    × ((args : List ℤ) (n : ℕ) (burden : Burden) (root : Job) → IsRoot v args n burden root.parts.value
+    → IsMeaningOf root e → RunsAsCode (code_view v.code) args n burden r)
+
+-- it is laid on a worker's list
+pub record Turns (v : Verified) (p : Posted) (ended : Option Effect) (old : List (List Stage)) (w : ℕ)
+    (new : List (List Stage)) : Type 0 where
+  pub stage : Stage
+  pub begun : IsBegun v p ended stage
+  pub is : new ≡ with_top old w stage

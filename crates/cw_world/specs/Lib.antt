@@ -1,0 +1,8 @@
+pub mod Boards
+pub mod Scenes
+pub mod Table
+pub mod Posts
+pub mod Sound
+pub mod Places
+pub mod Worlds
+pub mod Events

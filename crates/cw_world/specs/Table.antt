@@ -1,0 +1,64 @@
+-- Which event is possible in a world.
+use Rattle.std.specs.Prelude.{ℕ, Bool, true, false, ◌&&◌, ◌||◌, not, nat_eq, Option, Some, None, is_some, slice_get}
+use Rattle.cw_sched.specs.Board.{newest, oldest, of_worker}
+use Rattle.cw_world.specs.declared.event.Event.{Event}
+use Rattle.cw_world.specs.declared.event.Event.TheVariants as event
+use Rattle.cw_world.specs.declared.post.Out.{Out}
+use Rattle.cw_world.specs.declared.post.Out.TheVariants as out
+use Rattle.cw_world.specs.Scenes.{Stage, Goes, Made, Scene, top}
+use Rattle.cw_world.specs.Boards.{Boarded, newest_number, cell_of}
+
+-- it has not ended
+abbrev pub goes : Option Stage → Bool
+goes (Some (Goes p)) = true
+goes _ = false
+
+-- the newest job that its strand has out
+abbrev pub newest_out : Option Stage → Option Out
+newest_out (Some (Goes p)) = newest p.outs
+newest_out _ = None
+
+abbrev pub is_undecided : Option Out → Bool
+is_undecided (Some (out.Undecided n job)) = true
+is_undecided _ = false
+
+-- at a spawn to decide
+abbrev pub is_at_spawn : Option Stage → Bool
+is_at_spawn t = is_undecided (newest_out t)
+
+-- at a join: its call has ended or it has stopped, and its newest job out has not come back
+abbrev pub is_at_join : Option Stage → Bool
+is_at_join (Some (Goes p)) = p.at_join
+is_at_join _ = false
+
+-- a stolen job that has ended
+abbrev pub has_made : Option Stage → Bool
+has_made (Some (Made n e)) = true
+has_made _ = false
+
+abbrev pub is_same : ℕ → Option ℕ → Bool
+is_same n (Some m) = nat_eq n m
+is_same n None = false
+
+-- kept by w, or at the back of w's deque
+abbrev pub can_retake : Boarded → ℕ → Option Out → Bool
+can_retake b w (Some (out.Kept n job)) = true
+can_retake b w (Some (out.Offered n)) = is_same n (newest_number b w)
+can_retake b w _ = false
+
+-- its effect waits in its cell
+abbrev pub is_settled : Boarded → Option Out → Bool
+is_settled b (Some (out.Offered n)) = is_some (cell_of b n)
+is_settled b _ = false
+
+-- THE TABLE
+abbrev pub is_possible : Scene → Event → Bool
+is_possible s (event.Run w) = goes (top s w) && not (is_at_spawn (top s w)) && not (is_at_join (top s w))
+is_possible s (event.Offer w) = is_at_spawn (top s w)
+is_possible s (event.Inline w) = is_at_spawn (top s w)
+is_possible s (event.Retake w) = is_at_join (top s w) && can_retake s.board w (newest_out (top s w))
+is_possible s (event.Steal w v) =
+    is_some (slice_get s.begun w) && (not (is_some (top s w)) || is_at_join (top s w))
+    && is_some (oldest (of_worker s.board.offers v))
+is_possible s (event.Settle w) = has_made (top s w)
+is_possible s (event.Collect w) = is_at_join (top s w) && is_settled s.board (newest_out (top s w))

@@ -1,0 +1,152 @@
+//! The board: what each worker has offered and nobody has taken, and the effects that wait in their cells.
+
+ghost use Rattle.std.specs.Prelude.{◌≡◌, ◌≢◌, ◌<◌, None, Some, length, slice_get, is_some, IfOk, IfErr, OnOk, OnErr};
+ghost use Rattle.std.specs.Vec.{vec_len, vec_capacity};
+ghost use Rattle.cw_sched.specs.Board.{of_worker, newest, oldest};
+ghost use Rattle.cw_world.specs.Boards.{boarded, newest_number, cell_of, offered, retaken, stolen, settled, collected, opened, returned, HasRoomAt};
+
+use cw_jobs::effect::Effect;
+use cw_jobs::job::Job;
+use std::alloc::{AllocError, Global};
+use std::collections::VecDeque;
+
+/// A job that was offered, with its number.
+#[derive(Drop)]
+pub struct Offer {
+    pub(crate) number: usize,
+    pub(crate) job: Job,
+}
+
+/// The effect of a job that was stolen, with the job's number.
+#[derive(Drop)]
+pub struct Cell {
+    pub(crate) number: usize,
+    pub(crate) effect: Effect,
+}
+
+/// The board.
+#[derive(Drop)]
+pub struct Board {
+    /// Each worker's deque, the oldest first.
+    pub(crate) lists: Vec<VecDeque<Offer>>,
+    /// The effects that wait to be collected.
+    pub(crate) cells: Vec<Cell>,
+}
+
+impl Board {
+    /// The board of so many workers, with nothing offered.
+    pub(crate) fn open(alloc: Global, workers: usize) -> Result<Board, AllocError>
+        ensures { IfOk result (λ b. boarded b ≡ opened workers) }
+    {
+        let mut lists = Vec::with_capacity(alloc, workers)?;
+        for _ in 0..workers {
+            lists.push_reserved(VecDeque::new(alloc));
+        }
+        Ok(Board {
+            lists,
+            cells: Vec::new(alloc),
+        })
+    }
+
+    /// The number at the back of a worker's deque.
+    pub(crate) fn newest(&self, w: usize) -> Option<usize>
+        ensures { result ≡ newest_number (boarded self.now) w }
+    {
+        match self.lists.get(w) {
+            Some(list) => match list.back() {
+                Some(offer) => Some(offer.number),
+                None => None,
+            },
+            None => None,
+        }
+    }
+
+    /// Whether there is anything to steal from a worker.
+    pub(crate) fn has_offer(&self, w: usize) -> bool
+        ensures { result ≡ is_some (oldest (of_worker (boarded self.now).offers w)) }
+    {
+        match self.lists.get(w) {
+            Some(list) => !list.is_empty(),
+            None => false,
+        }
+    }
+
+    /// Where the cell of a number is, if its effect waits there.
+    pub(crate) fn cell(&self, number: usize) -> Option<usize>
+        ensures { result ≡ cell_of (boarded self.now) number }
+    {
+        self.cells.iter().position(|cell| cell.number == number)
+    }
+
+    /// A job goes to the back of a worker's deque. The error is want of memory, and gives the job back.
+    pub(crate) fn offer(&mut self, w: usize, number: usize, job: Job) -> Result<(), Job>
+        requires worker { w < length self.old.lists.items }
+        ensures offered { OnOk result (boarded self.new ≡ offered (boarded self.old) w (record { number = number; job = job })) }
+        ensures same { OnErr result (boarded self.new ≡ boarded self.old) }
+        ensures back { IfErr result (λ back. back ≡ job) }
+    {
+        match self.lists[w].push_back(Offer { number, job }) {
+            Ok(()) => Ok(()),
+            Err(refused) => Err(refused.value.job),
+        }
+    }
+
+    /// The job at the back of a worker's deque comes back, which has this number.
+    pub(crate) fn retake(&mut self, w: usize, number: usize) -> Job
+        requires { newest_number (boarded self.old) w ≡ Some number }
+        ensures job { newest (of_worker (boarded self.old).offers w) ≡ Some (record { number = number; job = result }) }
+        ensures retaken { boarded self.new ≡ retaken (boarded self.old) w }
+    {
+        match self.lists[w].pop_back() {
+            Some(offer) => offer.job,
+            None => unreachable!(),
+        }
+    }
+
+    /// The job at the front of a worker's deque goes to a thief.
+    pub(crate) fn steal(&mut self, v: usize) -> Offer
+        requires { oldest (of_worker (boarded self.old).offers v) ≢ None }
+        ensures oldest { oldest (of_worker (boarded self.old).offers v) ≡ Some result }
+        ensures stolen { boarded self.new ≡ stolen (boarded self.old) v }
+        ensures room { HasRoomAt self.new v }
+    {
+        match self.lists[v].pop_front() {
+            Some(offer) => offer,
+            None => unreachable!(),
+        }
+    }
+
+    /// The thief could not begin it: it stands at the front again.
+    pub(crate) fn unsteal(&mut self, v: usize, offer: Offer)
+        requires { HasRoomAt self.old v }
+        ensures { boarded self.new ≡ returned (boarded self.old) v offer }
+    {
+        self.lists[v].push_front_reserved(offer);
+    }
+
+    /// Makes room for one more effect.
+    pub(crate) fn room_to_settle(&mut self) -> Result<(), AllocError>
+        ensures same { boarded self.new ≡ boarded self.old }
+        ensures room { OnOk result (vec_len self.new.cells < vec_capacity self.new.cells) }
+    {
+        self.cells.reserve(1)
+    }
+
+    /// The effect of a stolen job goes to its cell.
+    pub(crate) fn settle(&mut self, number: usize, effect: Effect)
+        requires { vec_len self.old.cells < vec_capacity self.old.cells }
+        ensures { boarded self.new ≡ settled (boarded self.old) (record { number = number; effect = effect }) }
+    {
+        self.cells.push_reserved(Cell { number, effect });
+    }
+
+    /// The effect of a number leaves its cell, which is here.
+    pub(crate) fn collect(&mut self, place: usize, number: usize) -> Effect
+        requires { cell_of (boarded self.old) number ≡ Some place }
+        ensures cell { slice_get (boarded self.old).cells place ≡ Some (record { number = number; effect = result }) }
+        ensures collected { boarded self.new ≡ collected (boarded self.old) place }
+    {
+        let Cell { number: _, effect } = self.cells.remove(place);
+        effect
+    }
+}

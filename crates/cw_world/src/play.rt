@@ -1,0 +1,40 @@
+//! Whole lists of events.
+
+ghost use Rattle.std.specs.Prelude.{◌≡◌, IfSome, MatchResult};
+ghost use Rattle.cw_code.specs.Code.{code_view};
+ghost use Rattle.cw_machine.specs.Runs.{RunsAsCode};
+ghost use Rattle.cw_world.specs.Worlds.{IsNotStarted};
+
+use crate::event::Event;
+use crate::world::World;
+use cw_machine::alone::Ended;
+use cw_model::burden::Burden;
+use cw_text::Fault;
+use cw_verify::verified::Verified;
+use std::alloc::Global;
+use std::sync::Arc;
+
+/// What a run of this code on these arguments comes to by a list of events, if it ends by them, with so many workers:
+/// whatever the events and however many the workers, that is what the code's meaning gives, with all measures and the
+/// rows of all sites and regions, or `Memory`. An event that is not possible when it comes does nothing.
+///
+/// The error is that of `World::start`.
+pub fn play(
+    alloc: Global,
+    code: Arc<Verified>,
+    args: &[i64],
+    n: u64,
+    burden: Burden,
+    workers: usize,
+    events: &[Event],
+) -> Result<Option<Result<Ended, Fault>>, Fault>
+    ensures { MatchResult result (λ outcome. IfSome outcome (RunsAsCode (code_view code.value.code) args.now n burden))
+        (IsNotStarted (code_view code.value.code) args.now n burden workers) }
+{
+    let mut world = World::start(alloc, code, args, n, burden, workers)?;
+    for event in events {
+        let _ = world.apply(*event);
+    }
+    let outcome = world.outcome();
+    Ok(outcome)
+}

@@ -1,0 +1,148 @@
+//! A strand that a worker has begun, beside the jobs that it has out.
+
+ghost use Rattle.std.specs.Prelude.{◌≡◌, ◌∷◌, List, length, MatchResult};
+ghost use Rattle.cw_jobs.specs.declared.job.Job as jobs;
+ghost use Rattle.cw_strand.specs.Holds.{outs, IsAtSync, IsRunning};
+ghost use Rattle.cw_strand.specs.Giving.{IsGiven};
+ghost use Rattle.cw_sched.specs.Board.{pushed};
+ghost use Rattle.cw_world.specs.declared.post.Out.TheVariants as out;
+ghost use Rattle.cw_world.specs.Scenes.{jobs_of, posted};
+ghost use Rattle.cw_world.specs.Posts.{Begins, Comes, HasRoom, IsEven, Lacks, LacksOne, StandsRight, Steps};
+
+use cw_jobs::effect::Effect;
+use cw_jobs::job::Job;
+use cw_strand::strand::{Advance, Step, Strand};
+use std::alloc::{AllocError, Global};
+use std::snapshot::Snapshot;
+
+/// A job that a strand has out, with its number.
+#[derive(Drop)]
+pub enum Out {
+    /// At a spawn, to be offered or kept.
+    Undecided(usize, Job),
+    /// Kept by the strand's worker.
+    Kept(usize, Job),
+    /// Offered: the board has it, or its effect, or who stole it.
+    Offered(usize),
+}
+
+/// A strand that has not ended, and each job that it has out, the newest last.
+#[derive(Drop)]
+pub struct Post {
+    /// The number of its job.
+    pub(crate) number: usize,
+    pub(crate) strand: Strand,
+    /// Whether it is at a join: it waits for the newest job out, or has stopped.
+    pub(crate) at_join: bool,
+    pub(crate) outs: Vec<Out>,
+}
+
+// The newest job out is back unrun.
+fn unrun(strand: &mut Strand, rest: Job)
+    requires at_sync { IsRunning strand.old × IsAtSync strand.old }
+    requires newest { (others : List jobs.Job) × (outs strand.old ≡ rest ∷ others) }
+    ensures of { strand.new.of ≡ strand.old.of }
+    ensures running { IsRunning strand.new }
+    ensures outs { rest ∷ outs strand.new ≡ outs strand.old }
+{
+    if strand.stopped() {
+        strand.skip(rest);
+    } else {
+        strand.take_back(rest);
+    }
+}
+
+impl Post {
+    /// Begins a job. The error is want of memory, and gives the job back as it was.
+    pub(crate) fn start(alloc: Global, number: usize, job: Job) -> Result<Post, Job>
+        ensures { MatchResult result (Begins number job) (λ back. back ≡ job) }
+    {
+        match Strand::start(alloc, job) {
+            Ok(strand) => Ok(Post {
+                number,
+                strand,
+                at_join: false,
+                outs: Vec::new(alloc),
+            }),
+            Err(back) => Err(back),
+        }
+    }
+
+    /// How it stands after an instruction, or after its newest job came back: with its effect, where it has ended.
+    pub(crate) fn stand(&mut self) -> Option<Effect>
+        requires running { IsRunning self.old.strand }
+        requires even { IsEven self.old }
+        ensures { Comes result (posted self.old) (posted self.new) (outs self.old.strand) }
+    {
+        if self.outs.is_empty() {
+            self.at_join = false;
+            return self.strand.end();
+        }
+        self.at_join = self.strand.stopped();
+        None
+    }
+
+    // A job is out, and gets the next number.
+    fn hand_out(&mut self, jobs: &mut Vec<Snapshot<Job>>, job: Job)
+        requires room { HasRoom self.old.outs × HasRoom jobs.old }
+        ensures strand { self.new.strand ≡ self.old.strand }
+        ensures numbered { self.new.number ≡ self.old.number }
+        ensures outs { self.new.outs.items ≡ pushed self.old.outs.items (out.Undecided (length (jobs_of jobs.old)) job) }
+        ensures jobs { jobs_of jobs.new ≡ pushed (jobs_of jobs.old) job }
+        ensures stands { StandsRight (posted self.new) }
+    {
+        let number = jobs.len();
+        jobs.push_reserved(Snapshot::of(&job));
+        self.outs.push_reserved(Out::Undecided(number, job));
+        self.at_join = self.strand.stopped();
+    }
+
+    /// One instruction, with its effect, where it has ended. A rest that is handed out gets the next number. The error is
+    /// want of memory, and nothing was done.
+    pub(crate) fn step(
+        &mut self,
+        jobs: &mut Vec<Snapshot<Job>>,
+    ) -> Result<Option<Effect>, AllocError>
+        requires running { IsRunning self.old.strand }
+        requires even { IsEven self.old }
+        ensures { Steps result (posted self.old) (posted self.new) (jobs_of jobs.old) (jobs_of jobs.new) }
+    {
+        jobs.reserve(1)?;
+        self.outs.reserve(1)?;
+        match self.strand.advance() {
+            Advance::Ran => Ok(self.stand()),
+            Advance::Came(Step::Spawned(job)) => {
+                self.hand_out(jobs, job);
+                Ok(None)
+            }
+            Advance::Came(Step::AtSync) => {
+                self.at_join = true;
+                Ok(None)
+            }
+            Advance::Came(Step::Ended(effect)) => Ok(Some(effect)),
+        }
+    }
+
+    /// The newest job out is back unrun.
+    pub(crate) fn take_in(&mut self, rest: Job) -> Option<Effect>
+        requires at_sync { IsRunning self.old.strand × IsAtSync self.old.strand }
+        requires lacks { Lacks self.old rest }
+        ensures { (others : List jobs.Job) → outs self.old.strand ≡ rest ∷ others
+            → Comes result (posted self.old) (posted self.new) others }
+    {
+        unrun(&mut self.strand, rest);
+        self.stand()
+    }
+
+    /// The effect of the newest job out is given.
+    pub(crate) fn give(&mut self, effect: Effect) -> Option<Effect>
+        requires at_sync { IsRunning self.old.strand × IsAtSync self.old.strand }
+        requires lacks { LacksOne self.old }
+        requires given { IsGiven self.old.strand effect }
+        ensures { (out : jobs.Job) (others : List jobs.Job) → outs self.old.strand ≡ out ∷ others
+            → Comes result (posted self.old) (posted self.new) others }
+    {
+        self.strand.give(effect);
+        self.stand()
+    }
+}

@@ -1,0 +1,588 @@
+//! Worlds.
+
+ghost use Rattle.std.specs.Prelude.{◌≡◌, ◌≢◌, ◌<◌, ◌≤◌, ◌↔◌, false, true, ℕ, ◌-◌, ℤ, List, [], ◌∷◌, None, Some, length, IfOk, IfSome, IfErr, OnOk, MatchResult, IsSome, Err};
+ghost use Rattle.std.specs.Arc.{arc_value};
+ghost use Rattle.std.specs.Option.{option_copied};
+ghost use Rattle.cw_code.specs.Code.{code_view};
+ghost use Rattle.cw_model.specs.declared.burden.Burden.{Burden};
+ghost use Rattle.cw_machine.specs.Answering.{IsOfWhole};
+ghost use Rattle.cw_machine.specs.Runs.{RunsAsCode};
+ghost use Rattle.cw_sched.specs.Board.{newest, oldest, of_worker};
+ghost use Rattle.cw_world.specs.declared.event.Event.TheVariants as event;
+ghost use Rattle.cw_world.specs.declared.event.Refused.TheVariants as refused;
+ghost use Rattle.cw_world.specs.Scenes.{jobs_of, top, posted, scene, stacks, stage_of, staged, out_of, Goes, Made};
+ghost use Rattle.cw_verify.specs.declared.verified.Verified.{Verified};
+ghost use Rattle.cw_world.specs.declared.post.Out.TheVariants as out;
+ghost use Rattle.cw_world.specs.Boards.{boarded, cell_of};
+ghost use Rattle.cw_text.specs.declared.fault.Fault.TheVariants as fault;
+ghost use Rattle.cw_world.specs.Posts.{Begins};
+ghost use Rattle.cw_world.specs.Sound.{KeepsRuns, Sound};
+ghost use Rattle.cw_world.specs.Worlds.{answer_in, has_ended, idle, IsSound, IsStarted, IsNotStarted, IsWorldOf};
+ghost use Rattle.cw_world.specs.Table as table;
+ghost use Rattle.cw_world.specs.Table.{is_possible};
+ghost use Rattle.cw_world.specs.Events.{board_without, but_top, with_top, Does, DoesOr, HasRoomIn, IsBack, IsBegun, Turns};
+
+use crate::board::{Board, Offer};
+use crate::copy::copy_of;
+use crate::event::{Event, Refused};
+use crate::post::{Out, Post};
+use cw_jobs::effect::Effect;
+use cw_jobs::job::Job;
+use cw_machine::alone::Ended;
+use cw_machine::answering::answer;
+use cw_model::burden::Burden;
+use cw_text::Fault;
+use cw_verify::verified::Verified;
+use std::alloc::{AllocError, Global};
+use std::snapshot::Snapshot;
+use std::sync::Arc;
+
+/// Workers of a world.
+pub const MOST_WORKERS: usize = 64;
+
+/// What a worker has begun and not settled.
+#[derive(Drop)]
+pub enum Begun {
+    /// A strand that has not ended.
+    Goes(Post),
+    /// A stolen job that has ended, by its number, with its effect.
+    Made(usize, Effect),
+    /// The root has ended, and this is what the run answers.
+    Answered(Result<Ended, Fault>),
+}
+
+/// Workers with their strands and deques, over one run of code.
+#[derive(Drop)]
+pub struct World {
+    /// A share of the code.
+    pub(crate) code: Arc<Verified>,
+    /// The jobs by number, in the proof alone.
+    pub(crate) jobs: Vec<Snapshot<Job>>,
+    /// What each worker has begun and not settled, the newest last.
+    pub(crate) begun: Vec<Vec<Begun>>,
+    /// What was offered, and what became of it.
+    pub(crate) board: Board,
+}
+
+// A post that goes on, or what it ended with: of the root, what the run answers.
+fn as_begun(alloc: Global, code: &Verified, post: Post, ended: Option<Effect>) -> Begun
+    requires { post.number ≡ 0 → IfSome ended (λ e. ∥ IsOfWhole code.now e ∥₁) }
+    ensures { IsBegun code.now (posted post) ended (stage_of result) }
+{
+    match ended {
+        None => Begun::Goes(post),
+        Some(effect) => {
+            if post.number == 0 {
+                Begun::Answered(answer(alloc, code, effect))
+            } else {
+                Begun::Made(post.number, effect)
+            }
+        }
+    }
+}
+
+// What a worker has begun last, which goes on.
+fn take(begun: &mut Vec<Vec<Begun>>, w: usize) -> Post
+    requires { table.goes (newest (of_worker (stacks begun.old) w)) ≡ true }
+    ensures top { newest (of_worker (stacks begun.old) w) ≡ Some (Goes (posted result)) }
+    ensures left { stacks begun.new ≡ but_top (stacks begun.old) w }
+    ensures room { HasRoomIn begun.new w }
+{
+    match begun[w].pop() {
+        Some(Begun::Goes(post)) => post,
+        Some(Begun::Made(_, _)) => unreachable!(),
+        Some(Begun::Answered(_)) => unreachable!(),
+        None => unreachable!(),
+    }
+}
+
+// A worker has begun this.
+fn put(begun: &mut Vec<Vec<Begun>>, w: usize, next: Begun)
+    requires { HasRoomIn begun.old w }
+    ensures { stacks begun.new ≡ with_top (stacks begun.old) w (stage_of next) }
+{
+    begun[w].push_reserved(next);
+}
+
+// The newest strand of a worker goes on from what it came to.
+fn turn(
+    begun: &mut Vec<Vec<Begun>>,
+    code: &Arc<Verified>,
+    w: usize,
+    post: Post,
+    ended: Option<Effect>,
+)
+    requires room { HasRoomIn begun.old w }
+    requires root { post.number ≡ 0 → IfSome ended (λ e. ∥ IsOfWhole (arc_value code.now) e ∥₁) }
+    ensures { Turns (arc_value code.now) (posted post) ended (stacks begun.old) w (stacks begun.new) }
+{
+    let alloc = *begun.allocator();
+    let next = as_begun(alloc, code, post, ended);
+    put(begun, w, next);
+}
+
+// What a worker has begun last, which is a stolen job that has ended: its number and its effect.
+fn take_made(begun: &mut Vec<Vec<Begun>>, w: usize) -> (usize, Effect)
+    requires { table.has_made (newest (of_worker (stacks begun.old) w)) ≡ true }
+    ensures top { newest (of_worker (stacks begun.old) w) ≡ Some (Made result.0 result.1) }
+    ensures left { stacks begun.new ≡ but_top (stacks begun.old) w }
+{
+    match begun[w].pop() {
+        Some(Begun::Made(number, effect)) => (number, effect),
+        Some(Begun::Goes(_)) => unreachable!(),
+        Some(Begun::Answered(_)) => unreachable!(),
+        None => unreachable!(),
+    }
+}
+
+// The root has number 0.
+fn first_jobs(alloc: Global, root: &Job) -> Result<Vec<Snapshot<Job>>, AllocError>
+    ensures { IfOk result (λ jobs. jobs_of jobs ≡ root.now ∷ []) }
+{
+    let mut jobs = Vec::with_capacity(alloc, 1)?;
+    jobs.push_reserved(Snapshot::of(root));
+    Ok(jobs)
+}
+
+// The root's strand begins.
+fn first_post(alloc: Global, root: Job) -> Result<Post, Fault>
+    ensures { MatchResult result (Begins 0 root) (λ e. e ≡ fault.Memory) }
+{
+    match Post::start(alloc, 0, root) {
+        Ok(post) => Ok(post),
+        Err(_) => Err(Fault::Memory),
+    }
+}
+
+// Worker 0 has begun this, all others are idle.
+fn first_begun(alloc: Global, workers: usize, post: Post) -> Result<Vec<Vec<Begun>>, AllocError>
+    requires { 0 < workers }
+    ensures { IfOk result (λ begun. stacks begun ≡ (Goes (posted post) ∷ []) ∷ idle (workers - 1)) }
+{
+    let mut begun = Vec::with_capacity(alloc, workers)?;
+    let mut first = Vec::with_capacity(alloc, 1)?;
+    first.push_reserved(Begun::Goes(post));
+    begun.push_reserved(first);
+    for _ in 0..workers - 1 {
+        begun.push_reserved(Vec::new(alloc));
+    }
+    Ok(begun)
+}
+
+// Room for one more.
+fn room(begun: &mut Vec<Vec<Begun>>, w: usize) -> Result<(), AllocError>
+    requires { w < length begun.old.items }
+    ensures same { stacks begun.new ≡ stacks begun.old }
+    ensures room { OnOk result (HasRoomIn begun.new w) }
+{
+    begun[w].reserve(1)
+}
+
+// Whether it has not ended.
+fn goes(top: Option<&Begun>) -> bool
+    ensures { result ≡ table.goes (staged top.entry) }
+{
+    match top {
+        Some(Begun::Goes(_)) => true,
+        _ => false,
+    }
+}
+
+// The newest job that it has out.
+fn newest_out(top: Option<&Begun>) -> Option<&Out>
+    ensures { out_of result ≡ table.newest_out (staged top.entry) }
+{
+    match top {
+        Some(Begun::Goes(post)) => post.outs.as_slice().last(),
+        _ => None,
+    }
+}
+
+// Whether it is at a spawn to decide.
+fn is_at_spawn(top: Option<&Begun>) -> bool
+    ensures { result ≡ table.is_at_spawn (staged top.entry) }
+{
+    match newest_out(top) {
+        Some(Out::Undecided(_, _)) => true,
+        _ => false,
+    }
+}
+
+// Whether it is at a join.
+fn is_at_join(top: Option<&Begun>) -> bool
+    ensures { result ≡ table.is_at_join (staged top.entry) }
+{
+    match top {
+        Some(Begun::Goes(post)) => post.at_join,
+        _ => false,
+    }
+}
+
+// Whether it is a stolen job that has ended.
+fn has_made(top: Option<&Begun>) -> bool
+    ensures { result ≡ table.has_made (staged top.entry) }
+{
+    match top {
+        Some(Begun::Made(_, _)) => true,
+        _ => false,
+    }
+}
+
+// What the run answers, if this is the root and has ended.
+fn answered(first: Option<&Begun>) -> Option<&Result<Ended, Fault>>
+    ensures { option_copied result ≡ answer_in (staged first.entry) }
+{
+    match first {
+        Some(Begun::Answered(answer)) => Some(answer),
+        _ => None,
+    }
+}
+
+// Whether this job is kept, or at the back of the worker's deque.
+fn can_retake(board: &Board, w: usize, out: Option<&Out>) -> bool
+    ensures { result ≡ table.can_retake (boarded board.now) w (out_of out.entry) }
+{
+    match out {
+        Some(Out::Kept(_, _)) => true,
+        Some(Out::Offered(number)) => match board.newest(w) {
+            Some(back) => *number == back,
+            None => false,
+        },
+        _ => false,
+    }
+}
+
+// A job at a spawn to decide, with its number.
+fn undecided(latest: Option<Out>) -> (usize, Job)
+    requires { table.is_undecided latest ≡ true }
+    ensures { latest ≡ Some (out.Undecided result.0 result.1) }
+{
+    match latest {
+        Some(Out::Undecided(number, job)) => (number, job),
+        Some(Out::Kept(_, _)) => unreachable!(),
+        Some(Out::Offered(_)) => unreachable!(),
+        None => unreachable!(),
+    }
+}
+
+// A job that was kept, or lies at the back of the worker's deque, comes back unrun.
+fn unrun(board: &mut Board, w: usize, latest: Option<Out>) -> Job
+    requires { table.can_retake (boarded board.old) w latest ≡ true }
+    ensures job { IfSome latest (λ o. IsBack (boarded board.old) w o result) }
+    ensures some { latest ≢ None }
+    ensures board { IfSome latest (λ o. boarded board.new ≡ board_without (boarded board.old) w o) }
+{
+    match latest {
+        Some(Out::Kept(_, job)) => job,
+        Some(Out::Offered(number)) => board.retake(w, number),
+        Some(Out::Undecided(_, _)) => unreachable!(),
+        None => unreachable!(),
+    }
+}
+
+// The number of a job whose effect is in its cell, and where the cell is.
+fn settled(board: &Board, latest: Option<Out>) -> (usize, usize)
+    requires { table.is_settled (boarded board.now) latest ≡ true }
+    ensures number { latest ≡ Some (out.Offered result.0) }
+    ensures place { cell_of (boarded board.now) result.0 ≡ Some result.1 }
+{
+    match latest {
+        Some(Out::Offered(number)) => match board.cell(number) {
+            Some(place) => (number, place),
+            None => unreachable!(),
+        },
+        Some(Out::Kept(_, _)) => unreachable!(),
+        Some(Out::Undecided(_, _)) => unreachable!(),
+        None => unreachable!(),
+    }
+}
+
+// Whether the effect of this job is in its cell.
+fn is_settled(board: &Board, out: Option<&Out>) -> bool
+    ensures { result ≡ table.is_settled (boarded board.now) (out_of out.entry) }
+{
+    match out {
+        Some(Out::Offered(number)) => board.cell(*number).is_some(),
+        _ => false,
+    }
+}
+
+impl World {
+    /// A world in which worker 0 has begun the run of this code on these arguments within `n` instructions, and so many
+    /// workers in all, of which each other one is idle. `burden` is what is charged for a spawn, by which the burdened
+    /// spans alone are told.
+    ///
+    /// The error is `Arguments` exactly where the workers are not 1 to 64, or the count of the arguments is not that of
+    /// `main`'s parameters, or `n` is not in 1..=2^62, or more than 1,000,000,000 instructions are charged for an edge;
+    /// otherwise `Memory`, where memory runs out.
+    pub fn start(
+        alloc: Global,
+        code: Arc<Verified>,
+        args: &[i64],
+        n: u64,
+        burden: Burden,
+        workers: usize,
+    ) -> Result<World, Fault>
+        ensures { MatchResult result (IsStarted code.value args.now n burden workers)
+            (IsNotStarted (code_view code.value.code) args.now n burden workers) }
+    {
+        if workers == 0 || workers > MOST_WORKERS {
+            return Err(Fault::Arguments);
+        }
+        let root = Job::root(alloc, code, args, n, burden)?;
+        let code = Arc::try_clone(&root.parts.code)?;
+        let jobs = first_jobs(alloc, &root)?;
+        let board = Board::open(alloc, workers)?;
+        let post = first_post(alloc, root)?;
+        let begun = first_begun(alloc, workers, post)?;
+        Ok(World {
+            code,
+            jobs,
+            begun,
+            board,
+        })
+    }
+
+    // What a worker has begun last and not settled.
+    fn top(&self, w: usize) -> Option<&Begun>
+        ensures { staged result ≡ top (scene self.now) w }
+    {
+        match self.begun.get(w) {
+            Some(stack) => stack.as_slice().last(),
+            None => None,
+        }
+    }
+
+    // What worker 0 has begun first and not settled.
+    fn first(&self) -> Option<&Begun>
+        ensures { staged result ≡ oldest (of_worker (stacks self.now.begun) 0) }
+    {
+        match self.begun.get(0) {
+            Some(stack) => stack.as_slice().first(),
+            None => None,
+        }
+    }
+
+    /// Whether an event is possible now.
+    pub fn is_possible(&self, event: Event) -> bool
+        ensures { result ≡ is_possible (scene self.now) event }
+    {
+        match event {
+            Event::Run(w) => {
+                let top = self.top(w);
+                goes(top) && !is_at_spawn(top) && !is_at_join(top)
+            }
+            Event::Offer(w) => is_at_spawn(self.top(w)),
+            Event::Inline(w) => is_at_spawn(self.top(w)),
+            Event::Retake(w) => {
+                let top = self.top(w);
+                is_at_join(top) && can_retake(&self.board, w, newest_out(top))
+            }
+            Event::Steal(w, v) => {
+                w < self.begun.len()
+                    && (self.top(w).is_none() || is_at_join(self.top(w)))
+                    && self.board.has_offer(v)
+            }
+            Event::Settle(w) => has_made(self.top(w)),
+            Event::Collect(w) => {
+                let top = self.top(w);
+                is_at_join(top) && is_settled(&self.board, newest_out(top))
+            }
+        }
+    }
+
+    // One instruction of a worker's strand.
+    fn run(&mut self, w: usize) -> Result<(), Refused>
+        requires sound { IsSound self.old }
+        requires possible { is_possible (scene self.old) (event.Run w) ≡ true }
+        ensures code { self.new.code ≡ self.old.code }
+        ensures memory { IfErr result (λ e. e ≡ refused.Memory) }
+        ensures does { DoesOr (arc_value self.old.code) (event.Run w) result (scene self.old) (scene self.new) }
+    {
+        let mut post = take(&mut self.begun, w);
+        match post.step(&mut self.jobs) {
+            Ok(ended) => {
+                turn(&mut self.begun, &self.code, w, post, ended);
+                Ok(())
+            }
+            Err(_) => {
+                put(&mut self.begun, w, Begun::Goes(post));
+                Err(Refused::Memory)
+            }
+        }
+    }
+
+    // The rest at a spawn is offered.
+    fn offer(&mut self, w: usize) -> Result<(), Refused>
+        requires sound { IsSound self.old }
+        requires possible { is_possible (scene self.old) (event.Offer w) ≡ true }
+        ensures code { self.new.code ≡ self.old.code }
+        ensures memory { IfErr result (λ e. e ≡ refused.Memory) }
+        ensures does { DoesOr (arc_value self.old.code) (event.Offer w) result (scene self.old) (scene self.new) }
+    {
+        let mut post = take(&mut self.begun, w);
+        let latest = post.outs.pop();
+        let (number, job) = undecided(latest);
+        match self.board.offer(w, number, job) {
+            Ok(()) => {
+                post.outs.push_reserved(Out::Offered(number));
+                put(&mut self.begun, w, Begun::Goes(post));
+                Ok(())
+            }
+            Err(job) => {
+                post.outs.push_reserved(Out::Undecided(number, job));
+                put(&mut self.begun, w, Begun::Goes(post));
+                Err(Refused::Memory)
+            }
+        }
+    }
+
+    // The rest at a spawn is kept.
+    fn inline(&mut self, w: usize)
+        requires sound { IsSound self.old }
+        requires possible { is_possible (scene self.old) (event.Inline w) ≡ true }
+        ensures code { self.new.code ≡ self.old.code }
+        ensures does { Does (arc_value self.old.code) (event.Inline w) (scene self.old) (scene self.new) }
+    {
+        let mut post = take(&mut self.begun, w);
+        let latest = post.outs.pop();
+        let (number, job) = undecided(latest);
+        post.outs.push_reserved(Out::Kept(number, job));
+        put(&mut self.begun, w, Begun::Goes(post));
+    }
+
+    // The newest job out comes back unrun.
+    fn retake(&mut self, w: usize)
+        requires sound { IsSound self.old }
+        requires possible { is_possible (scene self.old) (event.Retake w) ≡ true }
+        ensures code { self.new.code ≡ self.old.code }
+        ensures does { Does (arc_value self.old.code) (event.Retake w) (scene self.old) (scene self.new) }
+    {
+        let mut post = take(&mut self.begun, w);
+        let latest = post.outs.pop();
+        let rest = unrun(&mut self.board, w, latest);
+        let ended = post.take_in(rest);
+        turn(&mut self.begun, &self.code, w, post, ended);
+    }
+
+    // The oldest job of a deque is begun, where there is room on the thief's list.
+    fn begin_stolen(&mut self, w: usize, v: usize) -> Result<(), Refused>
+        requires sound { Sound (arc_value self.old.code) (scene self.old) }
+        requires there { w < length (scene self.old).begun }
+        requires some { oldest (of_worker (scene self.old).board.offers v) ≢ None }
+        requires room { HasRoomIn self.old.begun w }
+        ensures code { self.new.code ≡ self.old.code }
+        ensures memory { IfErr result (λ e. e ≡ refused.Memory) }
+        ensures does { DoesOr (arc_value self.old.code) (event.Steal w v) result (scene self.old) (scene self.new) }
+    {
+        let Offer { number, job } = self.board.steal(v);
+        match Post::start(*self.begun.allocator(), number, job) {
+            Ok(mut post) => {
+                let ended = post.stand();
+                turn(&mut self.begun, &self.code, w, post, ended);
+                Ok(())
+            }
+            Err(job) => {
+                self.board.unsteal(v, Offer { number, job });
+                Err(Refused::Memory)
+            }
+        }
+    }
+
+    // The oldest job of a deque is begun.
+    fn steal(&mut self, w: usize, v: usize) -> Result<(), Refused>
+        requires sound { IsSound self.old }
+        requires possible { is_possible (scene self.old) (event.Steal w v) ≡ true }
+        ensures code { self.new.code ≡ self.old.code }
+        ensures memory { IfErr result (λ e. e ≡ refused.Memory) }
+        ensures does { DoesOr (arc_value self.old.code) (event.Steal w v) result (scene self.old) (scene self.new) }
+    {
+        match room(&mut self.begun, w) {
+            Ok(()) => self.begin_stolen(w, v),
+            Err(_) => Err(Refused::Memory),
+        }
+    }
+
+    // The effect of a stolen job goes to its cell.
+    fn settle(&mut self, w: usize) -> Result<(), Refused>
+        requires sound { IsSound self.old }
+        requires possible { is_possible (scene self.old) (event.Settle w) ≡ true }
+        ensures code { self.new.code ≡ self.old.code }
+        ensures memory { IfErr result (λ e. e ≡ refused.Memory) }
+        ensures does { DoesOr (arc_value self.old.code) (event.Settle w) result (scene self.old) (scene self.new) }
+    {
+        match self.board.room_to_settle() {
+            Ok(()) => {
+                let (number, effect) = take_made(&mut self.begun, w);
+                self.board.settle(number, effect);
+                Ok(())
+            }
+            Err(_) => Err(Refused::Memory),
+        }
+    }
+
+    // The effect of the newest job out is given.
+    fn collect(&mut self, w: usize)
+        requires sound { IsSound self.old }
+        requires possible { is_possible (scene self.old) (event.Collect w) ≡ true }
+        ensures code { self.new.code ≡ self.old.code }
+        ensures does { Does (arc_value self.old.code) (event.Collect w) (scene self.old) (scene self.new) }
+    {
+        let mut post = take(&mut self.begun, w);
+        let latest = post.outs.pop();
+        let (number, place) = settled(&self.board, latest);
+        let effect = self.board.collect(place, number);
+        let ended = post.give(effect);
+        turn(&mut self.begun, &self.code, w, post, ended);
+    }
+
+    /// One event happens.
+    ///
+    /// The error is `NotNow` exactly where the event is not possible; otherwise `Memory`, where there was none for the
+    /// world's own lists or for a strand's beginning. After either the world is as it was. Where memory is wanting in a
+    /// strand the event happens, and the strand stops for that.
+    pub fn apply(&mut self, event: Event) -> Result<(), Refused>
+        requires { IsSound self.old }
+        ensures sound { IsSound self.new }
+        ensures code { self.new.code ≡ self.old.code }
+        ensures run { KeepsRuns (scene self.old).jobs (scene self.new).jobs }
+        ensures not_now { (result ≡ Err refused.NotNow) ↔ (is_possible (scene self.old) event ≡ false) }
+        ensures does { DoesOr (arc_value self.old.code) event result (scene self.old) (scene self.new) }
+    {
+        if !self.is_possible(event) {
+            return Err(Refused::NotNow);
+        }
+        match event {
+            Event::Run(w) => self.run(w),
+            Event::Offer(w) => self.offer(w),
+            Event::Inline(w) => {
+                self.inline(w);
+                Ok(())
+            }
+            Event::Retake(w) => {
+                self.retake(w);
+                Ok(())
+            }
+            Event::Steal(w, v) => self.steal(w, v),
+            Event::Settle(w) => self.settle(w),
+            Event::Collect(w) => {
+                self.collect(w);
+                Ok(())
+            }
+        }
+    }
+
+    /// What the run answers, once the root has ended: as `run_alone` answers. The error is `OverLimit` or `Trap` as
+    /// there, and `Memory` where memory was wanting in a strand, for the answer or for its copy.
+    pub fn outcome(&self) -> Option<Result<Ended, Fault>>
+        requires { IsSound self.now }
+        ensures ended { IsSome result ↔ (has_ended (scene self.now) ≡ true) }
+        ensures answers { (v : Verified) (args : List ℤ) (n : ℕ) (burden : Burden) → IsWorldOf v args n burden self.now
+            → IfSome result (RunsAsCode (code_view v.code) args n burden) }
+    {
+        match answered(self.first()) {
+            Some(answer) => Some(copy_of(*self.begun.allocator(), answer)),
+            None => None,
+        }
+    }
+}

@@ -1,0 +1,92 @@
+//! Small programs, and their code.
+
+use cw_gen::generate;
+use cw_lex::lex;
+use cw_loops::laws::derived_is_source_like;
+use cw_loops::lower;
+use cw_model::laws::derived_sites_are_numbered;
+use cw_own::own;
+use cw_parse::parse;
+use cw_text::{Fault, Source};
+use cw_types::check;
+use cw_verify::verified::Verified;
+use cw_verify::verify::verify;
+use std::alloc::Global;
+use std::sync::Arc;
+
+/// Prints 1, 2 and 3, with two spawns: 15 instructions, of which no path has more than 10.
+pub const PRINTS: &[u8] = b"
+void p(int v) { print(v); }
+int main() { cilk_spawn p(1); cilk_spawn p(2); print(3); cilk_sync; return 0; }
+";
+
+/// The n-th Fibonacci number, with one spawn of each call but the smallest, in a region; counts the smallest, keeps the
+/// greatest number that another one comes to, and prints each 5.
+pub const FIB: &[u8] = b"
+reducer sum leaves;
+reducer max greatest;
+int fib(int n) {
+  if (n < 2) { leaves += 1; return n; }
+  int x = 0;
+  int y = 0;
+  region inner {
+    x = cilk_spawn fib(n - 1);
+    y = fib(n - 2);
+    cilk_sync;
+  }
+  if (x + y == 5) { print(5); }
+  greatest max= x + y;
+  return x + y;
+}
+int main(int n) { int r = 0; r = fib(n); return r; }
+";
+
+/// The same numbers, each laid into an array that its call is lent: the two below it lie in the halves of another one.
+pub const LENT: &[u8] = b"
+int fib(int n, int out[]) {
+  if (n < 2) { out[0] = n; return 0; }
+  int v[2];
+  int x = 0;
+  int y = 0;
+  region halves {
+    cut v at 1 as l, r {
+      x = cilk_spawn fib(n - 1, l);
+      y = fib(n - 2, r);
+    }
+  }
+  out[0] = v[0] + v[1];
+  return 0;
+}
+int main(int n) { int a[1]; int r = 0; r = fib(n, a); return a[0]; }
+";
+
+/// As the Fibonacci numbers, but that each call prints, and the call of 5 divides by zero.
+pub const TRAPS: &[u8] = b"
+int fib(int n) {
+  if (n < 2) { return n; }
+  int x = 0;
+  int y = 0;
+  x = cilk_spawn fib(n - 1);
+  y = fib(n - 2);
+  cilk_sync;
+  print(n);
+  if (n > 4) { x = x / (n - 5); }
+  return x + y;
+}
+int main(int n) { int r = 0; r = fib(n); return r; }
+";
+
+/// The code of a program.
+pub fn code_of(alloc: Global, bytes: &[u8]) -> Result<Arc<Verified>, Fault> {
+    derived_sites_are_numbered();
+    derived_is_source_like();
+    let source = Source::read(alloc, bytes)?;
+    let tokens = lex(alloc, &source)?;
+    let ast = parse(alloc, &source, tokens.as_slice())?;
+    let typed = check(alloc, ast)?;
+    let owned = own(alloc, typed)?;
+    let core = lower(alloc, owned)?;
+    let code = generate(alloc, &core)?;
+    let verified = verify(alloc, code)?;
+    Ok(Arc::new(alloc, verified)?)
+}
