@@ -1,4 +1,0 @@
-pub mod Boards
-pub mod Laws
-pub mod Walks
-pub mod lemmas

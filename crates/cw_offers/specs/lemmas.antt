@@ -1,3 +1,0 @@
--- Lemmas on boards, which the proofs of crates above cite.
-pub mod Entries
-pub mod Moves
