@@ -1,5 +1,7 @@
 //! Every event at every moment of short runs: each is possible or refused as was worked out by hand.
 
+ghost use Rattle.cw_world.specs.Worlds.{IsSound};
+
 use crate::programs::{PRINTS, code_of};
 use cw_model::burden::{Burden, Edges};
 use cw_world::event::Event::{self, Collect, Inline, Offer, Retake, Run, Settle, Steal};
@@ -26,7 +28,10 @@ fn event_of(kind: usize, w: usize, v: usize) -> Event {
 }
 
 // Whether an event is refused as not possible.
-fn is_refused(world: &mut World, event: Event) -> bool {
+fn is_refused(world: &mut World, event: Event) -> bool
+    requires { IsSound world.old }
+    ensures { IsSound world.new }
+{
     match world.apply(event) {
         Err(Refused::NotNow) => true,
         _ => false,
@@ -34,7 +39,10 @@ fn is_refused(world: &mut World, event: Event) -> bool {
 }
 
 // Whether exactly these events are possible now, among all of the workers 0 and 1, and of 2, which is none.
-fn is_moment(world: &mut World, possible: &[Event]) -> bool {
+fn is_moment(world: &mut World, possible: &[Event]) -> bool
+    requires { IsSound world.old }
+    ensures { IsSound world.new }
+{
     let mut right = true;
     for kind in 0..7 {
         for w in 0..3 {
@@ -51,14 +59,30 @@ fn is_moment(world: &mut World, possible: &[Event]) -> bool {
     right
 }
 
+// Whether exactly these events are possible now; the first of them happens then.
+fn passes_one(world: &mut World, possible: &[Event]) -> bool
+    requires { IsSound world.old }
+    ensures { IsSound world.new }
+{
+    let is_right = is_moment(world, possible);
+    match possible.first() {
+        Some(event) => {
+            let happens = world.apply(*event).is_ok();
+            is_right && happens
+        }
+        None => is_right,
+    }
+}
+
 // Moments, each with the events that are possible, the first of which happens then.
-fn passes(world: &mut World, moments: &[&[Event]]) -> bool {
+fn passes(world: &mut World, moments: &[&[Event]]) -> bool
+    requires { IsSound world.old }
+    ensures { IsSound world.new }
+{
     let mut right = true;
     for possible in moments {
-        right = right && is_moment(world, possible);
-        if let Some(event) = possible.first() {
-            right = right && world.apply(*event).is_ok();
-        }
+        let is_right = passes_one(world, possible);
+        right = right && is_right;
     }
     right
 }

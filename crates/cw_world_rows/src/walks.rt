@@ -1,5 +1,8 @@
 //! A program that prints 1, 2 and 3, by lists of events.
 
+ghost use Rattle.std.specs.Prelude.{IfOk};
+ghost use Rattle.cw_world.specs.Worlds.{IsSound};
+
 use crate::programs::{PRINTS, code_of};
 use cw_model::burden::{Burden, Edges};
 use cw_text::Fault;
@@ -16,13 +19,19 @@ const BURDEN: Burden = Burden {
 };
 
 // A world that prints 1, 2 and 3, with so many workers.
-fn printing(alloc: Global, workers: usize) -> Result<World, Fault> {
+fn printing(alloc: Global, workers: usize) -> Result<World, Fault>
+    ensures { IfOk result (λ world. IsSound world) }
+{
     let code = code_of(alloc, PRINTS)?;
-    World::start(alloc, code, &[], 100, BURDEN, workers)
+    let world = World::start(alloc, code, &[], 100, BURDEN, workers)?;
+    Ok(world)
 }
 
 // Whether each of these events happens.
-fn walk(world: &mut World, events: &[Event]) -> bool {
+fn walk(world: &mut World, events: &[Event]) -> bool
+    requires { IsSound world.old }
+    ensures { IsSound world.new }
+{
     let mut all = true;
     for event in events {
         if world.apply(*event).is_err() {
@@ -34,7 +43,9 @@ fn walk(world: &mut World, events: &[Event]) -> bool {
 
 // Whether the run has ended so: 1, 2 and 3 printed, and 0 returned, by 15 instructions, of which no path has more than
 // 10.
-fn has_printed(world: &World) -> bool {
+fn has_printed(world: &World) -> bool
+    requires { IsSound world.now }
+{
     match world.outcome() {
         Some(Ok(ended)) => {
             ended.value == 0

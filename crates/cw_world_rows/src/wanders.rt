@@ -1,5 +1,7 @@
 //! Walks at random beside the run by one worker.
 
+ghost use Rattle.cw_world.specs.Worlds.{IsSound};
+
 use crate::programs::{FIB, LENT, PRINTS, TRAPS, code_of};
 use cw_machine::alone::{Ended, run_alone};
 use cw_model::burden::{Burden, Edges};
@@ -92,7 +94,9 @@ fn event_of(kind: u64, w: usize, v: usize) -> Event {
 }
 
 // Events one after the other, as they come by numbers that begin with this one, as long as the run goes on.
-fn wander(world: &mut World, workers: u64, seed: u64) -> Option<Result<Ended, Fault>> {
+fn wander(world: &mut World, workers: u64, seed: u64) -> Option<Result<Ended, Fault>>
+    requires { IsSound world.old }
+{
     if workers == 0 {
         return None;
     }
