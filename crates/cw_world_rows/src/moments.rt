@@ -38,23 +38,28 @@ fn is_refused(world: &mut World, event: Event) -> bool
     }
 }
 
-// Whether exactly these events are possible now, among all of the workers 0 and 1, and of 2, which is none.
+// Whether an event is possible, or refused as not possible, as was worked out.
+fn is_as_told(world: &mut World, event: Event, is_possible: bool) -> bool
+    requires { IsSound world.old }
+    ensures { IsSound world.new }
+{
+    if is_possible {
+        return world.is_possible(event);
+    }
+    let refused = is_refused(world, event);
+    refused && !world.is_possible(event)
+}
+
+// Whether exactly these events are possible now, among all seven of the workers 0 and 1, and of 2, which is none.
 fn is_moment(world: &mut World, possible: &[Event]) -> bool
     requires { IsSound world.old }
     ensures { IsSound world.new }
 {
     let mut right = true;
-    for kind in 0..7 {
-        for w in 0..3 {
-            for v in 0..3 {
-                let event = event_of(kind, w, v);
-                if possible.contains(&event) {
-                    right = right && world.is_possible(event);
-                } else {
-                    right = right && is_refused(world, event) && !world.is_possible(event);
-                }
-            }
-        }
+    for i in 0..63 {
+        let event = event_of(i / 9, i / 3 % 3, i % 3);
+        let is_right = is_as_told(world, event, possible.contains(&event));
+        right = right && is_right;
     }
     right
 }
