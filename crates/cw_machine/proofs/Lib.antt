@@ -51,5 +51,10 @@ pub mod Inner
 pub mod SpawnRounds
 pub mod Nothing
 pub mod Striding
+pub mod Bursting
+pub mod BurstingIn
 pub mod GoingOn
+pub mod BurstRuns
+pub mod BurstSteps
+pub mod BurstRecords
 pub mod MainRuns

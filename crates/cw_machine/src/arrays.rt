@@ -18,7 +18,7 @@ const GREATEST_LENGTH: i64 = MOST_ELEMENTS as i64;
 
 // Whether an index is one of so many elements.
 #[inline(always)]
-fn is_within(i: i64, len: usize) -> bool
+pub(crate) fn is_within(i: i64, len: usize) -> bool
     ensures { result ≡ arrays.is_index i len }
 {
     i >= 0 && (i as usize) < len

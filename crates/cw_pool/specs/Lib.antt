@@ -2,3 +2,4 @@ pub mod Chains
 pub mod Crews
 pub mod Driven
 pub mod Posts
+pub mod Seatings

@@ -2,6 +2,7 @@
 
 ghost use Rattle.std.specs.Arc.{arc_value};
 ghost use Rattle.cw_yard.specs.Seated.{IsSeated};
+ghost use Rattle.cw_pool.specs.Seatings.{IsSeated-prop};
 
 use crate::gate::Gate;
 use crate::work::help;
@@ -17,7 +18,7 @@ pub struct Helper<G> {
     pub(crate) gate: Arc<G>,
     pub(crate) me: usize,
     pub(crate) alloc: Global,
-    ghost seated: { IsSeated (arc_value yard) seat },
+    ghost seated: { IsSeated (arc_value yard) seat } by { IsSeated-prop (arc_value yard) seat },
 }
 
 impl<G: Gate + Drop> Helper<G> {

@@ -8,3 +8,4 @@ pub mod Noting
 pub mod Numbering
 pub mod Spreading
 pub mod Verifying
+mod Fusing

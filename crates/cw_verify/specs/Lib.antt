@@ -1,3 +1,5 @@
+pub mod Fast
+pub mod FastLaws
 pub mod Table
 pub mod Meetings
 pub mod Numbers

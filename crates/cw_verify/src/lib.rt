@@ -1,7 +1,9 @@
 //! Code that a run can trust.
 #![tactic(auto)]
 
+pub mod fast;
 mod found;
+pub mod fuse;
 mod leave;
 mod meet;
 mod meeting;
