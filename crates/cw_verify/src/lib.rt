@@ -2,6 +2,7 @@
 #![tactic(auto)]
 
 pub mod fast;
+mod flat;
 mod found;
 pub mod fuse;
 mod leave;
