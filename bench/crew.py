@@ -9,7 +9,8 @@
     crew.py PROGRAM refusals               each single allocation refused in turn with 1, 2 and 4 workers: the answer, or
                                            `memory` with nothing written; wants gcc, which compiles bench/refuse.c
     crew.py PROGRAM speed [ROUNDS]         seconds with 1, 2, 4 and 64 workers, the least of so many interleaved rounds (5),
-                                           and one worker's as multiples of the others'
+                                           and one worker's as multiples of the others'; and how long four runs with
+                                           one worker each take at once, which share nothing: what the machine can give
 
 Random programs are those of bench/reference. Each run has a minute; one that takes longer is told as wrong.
 """
@@ -155,6 +156,15 @@ def refusals(program):
     return wrong
 
 
+def seconds(commands):
+    """Seconds by the wall clock until these commands, begun at once, have all ended."""
+    began = time.perf_counter()
+    running = [subprocess.Popen(it, stdout=subprocess.DEVNULL) for it in commands]
+    for it in running:
+        it.wait()
+    return time.perf_counter() - began
+
+
 def speed(program, rounds="5"):
     crews = (1, 2, 4, 64)
     short = 0
@@ -164,15 +174,15 @@ def speed(program, rounds="5"):
             if not path.exists():
                 path = pathlib.Path(folder) / f"{name}.cilk"
                 path.write_text(MATRIX)
-            least = dict.fromkeys(crews, 1e9)
+            command = [program, "scale", str(path), *arguments, "--limit", "100000000000", "--workers"]
+            least = dict.fromkeys((*crews, "apart"), 1e9)
             for _ in range(int(rounds)):
                 for workers in crews:
-                    began = time.perf_counter()
-                    asked(program, ["scale", str(path), *arguments, "--limit", "100000000000", "--workers", str(workers)])
-                    least[workers] = min(least[workers], time.perf_counter() - began)
+                    least[workers] = min(least[workers], seconds([[*command, str(workers)]]))
+                least["apart"] = min(least["apart"], seconds([[*command, "1"]] * 4))
             ratios = "  ".join(f"1 by {workers}: {least[1] / least[workers]:.2f}" for workers in crews[1:])
             short += least[1] / least[4] < wanted
-            print(f"{name} {' '.join(arguments)}: " + "  ".join(f"{workers}: {least[workers]:.3f} s" for workers in crews) + f"  {ratios}  (1 by 4 wanted: {wanted})", flush=True)
+            print(f"{name} {' '.join(arguments)}: " + "  ".join(f"{workers}: {least[workers]:.3f} s" for workers in crews) + f"  {ratios}  (1 by 4 wanted: {wanted}; four runs apart at once: {least['apart']:.3f} s, so the machine gives {4 * least[1] / least['apart']:.2f})", flush=True)
     return short
 
 
