@@ -43,46 +43,292 @@ cell_slot_constant_sync : IsSync cell_slot_constant.the_field.row
 cell_slot_constant_sync = search sendable depth 60
 
 each_sync : EachSync (variants fast.the_type)
-each_sync =
-    ((cell_constant_sync, tt), ((cell_slot_sync, tt), ((cell_slot_sync, tt), ((unary_sync, (narrow_sync, tt)),
-    ((operator_sync, (narrow_sync, tt)), ((wide_sync, tt), ((narrow_sync, (wide_sync, tt)), ((cell_slot_sync, tt),
-    ((cell_slot_sync, tt), ((cell_slot_sync, tt), ((operator_sync, (cell_slot_sync, tt)),
-    ((operator_sync, (cell_constant_sync, tt)), ((operator_sync, (cell_slots_sync, tt)),
-    ((operator_sync, (cell_slot_constant_sync, tt)), ((operator_sync, (cell_slot_sync, tt)),
-    ((operator_sync, (cell_slot_sync, (narrow_sync, tt))),
-    ((operator_sync, (cell_constant_sync, (narrow_sync, tt))),
-    ((operator_sync, (cell_slots_sync, (narrow_sync, tt))),
-    ((operator_sync, (cell_slot_constant_sync, (narrow_sync, tt))),
-    ((operator_sync, (narrow_sync, (wide_sync, tt))), ((operator_sync, (cell_slot_sync, (wide_sync, tt))),
-    ((operator_sync, (cell_constant_sync, (wide_sync, tt))), ((operator_sync, (cell_slots_sync, (wide_sync, tt))),
-    ((operator_sync, (cell_slot_constant_sync, (wide_sync, tt))), ((cell_slots_sync, tt),
-    ((cell_slot_constant_sync, tt), ((cell_slot_sync, (wide_sync, tt)), ((cell_slots_sync, tt),
-    ((cell_slots_sync, (narrow_sync, tt)), ((cell_slots_sync, tt), ((cell_slots_sync, tt),
-    ((cell_slot_constant_sync, tt), ((cell_slots_sync, (narrow_sync, tt)),
-    ((cell_slot_constant_sync, (narrow_sync, tt)), ((narrow_sync, tt), ((narrow_sync, tt), ((narrow_sync, tt),
-    ((cell_slot_sync, tt), ((cell_slot_sync, tt), ((cell_slot_sync, tt), ((cell_constant_sync, tt),
-    ((cell_constant_sync, tt), ((cell_constant_sync, tt), ((cell_slots_sync, tt), ((cell_slots_sync, tt),
-    ((cell_slots_sync, tt), ((cell_slot_constant_sync, tt), ((cell_slot_constant_sync, tt),
-    ((cell_slot_constant_sync, tt), ((cell_slot_sync, tt), ((cell_slot_sync, tt), ((cell_slot_sync, tt),
-    ((cell_slot_sync, (narrow_sync, tt)), ((cell_slot_sync, (narrow_sync, tt)),
-    ((cell_slot_sync, (narrow_sync, tt)), ((cell_constant_sync, (narrow_sync, tt)),
-    ((cell_constant_sync, (narrow_sync, tt)), ((cell_constant_sync, (narrow_sync, tt)),
-    ((cell_slots_sync, (narrow_sync, tt)), ((cell_slots_sync, (narrow_sync, tt)),
-    ((cell_slots_sync, (narrow_sync, tt)), ((cell_slot_constant_sync, (narrow_sync, tt)),
-    ((cell_slot_constant_sync, (narrow_sync, tt)), ((cell_slot_constant_sync, (narrow_sync, tt)),
-    ((narrow_sync, (wide_sync, tt)), ((narrow_sync, (wide_sync, tt)), ((narrow_sync, (wide_sync, tt)),
-    ((narrow_sync, (wide_sync, tt)), ((narrow_sync, (wide_sync, tt)), ((narrow_sync, (wide_sync, tt)),
-    ((cell_slot_sync, (wide_sync, tt)), ((cell_slot_sync, (wide_sync, tt)), ((cell_slot_sync, (wide_sync, tt)),
-    ((cell_slot_sync, (wide_sync, tt)), ((cell_slot_sync, (wide_sync, tt)), ((cell_slot_sync, (wide_sync, tt)),
-    ((cell_constant_sync, (wide_sync, tt)), ((cell_constant_sync, (wide_sync, tt)),
-    ((cell_constant_sync, (wide_sync, tt)), ((cell_constant_sync, (wide_sync, tt)),
-    ((cell_constant_sync, (wide_sync, tt)), ((cell_constant_sync, (wide_sync, tt)),
-    ((cell_slots_sync, (wide_sync, tt)), ((cell_slots_sync, (wide_sync, tt)), ((cell_slots_sync, (wide_sync, tt)),
-    ((cell_slots_sync, (wide_sync, tt)), ((cell_slots_sync, (wide_sync, tt)), ((cell_slots_sync, (wide_sync, tt)),
-    ((cell_slot_constant_sync, (wide_sync, tt)), ((cell_slot_constant_sync, (wide_sync, tt)),
-    ((cell_slot_constant_sync, (wide_sync, tt)), ((cell_slot_constant_sync, (wide_sync, tt)),
-    ((cell_slot_constant_sync, (wide_sync, tt)), ((cell_slot_constant_sync, (wide_sync, tt)), (tt,
-    tt)))))))))))))))))))))))))))))))))))))))))))))))))))))))))))))))))))))))))))))))))))))))))))))))
+each_sync = (
+  (cell_constant_sync, tt),
+  (
+    (cell_slot_sync, tt),
+    (
+      (cell_slot_sync, tt),
+      (
+        (unary_sync, (narrow_sync, tt)),
+        (
+          (operator_sync, (narrow_sync, tt)),
+          (
+            (wide_sync, tt),
+            (
+              (narrow_sync, (wide_sync, tt)),
+              (
+                (cell_slot_sync, tt),
+                (
+                  (cell_slot_sync, tt),
+                  (
+                    (cell_slot_sync, tt),
+                    (
+                      (operator_sync, (cell_slot_sync, tt)),
+                      (
+                        (operator_sync, (cell_constant_sync, tt)),
+                        (
+                          (operator_sync, (cell_slots_sync, tt)),
+                          (
+                            (operator_sync, (cell_slot_constant_sync, tt)),
+                            (
+                              (operator_sync, (cell_slot_sync, tt)),
+                              (
+                                (operator_sync, (cell_slot_sync, (narrow_sync, tt))),
+                                (
+                                  (operator_sync, (cell_constant_sync, (narrow_sync, tt))),
+                                  (
+                                    (operator_sync, (cell_slots_sync, (narrow_sync, tt))),
+                                    (
+                                      (operator_sync, (cell_slot_constant_sync, (narrow_sync, tt))),
+                                      (
+                                        (operator_sync, (narrow_sync, (wide_sync, tt))),
+                                        (
+                                          (operator_sync, (cell_slot_sync, (wide_sync, tt))),
+                                          (
+                                            (operator_sync, (cell_constant_sync, (wide_sync, tt))),
+                                            (
+                                              (operator_sync, (cell_slots_sync, (wide_sync, tt))),
+                                              (
+                                                (operator_sync, (cell_slot_constant_sync, (wide_sync, tt))),
+                                                (
+                                                  (cell_slots_sync, tt),
+                                                  (
+                                                    (cell_slot_constant_sync, tt),
+                                                    (
+                                                      (cell_slot_sync, (wide_sync, tt)),
+                                                      (
+                                                        (cell_slots_sync, tt),
+                                                        (
+                                                          (cell_slots_sync, (narrow_sync, tt)),
+                                                          (
+                                                            (cell_slots_sync, tt),
+                                                            (
+                                                              (cell_slots_sync, tt),
+                                                              (
+                                                                (cell_slot_constant_sync, tt),
+                                                                (
+                                                                  (cell_slots_sync, (narrow_sync, tt)),
+                                                                  (
+                                                                    (cell_slot_constant_sync, (narrow_sync, tt)),
+                                                                    (
+                                                                      (narrow_sync, tt),
+                                                                      (
+                                                                        (narrow_sync, tt),
+                                                                        (
+                                                                          (narrow_sync, tt),
+                                                                          (
+                                                                            (cell_slot_sync, tt),
+                                                                            (
+                                                                              (cell_slot_sync, tt),
+                                                                              (
+                                                                                (cell_slot_sync, tt),
+                                                                                (
+                                                                                  (cell_constant_sync, tt),
+                                                                                  (
+                                                                                    (cell_constant_sync, tt),
+                                                                                    (
+                                                                                      (cell_constant_sync, tt),
+                                                                                      (
+                                                                                        (cell_slots_sync, tt),
+                                                                                        (
+                                                                                          (cell_slots_sync, tt),
+                                                                                          (
+                                                                                            (cell_slots_sync, tt),
+                                                                                            (
+                                                                                              (cell_slot_constant_sync, tt),
+                                                                                              (
+                                                                                                (cell_slot_constant_sync, tt),
+                                                                                                (
+                                                                                                  (cell_slot_constant_sync, tt),
+                                                                                                  (
+                                                                                                    (cell_slot_sync, tt),
+                                                                                                    (
+                                                                                                      (cell_slot_sync, tt),
+                                                                                                      (
+                                                                                                        (cell_slot_sync, tt),
+                                                                                                        (
+                                                                                                          (cell_slot_sync, (narrow_sync, tt)),
+                                                                                                          (
+                                                                                                            (cell_slot_sync, (narrow_sync, tt)),
+                                                                                                            (
+                                                                                                              (cell_slot_sync, (narrow_sync, tt)),
+                                                                                                              (
+                                                                                                                (cell_constant_sync, (narrow_sync, tt)),
+                                                                                                                (
+                                                                                                                  (cell_constant_sync, (narrow_sync, tt)),
+                                                                                                                  (
+                                                                                                                    (cell_constant_sync, (narrow_sync, tt)),
+                                                                                                                    (
+                                                                                                                      (cell_slots_sync, (narrow_sync, tt)),
+                                                                                                                      (
+                                                                                                                        (cell_slots_sync, (narrow_sync, tt)),
+                                                                                                                        (
+                                                                                                                          (cell_slots_sync, (narrow_sync, tt)),
+                                                                                                                          (
+                                                                                                                            (cell_slot_constant_sync, (narrow_sync, tt)),
+                                                                                                                            (
+                                                                                                                              (cell_slot_constant_sync, (narrow_sync, tt)),
+                                                                                                                              (
+                                                                                                                                (cell_slot_constant_sync, (narrow_sync, tt)),
+                                                                                                                                (
+                                                                                                                                  (narrow_sync, (wide_sync, tt)),
+                                                                                                                                  (
+                                                                                                                                    (narrow_sync, (wide_sync, tt)),
+                                                                                                                                    (
+                                                                                                                                      (narrow_sync, (wide_sync, tt)),
+                                                                                                                                      (
+                                                                                                                                        (narrow_sync, (wide_sync, tt)),
+                                                                                                                                        (
+                                                                                                                                          (narrow_sync, (wide_sync, tt)),
+                                                                                                                                          (
+                                                                                                                                            (narrow_sync, (wide_sync, tt)),
+                                                                                                                                            (
+                                                                                                                                              (cell_slot_sync, (wide_sync, tt)),
+                                                                                                                                              (
+                                                                                                                                                (cell_slot_sync, (wide_sync, tt)),
+                                                                                                                                                (
+                                                                                                                                                  (cell_slot_sync, (wide_sync, tt)),
+                                                                                                                                                  (
+                                                                                                                                                    (cell_slot_sync, (wide_sync, tt)),
+                                                                                                                                                    (
+                                                                                                                                                      (cell_slot_sync, (wide_sync, tt)),
+                                                                                                                                                      (
+                                                                                                                                                        (cell_slot_sync, (wide_sync, tt)),
+                                                                                                                                                        (
+                                                                                                                                                          (cell_constant_sync, (wide_sync, tt)),
+                                                                                                                                                          (
+                                                                                                                                                            (cell_constant_sync, (wide_sync, tt)),
+                                                                                                                                                            (
+                                                                                                                                                              (cell_constant_sync, (wide_sync, tt)),
+                                                                                                                                                              (
+                                                                                                                                                                (cell_constant_sync, (wide_sync, tt)),
+                                                                                                                                                                (
+                                                                                                                                                                  (cell_constant_sync, (wide_sync, tt)),
+                                                                                                                                                                  (
+                                                                                                                                                                    (cell_constant_sync, (wide_sync, tt)),
+                                                                                                                                                                    (
+                                                                                                                                                                      (cell_slots_sync, (wide_sync, tt)),
+                                                                                                                                                                      (
+                                                                                                                                                                        (cell_slots_sync, (wide_sync, tt)),
+                                                                                                                                                                        (
+                                                                                                                                                                          (cell_slots_sync, (wide_sync, tt)),
+                                                                                                                                                                          (
+                                                                                                                                                                            (cell_slots_sync, (wide_sync, tt)),
+                                                                                                                                                                            (
+                                                                                                                                                                              (cell_slots_sync, (wide_sync, tt)),
+                                                                                                                                                                              (
+                                                                                                                                                                                (cell_slots_sync, (wide_sync, tt)),
+                                                                                                                                                                                (
+                                                                                                                                                                                  (cell_slot_constant_sync, (wide_sync, tt)),
+                                                                                                                                                                                  (
+                                                                                                                                                                                    (cell_slot_constant_sync, (wide_sync, tt)),
+                                                                                                                                                                                    (
+                                                                                                                                                                                      (cell_slot_constant_sync, (wide_sync, tt)),
+                                                                                                                                                                                      (
+                                                                                                                                                                                        (cell_slot_constant_sync, (wide_sync, tt)),
+                                                                                                                                                                                        (
+                                                                                                                                                                                          (cell_slot_constant_sync, (wide_sync, tt)),
+                                                                                                                                                                                          (
+                                                                                                                                                                                            (cell_slot_constant_sync, (wide_sync, tt)),
+                                                                                                                                                                                            (
+                                                                                                                                                                                              tt,
+                                                                                                                                                                                              tt,
+                                                                                                                                                                                            ),
+                                                                                                                                                                                          ),
+                                                                                                                                                                                        ),
+                                                                                                                                                                                      ),
+                                                                                                                                                                                    ),
+                                                                                                                                                                                  ),
+                                                                                                                                                                                ),
+                                                                                                                                                                              ),
+                                                                                                                                                                            ),
+                                                                                                                                                                          ),
+                                                                                                                                                                        ),
+                                                                                                                                                                      ),
+                                                                                                                                                                    ),
+                                                                                                                                                                  ),
+                                                                                                                                                                ),
+                                                                                                                                                              ),
+                                                                                                                                                            ),
+                                                                                                                                                          ),
+                                                                                                                                                        ),
+                                                                                                                                                      ),
+                                                                                                                                                    ),
+                                                                                                                                                  ),
+                                                                                                                                                ),
+                                                                                                                                              ),
+                                                                                                                                            ),
+                                                                                                                                          ),
+                                                                                                                                        ),
+                                                                                                                                      ),
+                                                                                                                                    ),
+                                                                                                                                  ),
+                                                                                                                                ),
+                                                                                                                              ),
+                                                                                                                            ),
+                                                                                                                          ),
+                                                                                                                        ),
+                                                                                                                      ),
+                                                                                                                    ),
+                                                                                                                  ),
+                                                                                                                ),
+                                                                                                              ),
+                                                                                                            ),
+                                                                                                          ),
+                                                                                                        ),
+                                                                                                      ),
+                                                                                                    ),
+                                                                                                  ),
+                                                                                                ),
+                                                                                              ),
+                                                                                            ),
+                                                                                          ),
+                                                                                        ),
+                                                                                      ),
+                                                                                    ),
+                                                                                  ),
+                                                                                ),
+                                                                              ),
+                                                                            ),
+                                                                          ),
+                                                                        ),
+                                                                      ),
+                                                                    ),
+                                                                  ),
+                                                                ),
+                                                              ),
+                                                            ),
+                                                          ),
+                                                        ),
+                                                      ),
+                                                    ),
+                                                  ),
+                                                ),
+                                              ),
+                                            ),
+                                          ),
+                                        ),
+                                      ),
+                                    ),
+                                  ),
+                                ),
+                              ),
+                            ),
+                          ),
+                        ),
+                      ),
+                    ),
+                  ),
+                ),
+              ),
+            ),
+          ),
+        ),
+      ),
+    ),
+  ),
+)
 
 fast_sync : IsSync fast.the_row
 fast_sync = recorded_sync _ _ fast.the_type.to fast.the_type.to_one (enum_sync (shape fast.the_type) each_sync)
@@ -112,46 +358,292 @@ cell_slot_constant_send : IsSend cell_slot_constant.the_field.row
 cell_slot_constant_send = search sendable depth 60
 
 each_send : EachSend (variants fast.the_type)
-each_send =
-    ((cell_constant_send, tt), ((cell_slot_send, tt), ((cell_slot_send, tt), ((unary_send, (narrow_send, tt)),
-    ((operator_send, (narrow_send, tt)), ((wide_send, tt), ((narrow_send, (wide_send, tt)), ((cell_slot_send, tt),
-    ((cell_slot_send, tt), ((cell_slot_send, tt), ((operator_send, (cell_slot_send, tt)),
-    ((operator_send, (cell_constant_send, tt)), ((operator_send, (cell_slots_send, tt)),
-    ((operator_send, (cell_slot_constant_send, tt)), ((operator_send, (cell_slot_send, tt)),
-    ((operator_send, (cell_slot_send, (narrow_send, tt))),
-    ((operator_send, (cell_constant_send, (narrow_send, tt))),
-    ((operator_send, (cell_slots_send, (narrow_send, tt))),
-    ((operator_send, (cell_slot_constant_send, (narrow_send, tt))),
-    ((operator_send, (narrow_send, (wide_send, tt))), ((operator_send, (cell_slot_send, (wide_send, tt))),
-    ((operator_send, (cell_constant_send, (wide_send, tt))), ((operator_send, (cell_slots_send, (wide_send, tt))),
-    ((operator_send, (cell_slot_constant_send, (wide_send, tt))), ((cell_slots_send, tt),
-    ((cell_slot_constant_send, tt), ((cell_slot_send, (wide_send, tt)), ((cell_slots_send, tt),
-    ((cell_slots_send, (narrow_send, tt)), ((cell_slots_send, tt), ((cell_slots_send, tt),
-    ((cell_slot_constant_send, tt), ((cell_slots_send, (narrow_send, tt)),
-    ((cell_slot_constant_send, (narrow_send, tt)), ((narrow_send, tt), ((narrow_send, tt), ((narrow_send, tt),
-    ((cell_slot_send, tt), ((cell_slot_send, tt), ((cell_slot_send, tt), ((cell_constant_send, tt),
-    ((cell_constant_send, tt), ((cell_constant_send, tt), ((cell_slots_send, tt), ((cell_slots_send, tt),
-    ((cell_slots_send, tt), ((cell_slot_constant_send, tt), ((cell_slot_constant_send, tt),
-    ((cell_slot_constant_send, tt), ((cell_slot_send, tt), ((cell_slot_send, tt), ((cell_slot_send, tt),
-    ((cell_slot_send, (narrow_send, tt)), ((cell_slot_send, (narrow_send, tt)),
-    ((cell_slot_send, (narrow_send, tt)), ((cell_constant_send, (narrow_send, tt)),
-    ((cell_constant_send, (narrow_send, tt)), ((cell_constant_send, (narrow_send, tt)),
-    ((cell_slots_send, (narrow_send, tt)), ((cell_slots_send, (narrow_send, tt)),
-    ((cell_slots_send, (narrow_send, tt)), ((cell_slot_constant_send, (narrow_send, tt)),
-    ((cell_slot_constant_send, (narrow_send, tt)), ((cell_slot_constant_send, (narrow_send, tt)),
-    ((narrow_send, (wide_send, tt)), ((narrow_send, (wide_send, tt)), ((narrow_send, (wide_send, tt)),
-    ((narrow_send, (wide_send, tt)), ((narrow_send, (wide_send, tt)), ((narrow_send, (wide_send, tt)),
-    ((cell_slot_send, (wide_send, tt)), ((cell_slot_send, (wide_send, tt)), ((cell_slot_send, (wide_send, tt)),
-    ((cell_slot_send, (wide_send, tt)), ((cell_slot_send, (wide_send, tt)), ((cell_slot_send, (wide_send, tt)),
-    ((cell_constant_send, (wide_send, tt)), ((cell_constant_send, (wide_send, tt)),
-    ((cell_constant_send, (wide_send, tt)), ((cell_constant_send, (wide_send, tt)),
-    ((cell_constant_send, (wide_send, tt)), ((cell_constant_send, (wide_send, tt)),
-    ((cell_slots_send, (wide_send, tt)), ((cell_slots_send, (wide_send, tt)), ((cell_slots_send, (wide_send, tt)),
-    ((cell_slots_send, (wide_send, tt)), ((cell_slots_send, (wide_send, tt)), ((cell_slots_send, (wide_send, tt)),
-    ((cell_slot_constant_send, (wide_send, tt)), ((cell_slot_constant_send, (wide_send, tt)),
-    ((cell_slot_constant_send, (wide_send, tt)), ((cell_slot_constant_send, (wide_send, tt)),
-    ((cell_slot_constant_send, (wide_send, tt)), ((cell_slot_constant_send, (wide_send, tt)), (tt,
-    tt)))))))))))))))))))))))))))))))))))))))))))))))))))))))))))))))))))))))))))))))))))))))))))))))
+each_send = (
+  (cell_constant_send, tt),
+  (
+    (cell_slot_send, tt),
+    (
+      (cell_slot_send, tt),
+      (
+        (unary_send, (narrow_send, tt)),
+        (
+          (operator_send, (narrow_send, tt)),
+          (
+            (wide_send, tt),
+            (
+              (narrow_send, (wide_send, tt)),
+              (
+                (cell_slot_send, tt),
+                (
+                  (cell_slot_send, tt),
+                  (
+                    (cell_slot_send, tt),
+                    (
+                      (operator_send, (cell_slot_send, tt)),
+                      (
+                        (operator_send, (cell_constant_send, tt)),
+                        (
+                          (operator_send, (cell_slots_send, tt)),
+                          (
+                            (operator_send, (cell_slot_constant_send, tt)),
+                            (
+                              (operator_send, (cell_slot_send, tt)),
+                              (
+                                (operator_send, (cell_slot_send, (narrow_send, tt))),
+                                (
+                                  (operator_send, (cell_constant_send, (narrow_send, tt))),
+                                  (
+                                    (operator_send, (cell_slots_send, (narrow_send, tt))),
+                                    (
+                                      (operator_send, (cell_slot_constant_send, (narrow_send, tt))),
+                                      (
+                                        (operator_send, (narrow_send, (wide_send, tt))),
+                                        (
+                                          (operator_send, (cell_slot_send, (wide_send, tt))),
+                                          (
+                                            (operator_send, (cell_constant_send, (wide_send, tt))),
+                                            (
+                                              (operator_send, (cell_slots_send, (wide_send, tt))),
+                                              (
+                                                (operator_send, (cell_slot_constant_send, (wide_send, tt))),
+                                                (
+                                                  (cell_slots_send, tt),
+                                                  (
+                                                    (cell_slot_constant_send, tt),
+                                                    (
+                                                      (cell_slot_send, (wide_send, tt)),
+                                                      (
+                                                        (cell_slots_send, tt),
+                                                        (
+                                                          (cell_slots_send, (narrow_send, tt)),
+                                                          (
+                                                            (cell_slots_send, tt),
+                                                            (
+                                                              (cell_slots_send, tt),
+                                                              (
+                                                                (cell_slot_constant_send, tt),
+                                                                (
+                                                                  (cell_slots_send, (narrow_send, tt)),
+                                                                  (
+                                                                    (cell_slot_constant_send, (narrow_send, tt)),
+                                                                    (
+                                                                      (narrow_send, tt),
+                                                                      (
+                                                                        (narrow_send, tt),
+                                                                        (
+                                                                          (narrow_send, tt),
+                                                                          (
+                                                                            (cell_slot_send, tt),
+                                                                            (
+                                                                              (cell_slot_send, tt),
+                                                                              (
+                                                                                (cell_slot_send, tt),
+                                                                                (
+                                                                                  (cell_constant_send, tt),
+                                                                                  (
+                                                                                    (cell_constant_send, tt),
+                                                                                    (
+                                                                                      (cell_constant_send, tt),
+                                                                                      (
+                                                                                        (cell_slots_send, tt),
+                                                                                        (
+                                                                                          (cell_slots_send, tt),
+                                                                                          (
+                                                                                            (cell_slots_send, tt),
+                                                                                            (
+                                                                                              (cell_slot_constant_send, tt),
+                                                                                              (
+                                                                                                (cell_slot_constant_send, tt),
+                                                                                                (
+                                                                                                  (cell_slot_constant_send, tt),
+                                                                                                  (
+                                                                                                    (cell_slot_send, tt),
+                                                                                                    (
+                                                                                                      (cell_slot_send, tt),
+                                                                                                      (
+                                                                                                        (cell_slot_send, tt),
+                                                                                                        (
+                                                                                                          (cell_slot_send, (narrow_send, tt)),
+                                                                                                          (
+                                                                                                            (cell_slot_send, (narrow_send, tt)),
+                                                                                                            (
+                                                                                                              (cell_slot_send, (narrow_send, tt)),
+                                                                                                              (
+                                                                                                                (cell_constant_send, (narrow_send, tt)),
+                                                                                                                (
+                                                                                                                  (cell_constant_send, (narrow_send, tt)),
+                                                                                                                  (
+                                                                                                                    (cell_constant_send, (narrow_send, tt)),
+                                                                                                                    (
+                                                                                                                      (cell_slots_send, (narrow_send, tt)),
+                                                                                                                      (
+                                                                                                                        (cell_slots_send, (narrow_send, tt)),
+                                                                                                                        (
+                                                                                                                          (cell_slots_send, (narrow_send, tt)),
+                                                                                                                          (
+                                                                                                                            (cell_slot_constant_send, (narrow_send, tt)),
+                                                                                                                            (
+                                                                                                                              (cell_slot_constant_send, (narrow_send, tt)),
+                                                                                                                              (
+                                                                                                                                (cell_slot_constant_send, (narrow_send, tt)),
+                                                                                                                                (
+                                                                                                                                  (narrow_send, (wide_send, tt)),
+                                                                                                                                  (
+                                                                                                                                    (narrow_send, (wide_send, tt)),
+                                                                                                                                    (
+                                                                                                                                      (narrow_send, (wide_send, tt)),
+                                                                                                                                      (
+                                                                                                                                        (narrow_send, (wide_send, tt)),
+                                                                                                                                        (
+                                                                                                                                          (narrow_send, (wide_send, tt)),
+                                                                                                                                          (
+                                                                                                                                            (narrow_send, (wide_send, tt)),
+                                                                                                                                            (
+                                                                                                                                              (cell_slot_send, (wide_send, tt)),
+                                                                                                                                              (
+                                                                                                                                                (cell_slot_send, (wide_send, tt)),
+                                                                                                                                                (
+                                                                                                                                                  (cell_slot_send, (wide_send, tt)),
+                                                                                                                                                  (
+                                                                                                                                                    (cell_slot_send, (wide_send, tt)),
+                                                                                                                                                    (
+                                                                                                                                                      (cell_slot_send, (wide_send, tt)),
+                                                                                                                                                      (
+                                                                                                                                                        (cell_slot_send, (wide_send, tt)),
+                                                                                                                                                        (
+                                                                                                                                                          (cell_constant_send, (wide_send, tt)),
+                                                                                                                                                          (
+                                                                                                                                                            (cell_constant_send, (wide_send, tt)),
+                                                                                                                                                            (
+                                                                                                                                                              (cell_constant_send, (wide_send, tt)),
+                                                                                                                                                              (
+                                                                                                                                                                (cell_constant_send, (wide_send, tt)),
+                                                                                                                                                                (
+                                                                                                                                                                  (cell_constant_send, (wide_send, tt)),
+                                                                                                                                                                  (
+                                                                                                                                                                    (cell_constant_send, (wide_send, tt)),
+                                                                                                                                                                    (
+                                                                                                                                                                      (cell_slots_send, (wide_send, tt)),
+                                                                                                                                                                      (
+                                                                                                                                                                        (cell_slots_send, (wide_send, tt)),
+                                                                                                                                                                        (
+                                                                                                                                                                          (cell_slots_send, (wide_send, tt)),
+                                                                                                                                                                          (
+                                                                                                                                                                            (cell_slots_send, (wide_send, tt)),
+                                                                                                                                                                            (
+                                                                                                                                                                              (cell_slots_send, (wide_send, tt)),
+                                                                                                                                                                              (
+                                                                                                                                                                                (cell_slots_send, (wide_send, tt)),
+                                                                                                                                                                                (
+                                                                                                                                                                                  (cell_slot_constant_send, (wide_send, tt)),
+                                                                                                                                                                                  (
+                                                                                                                                                                                    (cell_slot_constant_send, (wide_send, tt)),
+                                                                                                                                                                                    (
+                                                                                                                                                                                      (cell_slot_constant_send, (wide_send, tt)),
+                                                                                                                                                                                      (
+                                                                                                                                                                                        (cell_slot_constant_send, (wide_send, tt)),
+                                                                                                                                                                                        (
+                                                                                                                                                                                          (cell_slot_constant_send, (wide_send, tt)),
+                                                                                                                                                                                          (
+                                                                                                                                                                                            (cell_slot_constant_send, (wide_send, tt)),
+                                                                                                                                                                                            (
+                                                                                                                                                                                              tt,
+                                                                                                                                                                                              tt,
+                                                                                                                                                                                            ),
+                                                                                                                                                                                          ),
+                                                                                                                                                                                        ),
+                                                                                                                                                                                      ),
+                                                                                                                                                                                    ),
+                                                                                                                                                                                  ),
+                                                                                                                                                                                ),
+                                                                                                                                                                              ),
+                                                                                                                                                                            ),
+                                                                                                                                                                          ),
+                                                                                                                                                                        ),
+                                                                                                                                                                      ),
+                                                                                                                                                                    ),
+                                                                                                                                                                  ),
+                                                                                                                                                                ),
+                                                                                                                                                              ),
+                                                                                                                                                            ),
+                                                                                                                                                          ),
+                                                                                                                                                        ),
+                                                                                                                                                      ),
+                                                                                                                                                    ),
+                                                                                                                                                  ),
+                                                                                                                                                ),
+                                                                                                                                              ),
+                                                                                                                                            ),
+                                                                                                                                          ),
+                                                                                                                                        ),
+                                                                                                                                      ),
+                                                                                                                                    ),
+                                                                                                                                  ),
+                                                                                                                                ),
+                                                                                                                              ),
+                                                                                                                            ),
+                                                                                                                          ),
+                                                                                                                        ),
+                                                                                                                      ),
+                                                                                                                    ),
+                                                                                                                  ),
+                                                                                                                ),
+                                                                                                              ),
+                                                                                                            ),
+                                                                                                          ),
+                                                                                                        ),
+                                                                                                      ),
+                                                                                                    ),
+                                                                                                  ),
+                                                                                                ),
+                                                                                              ),
+                                                                                            ),
+                                                                                          ),
+                                                                                        ),
+                                                                                      ),
+                                                                                    ),
+                                                                                  ),
+                                                                                ),
+                                                                              ),
+                                                                            ),
+                                                                          ),
+                                                                        ),
+                                                                      ),
+                                                                    ),
+                                                                  ),
+                                                                ),
+                                                              ),
+                                                            ),
+                                                          ),
+                                                        ),
+                                                      ),
+                                                    ),
+                                                  ),
+                                                ),
+                                              ),
+                                            ),
+                                          ),
+                                        ),
+                                      ),
+                                    ),
+                                  ),
+                                ),
+                              ),
+                            ),
+                          ),
+                        ),
+                      ),
+                    ),
+                  ),
+                ),
+              ),
+            ),
+          ),
+        ),
+      ),
+    ),
+  ),
+)
 
 fast_send : IsSend fast.the_row
 fast_send = recorded_send _ _ fast.the_type.to fast.the_type.to_one (enum_send (shape fast.the_type) each_send)

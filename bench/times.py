@@ -1,0 +1,82 @@
+#!/usr/bin/env python3
+"""Processor time of runs beside that of the same instructions in a switch loop of C, without measures and with them.
+
+    times.py PROGRAM [ROUNDS]   the least of so many interleaved rounds (7), and the ratios beside those that are wanted;
+                                wants gcc, which compiles bench/switch.c and bench/measures.c
+
+Sizes are such that what begins and ends a process is a small part. Where other work runs beside, ratios still compare,
+since the rounds are interleaved; seconds do not.
+"""
+import os
+import pathlib
+import resource
+import subprocess
+import sys
+import tempfile
+
+HERE = pathlib.Path(__file__).resolve().parent
+LIMIT = "4611686018427387904"
+# programs, their argument, and the ratios that are wanted without measures and with them
+PROGRAMS = [("fib", "31", 0.65, 0.75), ("chain", "6000", 0.9, 0.85), ("sieve", "3000000", 0.5, 0.5),
+            ("mergesort", "300000", 0.55, 0.6), ("matrix", "150", 0.6, 0.65), ("queens", "11", 0.7, 0.8)]
+
+
+def source(name):
+    """The text of a program of bench/ or of examples/."""
+    path = HERE / "programs" / f"{name}.cilk"
+    return path if path.exists() else HERE.parent / "examples" / f"{name}.cilk"
+
+
+def taken(command):
+    """Seconds of processor time of a command."""
+    before = resource.getrusage(resource.RUSAGE_CHILDREN)
+    subprocess.run(command, stdout=subprocess.DEVNULL, stderr=subprocess.DEVNULL)
+    after = resource.getrusage(resource.RUSAGE_CHILDREN)
+    return after.ru_utime + after.ru_stime - before.ru_utime - before.ru_stime
+
+
+def commands(program, folder):
+    """Of each program the four commands, by name."""
+    for loop in ("switch", "measures"):
+        subprocess.run(["gcc", "-O2", "-o", f"{folder}/{loop}", f"{HERE}/{loop}.c"], check=True)
+    found = {}
+    for name, size, *_ in PROGRAMS:
+        code = f"{folder}/{name}"
+        with open(code, "w", encoding="utf-8") as it:
+            subprocess.run([sys.executable, f"{HERE}/compile.py", source(name)], stdout=it, check=True)
+        ours = lambda mode: [program, mode, "--workers", "1", source(name), size]
+        found[name] = {
+            "run": ours("run"),
+            "switch": [f"{folder}/switch", code, LIMIT, size],
+            "scale": ours("scale"),
+            "measures": [f"{folder}/measures", code, LIMIT, "15000", size],
+        }
+    return found
+
+
+def main(program, rounds="7"):
+    least, above = {}, 0
+    with tempfile.TemporaryDirectory() as folder:
+        asked = commands(os.path.abspath(program), folder)
+        for _ in range(int(rounds)):
+            for name, each in asked.items():
+                for kind, command in each.items():
+                    least[name, kind] = min(least.get((name, kind), 1e9), taken(command))
+    print("| program | `run` | C | ratio | wanted | `scale` | C with measures | ratio | wanted |")
+    print("|---|---|---|---|---|---|---|---|---|")
+    for name, size, *wanted in PROGRAMS:
+        cells = [f"{name} {size}"]
+        for kind, loop, most in zip(("run", "scale"), ("switch", "measures"), wanted):
+            ratio = least[name, kind] / least[name, loop]
+            above += ratio > most
+            cells += [f"{least[name, kind]:.3f}", f"{least[name, loop]:.3f}", f"{ratio:.2f}", f"{most}"]
+        print("| " + " | ".join(cells) + " |")
+    mean = [sum(least[name, kind] / least[name, loop] for name, *_ in PROGRAMS) / len(PROGRAMS) for kind, loop in (("run", "switch"), ("scale", "measures"))]
+    print(f"\nIn the mean {mean[0]:.2f} without measures and {mean[1]:.2f} with them; {above} ratios of {2 * len(PROGRAMS)} above what is wanted.")
+    return above
+
+
+if __name__ == "__main__":
+    if len(sys.argv) not in (2, 3):
+        sys.exit(__doc__)
+    sys.exit(main(*sys.argv[1:]) != 0)
