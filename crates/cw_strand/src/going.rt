@@ -1,9 +1,9 @@
 //! A strand goes on.
 
-ghost use Rattle.std.specs.Prelude.{◌≡◌, ◌-◌, ◌≤◌, [], IsSome};
+ghost use Rattle.std.specs.Prelude.{◌≡◌, ◌≢◌, ◌-◌, ◌≤◌, true, false, [], IsSome};
 ghost use Rattle.cw_strand.specs.declared.strand.Mode.TheVariants as mode;
 ghost use Rattle.cw_jobs.specs.Means.{IsMeaningOf};
-ghost use Rattle.cw_strand.specs.Holds.{its_job, its_parts, outs, HasStopped, IsRunning};
+ghost use Rattle.cw_strand.specs.Holds.{its_job, its_parts, outs, HasStopped, IsAtSync, IsRunning};
 ghost use Rattle.cw_strand.specs.Moves.{EndsBy, HasCome, IsSame, IsStill, KeptBy, ComesTo, EndsAt};
 
 use crate::strand::{End, Event, Mode, Step, Strand};
@@ -109,7 +109,8 @@ impl Strand {
     fn has_ended(&self) -> bool
         requires running { IsRunning self.now }
         requires at_sync { IsAtSync self.now }
-        ensures yes { result ≡ true → HasStopped self.now × (outs self.now ≡ []) }
+        ensures stopped { result ≡ true → HasStopped self.now }
+        ensures yes { result ≡ true → outs self.now ≡ [] }
         ensures no { result ≡ false → outs self.now ≢ [] }
     {
         match self.mode {
