@@ -34,7 +34,7 @@ fn make_slices(slices: &mut Vec<Slice>, count: usize) -> Result<(), AllocError>
     Ok(())
 }
 
-// Room in a rest for so many cells and slices: out of line, since a rest that is used again has it most often.
+// A rest gets so many cells and slices: out of line, since one that is used again most often has them.
 #[cold]
 #[inline(never)]
 fn make_fit(rest: &mut Rest, cells: usize, slices: usize) -> Result<(), AllocError>
@@ -48,7 +48,7 @@ fn make_fit(rest: &mut Rest, cells: usize, slices: usize) -> Result<(), AllocErr
     Ok(())
 }
 
-// The same, where it has not.
+// A rest has so many cells and slices, and gets them where it has not.
 #[inline(always)]
 fn fit(rest: &mut Rest, cells: usize, slices: usize) -> Result<(), AllocError>
     ensures cells { OnOk result (length rest.new.cells.items ≡ cells) }
@@ -135,7 +135,7 @@ impl Machine {
         }
     }
 
-    // The same, of a call that may have no arrays.
+    // The same, where there are any: of a call without arrays nothing is called.
     #[inline(always)]
     fn hand_arrays(&mut self, first: usize, passed: &[u32], slices: &mut Vec<Slice>)
         requires { ∥ MayHandArrays self.old first passed.now (length slices.old.items) ∥₁ }

@@ -22,7 +22,8 @@ impl Machine {
         self.blocks[v.block].give_back(v.from, slice);
     }
 
-    // The arrays that were handed out with a rest of the call that runs go home, each to its slot.
+    // The arrays that were handed out with a rest of the call that runs go home, each to its slot: out of line, since
+    // most rests have none.
     #[inline(never)]
     fn lay_each(&mut self, rest: &mut Rest)
         requires { ∥ MayTake self.old rest.old.slices.items ∥₁ }

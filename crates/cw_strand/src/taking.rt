@@ -32,7 +32,7 @@ impl Strand {
         }
     }
 
-    // The newest job out is taken back.
+    // The newest job out, which nobody ran, is taken back.
     #[inline(always)]
     fn take_in(&mut self, job: Job)
         requires running { IsRunning self.old }
@@ -51,7 +51,7 @@ impl Strand {
         self.spare(parts);
     }
 
-    // The same, out of line.
+    // The same, out of line: where arrays come home, or there is no room for the job's box.
     #[inline(never)]
     fn take_home(&mut self, job: Job)
         requires running { IsRunning self.old }

@@ -1,5 +1,4 @@
-use Rattle.std.proofs.Common.{◌≡◌, ◌-◌, length, refl, ap, sym, ◌∙◌, subst, arith}
-use Rattle.std.proofs.lemmas.List.{length-take}
+use Rattle.std.proofs.Common.{◌≡◌, ◌-◌, length, refl, sym, ◌∙◌, subst}
 use Rattle.cw_machine.specs.Hands.{MayHandArrays}
 use Rattle.cw_machine.proofs.Handed.{last_frame, first_le, array_le, cells_le, may_arrays, has_cells, handed_out}
 use Rattle.cw_machine.proofs.machine.Machine.hand_out.Goals as goal
