@@ -34,6 +34,34 @@ fn make_slices(slices: &mut Vec<Slice>, count: usize) -> Result<(), AllocError>
     Ok(())
 }
 
+// A rest gets so many cells and slices: out of line, since one that is used again most often has them.
+#[cold]
+#[inline(never)]
+fn make_fit(rest: &mut Rest, cells: usize, slices: usize) -> Result<(), AllocError>
+    ensures cells { OnOk result (length rest.new.cells.items ≡ cells) }
+    ensures slices { OnOk result (length rest.new.slices.items ≡ slices) }
+    ensures left { OnErr result (HasGrown rest.old rest.new) }
+{
+    make_slices(&mut rest.slices, slices)?;
+    rest.cells.resize(cells, 0)?;
+    rest.slices.truncate(slices);
+    Ok(())
+}
+
+// A rest has so many cells and slices, and gets them where it has not.
+#[inline(always)]
+fn fit(rest: &mut Rest, cells: usize, slices: usize) -> Result<(), AllocError>
+    ensures cells { OnOk result (length rest.new.cells.items ≡ cells) }
+    ensures slices { OnOk result (length rest.new.slices.items ≡ slices) }
+    ensures left { OnErr result (HasGrown rest.old rest.new) }
+{
+    if rest.cells.len() == cells && rest.slices.len() == slices {
+        return Ok(());
+    }
+    make_fit(rest, cells, slices)?;
+    Ok(())
+}
+
 impl Machine {
     // Whether the array of a cell is cut by an open block of the call at a first cell, the newest that has any. Cells
     // of arrays that are cut rise with the calls, so the search ends at the first one below that cell.
@@ -95,7 +123,8 @@ impl Machine {
     }
 
     // The arrays of the call that waits nearest, whose first cell is this one, each into the slice of its slot.
-    fn hand_arrays(&mut self, first: usize, passed: &[u32], slices: &mut Vec<Slice>)
+    #[inline(never)]
+    fn hand_each(&mut self, first: usize, passed: &[u32], slices: &mut Vec<Slice>)
         requires { ∥ MayHandArrays self.old first passed.now (length slices.old.items) ∥₁ }
         ensures out { HandsArrays self.old first passed.now self.new slices.new.items }
         ensures as_many { length slices.new.items ≡ length slices.old.items }
@@ -106,6 +135,19 @@ impl Machine {
         }
     }
 
+    // The same, where there are any: of a call without arrays nothing is called.
+    #[inline(always)]
+    fn hand_arrays(&mut self, first: usize, passed: &[u32], slices: &mut Vec<Slice>)
+        requires { ∥ MayHandArrays self.old first passed.now (length slices.old.items) ∥₁ }
+        ensures out { HandsArrays self.old first passed.now self.new slices.new.items }
+        ensures as_many { length slices.new.items ≡ length slices.old.items }
+    {
+        if slices.is_empty() {
+            return;
+        }
+        self.hand_each(first, passed, slices);
+    }
+
     /// The rest of the block that has just spawned a call: the slots and arrays of the call that waits nearest, into
     /// a rest whose vectors are used again, whatever it held. `passed` are the array slots that the spawn took. The
     /// machine goes on as it was while the arrays are out; `take_back` brings them home. The value is the cell of the
@@ -113,6 +155,7 @@ impl Machine {
     ///
     /// The error is want of memory. Then the machine is as it was, and so is the rest, but that it may have more
     /// slices without numbers.
+    #[inline(always)]
     pub fn hand_out(&mut self, passed: &[u32], rest: &mut Rest) -> Result<usize, AllocError>
         requires { ∥ MayHand self.old passed.now ∥₁ }
         ensures out { IfOk result (λ first. HandsOut self.old passed.now first self.new rest.new) }
@@ -122,12 +165,10 @@ impl Machine {
     {
         let f = self.waiting();
         let count = self.first_array - f.first_array;
-        make_slices(&mut rest.slices, count)?;
-        rest.cells.resize(self.first - f.first, 0)?;
-        rest.slices.truncate(count);
-        self.copy_cells(f.first, self.first, &mut rest.cells);
+        fit(rest, self.first - f.first, count)?;
         rest.place = f.place;
         rest.depth = f.depth;
+        self.copy_cells(f.first, self.first, &mut rest.cells);
         self.hand_arrays(f.first_array, passed, &mut rest.slices);
         Ok(f.first_array)
     }

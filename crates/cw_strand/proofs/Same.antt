@@ -1,5 +1,5 @@
 -- Strands with the same parts, and what is left of a list when its last one is taken.
-use Rattle.std.proofs.Common.{◌≡◌, ℕ, ◌+◌, Option, Some, None, List, [], ◌∷◌, ◌++◌, length, refl, sym, ap, ◌∙◌, subst, arith}
+use Rattle.std.proofs.Common.{◌≡◌, ℕ, ◌+◌, ◌<◌, Option, Some, None, List, [], ◌∷◌, ◌++◌, length, refl, sym, ap, ◌∙◌, subst, arith}
 use Rattle.std.specs.Prelude.{map, reverse, option_to_list, MatchOption, slice_get}
 use Rattle.std.proofs.lemmas.List.{reverse-append}
 use Rattle.cw_jobs.specs.declared.job.Job.{Job}
@@ -85,6 +85,15 @@ some_none y q = cc
 pub pops : {A : Type 0} (old new : List A) (n m : ℕ) (r : Option A) (x : A) (xs : List A) → n ≡ length old → old ≡ new ++ option_to_list r → MatchOption r ((n ≡ 0) × (m ≡ 0)) (λ _. m + 1 ≡ n) → reverse old ≡ x ∷ xs → Popped new r x xs
 pops old new n m None x xs many e h are = absurd (some_long old x xs (sym many ∙ h.0) are)
 pops old new n m (Some y) x xs many e h are = popped old new (Some y) x xs e (λ q. absurd (some_none y q)) are
+
+-- as `Vec::take_last` says it
+pub lasts : {A : Type 0} (old new : List A) (r x : A) (xs : List A) → old ≡ new ++ r ∷ [] → reverse old ≡ x ∷ xs → reverse new ≡ xs
+lasts old new r x xs e are = (popped old new (Some r) x xs e (λ q. absurd (some_none r q)) are).left
+
+-- it may be called
+pub some_there : {A : Type 0} (l : List A) (x : A) (xs : List A) → reverse l ≡ x ∷ xs → 0 < length l
+some_there [] x xs q = absurd (some_long [] x xs refl q)
+some_there (y ∷ l) x xs q = omega arith
 
 -- what is left of the jobs out
 pub others_left : (old new : Strand) (out : Job) (others : List Job) → outs old ≡ out ∷ others → ((x : Lent) (xs : List Lent) → reverse old.lent.items ≡ x ∷ xs → reverse new.lent.items ≡ xs) → outs new ≡ others

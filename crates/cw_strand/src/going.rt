@@ -1,9 +1,9 @@
 //! A strand goes on.
 
-ghost use Rattle.std.specs.Prelude.{◌≡◌, ◌-◌, ◌≤◌, [], IsSome};
+ghost use Rattle.std.specs.Prelude.{◌≡◌, ◌≢◌, ◌-◌, ◌≤◌, true, false, [], IsSome};
 ghost use Rattle.cw_strand.specs.declared.strand.Mode.TheVariants as mode;
 ghost use Rattle.cw_jobs.specs.Means.{IsMeaningOf};
-ghost use Rattle.cw_strand.specs.Holds.{its_job, its_parts, outs, HasStopped, IsRunning};
+ghost use Rattle.cw_strand.specs.Holds.{its_job, its_parts, outs, HasStopped, IsAtSync, IsRunning};
 ghost use Rattle.cw_strand.specs.Moves.{EndsBy, HasCome, IsSame, IsStill, KeptBy, ComesTo, EndsAt};
 
 use crate::strand::{End, Event, Mode, Step, Strand};
@@ -14,6 +14,7 @@ use cw_strands::laws::calls_on_a_strand_keep_its_job;
 
 impl Strand {
     // As many instructions as its job may have in all.
+    #[inline(always)]
     pub(crate) fn end_of_job(&self) -> u64
         requires { IsRunning self.now }
         ensures end { result ≡ (its_parts self.now).limit - (its_parts self.now).before }
@@ -23,6 +24,7 @@ impl Strand {
     }
 
     // The run goes on up to its next stop, within so many instructions in all.
+    #[inline(always)]
     pub(crate) fn run_on(&mut self, limit: u64) -> Stop
         requires running { IsRunning self.old }
         requires going { self.old.mode ≡ mode.Going }
@@ -101,7 +103,24 @@ impl Strand {
         }
     }
 
+    // Whether a strand that does not go on is at its end: else the newest job out must come back first.
+    #[cold]
+    #[inline(never)]
+    fn has_ended(&self) -> bool
+        requires running { IsRunning self.now }
+        requires at_sync { IsAtSync self.now }
+        ensures stopped { result ≡ true → HasStopped self.now }
+        ensures yes { result ≡ true → outs self.now ≡ [] }
+        ensures no { result ≡ false → outs self.now ≢ [] }
+    {
+        match self.mode {
+            Mode::Waiting => false,
+            _ => self.lent.is_empty(),
+        }
+    }
+
     /// Goes on to its next event, as `go`, but that an effect is not made yet.
+    #[inline(always)]
     pub fn next_event(&mut self) -> Event
         requires { IsRunning self.old }
         ensures of { self.new.of ≡ self.old.of }
@@ -113,8 +132,12 @@ impl Strand {
                 let stop = self.run_on(end);
                 self.settle(stop, end)
             }
-            Mode::Waiting => Event::AtSync,
-            _ => self.rest(),
+            _ => {
+                if self.has_ended() {
+                    return Event::AtEnd(End::Stopped);
+                }
+                Event::AtSync
+            }
         }
     }
 

@@ -29,6 +29,7 @@ pub(crate) fn empty_rest(alloc: Global) -> Rest {
 }
 
 // The array slots of a list of the code; where there is no list, there are none.
+#[inline(always)]
 fn slots_named(code: &Verified, k: u32) -> &[u32]
     ensures { result.now ≡ listed code.now k }
 {
@@ -42,6 +43,7 @@ fn slots_named(code: &Verified, k: u32) -> &[u32]
 
 // The parts of a rest are told what a job of it must know, which is cut out of another job, at a site and after so many
 // instructions.
+#[inline(always)]
 fn address(parts: &mut Parts, of: &Parts, site: u32, count: u64)
     requires { of.now.before + count ≤ of.now.limit }
     ensures { IsAddressed parts.old of.now site count parts.new }
@@ -55,6 +57,7 @@ fn address(parts: &mut Parts, of: &Parts, site: u32, count: u64)
 
 impl Strand {
     // A box for a rest of the strand's code: one that is spare, or a new one.
+    #[inline(always)]
     fn shell(&mut self) -> Result<Box<Parts>, AllocError>
         requires spares { AreSpare self.old }
         requires code { code_of self.old.parts.value ≡ its_code self.old }
@@ -69,6 +72,7 @@ impl Strand {
     }
 
     // A new box for a rest of the strand's code: out of line, so that a spawn that finds a spare one clears no room for it.
+    #[cold]
     #[inline(never)]
     fn new_shell(&self) -> Result<Box<Parts>, AllocError>
         requires { code_of self.now.parts.value ≡ its_code self.now }
@@ -90,6 +94,7 @@ impl Strand {
 
     // The rest of the block that has just spawned a call, as a job's parts, with the cell of its call's first array
     // slot.
+    #[inline(always)]
     fn cut_out(&mut self, spawn: &Spawn, end: u64) -> Result<(Box<Parts>, usize), AllocError>
         requires comes { HasCome self.old end (stop.Spawned spawn.now) }
         ensures cut { IfOk result (λ x. HasCut self.old self.new spawn.now x.0.value x.1) }

@@ -86,6 +86,7 @@ impl Strand {
 
     /// Skips the newest job out, which nobody ran, where the strand has stopped. Takes no memory but for what keeps the
     /// job's box for another, which may be refused.
+    #[inline(never)]
     pub fn skip(&mut self, job: Job)
         requires running { IsRunning self.old }
         requires stopped { HasStopped self.old }

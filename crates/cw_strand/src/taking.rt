@@ -11,8 +11,16 @@ use cw_jobs::call::Parts;
 use cw_jobs::job::Job;
 use cw_strands::laws::calls_on_a_strand_keep_its_job;
 
+// A box that there is no room to keep is let go.
+#[cold]
+#[inline(never)]
+fn let_go(parts: Box<Parts>) {
+    drop(parts);
+}
+
 impl Strand {
     // A box that is done with is kept, where there is room for it.
+    #[inline(always)]
     pub(crate) fn spare(&mut self, parts: Box<Parts>)
         requires spares { AreSpare self.old }
         requires code { code_of parts.value ≡ its_code self.old }
@@ -20,13 +28,13 @@ impl Strand {
     {
         match self.spares.push(parts) {
             Ok(()) => {}
-            Err(refused) => drop(refused),
+            Err(refused) => let_go(refused.value),
         }
     }
 
-    /// Takes back the newest job out, which nobody ran, where the call beside it has returned: the strand goes on with
-    /// that rest itself. Takes no memory but for what keeps the job's box for another, which may be refused.
-    pub fn take_back(&mut self, job: Job)
+    // The newest job out, which nobody ran, is taken back.
+    #[inline(always)]
+    fn take_in(&mut self, job: Job)
         requires running { IsRunning self.old }
         requires waiting { IsWaiting self.old }
         requires out { (others : List jobs.Job) × (outs self.old ≡ job ∷ others) }
@@ -38,8 +46,39 @@ impl Strand {
         let Job { parts } = job;
         let mut parts = parts;
         self.run.machine.take_back(&mut parts.rest);
-        let _ = self.lent.pop();
+        let _ = self.lent.take_last();
         self.mode = Mode::Going;
         self.spare(parts);
+    }
+
+    // The same, out of line: where arrays come home, or there is no room for the job's box.
+    #[inline(never)]
+    fn take_home(&mut self, job: Job)
+        requires running { IsRunning self.old }
+        requires waiting { IsWaiting self.old }
+        requires out { (others : List jobs.Job) × (outs self.old ≡ job ∷ others) }
+        ensures of { self.new.of ≡ self.old.of }
+        ensures running { IsRunning self.new }
+        ensures outs { job ∷ outs self.new ≡ outs self.old }
+    {
+        self.take_in(job);
+    }
+
+    /// Takes back the newest job out, which nobody ran, where the call beside it has returned: the strand goes on with
+    /// that rest itself. Takes no memory but for what keeps the job's box for another, which may be refused.
+    #[inline(always)]
+    pub fn take_back(&mut self, job: Job)
+        requires running { IsRunning self.old }
+        requires waiting { IsWaiting self.old }
+        requires out { (others : List jobs.Job) × (outs self.old ≡ job ∷ others) }
+        ensures of { self.new.of ≡ self.old.of }
+        ensures running { IsRunning self.new }
+        ensures outs { job ∷ outs self.new ≡ outs self.old }
+    {
+        if job.parts.rest.slices.is_empty() && self.spares.len() < self.spares.capacity() {
+            self.take_in(job);
+        } else {
+            self.take_home(job);
+        }
     }
 }

@@ -1,5 +1,4 @@
-use Rattle.std.proofs.Common.{◌≡◌, ◌-◌, length, refl, ap, sym, ◌∙◌, subst, arith}
-use Rattle.std.proofs.lemmas.List.{length-take}
+use Rattle.std.proofs.Common.{◌≡◌, ◌-◌, length, refl, sym, ◌∙◌, subst}
 use Rattle.cw_machine.specs.Hands.{MayHandArrays}
 use Rattle.cw_machine.proofs.Handed.{last_frame, first_le, array_le, cells_le, may_arrays, has_cells, handed_out}
 use Rattle.cw_machine.proofs.machine.Machine.hand_out.Goals as goal
@@ -23,20 +22,14 @@ pub hand_arrays-requires : goal.hand_arrays-requires
 hand_arrays-requires c =
     let m = c.args.self.now in
     let f = c.waiting-f.result in
-    let e = ap length c.truncate.ensures.items in
-    let t = length-take (m.first_array - f.first_array) c.make_slices.new.slices.items in
-    let le = c.in_ok-make_slices.ensures.enough in
-    let n : length c.truncate.new.self.items ≡ m.first_array - f.first_array = omega (arith, e, t, le) in
+    let n : length c.fit.new.rest.slices.items ≡ m.first_array - f.first_array = c.in_ok-fit.ensures.slices in
     subst (λ k. ∥ MayHandArrays m f.first_array c.args.passed.now k ∥₁) (sym n) (may_arrays m c.args.passed.now f c.waiting-f.ensures c.requires)
 
 pub returns-clause-out : goal.returns-clause-out
 returns-clause-out c v ok s w around h =
     let m = c.args.self.now in
     let f = c.waiting-f.result in
-    let e = ap length c.truncate.ensures.items in
-    let t = length-take (m.first_array - f.first_array) c.make_slices.new.slices.items in
-    let le = c.in_ok-make_slices.ensures.enough in
-    let n : length c.truncate.new.self.items ≡ m.first_array - f.first_array = omega (arith, e, t, le) in
+    let n : length c.fit.new.rest.slices.items ≡ m.first_array - f.first_array = c.in_ok-fit.ensures.slices in
     let cells = has_cells m.cells.items c.copy_cells.new.cells.items f.first m.first (first_le m c.args.passed.now f c.waiting-f.ensures c.requires) (cells_le m c.args.passed.now f c.waiting-f.ensures c.requires) c.copy_cells.ensures in
     handed_out m c.args.passed.now f c.waiting-f.ensures v ok s w around h c.hand_arrays.new.self
     (record { place = f.place; depth = f.depth; cells = c.copy_cells.new.cells; slices = c.hand_arrays.new.slices })

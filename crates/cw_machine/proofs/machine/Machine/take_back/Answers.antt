@@ -1,32 +1,12 @@
-use Rattle.std.proofs.Common.{arith, ◌<◌, ◌≤◌, length}
-use Rattle.cw_machine.proofs.Home.{get_here, home_gap, home_more, home_bare, home_all}
+use Rattle.std.proofs.Common.{◌≡◌, length, sym, ◌∙◌, arith}
+use Rattle.cw_machine.proofs.Decided.{eq_of}
+use Rattle.cw_machine.proofs.Home.{home_none, home_all}
 use Rattle.cw_machine.proofs.machine.Machine.take_back.Goals as goal
 
-pub lay_at-requires : goal.lay_at-requires
-lay_at-requires c =
-    let home = c.loop-a.invariant.home in
-    let n = home.as_many in
-    let lt : c.loop-a.a < length c.loop-a.rest.slices.items = omega (arith, c.loop-a-test.true, c.len-a-end.ensures, n) in
-    home_gap c.args.self.now c.args.rest.now.slices.items c.loop-a.a c.loop-a.self c.loop-a.rest.slices.items home c.take-slice.result c.requires (get_here c.loop-a.rest.slices.items c.loop-a.a c.index_mut.result.now c.take-slice.result c.take-slice.ensures.value c.index_mut.ensures.value lt)
-
-pub loop-a-preserved : goal.loop-a-preserved
-loop-a-preserved c =
-    let home = c.loop-a.invariant.home in
-    let n = home.as_many in
-    let lt : c.loop-a.a < length c.loop-a.rest.slices.items = omega (arith, c.loop-a-test.true, c.len-a-end.ensures, n) in
-    record {
-      home = home_more c.args.self.now c.args.rest.now.slices.items c.loop-a.a c.loop-a.self c.loop-a.rest.slices.items home c.take-slice.result c.take-slice.new.self c.lay_at.new.self (get_here c.loop-a.rest.slices.items c.loop-a.a c.index_mut.result.now c.take-slice.result c.take-slice.ensures.value c.index_mut.ensures.value lt) c.take-slice.ensures.left.0 c.lay_at.ensures;
-      cells = c.loop-a.invariant.cells;
-      place = c.loop-a.invariant.place;
-      depth = c.loop-a.invariant.depth;
-    }
-
-pub returns-clause-shows : goal.returns-clause-shows
-returns-clause-shows c =
-    let le : length c.args.rest.now.slices.items ≤ c.loop-a.a = omega (arith, c.loop-a-test.false, c.len-a-end.ensures) in
-    home_all c.args.self.now c.args.rest.now.slices.items c.loop-a.a c.loop-a.self c.loop-a.rest.slices.items c.loop-a.invariant.home le
-
-pub returns-clause-bare : goal.returns-clause-bare
-returns-clause-bare c =
-    let le : length c.args.rest.now.slices.items ≤ c.loop-a.a = omega (arith, c.loop-a-test.false, c.len-a-end.ensures) in
-    home_bare c.args.self.now c.args.rest.now.slices.items c.loop-a.a c.loop-a.self c.loop-a.rest.slices.items c.loop-a.invariant.home le
+pub returns-then-is_empty-clause-shows : goal.returns-then-is_empty-clause-shows
+returns-then-is_empty-clause-shows c =
+    let m = c.args.self.now in
+    let v = c.args.rest.now.slices in
+    let slices = v.items in
+    let none : length slices ≡ 0 = sym v.ok.0 ∙ eq_of v.len 0 (sym c.is_empty.ensures ∙ c.if-is_empty.true) in
+    home_all m slices 0 m slices (home_none m slices) (omega (arith, none))

@@ -1,12 +1,5 @@
 use Rattle.std.proofs.Common.{refl}
-use Rattle.cw_strand.proofs.RunsOn.{waiting_some, waits_at}
 use Rattle.cw_strand.proofs.strand.Strand.next_event.Goals as goal
 
-pub returns-in-Waiting-clause-keeps : goal.returns-in-Waiting-clause-keeps
-returns-in-Waiting-clause-keeps c =
-    let self = c.args.self.now in (
-      c.requires,
-      refl,
-      waiting_some self c.requires c.in-Waiting.is,
-      waits_at self c.in-Waiting.is,
-    )
+pub returns-else-has_ended-clause-keeps : goal.returns-else-has_ended-clause-keeps
+returns-else-has_ended-clause-keeps c = (c.requires, refl, c.has_ended.ensures.no c.if-has_ended.false, c.in_default.not-Going)

@@ -1,6 +1,6 @@
 use Rattle.std.proofs.Common.{◌≡◌}
 use Rattle.cw_machine.proofs.Home.{ComesHome}
-use Rattle.cw_machine.proofs.machine.Machine.take_back.Given as goal
+use Rattle.cw_machine.proofs.machine.Machine.lay_each.Given as goal
 
 abbrev pub invariant-loop-a : goal.invariant-loop-a
 invariant-loop-a l = record {

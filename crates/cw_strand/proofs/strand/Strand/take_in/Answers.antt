@@ -1,17 +1,25 @@
-use Rattle.std.proofs.Common.{refl, sym, ap, ◌∙◌, subst}
+use Rattle.std.proofs.Common.{◌∷◌, refl, sym, ap, ◌∙◌, subst, arith}
 use Rattle.std.specs.Prelude.{reverse}
 use Rattle.cw_jobs.specs.declared.call.Parts.{Parts}
 use Rattle.cw_jobs.specs.Jobs.{code_of}
 use Rattle.cw_machine.specs.Rests.{MayTake, TakesBack}
-use Rattle.cw_strand.proofs.Same.{newest_of, pops}
+use Rattle.cw_strand.proofs.Same.{newest_of, lasts, some_there, others_left}
 use Rattle.cw_strand.proofs.TakenBack.{may_take, job_code, takes_back_to}
-use Rattle.cw_strand.proofs.strand.Strand.take_back.Goals as goal
+use Rattle.cw_strand.proofs.strand.Strand.take_in.Goals as goal
 
 pub take_back-requires : goal.take_back-requires
 take_back-requires c =
     let self = c.args.self.now in
     subst (λ (q : Parts). ∥ MayTake self.run.machine q.rest.slices.items ∥₁) (sym c.deref_mut.ensures.value)
     (may_take self c.args.job c.requires.out.0 (newest_of self c.args.job c.requires.out.0 c.requires.out.1) c.requires.running c.requires.waiting)
+
+pub take_last-requires : goal.take_last-requires
+take_last-requires c =
+    let self = c.args.self.now in
+    let newest = newest_of self c.args.job c.requires.out.0 c.requires.out.1 in
+    let some = some_there self.lent.items newest.lent newest.rest newest.are in
+    let long = self.lent.ok.0 in
+    omega (arith, some, long)
 
 pub spare-requires-clause-code : goal.spare-requires-clause-code
 spare-requires-clause-code c =
@@ -24,7 +32,14 @@ returns-clause-running c =
     let self = c.args.self.now in
     let others = c.requires.out.0 in
     let newest = newest_of self c.args.job others c.requires.out.1 in
-    let left = (pops self.lent.items c.pop.new.self.items self.lent.len c.pop.new.self.len c.pop.result newest.lent newest.rest self.lent.ok.0 c.pop.ensures.items c.pop.ensures.cases newest.are).left in
+    let left = lasts self.lent.items c.take_last.new.self.items c.take_last.result newest.lent newest.rest c.take_last.ensures.items newest.are in
     takes_back_to self c.args.job others newest c.calls_on_a_strand_keep_its_job.ensures c.requires.running c.requires.waiting c.take_back.new.self
     (subst (λ (q : Parts). TakesBack self.run.machine q.rest.slices.items c.take_back.new.self) c.deref_mut.ensures.value c.take_back.ensures.shows)
     c.spare.new.self (ap reverse c.spare.ensures.kept.lent ∙ left) _ refl left c.spare.ensures.kept
+
+pub returns-clause-outs : goal.returns-clause-outs
+returns-clause-outs c =
+    let self = c.args.self.now in
+    let others = c.requires.out.0 in
+    ap (λ l. c.args.job ∷ l) (others_left self c.spare.new.self c.args.job others c.requires.out.1 (λ x xs are. ap reverse c.spare.ensures.kept.lent ∙ lasts self.lent.items c.take_last.new.self.items c.take_last.result x xs c.take_last.ensures.items are))
+    ∙ sym c.requires.out.1
