@@ -164,7 +164,7 @@ impl Tables {
         }
     }
 
-    #[inline(never)]
+    #[inline(always)]
     fn end_call(&mut self, count: u64, part: Part) -> Result<(), AllocError>
         ensures { OnOk result (part.kind ≡ Call → Closes self.old self.new count part) }
     {
@@ -174,7 +174,7 @@ impl Tables {
         Ok(())
     }
 
-    #[inline(never)]
+    #[inline(always)]
     fn end_spawned_call(&mut self, count: u64, part: Part) -> Result<(), AllocError>
         ensures { OnOk result (part.kind ≡ SpawnedCall → Closes self.old self.new count part) }
     {
