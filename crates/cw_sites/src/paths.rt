@@ -76,10 +76,15 @@ impl Paths {
         }
     }
 
-    /// So many instructions of a site more. `place` is where its steps were put before, or any other number; gives the
-    /// place where these are put.
+    /// So many instructions of a site more. `place` is where its steps were put before, or any other number; where these
+    /// are put elsewhere, that place is given.
     #[inline(always)]
-    pub fn extend(&mut self, place: usize, site: u32, count: u64) -> Result<usize, AllocError>
+    pub fn extend(
+        &mut self,
+        place: usize,
+        site: u32,
+        count: u64,
+    ) -> Result<Option<usize>, AllocError>
         ensures laid { OnOk result (Laid self.old → Laid self.new) }
         ensures strand_path { OnOk result (Extends self.old self.new site count) }
         ensures short { OnOk result (IsShort self.new) }
@@ -92,7 +97,7 @@ impl Paths {
 
     // The same, however long the path is.
     #[inline(always)]
-    fn add(&mut self, place: usize, site: u32, count: u64) -> Result<usize, AllocError>
+    fn add(&mut self, place: usize, site: u32, count: u64) -> Result<Option<usize>, AllocError>
         ensures laid { OnOk result (Laid self.old → Laid self.new) }
         ensures strand_path { OnOk result (Extends self.old self.new site count) }
         ensures short { OnOk result (GrowsByOne self.old self.new) }

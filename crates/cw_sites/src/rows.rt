@@ -118,14 +118,14 @@ impl Rows {
         Ok(kept.place)
     }
 
-    /// The steps of a site, which were at the first place, were put at the second.
+    /// The steps of a site were put elsewhere, if a place is given.
     #[inline(always)]
-    pub fn tell(&mut self, site: u32, from: usize, to: usize)
+    pub fn tell(&mut self, site: u32, at: Option<usize>)
         ensures { SayTheSame self.old self.new }
     {
-        if from == to {
+        let Some(to) = at else {
             return;
-        }
+        };
         let place = site as usize;
         if place < self.by_site.len() {
             self.by_site[place] = Kept {

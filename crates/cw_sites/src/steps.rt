@@ -14,7 +14,7 @@ pub struct Steps {
 }
 
 /// So many instructions of a site more, in the path that lies from `start` on; what lies before is not touched. Where the
-/// path has steps of the site at `place`, they become more; else these are put at the end. Gives the place where they are.
+/// path has steps of the site at `place`, they become more; else these are put at the end, at the place that is given.
 #[inline(always)]
 pub fn add_steps(
     steps: &mut Vec<Steps>,
@@ -22,7 +22,7 @@ pub fn add_steps(
     place: usize,
     site: u32,
     count: u64,
-) -> Result<usize, AllocError>
+) -> Result<Option<usize>, AllocError>
     ensures below { AsBelow start steps.old.items steps.new.items }
     ensures all { OnOk result (AddsSteps start site count steps.old.items steps.new.items) }
     ensures longer { length steps.old.items ≤ length steps.new.items }
@@ -38,12 +38,12 @@ pub fn add_steps(
                     site,
                     count: one.count.wrapping_add(count),
                 };
-                return Ok(place);
+                return Ok(None);
             }
         }
     }
     put(steps, Steps { site, count })?;
-    Ok(len)
+    Ok(Some(len))
 }
 
 // These steps at the end.

@@ -51,7 +51,7 @@ impl SiteTable {
         let since = count.wrapping_sub(self.noted);
         let place = self.rows.work(here, since)?;
         let at = self.paths.extend(place, here, since)?;
-        self.rows.tell(here, place, at);
+        self.rows.tell(here, at);
         self.noted = count;
         Ok(())
     }
