@@ -6,9 +6,9 @@ use Rattle.cw_model.specs.Burdens.{at_child, at_rest}
 use Rattle.cw_model.specs.Trees.{Mark, Event, Work, Series, Fork, Join, tree_of, work, burdened_span}
 use Rattle.cw_measure.specs.declared.burdened_path.BurdenedBlock.{BurdenedBlock}
 use Rattle.cw_measure.specs.declared.burdened_path.BurdenedPath.{BurdenedPath}
-use Rattle.cw_measure.specs.OpenParts.{Open, in_fork, marked, closed, has_spawned, Since}
+use Rattle.cw_measure.specs.OpenParts.{Open, in_fork, marked, closed, has_spawned, Since, work_in}
 use Rattle.cw_measure.specs.BlockWeights.{BlockWeight, Straight, Split, now_of, gone_on, child_ended, top_of, after, after_all, enters, block_weight, weight_in, burdened_work_in, WorkAndWeightAreMetered}
-use Rattle.cw_measure.specs.StrandWeights.{StrandWeight, reversed, strand_weight, goes_on, begins, begins_again, spawns, ends, joins, saved_of, Fits, StandsOn, RestsOn, Under, ShowsWeight, TellsWeight, FitsRun}
+use Rattle.cw_measure.specs.StrandWeights.{StrandWeight, reversed, strand_weight, goes_on, begins, begins_again, spawns, ends, joins, saved_of, Fits, StandsOn, RestsOn, Under, ShowsWeight, TellsWeight, FitsRun, HasGoneOn, noted_at, LatePathsWait, NotesLate}
 use Rattle.cw_measure.specs.lemmas.BlockWeights.{top-after_all, child_charge}
 use Rattle.cw_measure.specs.lemmas.OpenParts.{KeptBy, kept_since, has_spawned_since, work_since, work_adds, work_more, sum_begun, left_work}
 use Rattle.cw_measure.specs.lemmas.StrandWeights.{block_more, is_split, split-block, straight, span_marked, ended_weight, weight_meters, work_meters, ShowsBlock, by_block, stands_gone_on, now_gone_on, stands_straight, span_within, event_work, sum_of_works, works_is}
@@ -171,6 +171,29 @@ noted_weight burden os es fs old new count since fits h f m =
       shows = subst D (sym (f (omega arith))) s;
       noted_is = let a = work_since os es fs k since.instructions in let b = h.noted_is in let d = since.goes_on in omega arith;
     }
+
+pub late_waits : LatePathsWait
+late_waits burden os es fs path count since fits h =
+    let w = work_in os es in
+    let l = h.late in let g = since.goes_on in
+    let a = work_since os es fs (count - w) since.instructions in
+    record {
+      late = omega arith;
+      tells = noted_weight burden os es fs (noted_at w path) (noted_at (work_in os (es ++ fs)) path) count since fits h.tells (λ small. ap (λ (x : ℕ). weighs x (reversed path.blocks.items [])) (omega arith)) (omega arith);
+    }
+
+pub late_noted : (old new : BurdenedPath) (count : ℕ) → HasGoneOn old new count → new.noted ≡ count → NotesLate old new count
+late_noted old new count gone n = λ burden os es fs since fits h.
+    let w = work_in os es in
+    let l = h.late in let g = since.goes_on in
+    let a = work_since os es fs (count - w) since.instructions in
+    let t = (late_waits burden os es fs old count since fits h).tells in
+    let b = weight_within burden os (es ++ fs) in
+    let s = t.shows.now_is in
+    let c = gone (omega arith) (omega arith) in
+    let f : strand_weight (noted_at (work_in os (es ++ fs)) old) ≡ goes_on (count - old.noted) (strand_weight old) = ap (λ (x : ℕ). weighs x (reversed old.blocks.items [])) (omega arith) in
+    let D : StrandWeight → Type 0 = λ x. ShowsWeight burden os (es ++ fs) x in
+    record { shows = subst D (f ∙ sym c) t.shows; noted_is = omega arith }
 
 pub spawned_weight : (burden : Burden) (mark : Option Mark) (os : List Open) (es fs : List Event) (old mid new : BurdenedPath) (count : ℕ) (first : Bool) → Since old.noted count es fs → has_spawned es ≡ not first → TellsWeight burden os (es ++ fs) mid → strand_weight new ≡ spawns first (strand_weight mid) → new.noted ≡ mid.noted → TellsWeight burden (in_fork mark (es ++ fs) os) [] new
 spawned_weight burden mark os es fs old mid new count first since e h f m =

@@ -131,6 +131,30 @@ pub record TellsWeight (burden : Burden) (os : List Open) (es : List Event) (pat
 abbrev pub FitsRun : Burden → List Open → List Event → Type 0
 FitsRun burden os es = burdened_work_in burden os es < 2 ^ 128
 
+-- the path as it is once the instructions up to a count are noted
+abbrev pub noted_at : (count : ℕ) → BurdenedPath → BurdenedPath
+noted_at count path =
+    record { weight = path.weight + (count - path.noted); noted = count; blocks = path.blocks }
+
+-- a burdened path may be told late of instructions, and of parts in series that begin and end: once all instructions
+-- are noted it tells of a run so far
+pub record TellsLate (burden : Burden) (os : List Open) (es : List Event) (path : BurdenedPath) : Type 0 where
+  pub late : path.noted ≤ work_in os es
+  pub tells : TellsWeight burden os es (noted_at (work_in os es) path)
+
+-- so more of them need no call
+abbrev pub LatePathsWait : Type 0
+LatePathsWait =
+    (burden : Burden) (os : List Open) (es fs : List Event) (path : BurdenedPath) (count : ℕ)
+    → Since (work_in os es) count es fs → FitsRun burden os (es ++ fs)
+    → TellsLate burden os es path → TellsLate burden os (es ++ fs) path
+
+-- and are noted whenever that is called
+abbrev pub NotesLate : BurdenedPath → BurdenedPath → (count : ℕ) → Type 0
+NotesLate old new count =
+    (burden : Burden) (os : List Open) (es fs : List Event) → Since (work_in os es) count es fs
+    → FitsRun burden os (es ++ fs) → TellsLate burden os es old → TellsWeight burden os (es ++ fs) new
+
 -- what each call on a burdened path does: it told of a run, and tells of what the run has come to
 abbrev pub NotesWeight : BurdenedPath → BurdenedPath → (count : ℕ) → Type 0
 NotesWeight old new count =

@@ -4,7 +4,7 @@ ghost use Rattle.std.specs.Prelude.{◌≡◌, ℕ, [], true, false, OnOk};
 ghost use Rattle.cw_model.specs.declared.burden.Burden.{Burden};
 ghost use Rattle.cw_measure.specs.PathCalls.{AppendsWithin, BeginsChild, EndsWithin, Lengthens};
 ghost use Rattle.cw_measure.specs.StrandWeights.{begins, begins_again, joins, strand_weight};
-ghost use Rattle.cw_measure.specs.StrandWeights.{AppendsWeight, EndsChildWeight, JoinsWeight, HasGoneOn, NotesWeight, ReadsWeight, SpawnsWeight, TellsWeight};
+ghost use Rattle.cw_measure.specs.StrandWeights.{AppendsWeight, EndsChildWeight, JoinsWeight, HasGoneOn, NotesLate, NotesWeight, ReadsWeight, SpawnsWeight, TellsWeight};
 
 use cw_model::burden::Burden;
 use std::alloc::{AllocError, Global};
@@ -44,10 +44,12 @@ impl BurdenedPath {
         }
     }
 
-    /// The instructions up to this count are noted: to be called before the weight is read.
+    /// The instructions up to this count are noted: to be called before the weight is read, and, where parts in series
+    /// began or ended since the last call (`laws::late_paths_wait`), before any other call.
     #[inline(always)]
     pub fn note(&mut self, count: u64)
         ensures tells { NotesWeight self.old self.new count }
+        ensures late { NotesLate self.old self.new count }
         ensures weight { HasGoneOn self.old self.new count }
         ensures noted { self.new.noted ≡ count }
     {

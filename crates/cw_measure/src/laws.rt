@@ -6,7 +6,7 @@ ghost use Rattle.cw_measure.specs.Counters.{CountersReadSpans};
 ghost use Rattle.cw_measure.specs.Laws.{AllTalliesKeep};
 ghost use Rattle.cw_measure.specs.Measured.{MeasuresReadTrees};
 ghost use Rattle.cw_measure.specs.Outermost.{PiecesTally};
-ghost use Rattle.cw_measure.specs.StrandWeights.{SeriesNeedNoCall};
+ghost use Rattle.cw_measure.specs.StrandWeights.{LatePathsWait, SeriesNeedNoCall};
 ghost use Rattle.cw_measure.specs.declared.burdened_path.BurdenedPath.{BurdenedPath};
 
 /// Exact counters read the burdened span of the tree of their events, and those of two pieces make those of the whole.
@@ -31,6 +31,12 @@ pub fn blocks_weigh_their_spans()
 #[tactic(auto, using(crate::specs::lemmas::StrandWeights::series_need_no_call))]
 pub fn series_need_no_call()
     ensures { (burden : Burden) (path : BurdenedPath) → SeriesNeedNoCall burden path }
+{}
+
+/// A burdened path that is told late stays so, as instructions come, and joins of a block that has spawned nothing: once
+/// the instructions are noted it tells of all.
+pub fn late_paths_wait()
+    ensures { LatePathsWait }
 {}
 
 /// The work of a run and the weight of a strand's heaviest path grow along each part, whose block has joined, by the

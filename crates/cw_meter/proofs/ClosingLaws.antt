@@ -6,9 +6,9 @@ use Rattle.cw_model.specs.declared.limits.TheConstants.{MOST_LIMIT, MOST_BURDEN}
 use Rattle.cw_model.specs.Trees.{Mark, Invocation, Execution, Event, Series, Fork, tree_of}
 use Rattle.cw_measure.specs.declared.burdened_path.BurdenedPath.{BurdenedPath}
 use Rattle.cw_measure.specs.OpenParts.{Open, marked, closed, has_spawned}
-use Rattle.cw_measure.specs.StrandWeights.{TellsWeight, NotesWeight, EndsChildWeight}
-use Rattle.cw_measure.specs.lemmas.OpenParts.{spawned_append}
-use Rattle.cw_measure.specs.lemmas.StrandWeights.{series_need_no_call}
+use Rattle.cw_measure.specs.StrandWeights.{TellsWeight, LatePathsWait, NotesLate, EndsChildWeight}
+use Rattle.cw_measure.specs.lemmas.OpenParts.{append_none, spawned_append}
+use Rattle.cw_measure.specs.lemmas.StrandWeights.{series_need_no_call, late_ended}
 use Rattle.cw_sites.specs.declared.table.SiteTable.{SiteTable}
 use Rattle.cw_sites.specs.Tables.{Leaves, EndsChild, EndsHalf, ReadsPath}
 use Rattle.cw_sites.specs.Tables as sites
@@ -25,7 +25,7 @@ use Rattle.cw_meter.specs.Meters.{TablesTell, nothing_open}
 use Rattle.cw_meter.specs.Parts.{IsOfKind, IsPart}
 use Rattle.cw_meter.specs.Tables.{Closes, Settles, opened}
 use Rattle.cw_meter.proofs.Counting.{counted_closed, small_tags}
-use Rattle.cw_meter.proofs.TableLaws.{tables_told, tags_closed, told_spawned, sites_since, path_since, told_small, told_fits, path_told, with_tables, with_regions}
+use Rattle.cw_meter.proofs.TableLaws.{tables_told, tables_late, tags_closed, told_spawned, sites_since, told_small, path_told, path_waits, none_since, fits_now, with_tables, with_regions}
 
 -- what tables tell where a part with this mark ends, told at its events
 abbrev Ended : (t new : Tables) (count : ℕ) (burden : Burden) (tags : Tags) (from : Origin) (os : List Open) (es : List Event) → Open → Type 0
@@ -51,34 +51,33 @@ joined_now : (burden : Burden) (tags : Tags) (from : Origin) (count : ℕ) (os :
 joined_now burden tags from count os es t e h = sym h.spawned_is ∙ e
 
 -- a call in place ends
-pub call_closed : (t : Tables) (s : SiteTable) (p : BurdenedPath) (count : ℕ) (part : Part) → Leaves t.sites s count part.site → NotesWeight t.path p count → part.kind ≡ kind.Call → Closes t (with_tables t s p part.spawned) count part
-call_closed t s p count part leaves notes e = λ burden tags from o os es is joined small light.
+pub call_closed : (t : Tables) (s : SiteTable) (count : ℕ) (part : Part) → Leaves t.sites s count part.site → LatePathsWait → part.kind ≡ kind.Call → Closes t (with_tables t s t.path part.spawned) count part
+call_closed t s count part leaves waits e = λ burden tags from o os es is joined small light.
     let k = kind_of from tags o os part kind.Call e is in
-    of_mark (Ended t (with_tables t s p part.spawned) count burden tags from os es) o false (Some (Invocation k.1.0)) k.0 k.1.1 (λ h.
+    of_mark (Ended t (with_tables t s t.path part.spawned) count burden tags from os es) o false (Some (Invocation k.1.0)) k.0 k.1.1 (λ h.
     let site = k.1.0 in
     let mark : Option Mark = Some (Invocation site) in
+    let this : Open = record { spawned = false; mark = mark; outer = o.outer } in
     let here = opened false mark o.outer os in
-    let S : List Event → Type 0 = λ x. sites.Tells (base_of from) nothing_open os (closed (record { spawned = false; mark = mark; outer = o.outer }) x) s in
-    tables_told burden tags from count os (closed (record { spawned = false; mark = mark; outer = o.outer }) es) (with_tables t s p part.spawned) (record {
-      sites = subst S h.all (leaves (base_of from) nothing_open os o.outer h.told h.since site (sites_since burden tags from count here es t h) (told_spawned burden tags from count here es t h ∙ joined) is.site (told_small burden tags from count here es t h small) h.sites);
-      path = (series_need_no_call burden p).ends (record { spawned = false; mark = mark; outer = o.outer }) os es refl (joined_now burden tags from count here es t joined h) (path_told burden tags from count here es t p notes small light h);
-      regions = tags_closed burden tags from false mark o.outer os es t.regions tt h.regions;
-      counted = counted_closed burden from count (record { spawned = false; mark = mark; outer = o.outer }) os es h.counted;
-      burden_is = h.burden_is;
-      spawned_is = goes_on mark o.outer es part.spawned is.spawned;
-    }))
+    let S : List Event → Type 0 = λ x. sites.Tells (base_of from) nothing_open os (closed this x) s in
+    tables_late burden tags from count os (closed this es) (with_tables t s t.path part.spawned)
+    (subst S h.all (leaves (base_of from) nothing_open os o.outer h.told h.since site (sites_since burden tags from count here es t h) (told_spawned burden tags from count here es t h ∙ joined) is.site (told_small burden tags from count here es t h small) h.sites))
+    (late_ended burden this os es t.path refl (joined_now burden tags from count here es t joined h) (path_waits burden tags from count here es t waits small light h))
+    (tags_closed burden tags from false mark o.outer os es t.regions tt h.regions)
+    (counted_closed burden from count this os es h.counted) h.burden_is (goes_on mark o.outer es part.spawned is.spawned))
 
 -- the path of a spawned part that ends
-child_path : (burden : Burden) (tags : Tags) (from : Origin) (count : ℕ) (mark : Option Mark) (before : List Event) (os : List Open) (es : List Event) (t : Tables) (p : BurdenedPath) → EndsChildWeight t.path p count t.burden → t.spawned ≡ false → count ≤ MOST_LIMIT → burden.charge ≤ MOST_BURDEN → TablesTell burden tags from count (opened true mark before os) es t → TellsWeight burden os (closed (record { spawned = true; mark = mark; outer = before }) es) p
-child_path burden tags from count mark before os es t p ends joined small light h =
+child_path : (burden : Burden) (tags : Tags) (from : Origin) (count : ℕ) (mark : Option Mark) (before : List Event) (os : List Open) (es : List Event) (t : Tables) (m p : BurdenedPath) → NotesLate t.path m count → EndsChildWeight m p count t.burden → t.spawned ≡ false → count ≤ MOST_LIMIT → burden.charge ≤ MOST_BURDEN → TablesTell burden tags from count (opened true mark before os) es t → TellsWeight burden os (closed (record { spawned = true; mark = mark; outer = before }) es) p
+child_path burden tags from count mark before os es t m p notes ends joined small light h =
     let here = opened true mark before os in
     let o : Open = record { spawned = true; mark = mark; outer = before } in
     let P : List Event → Type 0 = λ x. TellsWeight burden os (closed o x) p in
-    let E : Burden → Type 0 = λ x. EndsChildWeight t.path p count x in
-    subst P h.all (subst E h.burden_is ends o os h.told h.since (path_since burden tags from count here es t h) (told_fits burden tags from count here es t h small light) refl (told_spawned burden tags from count here es t h ∙ joined) h.path)
+    let E : Burden → Type 0 = λ x. EndsChildWeight m p count x in
+    let told = path_told burden tags from count here es t m notes small light h in
+    subst P (append_none es) (subst E h.burden_is ends o os es [] (none_since burden from count here es m h.counted told) (fits_now burden tags from count here es t h small light) refl (joined_now burden tags from count here es t joined h) told)
 
-pub spawned_call_closed : (t : Tables) (s : SiteTable) (p : BurdenedPath) (count : ℕ) (part : Part) → EndsChild t.sites s count part.site → EndsChildWeight t.path p count t.burden → part.kind ≡ kind.SpawnedCall → Closes t (with_tables t s p true) count part
-spawned_call_closed t s p count part ends heavier e = λ burden tags from o os es is joined small light.
+pub spawned_call_closed : (t : Tables) (s : SiteTable) (m p : BurdenedPath) (count : ℕ) (part : Part) → EndsChild t.sites s count part.site → NotesLate t.path m count → EndsChildWeight m p count t.burden → part.kind ≡ kind.SpawnedCall → Closes t (with_tables t s p true) count part
+spawned_call_closed t s m p count part ends notes heavier e = λ burden tags from o os es is joined small light.
     let k = kind_of from tags o os part kind.SpawnedCall e is in
     of_mark (Ended t (with_tables t s p true) count burden tags from os es) o true (Some (Invocation k.1.0)) k.0 k.1.1 (λ h.
     let site = k.1.0 in
@@ -87,22 +86,22 @@ spawned_call_closed t s p count part ends heavier e = λ burden tags from o os e
     let S : List Event → Type 0 = λ x. sites.Tells (base_of from) nothing_open os (closed (record { spawned = true; mark = mark; outer = o.outer }) x) s in
     tables_told burden tags from count os (closed (record { spawned = true; mark = mark; outer = o.outer }) es) (with_tables t s p true) (record {
       sites = subst S h.all (ends (base_of from) nothing_open os o.outer h.told h.since site (sites_since burden tags from count here es t h) (told_spawned burden tags from count here es t h ∙ joined) is.site (told_small burden tags from count here es t h small) h.sites);
-      path = child_path burden tags from count mark o.outer os es t p heavier joined small light h;
+      path = child_path burden tags from count mark o.outer os es t m p notes heavier joined small light h;
       regions = tags_closed burden tags from true mark o.outer os es t.regions tt h.regions;
       counted = counted_closed burden from count (record { spawned = true; mark = mark; outer = o.outer }) os es h.counted;
       burden_is = h.burden_is;
       spawned_is = has_now mark o.outer es;
     }))
 
-pub half_closed : (t : Tables) (s : SiteTable) (p : BurdenedPath) (count : ℕ) (part : Part) → EndsHalf t.sites s count → EndsChildWeight t.path p count t.burden → part.kind ≡ kind.Half → Closes t (with_tables t s p true) count part
-half_closed t s p count part ends heavier e = λ burden tags from o os es is joined small light.
+pub half_closed : (t : Tables) (s : SiteTable) (m p : BurdenedPath) (count : ℕ) (part : Part) → EndsHalf t.sites s count → NotesLate t.path m count → EndsChildWeight m p count t.burden → part.kind ≡ kind.Half → Closes t (with_tables t s p true) count part
+half_closed t s m p count part ends notes heavier e = λ burden tags from o os es is joined small light.
     let k = kind_of from tags o os part kind.Half e is in
     of_mark (Ended t (with_tables t s p true) count burden tags from os es) o true None k.0 k.1 (λ h.
     let here = opened true None o.outer os in
     let S : List Event → Type 0 = λ x. sites.Tells (base_of from) nothing_open os (closed (record { spawned = true; mark = None; outer = o.outer }) x) s in
     tables_told burden tags from count os (closed (record { spawned = true; mark = None; outer = o.outer }) es) (with_tables t s p true) (record {
       sites = subst S h.all (ends (base_of from) nothing_open None os o.outer h.told h.since tt (sites_since burden tags from count here es t h) (told_spawned burden tags from count here es t h ∙ joined) (told_small burden tags from count here es t h small) h.sites);
-      path = child_path burden tags from count None o.outer os es t p heavier joined small light h;
+      path = child_path burden tags from count None o.outer os es t m p notes heavier joined small light h;
       regions = tags_closed burden tags from true None o.outer os es t.regions tt h.regions;
       counted = counted_closed burden from count (record { spawned = true; mark = None; outer = o.outer }) os es h.counted;
       burden_is = h.burden_is;

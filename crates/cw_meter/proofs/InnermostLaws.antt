@@ -1,5 +1,5 @@
 -- The part that is kept last is the innermost open one.
-use Rattle.std.specs.Prelude.{◌≡◌, ℕ, zero, suc, List, [], ◌∷◌, ◌++◌, length, reverse, Some, slice_get, refl}
+use Rattle.std.specs.Prelude.{◌≡◌, ℕ, zero, suc, List, [], ◌∷◌, ◌++◌, length, reverse, Some, slice_get}
 use Rattle.std.proofs.Common.{sym, ◌∙◌, ap, subst, arith}
 use Rattle.cw_measure.specs.OpenParts.{Open}
 use Rattle.cw_regions.specs.Regions.{Tags}

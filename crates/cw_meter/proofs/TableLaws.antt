@@ -6,9 +6,9 @@ use Rattle.cw_model.specs.declared.limits.TheConstants.{MOST_LIMIT, MOST_BURDEN}
 use Rattle.cw_model.specs.Trees.{Mark, Invocation, Execution, Event, Work, Series, Fork, Join}
 use Rattle.cw_measure.specs.declared.burdened_path.BurdenedPath.{BurdenedPath}
 use Rattle.cw_measure.specs.OpenParts.{Open, closed, has_spawned, IsSince, Since, work_in}
-use Rattle.cw_measure.specs.StrandWeights.{TellsWeight, FitsRun, NotesWeight, SpawnsWeight, JoinsWeight}
+use Rattle.cw_measure.specs.StrandWeights.{TellsLate, TellsWeight, FitsRun, LatePathsWait, NotesLate, SpawnsWeight, JoinsWeight}
 use Rattle.cw_measure.specs.lemmas.OpenParts.{append_none, spawned_append, has_spawned-work, has_spawned_since}
-use Rattle.cw_measure.specs.lemmas.StrandWeights.{series_need_no_call}
+use Rattle.cw_measure.specs.lemmas.StrandWeights.{series_need_no_call, told_late, late_begun}
 use Rattle.cw_sites.specs.declared.table.SiteTable.{SiteTable}
 use Rattle.cw_sites.specs.Tables.{Small, Notes, Enters, Spawns, SpawnsHalf, Leaves, EndsChild, EndsHalf, Joins, ReadsPath}
 use Rattle.cw_sites.specs.Tables as sites
@@ -19,7 +19,7 @@ use Rattle.cw_regions.specs.Regions as regions
 use Rattle.cw_regions.specs.lemmas.Regions.{regions_need_no_call}
 use Rattle.cw_meter.specs.Origins.{Origin, base_of}
 use Rattle.cw_meter.specs.declared.tables.Tables.{Tables}
-use Rattle.cw_meter.specs.Meters.{AreTold, TablesTell, TellsTags, nothing_open, ticked}
+use Rattle.cw_meter.specs.Meters.{AreTold, IsCounted, TablesTell, TellsTags, nothing_open, ticked}
 use Rattle.cw_meter.specs.Tables.{JoinsSpawned, Opens, OpensRegion, Settles, opened}
 use Rattle.cw_meter.proofs.AlikeLaws.{append_twice}
 use Rattle.cw_meter.proofs.Counting.{counted_ticked, counted_joined, small_run, fits_run, small_tags}
@@ -102,27 +102,27 @@ tables_unspawned burden tags from count os es t e h = record {
   spawned_is = e ∙ sym (spawned_append false es (Join ∷ []));
 }
 
--- what has all been told tells
-pub tables_told : (burden : Burden) (tags : Tags) (from : Origin) (count : ℕ) (os : List Open) (es : List Event) (t : Tables) → AreTold burden tags from count os es t → TablesTell burden tags from count os es t
-tables_told burden tags from count os es t h = record {
+-- what has all been told tells, the heaviest path late
+pub tables_late : (burden : Burden) (tags : Tags) (from : Origin) (count : ℕ) (os : List Open) (es : List Event) (t : Tables) → sites.Tells (base_of from) nothing_open os es t.sites → TellsLate burden os es t.path → TellsTags burden tags from os es t.regions → IsCounted burden from count os es → t.burden ≡ burden → t.spawned ≡ has_spawned es → TablesTell burden tags from count os es t
+tables_late burden tags from count os es t rows path regions counted b s = record {
   told = es;
   since = [];
   all = append_none es;
-  waits = let w = h.counted.work in record { goes_on = omega arith; instructions = omega arith };
-  sites = h.sites;
-  path = h.path;
-  regions = h.regions;
-  counted = h.counted;
-  burden_is = h.burden_is;
-  spawned_is = h.spawned_is;
+  waits = let w = counted.work in record { goes_on = omega arith; instructions = omega arith };
+  sites = rows;
+  path = path;
+  regions = regions;
+  counted = counted;
+  burden_is = b;
+  spawned_is = s;
 }
+
+pub tables_told : (burden : Burden) (tags : Tags) (from : Origin) (count : ℕ) (os : List Open) (es : List Event) (t : Tables) → AreTold burden tags from count os es t → TablesTell burden tags from count os es t
+tables_told burden tags from count os es t h = tables_late burden tags from count os es t h.sites (told_late burden os es t.path h.path) h.regions h.counted h.burden_is h.spawned_is
 
 -- what each table is owed
 pub sites_since : (burden : Burden) (tags : Tags) (from : Origin) (count : ℕ) (os : List Open) (es : List Event) (t : Tables) (h : TablesTell burden tags from count os es t) → Since t.sites.noted count h.told h.since
 sites_since burden tags from count os es t h = let P : ℕ → Type 0 = λ x. Since x count h.told h.since in subst P (sym h.sites.noted_is) h.waits
-
-pub path_since : (burden : Burden) (tags : Tags) (from : Origin) (count : ℕ) (os : List Open) (es : List Event) (t : Tables) (h : TablesTell burden tags from count os es t) → Since t.path.noted count h.told h.since
-path_since burden tags from count os es t h = let P : ℕ → Type 0 = λ x. Since x count h.told h.since in subst P (sym h.path.noted_is) h.waits
 
 pub told_small : (burden : Burden) (tags : Tags) (from : Origin) (count : ℕ) (os : List Open) (es : List Event) (t : Tables) (h : TablesTell burden tags from count os es t) → count ≤ MOST_LIMIT → Small nothing_open os (h.told ++ h.since)
 told_small burden tags from count os es t h small = let P : List Event → Type 0 = λ x. Small nothing_open os x in subst P (sym h.all) (small_run burden from count os es small h.counted)
@@ -130,10 +130,23 @@ told_small burden tags from count os es t h small = let P : List Event → Type 
 pub told_fits : (burden : Burden) (tags : Tags) (from : Origin) (count : ℕ) (os : List Open) (es : List Event) (t : Tables) (h : TablesTell burden tags from count os es t) → count ≤ MOST_LIMIT → burden.charge ≤ MOST_BURDEN → FitsRun burden os (h.told ++ h.since)
 told_fits burden tags from count os es t h small light = let P : List Event → Type 0 = λ x. FitsRun burden os x in subst P (sym h.all) (fits_run burden from count os es small light h.counted)
 
-pub path_told : (burden : Burden) (tags : Tags) (from : Origin) (count : ℕ) (os : List Open) (es : List Event) (t : Tables) (p : BurdenedPath) → NotesWeight t.path p count → count ≤ MOST_LIMIT → burden.charge ≤ MOST_BURDEN → TablesTell burden tags from count os es t → TellsWeight burden os es p
+pub path_told : (burden : Burden) (tags : Tags) (from : Origin) (count : ℕ) (os : List Open) (es : List Event) (t : Tables) (p : BurdenedPath) → NotesLate t.path p count → count ≤ MOST_LIMIT → burden.charge ≤ MOST_BURDEN → TablesTell burden tags from count os es t → TellsWeight burden os es p
 path_told burden tags from count os es t p notes small light h =
     let P : List Event → Type 0 = λ x. TellsWeight burden os x p in
-    subst P h.all (notes burden os h.told h.since (path_since burden tags from count os es t h) (told_fits burden tags from count os es t h small light) h.path)
+    subst P h.all (notes burden os h.told h.since h.waits (told_fits burden tags from count os es t h small light) h.path)
+
+-- the heaviest path, of which nothing more is told
+pub path_waits : (burden : Burden) (tags : Tags) (from : Origin) (count : ℕ) (os : List Open) (es : List Event) (t : Tables) → LatePathsWait → count ≤ MOST_LIMIT → burden.charge ≤ MOST_BURDEN → TablesTell burden tags from count os es t → TellsLate burden os es t.path
+path_waits burden tags from count os es t waits small light h =
+    let P : List Event → Type 0 = λ x. TellsLate burden os x t.path in
+    subst P h.all (waits burden os h.told h.since t.path count h.waits (told_fits burden tags from count os es t h small light) h.path)
+
+-- nothing came since a path was noted
+pub none_since : (burden : Burden) (from : Origin) (count : ℕ) (os : List Open) (es : List Event) (p : BurdenedPath) → IsCounted burden from count os es → TellsWeight burden os es p → Since p.noted count es []
+none_since burden from count os es p counted h = let w = counted.work in let n = h.noted_is in record { goes_on = omega arith; instructions = omega arith }
+
+pub fits_now : (burden : Burden) (tags : Tags) (from : Origin) (count : ℕ) (os : List Open) (es : List Event) (t : Tables) → TablesTell burden tags from count os es t → count ≤ MOST_LIMIT → burden.charge ≤ MOST_BURDEN → FitsRun burden os (es ++ [])
+fits_now burden tags from count os es t h small light = let P : List Event → Type 0 = λ x. FitsRun burden os x in subst P (sym (append_none es)) (fits_run burden from count os es small light h.counted)
 
 -- tables with these sites, this path, and this of the block that runs
 abbrev pub with_tables : Tables → SiteTable → BurdenedPath → (spawned : Bool) → Tables
@@ -143,7 +156,7 @@ abbrev pub with_regions : Tables → RegionTable → (spawned : Bool) → Tables
 with_regions t r spawned = record { sites = t.sites; path = t.path; regions = r; burden = t.burden; spawned = spawned }
 
 -- all is told
-pub tables_settled : (t : Tables) (s : SiteTable) (p : BurdenedPath) (count : ℕ) → Notes t.sites s count → NotesWeight t.path p count → Settles t (with_tables t s p t.spawned) count
+pub tables_settled : (t : Tables) (s : SiteTable) (p : BurdenedPath) (count : ℕ) → Notes t.sites s count → NotesLate t.path p count → Settles t (with_tables t s p t.spawned) count
 tables_settled t s p count notes heavier = λ burden tags from os es small light h. record {
   sites =
       let P : List Event → Type 0 = λ x. sites.Tells (base_of from) nothing_open os x s in
@@ -156,50 +169,47 @@ tables_settled t s p count notes heavier = λ burden tags from os es small light
 }
 
 -- a call begins
-pub call_opened : (t : Tables) (s : SiteTable) (p : BurdenedPath) (count site : ℕ) → Enters t.sites s count site → NotesWeight t.path p count → Opens t (with_tables t s p false) count false (Some (Invocation site))
-call_opened t s p count site enters notes = λ burden tags from os es k small light h.
+pub call_opened : (t : Tables) (s : SiteTable) (count site : ℕ) → Enters t.sites s count site → LatePathsWait → Opens t (with_tables t s t.path false) count false (Some (Invocation site))
+call_opened t s count site enters waits = λ burden tags from os es k small light h.
     let mark : Option Mark = Some (Invocation site) in
     let P : List Event → Type 0 = λ x. sites.Tells (base_of from) nothing_open (opened false mark x os) [] s in
     let S : List Event → Type 0 = λ x. Small nothing_open (opened false mark x os) [] in
-    tables_told burden tags from count (opened false mark es os) [] (with_tables t s p false) (record {
-      sites = subst P h.all (enters (base_of from) nothing_open os h.told h.since (sites_since burden tags from count os es t h) (subst S (sym h.all) (small_run burden from count (opened false mark es os) [] small k)) h.sites);
-      path = (series_need_no_call burden p).begins mark os es (path_told burden tags from count os es t p notes small light h);
-      regions = tags_opened burden tags from false mark os es t.regions tt h.regions;
-      counted = k;
-      burden_is = h.burden_is;
-      spawned_is = refl;
-    })
+    tables_late burden tags from count (opened false mark es os) [] (with_tables t s t.path false)
+    (subst P h.all (enters (base_of from) nothing_open os h.told h.since (sites_since burden tags from count os es t h) (subst S (sym h.all) (small_run burden from count (opened false mark es os) [] small k)) h.sites))
+    (late_begun burden mark os es t.path (path_waits burden tags from count os es t waits small light h))
+    (tags_opened burden tags from false mark os es t.regions tt h.regions) k h.burden_is refl
 
 pub not_twice : (b : Bool) → not (not b) ≡ b
 not_twice true = refl
 not_twice false = refl
 
 -- a spawned part begins, by a table's own rule
-spawned_path : (burden : Burden) (tags : Tags) (from : Origin) (count : ℕ) (os : List Open) (es : List Event) (t : Tables) (p : BurdenedPath) (mark : Option Mark) → SpawnsWeight t.path p count (not t.spawned) → count ≤ MOST_LIMIT → burden.charge ≤ MOST_BURDEN → TablesTell burden tags from count os es t → TellsWeight burden (opened true mark es os) [] p
-spawned_path burden tags from count os es t p mark spawns small light h =
+spawned_path : (burden : Burden) (tags : Tags) (from : Origin) (count : ℕ) (os : List Open) (es : List Event) (t : Tables) (m p : BurdenedPath) (mark : Option Mark) → NotesLate t.path m count → SpawnsWeight m p count (not t.spawned) → count ≤ MOST_LIMIT → burden.charge ≤ MOST_BURDEN → TablesTell burden tags from count os es t → TellsWeight burden (opened true mark es os) [] p
+spawned_path burden tags from count os es t m p mark notes spawns small light h =
     let P : List Event → Type 0 = λ x. TellsWeight burden (opened true mark x os) [] p in
-    subst P h.all (spawns burden mark os h.told h.since (path_since burden tags from count os es t h) (told_fits burden tags from count os es t h small light) (told_spawned burden tags from count os es t h ∙ sym (not_twice t.spawned)) h.path)
+    let told = path_told burden tags from count os es t m notes small light h in
+    subst P (append_none es) (spawns burden mark os es [] (none_since burden from count os es m h.counted told) (fits_now burden tags from count os es t h small light) (sym h.spawned_is ∙ sym (not_twice t.spawned)) told)
 
-pub spawned_call_opened : (t : Tables) (s : SiteTable) (p : BurdenedPath) (count site : ℕ) → Spawns t.sites s count site (not t.spawned) → SpawnsWeight t.path p count (not t.spawned) → Opens t (with_tables t s p false) count true (Some (Invocation site))
-spawned_call_opened t s p count site spawns heavier = λ burden tags from os es k small light h.
+pub spawned_call_opened : (t : Tables) (s : SiteTable) (m p : BurdenedPath) (count site : ℕ) → Spawns t.sites s count site (not t.spawned) → NotesLate t.path m count → SpawnsWeight m p count (not t.spawned) → Opens t (with_tables t s p false) count true (Some (Invocation site))
+spawned_call_opened t s m p count site spawns notes heavier = λ burden tags from os es k small light h.
     let mark : Option Mark = Some (Invocation site) in
     let P : List Event → Type 0 = λ x. sites.Tells (base_of from) nothing_open (opened true mark x os) [] s in
     let S : List Event → Type 0 = λ x. Small nothing_open (opened true mark x os) [] in
     tables_told burden tags from count (opened true mark es os) [] (with_tables t s p false) (record {
       sites = subst P h.all (spawns (base_of from) nothing_open os h.told h.since (sites_since burden tags from count os es t h) (told_spawned burden tags from count os es t h ∙ sym (not_twice t.spawned)) (subst S (sym h.all) (small_run burden from count (opened true mark es os) [] small k)) h.sites);
-      path = spawned_path burden tags from count os es t p mark heavier small light h;
+      path = spawned_path burden tags from count os es t m p mark notes heavier small light h;
       regions = tags_opened burden tags from true mark os es t.regions tt h.regions;
       counted = k;
       burden_is = h.burden_is;
       spawned_is = refl;
     })
 
-pub half_opened : (t : Tables) (s : SiteTable) (p : BurdenedPath) (count : ℕ) → SpawnsHalf t.sites s count (not t.spawned) → SpawnsWeight t.path p count (not t.spawned) → Opens t (with_tables t s p false) count true None
-half_opened t s p count spawns heavier = λ burden tags from os es k small light h.
+pub half_opened : (t : Tables) (s : SiteTable) (m p : BurdenedPath) (count : ℕ) → SpawnsHalf t.sites s count (not t.spawned) → NotesLate t.path m count → SpawnsWeight m p count (not t.spawned) → Opens t (with_tables t s p false) count true None
+half_opened t s m p count spawns notes heavier = λ burden tags from os es k small light h.
     let P : List Event → Type 0 = λ x. sites.Tells (base_of from) nothing_open (opened true None x os) [] s in
     tables_told burden tags from count (opened true None es os) [] (with_tables t s p false) (record {
       sites = subst P h.all (spawns (base_of from) nothing_open None os h.told h.since tt (sites_since burden tags from count os es t h) (told_spawned burden tags from count os es t h ∙ sym (not_twice t.spawned)) (told_small burden tags from count os es t h small) h.sites);
-      path = spawned_path burden tags from count os es t p None heavier small light h;
+      path = spawned_path burden tags from count os es t m p None notes heavier small light h;
       regions = tags_opened burden tags from true None os es t.regions tt h.regions;
       counted = k;
       burden_is = h.burden_is;
@@ -240,14 +250,15 @@ region_opened t now r count tag path heavy settles reads weighs begins = λ burd
     })
 
 -- the block that runs joins
-pub tables_joined : (t : Tables) (s : SiteTable) (p : BurdenedPath) (count : ℕ) → Joins t.sites s count → JoinsWeight t.path p count → JoinsSpawned t (with_tables t s p false) count
-tables_joined t s p count joins heavier = λ burden tags from os es e small light h.
+pub tables_joined : (t : Tables) (s : SiteTable) (m p : BurdenedPath) (count : ℕ) → Joins t.sites s count → NotesLate t.path m count → JoinsWeight m p count → JoinsSpawned t (with_tables t s p false) count
+tables_joined t s m p count joins notes heavier = λ burden tags from os es e small light h.
     let S : List Event → Type 0 = λ x. sites.Tells (base_of from) nothing_open os (x ++ Join ∷ []) s in
     let P : List Event → Type 0 = λ x. TellsWeight burden os (x ++ Join ∷ []) p in
     let told = told_spawned burden tags from count os es t h ∙ e in
+    let now = path_told burden tags from count os es t m notes small light h in
     tables_told burden tags from count os (es ++ Join ∷ []) (with_tables t s p false) (record {
       sites = subst S h.all (joins (base_of from) nothing_open os h.told h.since (sites_since burden tags from count os es t h) told (told_small burden tags from count os es t h small) h.sites);
-      path = subst P h.all (heavier burden os h.told h.since (path_since burden tags from count os es t h) (told_fits burden tags from count os es t h small light) told h.path);
+      path = subst P (append_none es) (heavier burden os es [] (none_since burden from count os es m h.counted now) (fits_now burden tags from count os es t h small light) (sym h.spawned_is ∙ e) now);
       regions = tags_joined burden tags from os es t.regions h.regions;
       counted = counted_joined burden from count os es h.counted;
       burden_is = h.burden_is;

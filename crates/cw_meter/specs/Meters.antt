@@ -5,7 +5,7 @@ use Rattle.cw_model.specs.declared.limits.TheConstants.{MOST_LIMIT, MOST_BURDEN}
 use Rattle.cw_model.specs.Trees.{Mark, Execution, Event, Work, Join}
 use Rattle.cw_measure.specs.OpenParts.{Open, closed, has_spawned, no_joins, Since, work_in}
 use Rattle.cw_measure.specs.BlockWeights.{weight_in, burdened_work_in}
-use Rattle.cw_measure.specs.StrandWeights.{TellsWeight}
+use Rattle.cw_measure.specs.StrandWeights.{TellsLate, TellsWeight}
 use Rattle.cw_sites.specs.OpenPaths.{here_in, path_in}
 use Rattle.cw_sites.specs.SiteRows.{calls_in}
 use Rattle.cw_sites.specs.Tables as sites
@@ -55,7 +55,7 @@ pub record TablesTell (burden : Burden) (tags : Tags) (from : Origin) (count : �
   pub all : told ++ since ≡ es
   pub waits : Since (work_in os told) count told since
   pub sites : sites.Tells (base_of from) nothing_open os told t.sites
-  pub path : TellsWeight burden os told t.path
+  pub path : TellsLate burden os told t.path
   pub regions : TellsTags burden tags from os es t.regions
   pub counted : IsCounted burden from count os es
   pub burden_is : t.burden ≡ burden

@@ -8,12 +8,14 @@ ghost use Rattle.cw_meter.specs.declared.parts.PartKind.TheVariants.{Call, Half,
 
 use crate::parts::{Part, PartKind};
 use cw_measure::BurdenedPath;
+use cw_measure::laws::late_paths_wait;
 use cw_model::burden::Burden;
 use cw_regions::{RegionRow, RegionTable};
 use cw_sites::table::{SiteRow, SiteTable, sum_of};
 use std::alloc::{AllocError, Global};
 
 /// The rows of call sites with the chosen path, the heaviest path with burdens, and the rows of tags, of one run so far.
+/// The heaviest path is not told of calls in place, and is noted before anything else is told to it.
 ///
 /// Instructions, and joins of a block that has spawned nothing since its last join, need no call; each method is told
 /// the count of instructions at which it is called.
@@ -85,8 +87,8 @@ impl Tables {
     pub fn call(&mut self, next: u64, site: u32) -> Result<(), AllocError>
         ensures { OnOk result (Opens self.old self.new next false (Some (Invocation site))) }
     {
+        late_paths_wait();
         self.sites.enter(next, site)?;
-        self.path.note(next);
         self.spawned = false;
         Ok(())
     }
@@ -98,6 +100,7 @@ impl Tables {
     {
         let first = !self.spawned;
         self.sites.spawn(next, site, first)?;
+        self.path.note(next);
         self.path.spawn(next, first)?;
         self.spawned = false;
         Ok(())
@@ -120,6 +123,7 @@ impl Tables {
     {
         let first = !self.spawned;
         self.sites.spawn_half(next, first)?;
+        self.path.note(next);
         self.path.spawn(next, first)?;
         self.spawned = false;
         Ok(())
@@ -139,12 +143,13 @@ impl Tables {
     }
 
     /// The block that runs, which has spawned since its last join, joins at this count.
-    #[inline(never)]
+    #[inline(always)]
     pub fn join(&mut self, count: u64) -> Result<(), AllocError>
         ensures told { OnOk result (JoinsSpawned self.old self.new count) }
         ensures joined { OnOk result (self.new.spawned ≡ false) }
     {
         self.sites.join(count)?;
+        self.path.note(count);
         self.path.join(count);
         self.spawned = false;
         Ok(())
@@ -164,21 +169,22 @@ impl Tables {
         }
     }
 
-    #[inline(never)]
+    #[inline(always)]
     fn end_call(&mut self, count: u64, part: Part) -> Result<(), AllocError>
         ensures { OnOk result (part.kind ≡ Call → Closes self.old self.new count part) }
     {
+        late_paths_wait();
         self.sites.leave(count, part.site)?;
-        self.path.note(count);
         self.spawned = part.spawned;
         Ok(())
     }
 
-    #[inline(never)]
+    #[inline(always)]
     fn end_spawned_call(&mut self, count: u64, part: Part) -> Result<(), AllocError>
         ensures { OnOk result (part.kind ≡ SpawnedCall → Closes self.old self.new count part) }
     {
         self.sites.end_child(count, part.site)?;
+        self.path.note(count);
         self.path.end_child(count, self.burden);
         self.spawned = true;
         Ok(())
@@ -198,6 +204,7 @@ impl Tables {
         ensures { OnOk result (part.kind ≡ Half → Closes self.old self.new count part) }
     {
         self.sites.end_half(count)?;
+        self.path.note(count);
         self.path.end_child(count, self.burden);
         self.spawned = true;
         Ok(())

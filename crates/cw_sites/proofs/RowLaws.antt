@@ -7,7 +7,8 @@ use borrow.Author.Tests.{eqb-true}
 use Rattle.cw_measure.specs.Outermost.{unless_at}
 use Rattle.cw_sites.specs.declared.rows.Rows.{Rows}
 use Rattle.cw_sites.specs.declared.rows.Row.{Row}
-use Rattle.cw_sites.specs.SiteRows.{row_of, zero_row, summed, under, FitsRow, IsGiven, IsReadAs, AddsEach, JoinsRows}
+use Rattle.cw_sites.specs.declared.rows.Kept.{Kept}
+use Rattle.cw_sites.specs.SiteRows.{row_of, zero_row, none_kept, summed, under, FitsRow, IsGiven, IsReadAs, AddsEach, JoinsRows}
 
 same_number : (n : ℕ) → (n == n) ≡ true
 same_number n = grind (arith, nat_tests)
@@ -88,12 +89,12 @@ pub joined_into_ours : (old piece new : Rows) → AddsEach summed old piece new 
 joined_into_ours old piece new a = λ q fits alike.
     elim (cases_lt q (length piece.by_site.items)) [
       | inl h ↦ read_same (row_of new q) (summed (row_of old q) (row_of piece q)) (a.within q h fits)
-      | inr h ↦ read_same (row_of new q) (summed (row_of old q) (row_of piece q)) (a.beyond q h ∙ sym (summed_none (row_of old q)) ∙ ap (summed (row_of old q)) (sym (get_or_past piece.by_site.items q zero_row h)))
+      | inr h ↦ read_same (row_of new q) (summed (row_of old q) (row_of piece q)) (a.beyond q h ∙ sym (summed_none (row_of old q)) ∙ ap (summed (row_of old q)) (sym (ap (λ (x : Kept). x.row) (get_or_past piece.by_site.items q none_kept h))))
     ]
 
 pub joined_into_piece : (old piece new : Rows) → AddsEach under piece old new → JoinsRows old piece new
 joined_into_piece old piece new a = λ q fits alike.
     elim (cases_lt q (length old.by_site.items)) [
       | inl h ↦ read_same (row_of new q) (summed (row_of old q) (row_of piece q)) (a.within q h fits)
-      | inr h ↦ read_alone (row_of old q) (row_of piece q) (row_of new q) (get_or_past old.by_site.items q zero_row h) (a.beyond q h) alike
+      | inr h ↦ read_alone (row_of old q) (row_of piece q) (row_of new q) (ap (λ (x : Kept). x.row) (get_or_past old.by_site.items q none_kept h)) (a.beyond q h) alike
     ]

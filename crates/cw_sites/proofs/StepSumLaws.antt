@@ -62,23 +62,25 @@ upto-last q (x ∷ []) (suc i) d h = absurd (omega arith)
 upto-last q (x ∷ y ∷ xs) zero d h = absurd (omega arith)
 upto-last q (x ∷ y ∷ xs) (suc i) d h = let k = upto-last q (y ∷ xs) i d (omega arith) in omega arith
 
-by_site : (b : Bool) (before all new old count sum : ℕ) → new + steps_if b old ≡ all + steps_if b sum → before + steps_if b old ≤ all → (all - before) + steps_if b count < 2 ^ 64 → (old + count < 2 ^ 64 → sum ≡ old + count) → new ≡ all + steps_if b count
-by_site true before all new old count sum e f g h = let m = h (omega arith) in omega arith
-by_site false before all new old count sum e f g h = omega arith
-
--- the last steps are of the same site: they become more
-pub upto-more : (q : ℕ) (xs : List Steps) (i start : ℕ) (s : Steps) (site count sum : ℕ) → suc i ≡ length xs → start ≤ i → s ≡ get_or xs i s → s.site ≡ site → (s.count + count < 2 ^ 64 → sum ≡ s.count + count) → (whole q xs - upto q xs start) + if_site q site count < 2 ^ 64 → whole q (set xs i (record { site = site; count = sum })) ≡ whole q xs + if_site q site count
-upto-more q xs i start s site count sum h below g e m fits =
-    let a = upto_all-set q xs i (record { site = site; count = sum }) s (omega arith) in
-    let b = upto-last q xs i s h in
-    let u = upto-mono q xs start i below in
-    let c : if_site q (get_or xs i s).site (get_or xs i s).count ≡ if_site q site s.count = ap (λ (x : Steps). if_site q x.site x.count) (sym g) ∙ ap (λ (x : ℕ). if_site q x s.count) e in
-    by_site (site == q) (upto q xs start) (whole q xs) (whole q (set xs i (record { site = site; count = sum }))) s.count count sum (omega arith) (omega arith) fits m
-
+-- a step more
 pub upto-next : (q : ℕ) (xs : List Steps) (i : ℕ) (d : Steps) → i < length xs → upto q xs (i + 1) ≡ upto q xs i + if_site q (get_or xs i d).site (get_or xs i d).count
 upto-next q [] i d h = absurd (omega arith)
 upto-next q (x ∷ xs) zero d h = let z = upto-zero q xs in omega arith
 upto-next q (x ∷ xs) (suc i) d h = let k = upto-next q xs i d (omega arith) in let e : suc i + 1 ≡ suc (i + 1) = omega arith in let f = ap (upto q (x ∷ xs)) e in omega arith
+
+by_site : (b : Bool) (before all new old count sum : ℕ) → new + steps_if b old ≡ all + steps_if b sum → before + steps_if b old ≤ all → (all - before) + steps_if b count < 2 ^ 64 → (old + count < 2 ^ 64 → sum ≡ old + count) → new ≡ all + steps_if b count
+by_site true before all new old count sum e f g h = let m = h (omega arith) in omega arith
+by_site false before all new old count sum e f g h = omega arith
+
+-- steps of the same site that are there become more
+pub upto-more : (q : ℕ) (xs : List Steps) (i start : ℕ) (s : Steps) (site count sum : ℕ) → i < length xs → start ≤ i → s ≡ get_or xs i s → s.site ≡ site → (s.count + count < 2 ^ 64 → sum ≡ s.count + count) → (whole q xs - upto q xs start) + if_site q site count < 2 ^ 64 → whole q (set xs i (record { site = site; count = sum })) ≡ whole q xs + if_site q site count
+upto-more q xs i start s site count sum h below g e m fits =
+    let a = upto_all-set q xs i (record { site = site; count = sum }) s h in
+    let b = upto-next q xs i s h in
+    let m' = upto-mono q xs (i + 1) (length xs) (omega arith) in
+    let u = upto-mono q xs start i below in
+    let c : if_site q (get_or xs i s).site (get_or xs i s).count ≡ if_site q site s.count = ap (λ (x : Steps). if_site q x.site x.count) (sym g) ∙ ap (λ (x : ℕ). if_site q x s.count) e in
+    by_site (site == q) (upto q xs start) (whole q xs) (whole q (set xs i (record { site = site; count = sum }))) s.count count sum (omega arith) (omega arith) fits m
 
 next_by : (b : Bool) (count sum next all from more : ℕ) → more ≡ all + steps_if b count → sum ≡ all - from → from ≤ all → more - from < 2 ^ 64 → next ≡ (if b then min (sum + count) (2 ^ 64 - 1) else sum) → next ≡ more - from
 next_by true count sum next all from more e f g h k = omega arith

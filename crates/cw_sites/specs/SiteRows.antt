@@ -5,15 +5,19 @@ use Rattle.cw_model.specs.Rows.{is_site, leaves, weight_of_site, calls_of}
 use Rattle.cw_measure.specs.OpenParts.{Open, work_in}
 use Rattle.cw_measure.specs.Outermost.{is_counted, one_if, unless_open, Tally, Counts}
 use Rattle.cw_sites.specs.declared.rows.Row.{Row}
+use Rattle.cw_sites.specs.declared.rows.Kept.{Kept}
 use Rattle.cw_sites.specs.declared.rows.Rows.{Rows}
 use Rattle.cw_sites.specs.OpenPaths.{here_in, path_in}
 
 abbrev pub zero_row : Row
 zero_row = record { calls = 0; own = 0; work = 0; span = 0; active = 0; at_work = 0; at_path = 0 }
 
+abbrev pub none_kept : Kept
+none_kept = record { row = zero_row; place = 0 }
+
 -- the row of a site; zeros where there is none
 abbrev pub row_of : Rows → ℕ → Row
-row_of rows site = slice_index_or rows.by_site.items site zero_row
+row_of rows site = (slice_index_or rows.by_site.items site none_kept).row
 
 -- so many of its own instructions more
 abbrev pub worked : ℕ → Row → Row

@@ -1,11 +1,12 @@
 //! The path of the strand that runs, and of the blocks round it that have spawned.
 //!
 //! The steps of all paths lie in one list, one path behind the other, and those of one path are in no order. So what is
-//! taken out of the middle is filled from the end: at most twice as many steps move as are let go of (`WritesWithin`). A
-//! path longer than its limit, which is twice the sites of the paths that were added up so far and a constant, is added up
-//! by site, and then has at most half of that: the path of the strand that runs before a step is put to it, and a block's
-//! base where it takes a rest in. So each step that is put pays for its moves and its adding up once, whatever the length
-//! of the paths that are joined.
+//! taken out of the middle is filled from the end: at most twice as many steps move as are let go of (`WritesWithin`).
+//! Steps of a site are added to those that were put last for it, where these still lie in the path that runs: so a path
+//! of calls in place has few steps for each of its sites. A path longer than its limit, which is twice the sites of the
+//! paths that were added up so far and a constant, is added up by site, and then has at most half of that: the path of
+//! the strand that runs before a step is put to it, and a block's base where it takes a rest in. So each step that is
+//! put pays for its moves and its adding up once, whatever the length of the paths that are joined.
 
 ghost use Rattle.std.specs.Prelude.{◌≡◌, ℕ, ◌+◌, ◌-◌, ◌^◌, ◌<◌, ◌==◌, ◌≤◌, length, min, if◌then◌else◌, IfOk, OnOk};
 ghost use Rattle.std.specs.Vec.{vec_len, vec_capacity};
@@ -75,22 +76,28 @@ impl Paths {
         }
     }
 
-    /// So many instructions of a site more.
+    /// So many instructions of a site more. `place` is where its steps were put before, or any other number; where these
+    /// are put elsewhere, that place is given.
     #[inline(always)]
-    pub fn extend(&mut self, site: u32, count: u64) -> Result<(), AllocError>
+    pub fn extend(
+        &mut self,
+        place: usize,
+        site: u32,
+        count: u64,
+    ) -> Result<Option<usize>, AllocError>
         ensures laid { OnOk result (Laid self.old → Laid self.new) }
         ensures strand_path { OnOk result (Extends self.old self.new site count) }
         ensures short { OnOk result (IsShort self.new) }
         ensures bounded { OnOk result (FitsAt site self.old self.new) }
     {
         self.shorten()?;
-        self.add(site, count)?;
-        Ok(())
+        let at = self.add(place, site, count)?;
+        Ok(at)
     }
 
     // The same, however long the path is.
     #[inline(always)]
-    fn add(&mut self, site: u32, count: u64) -> Result<(), AllocError>
+    fn add(&mut self, place: usize, site: u32, count: u64) -> Result<Option<usize>, AllocError>
         ensures laid { OnOk result (Laid self.old → Laid self.new) }
         ensures strand_path { OnOk result (Extends self.old self.new site count) }
         ensures short { OnOk result (GrowsByOne self.old self.new) }
@@ -98,9 +105,9 @@ impl Paths {
         ensures start { OnOk result (self.new.start ≡ self.old.start) }
         ensures bounded { OnOk result (GrowsAt site self.old self.new) }
     {
-        add_steps(&mut self.steps, self.start, site, count)?;
+        let at = add_steps(&mut self.steps, self.start, place, site, count)?;
         self.weight = self.weight.wrapping_add(count);
-        Ok(())
+        Ok(at)
     }
 
     // The path that runs is added up by site where it is longer than its limit.
@@ -487,7 +494,9 @@ impl Paths {
         ensures bounded { OnOk result (GrowsAt one.site self.old self.new) }
         ensures strand_path { OnOk result (AddsStep self.old self.new one) }
     {
-        add_steps(&mut self.steps, self.start, one.site, one.count)?;
+        // The last steps may be of the same site.
+        let last = self.steps.len().wrapping_sub(1);
+        let _at = add_steps(&mut self.steps, self.start, last, one.site, one.count)?;
         Ok(())
     }
 }

@@ -26,10 +26,17 @@ pub struct Row {
     pub at_path: u64,
 }
 
+/// A row, and where steps of its site were put last.
+#[derive(Clone, Copy, Debug)]
+pub struct Kept {
+    pub row: Row,
+    pub place: usize,
+}
+
 /// The rows by site number. A site past the end has a row of zeros.
 #[derive(Debug, Drop)]
 pub struct Rows {
-    pub by_site: Vec<Row>,
+    pub by_site: Vec<Kept>,
 }
 
 const ZERO: Row = Row {
@@ -40,6 +47,11 @@ const ZERO: Row = Row {
     active: 0,
     at_work: 0,
     at_path: 0,
+};
+
+const NONE: Kept = Kept {
+    row: ZERO,
+    place: 0,
 };
 
 impl Rows {
@@ -65,7 +77,7 @@ impl Rows {
         ensures { result ≡ row_of self.now place }
     {
         if place < self.by_site.len() {
-            self.by_site[place]
+            self.by_site[place].row
         } else {
             ZERO
         }
@@ -83,14 +95,14 @@ impl Rows {
             return Err(AllocError);
         };
         if self.by_site.len() < needed {
-            self.by_site.resize(needed, ZERO)?;
+            self.by_site.resize(needed, NONE)?;
         }
         Ok(())
     }
 
-    /// So many instructions of a site more.
+    /// So many instructions of a site more. Gives the place where its steps were put last.
     #[inline(always)]
-    pub fn work(&mut self, site: u32, count: u64) -> Result<(), AllocError>
+    pub fn work(&mut self, site: u32, count: u64) -> Result<usize, AllocError>
         ensures own { OnOk result (Becomes (tallies.worked count) self.old self.new site) }
         ensures others { OnOk result (OthersStay self.old self.new site) }
     {
@@ -98,8 +110,29 @@ impl Rows {
         if place >= self.by_site.len() {
             self.reach(place)?;
         }
-        self.by_site[place] = worked(self.by_site[place], count);
-        Ok(())
+        let kept = self.by_site[place];
+        self.by_site[place] = Kept {
+            row: worked(kept.row, count),
+            place: kept.place,
+        };
+        Ok(kept.place)
+    }
+
+    /// The steps of a site were put elsewhere, if a place is given.
+    #[inline(always)]
+    pub fn tell(&mut self, site: u32, at: Option<usize>)
+        ensures { SayTheSame self.old self.new }
+    {
+        let Some(to) = at else {
+            return;
+        };
+        let place = site as usize;
+        if place < self.by_site.len() {
+            self.by_site[place] = Kept {
+                row: self.by_site[place].row,
+                place: to,
+            };
+        }
     }
 
     /// An invocation of a site begins, at this work and on a path of this weight.
@@ -112,12 +145,12 @@ impl Rows {
         if place >= self.by_site.len() {
             self.reach(place)?;
         }
-        let row = self.by_site[place];
+        let row = self.by_site[place].row;
         if row.active == 0 {
-            self.by_site[place] = entered_first(row, count, path);
+            self.put(place, entered_first(row, count, path));
             return Ok(());
         }
-        self.by_site[place] = entered_again(row);
+        self.put(place, entered_again(row));
         Ok(())
     }
 
@@ -131,12 +164,12 @@ impl Rows {
         if place >= self.by_site.len() {
             self.reach(place)?;
         }
-        let row = self.by_site[place];
+        let row = self.by_site[place].row;
         if row.active == 1 {
-            self.by_site[place] = left_last(row, count, path);
+            self.put(place, left_last(row, count, path));
             return Ok(());
         }
-        self.by_site[place] = left_inner(row);
+        self.put(place, left_inner(row));
         Ok(())
     }
 
@@ -183,7 +216,10 @@ impl Rows {
         ensures given { IsGiven self.old self.new place row }
         ensures as_long { length self.new.by_site.items ≡ length self.old.by_site.items }
     {
-        self.by_site[place] = row;
+        self.by_site[place] = Kept {
+            row,
+            place: self.by_site[place].place,
+        };
     }
 }
 

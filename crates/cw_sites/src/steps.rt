@@ -1,6 +1,7 @@
 //! The steps of paths, in one list: a path is a part of it, and has no order.
 
-ghost use Rattle.std.specs.Prelude.{◌≡◌, ◌+◌, ◌-◌, ◌^◌, ◌<◌, ◌≤◌, length, OnOk};
+ghost use Rattle.std.specs.Prelude.{◌≡◌, ◌+◌, ◌-◌, ◌^◌, ◌<◌, ◌≤◌, [], ◌∷◌, ◌++◌, length, OnErr, OnOk};
+ghost use Rattle.std.specs.Vec.{vec_len, vec_capacity};
 ghost use Rattle.cw_sites.specs.StepSums.{AddsSteps, AsBelow, ClosesUp, CutsOut, IsCutOut, IsMovedDown, StaysBelow, StaysBelowWith, WritesTwice, WritesWithin};
 
 use std::alloc::AllocError;
@@ -12,14 +13,16 @@ pub struct Steps {
     pub count: u64,
 }
 
-/// So many instructions of a site more, at the end; what lies before `start` is not touched.
+/// So many instructions of a site more, in the path that lies from `start` on; what lies before is not touched. Where the
+/// path has steps of the site at `place`, they become more; else these are put at the end, at the place that is given.
 #[inline(always)]
 pub fn add_steps(
     steps: &mut Vec<Steps>,
     start: usize,
+    place: usize,
     site: u32,
     count: u64,
-) -> Result<(), AllocError>
+) -> Result<Option<usize>, AllocError>
     ensures below { AsBelow start steps.old.items steps.new.items }
     ensures all { OnOk result (AddsSteps start site count steps.old.items steps.new.items) }
     ensures longer { length steps.old.items ≤ length steps.new.items }
@@ -27,17 +30,43 @@ pub fn add_steps(
     ensures kept { StaysBelowWith site steps.old.items steps.new.items }
 {
     let len = steps.len();
-    if len > start {
-        let last = steps[len - 1];
-        if last.site == site {
-            steps[len - 1] = Steps {
-                site,
-                count: last.count.wrapping_add(count),
-            };
-            return Ok(());
+    if place >= start {
+        if place < len {
+            let one = steps[place];
+            if one.site == site {
+                steps[place] = Steps {
+                    site,
+                    count: one.count.wrapping_add(count),
+                };
+                return Ok(None);
+            }
         }
     }
-    steps.push(Steps { site, count })?;
+    put(steps, Steps { site, count })?;
+    Ok(Some(len))
+}
+
+// These steps at the end.
+#[inline(always)]
+fn put(steps: &mut Vec<Steps>, one: Steps) -> Result<(), AllocError>
+    ensures put { OnOk result (steps.new.items ≡ steps.old.items ++ one ∷ []) }
+    ensures same { OnErr result (steps.new.items ≡ steps.old.items) }
+{
+    if steps.len() >= steps.capacity() {
+        make_room(steps)?;
+    }
+    steps.push_reserved(one);
+    Ok(())
+}
+
+// Room for steps more. Apart, so that what puts steps holds nothing in memory for it.
+#[cold]
+#[inline(never)]
+fn make_room(steps: &mut Vec<Steps>) -> Result<(), AllocError>
+    ensures same { steps.new.items ≡ steps.old.items }
+    ensures room { OnOk result (vec_len steps.new < vec_capacity steps.new) }
+{
+    steps.reserve(1)?;
     Ok(())
 }
 

@@ -49,8 +49,9 @@ impl SiteTable {
     {
         let here = self.here;
         let since = count.wrapping_sub(self.noted);
-        self.rows.work(here, since)?;
-        self.paths.extend(here, since)?;
+        let place = self.rows.work(here, since)?;
+        let at = self.paths.extend(place, here, since)?;
+        self.rows.tell(here, at);
         self.noted = count;
         Ok(())
     }

@@ -1,5 +1,5 @@
 -- Lemmas of strand weights: parts in series need no call, and what is metered along a part.
-use Rattle.std.specs.Prelude.{◌≡◌, ℕ, ◌+◌, ◌≤◌, Bool, true, false, List, [], ◌∷◌, ◌++◌, Option, Some, None, refl}
+use Rattle.std.specs.Prelude.{◌≡◌, ℕ, ◌+◌, ◌-◌, ◌≤◌, Bool, true, false, List, [], ◌∷◌, ◌++◌, Option, Some, None, refl}
 use Rattle.std.proofs.Common.{sym, ◌∙◌, ap, subst, arith}
 use Rattle.cw_model.specs.declared.burden.Burden.{Burden}
 use Rattle.cw_model.specs.Trees.{Mark, Tree, Leaf, Seq, Par, Marked, Event, Work, Series, Fork, Join, tree_of, work, burdened_span}
@@ -8,7 +8,7 @@ use Rattle.cw_measure.specs.declared.burdened_path.BurdenedPath.{BurdenedPath}
 use Rattle.cw_measure.specs.OpenParts.{Open, in_series, marked, part_of, event_of, closed, spawned_after, has_spawned_from, has_spawned, work_in}
 use Rattle.cw_measure.specs.Outermost.{Meters}
 use Rattle.cw_measure.specs.BlockWeights.{BlockWeight, Straight, Split, now_of, gone_on, top_of, after, after_all, enters, block_weight, weight_in, burdened_work, charge_if, burdened_work_in}
-use Rattle.cw_measure.specs.StrandWeights.{StrandWeight, strand_weight, StandsOn, Under, ShowsWeight, SeriesNeedNoCall}
+use Rattle.cw_measure.specs.StrandWeights.{StrandWeight, reversed, strand_weight, noted_at, StandsOn, Under, ShowsWeight, TellsLate, TellsWeight, SeriesNeedNoCall}
 use Rattle.cw_measure.specs.lemmas.BlockWeights.{top-after_all, child_charge}
 use Rattle.cw_measure.specs.lemmas.OpenParts.{work_adds, sum_begun, left_work}
 
@@ -227,3 +227,37 @@ series_need_no_call burden path = record {
     noted_is = h.noted_is ∙ sym (left_work o os es);
   };
 }
+
+-- what is told is told late, too
+pub told_late : (burden : Burden) (os : List Open) (es : List Event) (path : BurdenedPath)
+    → TellsWeight burden os es path → TellsLate burden os es path
+told_late burden os es path h =
+    let n = h.noted_is in
+    let e : path.weight ≡ path.weight + (work_in os es - path.noted) = omega arith in
+    let T : ℕ → Type 0 =
+    λ x. ShowsWeight burden os es (record { now = x; blocks = reversed path.blocks.items [] }) in
+    record { late = omega arith; tells = record { shows = subst T e h.shows; noted_is = refl } }
+
+-- a part in series begins, and ends, without a call
+pub late_begun : (burden : Burden) (mark : Option Mark) (os : List Open) (es : List Event) (path : BurdenedPath)
+    → TellsLate burden os es path → TellsLate burden (in_series mark es os) [] path
+late_begun burden mark os es path h =
+    let e = sum_begun work work_adds (record { spawned = false; mark = mark; outer = es }) os in
+    let l = h.late in
+    let P : ℕ → Type 0 = λ n. TellsWeight burden (in_series mark es os) [] (noted_at n path) in
+    record {
+      late = omega arith;
+      tells = subst P (sym e) ((series_need_no_call burden (noted_at (work_in os es) path)).begins mark os es h.tells);
+    }
+
+pub late_ended : (burden : Burden) (o : Open) (os : List Open) (es : List Event) (path : BurdenedPath)
+    → o.spawned ≡ false → has_spawned es ≡ false → TellsLate burden (o ∷ os) es path
+    → TellsLate burden os (closed o es) path
+late_ended burden o os es path b n h =
+    let e = left_work o os es in
+    let l = h.late in
+    let P : ℕ → Type 0 = λ k. TellsWeight burden os (closed o es) (noted_at k path) in
+    record {
+      late = omega arith;
+      tells = subst P (sym e) ((series_need_no_call burden (noted_at (work_in (o ∷ os) es) path)).ends o os es b n h.tells);
+    }

@@ -4,11 +4,11 @@ use Rattle.std.proofs.Common.{arith}
 use Rattle.cw_sites.proofs.paths.Paths.add.Goals as goal
 
 pub returns-clause-strand_path : goal.returns-clause-strand_path
-returns-clause-strand_path c = λ laid q fits. extended_strand_path q c.args.self.now.steps.items c.add_steps.new.steps.items c.args.self.now.weight _ c.args.self.now.start c.args.site c.args.count c.args.self.now.blocks.items (c.in_ok-add_steps.ensures.below q) (c.in_ok-add_steps.ensures.all q) mod-eq_of_lt laid.blocks laid.start fits
+returns-clause-strand_path c = λ laid q fits. extended_strand_path q c.args.self.now.steps.items c.add_steps.new.steps.items c.args.self.now.weight _ c.args.self.now.start c.args.site c.args.count c.args.self.now.blocks.items (c.in_ok-at.ensures.below q) (c.in_ok-at.ensures.all q) mod-eq_of_lt laid.blocks laid.start fits
 
 pub returns-clause-bounded : goal.returns-clause-bounded
 returns-clause-bounded c = λ room most h b.
     let l = b.laid in let n = b.now in
-    let s = c.in_ok-add_steps.ensures.longer in let k = c.in_ok-add_steps.ensures.short in
+    let s = c.in_ok-at.ensures.longer in let k = c.in_ok-at.ensures.short in
     let p = l.start in
-    record { laid = record { blocks = l.blocks; start = omega arith }; sites = c.in_ok-add_steps.ensures.kept most h b.sites; limit = b.limit; blocks = b.blocks; now = omega arith }
+    record { laid = record { blocks = l.blocks; start = omega arith }; sites = c.in_ok-at.ensures.kept most h b.sites; limit = b.limit; blocks = b.blocks; now = omega arith }
