@@ -12,3 +12,6 @@ pub mod Doing
 pub mod Copies
 pub mod Ends
 pub mod Rooms
+pub mod Wanting
+pub mod Staying
+pub mod Plays

@@ -19,7 +19,7 @@ use Rattle.cw_world.specs.Events.{with_top, but_top, turned, board_without, with
 use Rattle.cw_world.proofs.Lists.{some_is, IsSomeOf, within_worker, of_worker_set, length_set}
 use Rattle.cw_world.proofs.Boards.{found}
 
-there : {A : Type 0} (ls : List (List A)) (w : ℕ) (x : A) → newest (of_worker ls w) ≡ Some x → w < length ls
+pub there : {A : Type 0} (ls : List (List A)) (w : ℕ) (x : A) → newest (of_worker ls w) ≡ Some x → w < length ls
 there ls w x e = within_worker ls w (λ none. absurd (subst IsSomeOf (sym e ∙ ap newest none) tt))
 
 first_there : {A : Type 0} (ls : List (List A)) (w : ℕ) (x : A) → oldest (of_worker ls w) ≡ Some x → w < length ls
@@ -334,7 +334,7 @@ first_turned [] x y e = absurd (subst IsSomeOf (sym e) tt)
 first_turned (z ∷ []) x y e = inl (e, refl)
 first_turned (z ∷ (z' ∷ zs)) x y e = inr refl
 
-first_less : {A : Type 0} (l : List A) (x : A) → newest l ≡ Some x → (oldest l ≡ Some x) ⊎ (oldest (but_newest l) ≡ oldest l)
+pub first_less : {A : Type 0} (l : List A) (x : A) → newest l ≡ Some x → (oldest l ≡ Some x) ⊎ (oldest (but_newest l) ≡ oldest l)
 first_less [] x e = absurd (subst IsSomeOf (sym e) tt)
 first_less (z ∷ []) x e = inl e
 first_less (z ∷ (z' ∷ zs)) x e = inr refl
@@ -349,7 +349,7 @@ goes_root p os (Made m e) g z = absurd (g.1 z)
 goes_root p os (Answered r) g z = tt
 
 -- the list of worker 0, where another one's is set
-other_zero : {A : Type 0} (ls : List (List A)) (k : ℕ) (l : List A) → of_worker (slice_set ls (suc k) l) 0 ≡ of_worker ls 0
+pub other_zero : {A : Type 0} (ls : List (List A)) (k : ℕ) (l : List A) → of_worker (slice_set ls (suc k) l) 0 ≡ of_worker ls 0
 other_zero [] k l = refl
 other_zero (x ∷ ls) k l = refl
 

@@ -1,7 +1,11 @@
 -- The board: each worker's deque, and the effects that wait in their cells, each with its number.
-use Rattle.std.specs.Prelude.{◌≡◌, ℕ, nat_eq, List, [], ◌∷◌, map, Option, Some, None, slice_get, slice_set, position, replicate, ◌<◌}
+use Rattle.std.specs.Prelude.{◌≡◌, ℕ, nat_eq, List, [], ◌∷◌, map, Option, Some, None, slice_get, slice_set, position, replicate, ◌<◌, ◌≤◌}
+use Rattle.std.specs.Global.{Vec}
+use Rattle.std.specs.Vec.{vec_len, vec_capacity}
 use Rattle.std.specs.VecDeque.{deque_len, deque_capacity}
 use Rattle.std.specs.List.{remove}
+use Rattle.cw_jobs.specs.declared.effect.Effect.{Effect}
+use Rattle.cw_jobs.specs.declared.job.Job.{Job}
 use Rattle.cw_sched.specs.Board.{pushed, newest, but_newest, but_oldest, of_worker}
 use Rattle.cw_world.specs.declared.board.Board.{Board}
 use Rattle.cw_world.specs.declared.board.Offer.{Offer}
@@ -21,19 +25,23 @@ opened workers = record { offers = replicate workers []; cells = [] }
 
 -- one is laid at the back of a worker's deque
 abbrev pub offered : Boarded → (w : ℕ) → Offer → Boarded
-offered b w o = record { offers = slice_set b.offers w (pushed (of_worker b.offers w) o); cells = b.cells }
+offered b w o =
+    record { offers = slice_set b.offers w (pushed (of_worker b.offers w) o); cells = b.cells }
 
 -- the one at the back leaves it
 abbrev pub retaken : Boarded → (w : ℕ) → Boarded
-retaken b w = record { offers = slice_set b.offers w (but_newest (of_worker b.offers w)); cells = b.cells }
+retaken b w =
+    record { offers = slice_set b.offers w (but_newest (of_worker b.offers w)); cells = b.cells }
 
 -- the one at the front leaves it
 abbrev pub stolen : Boarded → (v : ℕ) → Boarded
-stolen b v = record { offers = slice_set b.offers v (but_oldest (of_worker b.offers v)); cells = b.cells }
+stolen b v =
+    record { offers = slice_set b.offers v (but_oldest (of_worker b.offers v)); cells = b.cells }
 
 -- one that was stolen stands at the front again
 abbrev pub returned : Boarded → (v : ℕ) → Offer → Boarded
-returned b v o = record { offers = slice_set b.offers v (o ∷ of_worker b.offers v); cells = b.cells }
+returned b v o =
+    record { offers = slice_set b.offers v (o ∷ of_worker b.offers v); cells = b.cells }
 
 -- an effect is laid in its cell
 abbrev pub settled : Boarded → Cell → Boarded
@@ -58,6 +66,34 @@ newest_number b w = back_number (newest (of_worker b.offers w))
 -- where the effect of a number waits
 abbrev pub cell_of : Boarded → (n : ℕ) → Option ℕ
 cell_of b n = position (λ c. nat_eq c.number n) b.cells
+
+-- this job, with this number, lies at the back of a worker's deque
+abbrev pub IsNewest : Boarded → (w number : ℕ) → Job → Type 0
+IsNewest b w number job =
+    newest (of_worker b.offers w) ≡ Some (record { number = number; job = job })
+
+-- this cell holds the effect of the job of this number
+abbrev pub IsCellAt : Boarded → (place number : ℕ) → Effect → Type 0
+IsCellAt b place number effect =
+    slice_get b.cells place ≡ Some (record { number = number; effect = effect })
+
+-- a job went to the back of a worker's deque, with its number
+abbrev pub HasOffered : (old : Board) → (w number : ℕ) → Job → (new : Board) → Type 0
+HasOffered old w number job new =
+    boarded new ≡ offered (boarded old) w (record { number = number; job = job })
+
+-- the effect of the job of a number was laid in its cell
+abbrev pub HasSettled : (old : Board) → (number : ℕ) → Effect → (new : Board) → Type 0
+HasSettled old number effect new =
+    boarded new ≡ settled (boarded old) (record { number = number; effect = effect })
+
+-- a list has no room for one more
+abbrev pub IsFull : {A : Type 0} → Vec A → Type 0
+IsFull v = vec_capacity v ≤ vec_len v
+
+-- nor has a worker's deque
+abbrev pub IsDequeFull : Board → (w : ℕ) → Type 0
+IsDequeFull b w = (q : _) × (slice_get b.lists.items w ≡ Some q) × (deque_capacity q ≤ deque_len q)
 
 -- every one of them
 abbrev pub Each : {A : Type 0} → (A → Type 0) → List A → Type 0

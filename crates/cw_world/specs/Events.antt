@@ -18,9 +18,10 @@ use Rattle.cw_world.specs.declared.event.Event.{Event}
 use Rattle.cw_world.specs.declared.event.Event.TheVariants as event
 use Rattle.cw_world.specs.declared.post.Out.{Out}
 use Rattle.cw_world.specs.declared.post.Out.TheVariants as out
+use Rattle.cw_world.specs.declared.post.Post.{Post}
 use Rattle.cw_world.specs.declared.world.Begun.{Begun}
 use Rattle.cw_world.specs.Boards.{Boarded, offered, retaken, stolen, settled, collected, cell_of, newest_number}
-use Rattle.cw_world.specs.Scenes.{Posted, Stage, Goes, Made, Answered, Scene, top}
+use Rattle.cw_world.specs.Scenes.{posted, stacks, Posted, Stage, Goes, Made, Answered, Scene, top}
 use Rattle.cw_world.specs.Posts.{Went}
 use Rattle.cw_world.specs.Sound.{IsStage}
 
@@ -33,12 +34,14 @@ with_top begun w x = slice_set begun w (pushed (of_worker begun w) x)
 
 -- w's newest strand comes to this, and the board to that
 abbrev pub turned : Scene → (w : ℕ) → Stage → Boarded → Scene
-turned s w x board = record { jobs = s.jobs; begun = with_top (but_top s.begun w) w x; board = board }
+turned s w x board =
+    record { jobs = s.jobs; begun = with_top (but_top s.begun w) w x; board = board }
 
--- a strand of the same job goes on, with these jobs out; or it has ended, and none was out: the root, which is number 0,
--- with the run's answer, another one with its effect
+-- a strand of the same job goes on, with these jobs out; or it has ended, and none was out: the
+-- root, which is number 0, with the run's answer, another one with its effect
 abbrev pub GoesOn : Posted → (outs : List Out) → Stage → Type 0
-GoesOn p outs (Goes q) = (q.number ≡ p.number) × (its_job q.strand ≡ its_job p.strand) × (q.outs ≡ outs)
+GoesOn p outs (Goes q) =
+    (q.number ≡ p.number) × (its_job q.strand ≡ its_job p.strand) × (q.outs ≡ outs)
 GoesOn p outs (Made n e) = (n ≡ p.number) × (p.number ≢ 0) × (outs ≡ [])
 GoesOn p outs (Answered r) = (p.number ≡ 0) × (outs ≡ [])
 
@@ -77,7 +80,8 @@ pub record Spawns (v : Verified) (s s' : Scene) (w : ℕ) : Type 0 where
   pub at : AtPost s w
   pub job : Job
   pub post : Posted
-  pub comes : ComesTo v (pushed s.jobs job) at.post (pushed at.post.outs (out.Undecided (length s.jobs) job)) (Goes post)
+  pub comes : ComesTo v (pushed s.jobs job) at.post
+      (pushed at.post.outs (out.Undecided (length s.jobs) job)) (Goes post)
   pub is : s' ≡ record {
     jobs = pushed s.jobs job;
     begun = with_top (but_top s.begun w) w (Goes post);
@@ -86,7 +90,8 @@ pub record Spawns (v : Verified) (s s' : Scene) (w : ℕ) : Type 0 where
 
 -- the same strand with other jobs in its list
 abbrev pub with_outs : Posted → List Out → Stage
-with_outs p outs = Goes (record { number = p.number; strand = p.strand; at_join = p.at_join; outs = outs })
+with_outs p outs =
+    Goes (record { number = p.number; strand = p.strand; at_join = p.at_join; outs = outs })
 
 -- OFFER: the newest job out goes to the back of the deque
 pub record Offers (s s' : Scene) (w : ℕ) : Type 0 where
@@ -117,7 +122,8 @@ IsAtBack b w _ = Unit {0}
 
 -- this job lies there, or was kept
 abbrev pub IsBack : Boarded → (w : ℕ) → Out → Job → Type 0
-IsBack b w (out.Offered n) job = newest (of_worker b.offers w) ≡ Some (record { number = n; job = job })
+IsBack b w (out.Offered n) job =
+    newest (of_worker b.offers w) ≡ Some (record { number = n; job = job })
 IsBack b w (out.Kept n kept) job = kept ≡ job
 IsBack b w (out.Undecided n kept) job = ⊥
 
@@ -138,7 +144,11 @@ pub record Steals (v : Verified) (s s' : Scene) (w victim : ℕ) : Type 0 where
   pub post : Posted
   pub begins : (post.number ≡ offer.number) × (its_job post.strand ≡ offer.job) × (post.outs ≡ [])
   pub comes : ComesTo v s.jobs post [] stage
-  pub is : s' ≡ record { jobs = s.jobs; begun = with_top s.begun w stage; board = stolen s.board victim }
+  pub is : s' ≡ record {
+    jobs = s.jobs;
+    begun = with_top s.begun w stage;
+    board = stolen s.board victim;
+  }
 
 -- SETTLE: the effect goes to its cell
 pub record Settles (s s' : Scene) (w : ℕ) : Type 0 where
@@ -179,7 +189,8 @@ DoesOr v event (Err e) s s' = s' ≡ s
 
 -- a worker's list has room for one more
 abbrev pub HasRoomIn : Vec (Vec Begun) → (w : ℕ) → Type 0
-HasRoomIn begun w = (v : Vec Begun) × (slice_get begun.items w ≡ Some v) × (vec_len v < vec_capacity v)
+HasRoomIn begun w =
+    (v : Vec Begun) × (slice_get begun.items w ≡ Some v) × (vec_len v < vec_capacity v)
 
 -- a post that goes on, or what it ended with: of the root, what the run answers
 abbrev pub IsBegun : Verified → Posted → Option Effect → Stage → Type 0
@@ -188,12 +199,17 @@ IsBegun v p (Some e) (Goes q) = ⊥
 IsBegun v p (Some e) (Made n d) = (n ≡ p.number) × (p.number ≢ 0) × (d ≡ e)
 IsBegun v p (Some e) (Answered r) =
     (p.number ≡ 0)
-    × ((args : List ℤ) (n : ℕ) (burden : Burden) (root : Job) → IsRoot v args n burden root.parts.value
-    → IsMeaningOf root e → RunsAsCode (code_view v.code) args n burden r)
+    × ((args : List ℤ) (n : ℕ) (burden : Burden) (root : Job)
+    → IsRoot v args n burden root.parts.value → IsMeaningOf root e → RunsAsCode (code_view v.code) args n burden r)
 
 -- it is laid on a worker's list
-pub record Turns (v : Verified) (p : Posted) (ended : Option Effect) (old : List (List Stage)) (w : ℕ)
-    (new : List (List Stage)) : Type 0 where
+pub record Turns (v : Verified) (p : Posted) (ended : Option Effect) (old : List (List Stage))
+    (w : ℕ) (new : List (List Stage)) : Type 0 where
   pub stage : Stage
   pub begun : IsBegun v p ended stage
   pub is : new ≡ with_top old w stage
+
+-- a post was laid on a worker's list, or what it ended with
+abbrev pub HasTurned : Verified → Post → Option Effect → (old : Vec (Vec Begun)) → (w : ℕ)
+    → (new : Vec (Vec Begun)) → Type 0
+HasTurned v p ended old w new = Turns v (posted p) ended (stacks old) w (stacks new)

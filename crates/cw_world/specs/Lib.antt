@@ -4,5 +4,7 @@ pub mod Table
 pub mod Posts
 pub mod Sound
 pub mod Places
-pub mod Worlds
 pub mod Events
+pub mod Wants
+pub mod Copied
+pub mod Worlds

@@ -53,7 +53,8 @@ offered_at n o = once n o.number
 abbrev pub settled_at : ℕ → Cell → ℕ
 settled_at n c = once n c.number
 
--- in how many places a number is: undecided or kept, in a deque, run or run to its end by a worker, in a cell
+-- in how many places a number is: undecided or kept, in a deque, run or run to its end by a worker,
+-- in a cell
 abbrev pub places : Scene → (n : ℕ) → ℕ
 places s n =
     sum_over (held_by n) s.begun + sum_over (offered_at n) s.board.offers

@@ -16,16 +16,16 @@ use Rattle.cw_world.specs.declared.world.Begun.{Begun}
 use Rattle.cw_world.specs.declared.world.Begun.TheVariants as begun
 use Rattle.cw_world.specs.declared.world.World.{World}
 
--- a strand that has not ended: the number of its job, whether it is at a join, and the jobs that it has out, the newest
--- last
+-- a strand that has not ended: the number of its job, whether it is at a join, and the jobs that it
+-- has out, the newest last
 pub record Posted : Type 0 where
   pub number : ℕ
   pub strand : Strand
   pub at_join : Bool
   pub outs : List Out
 
--- what a worker has begun and not settled: a strand that has not ended; a stolen job that has, with its effect; or the
--- root, with what the run answers
+-- what a worker has begun and not settled: a strand that has not ended; a stolen job that has, with
+-- its effect; or the root, with what the run answers
 pub data Stage : Type 0 where
   Goes : Posted → Stage
   Made : (number : ℕ) → Effect → Stage

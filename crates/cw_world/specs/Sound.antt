@@ -38,7 +38,8 @@ IsOwn jobs (out.Offered n) = Unit {0}
 pub record Works (jobs : List Job) (p : Posted) : Type 0 where
   pub running : IsRunning p.strand
   pub named : IsJobOf jobs p.number (its_job p.strand)
-  pub lent : map (λ o. slice_get jobs (out_number o)) (reverse p.outs) ≡ map (λ j. Some j) (outs p.strand)
+  pub lent : map (λ o. slice_get jobs (out_number o)) (reverse p.outs)
+      ≡ map (λ j. Some j) (outs p.strand)
   pub own : Each (IsOwn jobs) p.outs
   pub stands : StandsRight p
 
@@ -74,8 +75,9 @@ pub record HasRoot (v : Verified) (jobs : List Job) : Type 0 where
   pub named : IsJobOf jobs 0 root
   pub is : IsRoot v args limit burden root.parts.value
 
--- WHAT EACH WORLD KEEPS: what a worker has begun is a strand of its job or an effect that means it, what lies in a deque
--- is the job of its number, and what lies in a cell means the job of its number
+-- WHAT EACH WORLD KEEPS: what a worker has begun is a strand of its job or an effect that means it,
+-- what lies in a deque is the job of its number, and what lies in a cell means the job of its
+-- number
 pub record Sound (v : Verified) (s : Scene) : Type 0 where
   pub root : HasRoot v s.jobs
   pub begun : Each (Each (IsStage v s.jobs)) s.begun
@@ -85,7 +87,8 @@ pub record Sound (v : Verified) (s : Scene) : Type 0 where
 
 -- number 0 is the job of a run on these arguments, within this limit, with this burden
 abbrev pub IsRunOf : Verified → List ℤ → (n : ℕ) → Burden → List Job → Type 0
-IsRunOf v args n burden jobs = (root : Job) × IsJobOf jobs 0 root × IsRoot v args n burden root.parts.value
+IsRunOf v args n burden jobs =
+    (root : Job) × IsJobOf jobs 0 root × IsRoot v args n burden root.parts.value
 
 -- the root stays
 abbrev pub KeepsRuns : (old new : List Job) → Type 0

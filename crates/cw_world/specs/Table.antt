@@ -53,7 +53,8 @@ is_settled b _ = false
 
 -- THE TABLE
 abbrev pub is_possible : Scene → Event → Bool
-is_possible s (event.Run w) = goes (top s w) && not (is_at_spawn (top s w)) && not (is_at_join (top s w))
+is_possible s (event.Run w) =
+    goes (top s w) && not (is_at_spawn (top s w)) && not (is_at_join (top s w))
 is_possible s (event.Offer w) = is_at_spawn (top s w)
 is_possible s (event.Inline w) = is_at_spawn (top s w)
 is_possible s (event.Retake w) = is_at_join (top s w) && can_retake s.board w (newest_out (top s w))

@@ -1,9 +1,10 @@
 //! The board: what each worker has offered and nobody has taken, and the effects that wait in their cells.
 
-ghost use Rattle.std.specs.Prelude.{◌≡◌, ◌≢◌, ◌<◌, None, Some, length, slice_get, is_some, IfOk, IfErr, OnOk, OnErr};
+ghost use Rattle.std.specs.Prelude.{◌≡◌, ◌≢◌, ◌<◌, None, Some, length, is_some, IfOk, IfErr, OnOk, OnErr};
 ghost use Rattle.std.specs.Vec.{vec_len, vec_capacity};
-ghost use Rattle.cw_sched.specs.Board.{of_worker, newest, oldest};
-ghost use Rattle.cw_world.specs.Boards.{boarded, newest_number, cell_of, offered, retaken, stolen, settled, collected, opened, returned, HasRoomAt};
+ghost use Rattle.cw_sched.specs.Board.{of_worker, oldest};
+ghost use Rattle.cw_world.specs.Boards.{boarded, newest_number, cell_of, retaken, stolen, collected, opened, returned};
+ghost use Rattle.cw_world.specs.Boards.{HasOffered, HasRoomAt, HasSettled, IsCellAt, IsDequeFull, IsFull, IsNewest};
 
 use cw_jobs::effect::Effect;
 use cw_jobs::job::Job;
@@ -81,7 +82,8 @@ impl Board {
     /// A job goes to the back of a worker's deque. The error is want of memory, and gives the job back.
     pub(crate) fn offer(&mut self, w: usize, number: usize, job: Job) -> Result<(), Job>
         requires worker { w < length self.old.lists.items }
-        ensures offered { OnOk result (boarded self.new ≡ offered (boarded self.old) w (record { number = number; job = job })) }
+        ensures offered { OnOk result (HasOffered self.old w number job self.new) }
+        ensures full { OnErr result (IsDequeFull self.old w) }
         ensures same { OnErr result (boarded self.new ≡ boarded self.old) }
         ensures back { IfErr result (λ back. back ≡ job) }
     {
@@ -94,7 +96,7 @@ impl Board {
     /// The job at the back of a worker's deque comes back, which has this number.
     pub(crate) fn retake(&mut self, w: usize, number: usize) -> Job
         requires { newest_number (boarded self.old) w ≡ Some number }
-        ensures job { newest (of_worker (boarded self.old).offers w) ≡ Some (record { number = number; job = result }) }
+        ensures job { IsNewest (boarded self.old) w number result }
         ensures retaken { boarded self.new ≡ retaken (boarded self.old) w }
     {
         match self.lists[w].pop_back() {
@@ -128,6 +130,7 @@ impl Board {
     pub(crate) fn room_to_settle(&mut self) -> Result<(), AllocError>
         ensures same { boarded self.new ≡ boarded self.old }
         ensures room { OnOk result (vec_len self.new.cells < vec_capacity self.new.cells) }
+        ensures full { OnErr result (IsFull self.old.cells) }
     {
         self.cells.reserve(1)
     }
@@ -135,7 +138,7 @@ impl Board {
     /// The effect of a stolen job goes to its cell.
     pub(crate) fn settle(&mut self, number: usize, effect: Effect)
         requires { vec_len self.old.cells < vec_capacity self.old.cells }
-        ensures { boarded self.new ≡ settled (boarded self.old) (record { number = number; effect = effect }) }
+        ensures { HasSettled self.old number effect self.new }
     {
         self.cells.push_reserved(Cell { number, effect });
     }
@@ -143,7 +146,7 @@ impl Board {
     /// The effect of a number leaves its cell, which is here.
     pub(crate) fn collect(&mut self, place: usize, number: usize) -> Effect
         requires { cell_of (boarded self.old) number ≡ Some place }
-        ensures cell { slice_get (boarded self.old).cells place ≡ Some (record { number = number; effect = result }) }
+        ensures cell { IsCellAt (boarded self.old) place number result }
         ensures collected { boarded self.new ≡ collected (boarded self.old) place }
     {
         let Cell { number: _, effect } = self.cells.remove(place);

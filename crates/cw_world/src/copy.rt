@@ -1,9 +1,7 @@
 //! Copies of what a run answers.
 
-ghost use Rattle.std.specs.Prelude.{◌≡◌, ℕ, ℤ, List, Err, Ok, IfOk};
-ghost use Rattle.cw_code.specs.Code.{Code};
-ghost use Rattle.cw_model.specs.declared.burden.Burden.{Burden};
-ghost use Rattle.cw_machine.specs.Runs.{Runs, RunsAsCode};
+ghost use Rattle.std.specs.Prelude.{IfOk};
+ghost use Rattle.cw_world.specs.Copied.{IsCopy, IsFaultCopy, IsSameEnd};
 
 use cw_machine::alone::Ended;
 use cw_text::Fault;
@@ -11,8 +9,7 @@ use std::alloc::{AllocError, Global};
 
 // A copy of a run that ended.
 fn copy_ended(alloc: Global, ended: &Ended) -> Result<Ended, AllocError>
-    ensures { (code : Code) (args : List ℤ) (n : ℕ) (burden : Burden) → Runs code args n burden ended.now
-        → IfOk result (Runs code args n burden) }
+    ensures { IfOk result (IsSameEnd ended.now) }
 {
     let copy = Ended {
         value: ended.value,
@@ -25,10 +22,9 @@ fn copy_ended(alloc: Global, ended: &Ended) -> Result<Ended, AllocError>
     Ok(copy)
 }
 
-// A copy of why a run has no value; `Memory` where there was none for it.
+// A copy of why a run has no value; of a trap `Memory`, where there was none for what it printed.
 fn copy_fault(alloc: Global, fault: &Fault) -> Fault
-    ensures { (code : Code) (args : List ℤ) (n : ℕ) (burden : Burden) → RunsAsCode code args n burden (Err fault.now)
-        → RunsAsCode code args n burden (Err result) }
+    ensures { IsFaultCopy fault.now result }
 {
     match fault {
         Fault::OverLimit => Fault::OverLimit,
@@ -45,21 +41,20 @@ fn copy_fault(alloc: Global, fault: &Fault) -> Fault
         Fault::Arguments => Fault::Arguments,
         Fault::Memory => Fault::Memory,
         // no run answers any of these
-        Fault::Lexical(_) => Fault::Memory,
-        Fault::Syntax(_) => Fault::Memory,
-        Fault::Types(_) => Fault::Memory,
-        Fault::Ownership(_) => Fault::Memory,
-        Fault::Size(_) => Fault::Memory,
-        Fault::Code => Fault::Memory,
-        Fault::Write => Fault::Memory,
-        Fault::Strands => Fault::Memory,
+        Fault::Lexical(place) => Fault::Lexical(*place),
+        Fault::Syntax(place) => Fault::Syntax(*place),
+        Fault::Types(place) => Fault::Types(*place),
+        Fault::Ownership(place) => Fault::Ownership(*place),
+        Fault::Size(place) => Fault::Size(*place),
+        Fault::Code => Fault::Code,
+        Fault::Write => Fault::Write,
+        Fault::Strands => Fault::Strands,
     }
 }
 
 /// A copy of what a run answered. The error is that of the run, or `Memory`, where there was none for the copy.
 pub(crate) fn copy_of(alloc: Global, answer: &Result<Ended, Fault>) -> Result<Ended, Fault>
-    ensures { (code : Code) (args : List ℤ) (n : ℕ) (burden : Burden) → RunsAsCode code args n burden answer.now
-        → RunsAsCode code args n burden result }
+    ensures { IsCopy answer.now result }
 {
     match answer {
         Ok(ended) => {

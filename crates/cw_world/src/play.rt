@@ -1,9 +1,6 @@
 //! Whole lists of events.
 
-ghost use Rattle.std.specs.Prelude.{◌≡◌, IfSome, MatchResult};
-ghost use Rattle.cw_code.specs.Code.{code_view};
-ghost use Rattle.cw_machine.specs.Runs.{RunsAsCode};
-ghost use Rattle.cw_world.specs.Worlds.{IsNotStarted};
+ghost use Rattle.cw_world.specs.Worlds.{Plays};
 
 use crate::event::Event;
 use crate::world::World;
@@ -28,8 +25,7 @@ pub fn play(
     workers: usize,
     events: &[Event],
 ) -> Result<Option<Result<Ended, Fault>>, Fault>
-    ensures { MatchResult result (λ outcome. IfSome outcome (RunsAsCode (code_view code.value.code) args.now n burden))
-        (IsNotStarted (code_view code.value.code) args.now n burden workers) }
+    ensures { Plays code.value args.now n burden workers events.now result }
 {
     let mut world = World::start(alloc, code, args, n, burden, workers)?;
     for event in events {

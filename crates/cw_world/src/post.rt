@@ -1,13 +1,13 @@
 //! A strand that a worker has begun, beside the jobs that it has out.
 
-ghost use Rattle.std.specs.Prelude.{◌≡◌, ◌∷◌, List, length, MatchResult};
+ghost use Rattle.std.specs.Prelude.{◌≡◌, ◌⊎◌, ◌∷◌, List, MatchResult, OnErr};
 ghost use Rattle.cw_jobs.specs.declared.job.Job as jobs;
 ghost use Rattle.cw_strand.specs.Holds.{outs, IsAtSync, IsRunning};
 ghost use Rattle.cw_strand.specs.Giving.{IsGiven};
 ghost use Rattle.cw_sched.specs.Board.{pushed};
-ghost use Rattle.cw_world.specs.declared.post.Out.TheVariants as out;
 ghost use Rattle.cw_world.specs.Scenes.{jobs_of, posted};
-ghost use Rattle.cw_world.specs.Posts.{Begins, Comes, HasRoom, IsEven, Lacks, LacksOne, StandsRight, Steps};
+ghost use Rattle.cw_world.specs.Boards.{IsFull};
+ghost use Rattle.cw_world.specs.Posts.{Begins, Comes, ComesBack, HasRoom, HasStepped, IsEven, Lacks, LacksOne, ListsNext, StandsRight};
 
 use cw_jobs::effect::Effect;
 use cw_jobs::job::Job;
@@ -87,7 +87,7 @@ impl Post {
         requires room { HasRoom self.old.outs × HasRoom jobs.old }
         ensures strand { self.new.strand ≡ self.old.strand }
         ensures numbered { self.new.number ≡ self.old.number }
-        ensures outs { self.new.outs.items ≡ pushed self.old.outs.items (out.Undecided (length (jobs_of jobs.old)) job) }
+        ensures outs { ListsNext self.old (jobs_of jobs.old) job self.new }
         ensures jobs { jobs_of jobs.new ≡ pushed (jobs_of jobs.old) job }
         ensures stands { StandsRight (posted self.new) }
     {
@@ -105,7 +105,8 @@ impl Post {
     ) -> Result<Option<Effect>, AllocError>
         requires running { IsRunning self.old.strand }
         requires even { IsEven self.old }
-        ensures { Steps result (posted self.old) (posted self.new) (jobs_of jobs.old) (jobs_of jobs.new) }
+        ensures does { HasStepped result self.old self.new jobs.old jobs.new }
+        ensures full { OnErr result (IsFull jobs.old ⊎ IsFull self.old.outs) }
     {
         jobs.reserve(1)?;
         self.outs.reserve(1)?;
@@ -127,8 +128,7 @@ impl Post {
     pub(crate) fn take_in(&mut self, rest: Job) -> Option<Effect>
         requires at_sync { IsRunning self.old.strand × IsAtSync self.old.strand }
         requires lacks { Lacks self.old rest }
-        ensures { (others : List jobs.Job) → outs self.old.strand ≡ rest ∷ others
-            → Comes result (posted self.old) (posted self.new) others }
+        ensures { ComesBack result self.old rest self.new }
     {
         unrun(&mut self.strand, rest);
         self.stand()
@@ -139,8 +139,7 @@ impl Post {
         requires at_sync { IsRunning self.old.strand × IsAtSync self.old.strand }
         requires lacks { LacksOne self.old }
         requires given { IsGiven self.old.strand effect }
-        ensures { (out : jobs.Job) (others : List jobs.Job) → outs self.old.strand ≡ out ∷ others
-            → Comes result (posted self.old) (posted self.new) others }
+        ensures { (out : jobs.Job) → ComesBack result self.old out self.new }
     {
         self.strand.give(effect);
         self.stand()

@@ -1,26 +1,25 @@
 //! Worlds.
 
-ghost use Rattle.std.specs.Prelude.{◌≡◌, ◌≢◌, ◌<◌, ◌≤◌, ◌↔◌, false, true, ℕ, ◌-◌, ℤ, List, [], ◌∷◌, None, Some, length, IfOk, IfSome, IfErr, OnOk, MatchResult, IsSome, Err};
+ghost use Rattle.std.specs.Prelude.{◌≡◌, ◌≢◌, ◌<◌, ◌↔◌, false, true, ◌-◌, [], ◌∷◌, None, Some, length, IfOk, IfSome, IfErr, OnOk, OnErr, MatchResult, IsSome};
 ghost use Rattle.std.specs.Arc.{arc_value};
 ghost use Rattle.std.specs.Option.{option_copied};
-ghost use Rattle.cw_code.specs.Code.{code_view};
-ghost use Rattle.cw_model.specs.declared.burden.Burden.{Burden};
 ghost use Rattle.cw_machine.specs.Answering.{IsOfWhole};
-ghost use Rattle.cw_machine.specs.Runs.{RunsAsCode};
 ghost use Rattle.cw_sched.specs.Board.{newest, oldest, of_worker};
 ghost use Rattle.cw_world.specs.declared.event.Event.TheVariants as event;
 ghost use Rattle.cw_world.specs.declared.event.Refused.TheVariants as refused;
 ghost use Rattle.cw_world.specs.Scenes.{jobs_of, top, posted, scene, stacks, stage_of, staged, out_of, Goes, Made};
-ghost use Rattle.cw_verify.specs.declared.verified.Verified.{Verified};
 ghost use Rattle.cw_world.specs.declared.post.Out.TheVariants as out;
 ghost use Rattle.cw_world.specs.Boards.{boarded, cell_of};
 ghost use Rattle.cw_text.specs.declared.fault.Fault.TheVariants as fault;
 ghost use Rattle.cw_world.specs.Posts.{Begins};
 ghost use Rattle.cw_world.specs.Sound.{KeepsRuns, Sound};
-ghost use Rattle.cw_world.specs.Worlds.{answer_in, has_ended, idle, IsSound, IsStarted, IsNotStarted, IsWorldOf};
+ghost use Rattle.cw_world.specs.Worlds.{answer_in, answer_of, has_ended, idle, AnswersAsCode, IsSound, Starts};
+ghost use Rattle.cw_world.specs.Worlds.{Happens, HasHappened, IsForMemory, IsNotNow, KeepsAnswer};
 ghost use Rattle.cw_world.specs.Table as table;
 ghost use Rattle.cw_world.specs.Table.{is_possible};
-ghost use Rattle.cw_world.specs.Events.{board_without, but_top, with_top, Does, DoesOr, HasRoomIn, IsBack, IsBegun, Turns};
+ghost use Rattle.cw_world.specs.Events.{board_without, but_top, with_top, HasRoomIn, HasTurned, IsBack, IsBegun};
+ghost use Rattle.cw_world.specs.Copied.{IsOptionCopy};
+ghost use Rattle.cw_world.specs.Wants.{IsLastPost, MayWant};
 
 use crate::board::{Board, Offer};
 use crate::copy::copy_of;
@@ -85,6 +84,7 @@ fn as_begun(alloc: Global, code: &Verified, post: Post, ended: Option<Effect>) -
 fn take(begun: &mut Vec<Vec<Begun>>, w: usize) -> Post
     requires { table.goes (newest (of_worker (stacks begun.old) w)) ≡ true }
     ensures top { newest (of_worker (stacks begun.old) w) ≡ Some (Goes (posted result)) }
+    ensures last { IsLastPost begun.old w result }
     ensures left { stacks begun.new ≡ but_top (stacks begun.old) w }
     ensures room { HasRoomIn begun.new w }
 {
@@ -114,7 +114,7 @@ fn turn(
 )
     requires room { HasRoomIn begun.old w }
     requires root { post.number ≡ 0 → IfSome ended (λ e. ∥ IsOfWhole (arc_value code.now) e ∥₁) }
-    ensures { Turns (arc_value code.now) (posted post) ended (stacks begun.old) w (stacks begun.new) }
+    ensures { HasTurned (arc_value code.now) post ended begun.old w begun.new }
 {
     let alloc = *begun.allocator();
     let next = as_begun(alloc, code, post, ended);
@@ -323,8 +323,7 @@ impl World {
         burden: Burden,
         workers: usize,
     ) -> Result<World, Fault>
-        ensures { MatchResult result (IsStarted code.value args.now n burden workers)
-            (IsNotStarted (code_view code.value.code) args.now n burden workers) }
+        ensures { Starts code.value args.now n burden workers result }
     {
         if workers == 0 || workers > MOST_WORKERS {
             return Err(Fault::Arguments);
@@ -397,7 +396,8 @@ impl World {
         requires possible { is_possible (scene self.old) (event.Run w) ≡ true }
         ensures code { self.new.code ≡ self.old.code }
         ensures memory { IfErr result (λ e. e ≡ refused.Memory) }
-        ensures does { DoesOr (arc_value self.old.code) (event.Run w) result (scene self.old) (scene self.new) }
+        ensures wants { OnErr result (MayWant self.old (event.Run w)) }
+        ensures does { Happens self.old (event.Run w) result self.new }
     {
         let mut post = take(&mut self.begun, w);
         match post.step(&mut self.jobs) {
@@ -418,7 +418,8 @@ impl World {
         requires possible { is_possible (scene self.old) (event.Offer w) ≡ true }
         ensures code { self.new.code ≡ self.old.code }
         ensures memory { IfErr result (λ e. e ≡ refused.Memory) }
-        ensures does { DoesOr (arc_value self.old.code) (event.Offer w) result (scene self.old) (scene self.new) }
+        ensures wants { OnErr result (MayWant self.old (event.Offer w)) }
+        ensures does { Happens self.old (event.Offer w) result self.new }
     {
         let mut post = take(&mut self.begun, w);
         let latest = post.outs.pop();
@@ -442,7 +443,7 @@ impl World {
         requires sound { IsSound self.old }
         requires possible { is_possible (scene self.old) (event.Inline w) ≡ true }
         ensures code { self.new.code ≡ self.old.code }
-        ensures does { Does (arc_value self.old.code) (event.Inline w) (scene self.old) (scene self.new) }
+        ensures does { HasHappened self.old (event.Inline w) self.new }
     {
         let mut post = take(&mut self.begun, w);
         let latest = post.outs.pop();
@@ -456,7 +457,7 @@ impl World {
         requires sound { IsSound self.old }
         requires possible { is_possible (scene self.old) (event.Retake w) ≡ true }
         ensures code { self.new.code ≡ self.old.code }
-        ensures does { Does (arc_value self.old.code) (event.Retake w) (scene self.old) (scene self.new) }
+        ensures does { HasHappened self.old (event.Retake w) self.new }
     {
         let mut post = take(&mut self.begun, w);
         let latest = post.outs.pop();
@@ -473,7 +474,7 @@ impl World {
         requires room { HasRoomIn self.old.begun w }
         ensures code { self.new.code ≡ self.old.code }
         ensures memory { IfErr result (λ e. e ≡ refused.Memory) }
-        ensures does { DoesOr (arc_value self.old.code) (event.Steal w v) result (scene self.old) (scene self.new) }
+        ensures does { Happens self.old (event.Steal w v) result self.new }
     {
         let Offer { number, job } = self.board.steal(v);
         match Post::start(*self.begun.allocator(), number, job) {
@@ -495,7 +496,7 @@ impl World {
         requires possible { is_possible (scene self.old) (event.Steal w v) ≡ true }
         ensures code { self.new.code ≡ self.old.code }
         ensures memory { IfErr result (λ e. e ≡ refused.Memory) }
-        ensures does { DoesOr (arc_value self.old.code) (event.Steal w v) result (scene self.old) (scene self.new) }
+        ensures does { Happens self.old (event.Steal w v) result self.new }
     {
         match room(&mut self.begun, w) {
             Ok(()) => self.begin_stolen(w, v),
@@ -509,7 +510,8 @@ impl World {
         requires possible { is_possible (scene self.old) (event.Settle w) ≡ true }
         ensures code { self.new.code ≡ self.old.code }
         ensures memory { IfErr result (λ e. e ≡ refused.Memory) }
-        ensures does { DoesOr (arc_value self.old.code) (event.Settle w) result (scene self.old) (scene self.new) }
+        ensures wants { OnErr result (MayWant self.old (event.Settle w)) }
+        ensures does { Happens self.old (event.Settle w) result self.new }
     {
         match self.board.room_to_settle() {
             Ok(()) => {
@@ -526,7 +528,7 @@ impl World {
         requires sound { IsSound self.old }
         requires possible { is_possible (scene self.old) (event.Collect w) ≡ true }
         ensures code { self.new.code ≡ self.old.code }
-        ensures does { Does (arc_value self.old.code) (event.Collect w) (scene self.old) (scene self.new) }
+        ensures does { HasHappened self.old (event.Collect w) self.new }
     {
         let mut post = take(&mut self.begun, w);
         let latest = post.outs.pop();
@@ -539,15 +541,18 @@ impl World {
     /// One event happens.
     ///
     /// The error is `NotNow` exactly where the event is not possible; otherwise `Memory`, where there was none for the
-    /// world's own lists or for a strand's beginning. After either the world is as it was. Where memory is wanting in a
-    /// strand the event happens, and the strand stops for that.
+    /// world's own lists or for a strand's beginning: only at `Run`, `Offer` and `Settle` where a list that the event may
+    /// add to is full, and at `Steal`. After either the world is as it was. Where memory is wanting in a strand the event
+    /// happens, and the strand stops for that.
     pub fn apply(&mut self, event: Event) -> Result<(), Refused>
         requires { IsSound self.old }
         ensures sound { IsSound self.new }
         ensures code { self.new.code ≡ self.old.code }
         ensures run { KeepsRuns (scene self.old).jobs (scene self.new).jobs }
-        ensures not_now { (result ≡ Err refused.NotNow) ↔ (is_possible (scene self.old) event ≡ false) }
-        ensures does { DoesOr (arc_value self.old.code) event result (scene self.old) (scene self.new) }
+        ensures stays { KeepsAnswer (scene self.old) (scene self.new) }
+        ensures not_now { IsNotNow result ↔ (is_possible (scene self.old) event ≡ false) }
+        ensures wants { IsForMemory result → MayWant self.old event }
+        ensures does { Happens self.old event result self.new }
     {
         if !self.is_possible(event) {
             return Err(Refused::NotNow);
@@ -572,13 +577,14 @@ impl World {
         }
     }
 
-    /// What the run answers, once the root has ended: as `run_alone` answers. The error is `OverLimit` or `Trap` as
-    /// there, and `Memory` where memory was wanting in a strand, for the answer or for its copy.
+    /// What the run answers, once the root has ended: as `run_alone` answers. It is a copy of what the world holds from
+    /// then on. The error is `OverLimit` or `Trap` as there, and `Memory` where memory was wanting in a strand, for the
+    /// answer or for its copy.
     pub fn outcome(&self) -> Option<Result<Ended, Fault>>
         requires { IsSound self.now }
         ensures ended { IsSome result ↔ (has_ended (scene self.now) ≡ true) }
-        ensures answers { (v : Verified) (args : List ℤ) (n : ℕ) (burden : Burden) → IsWorldOf v args n burden self.now
-            → IfSome result (RunsAsCode (code_view v.code) args n burden) }
+        ensures copy { IsOptionCopy (answer_of (scene self.now)) result }
+        ensures answers { AnswersAsCode self.now result }
     {
         match answered(self.first()) {
             Some(answer) => Some(copy_of(*self.begun.allocator(), answer)),

@@ -3,6 +3,8 @@
 #![tactic(auto)]
 
 #[cfg(test)]
+mod generated;
+#[cfg(test)]
 mod moments;
 #[cfg(test)]
 mod programs;

@@ -2,13 +2,16 @@
 
 ghost use Rattle.cw_world.specs.Worlds.{IsSound};
 
+use crate::generated::GENERATED;
 use crate::programs::{FIB, LENT, PRINTS, TRAPS, code_of};
 use cw_machine::alone::{Ended, run_alone};
 use cw_model::burden::{Burden, Edges};
 use cw_text::Fault;
+use cw_verify::verified::Verified;
 use cw_world::event::Event::{self, Collect, Inline, Offer, Retake, Run, Settle, Steal};
 use cw_world::world::World;
 use std::alloc::Global;
+use std::sync::Arc;
 use std::test::Fail;
 
 // Both edges of a spawn cost 3.
@@ -81,25 +84,48 @@ fn is_same(one: &Result<Ended, Fault>, other: &Result<Ended, Fault>) -> bool {
 }
 
 // An event by a number, of worker w or v.
-fn event_of(kind: u64, w: usize, v: usize) -> Event {
+fn event_of(kind: u64, w: u64, v: u64) -> Event {
     match kind {
-        0 => Offer(w),
-        1 => Inline(w),
-        2 => Retake(w),
-        3 => Steal(w, v),
-        4 => Settle(w),
-        5 => Collect(w),
-        _ => Run(w),
+        0 => Inline(w as usize),
+        1 => Settle(w as usize),
+        2 => Collect(w as usize),
+        3 => Offer(w as usize),
+        4 => Retake(w as usize),
+        5 => Steal(w as usize, v as usize),
+        _ => Run(w as usize),
     }
 }
 
-// Events one after the other, as they come by numbers that begin with this one, as long as the run goes on.
-fn wander(world: &mut World, workers: u64, seed: u64) -> Option<Result<Ended, Fault>>
-    requires { IsSound world.old }
-{
+// The first event of a worker that is possible, from a kind of events on; it steals from this one alone.
+fn pick_of(world: &World, w: u64, v: u64, first: u64) -> Option<Event> {
+    for i in 0..7 {
+        let event = event_of(first.wrapping_add(i) % 7, w, v);
+        if world.is_possible(event) {
+            return Some(event);
+        }
+    }
+    None
+}
+
+// An event that is possible, by a number: of a worker, or of the next one that has any.
+fn pick(world: &World, workers: u64, number: u64) -> Option<Event> {
     if workers == 0 {
         return None;
     }
+    for i in 0..workers {
+        let w = (number >> 40).wrapping_add(i) % workers;
+        if let Some(event) = pick_of(world, w, (number >> 50) % workers, number >> 33) {
+            return Some(event);
+        }
+    }
+    None
+}
+
+// Events that are possible one after the other, as they come by numbers that begin with this one, as long as the run
+// goes on; none may be refused.
+fn wander(world: &mut World, workers: u64, seed: u64) -> Option<Result<Ended, Fault>>
+    requires { IsSound world.old }
+{
     let mut number = seed;
     for _ in 0..100_000 {
         if let Some(answer) = world.outcome() {
@@ -108,24 +134,25 @@ fn wander(world: &mut World, workers: u64, seed: u64) -> Option<Result<Ended, Fa
         number = number
             .wrapping_mul(6364136223846793005)
             .wrapping_add(1442695040888963407);
-        let kind = (number >> 33) % 10;
-        let w = ((number >> 40) % workers) as usize;
-        let v = ((number >> 50) % workers) as usize;
-        let _ = world.apply(event_of(kind, w, v));
+        if let Some(event) = pick(world, workers, number) {
+            if world.apply(event).is_err() {
+                return None;
+            }
+        }
     }
     None
 }
 
 // Whether a walk comes to what one worker comes to.
-fn is_serial(alloc: Global, case: Case, workers: usize, seed: u64) -> Result<bool, Fault> {
-    let alone = run_alone(
-        alloc,
-        code_of(alloc, case.source)?,
-        case.args,
-        case.n,
-        BURDEN,
-    );
-    let code = code_of(alloc, case.source)?;
+fn is_serial(
+    alloc: Global,
+    code: &Arc<Verified>,
+    case: Case,
+    workers: usize,
+    seed: u64,
+) -> Result<bool, Fault> {
+    let alone = run_alone(alloc, Arc::try_clone(code)?, case.args, case.n, BURDEN);
+    let code = Arc::try_clone(code)?;
     let mut world = World::start(alloc, code, case.args, case.n, BURDEN, workers)?;
     match wander(&mut world, workers as u64, seed) {
         Some(answer) => Ok(is_same(&answer, &alone)),
@@ -133,13 +160,45 @@ fn is_serial(alloc: Global, case: Case, workers: usize, seed: u64) -> Result<boo
     }
 }
 
+// Whether walks of a program come to what one worker comes to.
+fn are_serial(
+    alloc: Global,
+    code: &Arc<Verified>,
+    case: Case,
+    seeds: &[u64],
+) -> Result<bool, Fault> {
+    let mut right = true;
+    for workers in [1, 2, 3, 7] {
+        for seed in seeds {
+            let is_right = is_serial(alloc, code, case, workers, *seed)?;
+            right = right && is_right;
+        }
+    }
+    Ok(right)
+}
+
 #[test]
 fn walks_are_serial(rt: HostRuntime) -> Result<(), Fail> {
     for case in CASES {
-        for workers in [1, 2, 3, 7] {
-            for seed in [1, 12345, 987654321] {
-                assert!(rt; is_serial(rt.alloc(), case, workers, seed)?);
-            }
+        let code = code_of(rt.alloc(), case.source)?;
+        assert!(rt; are_serial(rt.alloc(), &code, case, &[1, 12345, 987654321])?);
+    }
+    Ok(())
+}
+
+// Within just what each costs, within one instruction less, and within half of it.
+#[test]
+fn walks_of_random_programs_are_serial(rt: HostRuntime) -> Result<(), Fail> {
+    for program in &GENERATED {
+        let code = code_of(rt.alloc(), program.source)?;
+        let cost = program.cost;
+        for n in [cost, cost.wrapping_sub(1), cost / 2] {
+            let case = Case {
+                source: program.source,
+                args: program.args,
+                n,
+            };
+            assert!(rt; are_serial(rt.alloc(), &code, case, &[cost])?);
         }
     }
     Ok(())

@@ -1,6 +1,7 @@
-use Rattle.std.proofs.Common.{subst}
-use Rattle.cw_machine.specs.Runs.{RunsAsCode}
+use Rattle.std.proofs.Common.{sym, subst}
+use Rattle.std.specs.Prelude.{Err}
+use Rattle.cw_world.specs.Copied.{IsCopy}
 use Rattle.cw_world.proofs.copy.copy_of.Goals as goal
 
 pub returns-in-Err : goal.returns-in-Err
-returns-in-Err c = λ code args n burden r. c.copy_fault.ensures code args n burden (subst (λ x. RunsAsCode code args n burden x) c.in-Err.is r)
+returns-in-Err c = subst (λ x. IsCopy x (Err c.copy_fault.result)) (sym c.in-Err.is) c.copy_fault.ensures

@@ -1,6 +1,8 @@
-use Rattle.std.proofs.Common.{◌∙◌, Some, sym, ap, arith}
+use Rattle.std.proofs.Common.{◌∙◌, Some, refl, sym, ap, length, arith}
+use Rattle.std.proofs.lemmas.Option.{slice_get_read}
 use Rattle.cw_sched.specs.Board.{newest, of_worker}
 use Rattle.cw_world.specs.Scenes.{stacks, stage_of}
+use Rattle.cw_world.proofs.Lists.{newest_pushed}
 use Rattle.cw_world.proofs.Boards.{get_set}
 use Rattle.cw_world.proofs.Tops.{goes_some, goes_not, top_popped, left_popped, none_popped, made_never, answered_never, there}
 use Rattle.cw_world.proofs.world.take.Goals as goal
@@ -11,6 +13,18 @@ returns-clause-top c =
     let lt = there qs c.args.w (goes_some (newest (of_worker (stacks c.args.begun.now) c.args.w)) c.requires) in
     top_popped qs c.args.w c.index_mut.result.now c.pop.new.self c.in-Some-Goes.field-0 lt c.index_mut.ensures.value c.in-Some-Goes.ensures.items
     ∙ ap (λ x. Some (stage_of x)) c.in-Some-Goes.field-0-is
+
+pub returns-clause-last : goal.returns-clause-last
+returns-clause-last c =
+    let qs = c.args.begun.now.items in
+    let q = c.index_mut.result.now in
+    let x = c.in-Some-Goes.field-0 in
+    let lt = there qs c.args.w (goes_some (newest (of_worker (stacks c.args.begun.now) c.args.w)) c.requires) in
+    record {
+      stack = q;
+      there = slice_get_read qs (length qs) c.args.w q refl lt c.index_mut.ensures.value;
+      last = ap newest c.in-Some-Goes.ensures.items ∙ (newest_pushed c.pop.new.self.items x ∙ ap (λ y. Some y) c.in-Some-Goes.field-0-is);
+    }
 
 pub returns-clause-left : goal.returns-clause-left
 returns-clause-left c =

@@ -1,4 +1,5 @@
-use Rattle.std.proofs.Common.{List, ap}
+use Rattle.std.proofs.Common.{List, refl, ap, length}
+use Rattle.std.proofs.lemmas.Option.{slice_get_read}
 use Rattle.cw_sched.specs.Board.{pushed}
 use Rattle.cw_world.specs.declared.board.Offer.{Offer}
 use Rattle.cw_world.proofs.Boards.{worker_set, worker_kept}
@@ -16,3 +17,9 @@ returns-in-Err-clause-same c =
     let b = c.args.self.now in
     ap (λ (l : List (List Offer)). record { offers = l; cells = b.cells.items })
     (worker_kept (λ q. q.items) b.lists.items c.args.w c.index_mut.result.now c.push_back.new.self c.requires.worker c.index_mut.ensures.value c.in-Err.ensures.items)
+
+pub returns-in-Err-clause-full : goal.returns-in-Err-clause-full
+returns-in-Err-clause-full c =
+    let qs = c.args.self.now.lists.items in
+    let q = c.index_mut.result.now in
+    (q, slice_get_read qs (length qs) c.args.w q refl c.requires.worker c.index_mut.ensures.value, c.in-Err.ensures.full)

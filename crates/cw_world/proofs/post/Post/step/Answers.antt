@@ -2,22 +2,21 @@ use Rattle.std.proofs.Common.{◌≡◌, ◌∙◌, ◌++◌, true, List, [], �
 use Rattle.std.specs.Prelude.{map}
 use Rattle.cw_jobs.specs.declared.job.Job as jobs
 use Rattle.cw_strand.specs.Holds.{its_job}
-use Rattle.cw_strand.specs.declared.strand.Step.TheVariants as step
 use Rattle.cw_strand.specs.Moves.{KeptBy}
 use Rattle.cw_world.specs.declared.post.Out.TheVariants as out
 use Rattle.cw_world.specs.Scenes.{Posted, jobs_of, posted}
 use Rattle.cw_world.proofs.Posts.{steps_on, steps_to_join, steps_to_spawn}
 use Rattle.cw_world.proofs.post.Post.step.Goals as goal
 
-pub returns-in-Ran : goal.returns-in-Ran
-returns-in-Ran c =
+pub returns-in-Ran-clause-does : goal.returns-in-Ran-clause-does
+returns-in-Ran-clause-does c =
     let p = c.args.self.now in
     let mid : Posted = record { number = p.number; strand = c.advance.new.self; at_join = p.at_join; outs = c.reserve-2.new.self.items } in
     steps_on c.stand.result (posted p) mid (posted c.stand.new.self) (jobs_of c.args.jobs.now) (jobs_of c.reserve.new.self) refl c.reserve-2.ensures.items
     (ap (λ o. o.value) c.advance.ensures.of) c.in-Ran.ensures.advances c.stand.ensures (ap (map (λ j. j.value)) c.reserve.ensures.items)
 
-pub returns-in-Came-Spawned : goal.returns-in-Came-Spawned
-returns-in-Came-Spawned c =
+pub returns-in-Came-Spawned-clause-does : goal.returns-in-Came-Spawned-clause-does
+returns-in-Came-Spawned-clause-does c =
     let p = c.args.self.now in
     let job = c.in-Came-Spawned.job in
     let same : jobs_of c.reserve.new.self ≡ jobs_of c.args.jobs.now = ap (map (λ j. j.value)) c.reserve.ensures.items in
@@ -31,8 +30,8 @@ returns-in-Came-Spawned c =
     (subst (λ s. KeptBy c.in-Came-Spawned.field-0 p.strand s) (sym c.hand_out.ensures.strand) c.in-Came-Spawned.ensures.advances))
     (c.hand_out.ensures.jobs ∙ ap (λ (k : List jobs.Job). k ++ job ∷ []) same)
 
-pub returns-in-Came-AtSync : goal.returns-in-Came-AtSync
-returns-in-Came-AtSync c =
+pub returns-in-Came-AtSync-clause-does : goal.returns-in-Came-AtSync-clause-does
+returns-in-Came-AtSync-clause-does c =
     let p = c.args.self.now in
     let new : Posted = record { number = p.number; strand = c.advance.new.self; at_join = true; outs = c.reserve-2.new.self.items } in
     steps_to_join (posted p) new (jobs_of c.args.jobs.now) (jobs_of c.reserve.new.self) refl c.reserve-2.ensures.items

@@ -1,9 +1,13 @@
-use Rattle.std.proofs.Common.{◌≡◌, true, rules}
+use Rattle.std.proofs.Common.{◌≡◌, true, sym, subst, rules}
 use Rattle.std.specs.Prelude.{Ok}
 use Rattle.cw_world.specs.declared.event.Event.TheVariants as event
 use Rattle.cw_world.specs.Scenes.{scene}
 use Rattle.cw_world.specs.Table.{is_possible}
+use Rattle.cw_world.specs.Wants.{MayWant}
+use Rattle.cw_world.specs.Worlds.{IsForMemory}
 use Rattle.cw_world.proofs.After.{kept_world, kept_run, not_not_now}
+use Rattle.cw_world.proofs.Staying.{world_stays}
+use Rattle.cw_world.proofs.Wanting.{for_memory}
 use Rattle.cw_world.proofs.world.World.apply.Goals as goal
 
 pub returns-in-Run-clause-sound : goal.returns-in-Run-clause-sound
@@ -67,3 +71,36 @@ returns-in-Collect-clause-sound c = kept_world c.args.self.now c.collect.new.sel
 
 pub returns-in-Collect-clause-run : goal.returns-in-Collect-clause-run
 returns-in-Collect-clause-run c = kept_run c.args.self.now c.collect.new.self (event.Collect c.in-Collect.w) (Ok tt) c.requires c.collect.ensures.does
+
+pub returns-in-Run-clause-stays : goal.returns-in-Run-clause-stays
+returns-in-Run-clause-stays c = world_stays c.args.self.now c.run.new.self (event.Run c.in-Run.w) c.run.result c.run.ensures.does
+
+pub returns-in-Run-clause-wants : goal.returns-in-Run-clause-wants
+returns-in-Run-clause-wants c =
+    subst (λ e. IsForMemory c.run.result → MayWant c.args.self.now e) (sym c.in-Run.is) (for_memory c.run.result c.run.ensures.wants)
+
+pub returns-in-Offer-clause-stays : goal.returns-in-Offer-clause-stays
+returns-in-Offer-clause-stays c = world_stays c.args.self.now c.offer.new.self (event.Offer c.in-Offer.w) c.offer.result c.offer.ensures.does
+
+pub returns-in-Offer-clause-wants : goal.returns-in-Offer-clause-wants
+returns-in-Offer-clause-wants c =
+    subst (λ e. IsForMemory c.offer.result → MayWant c.args.self.now e) (sym c.in-Offer.is) (for_memory c.offer.result c.offer.ensures.wants)
+
+pub returns-in-Inline-clause-stays : goal.returns-in-Inline-clause-stays
+returns-in-Inline-clause-stays c = world_stays c.args.self.now c.inline.new.self (event.Inline c.in-Inline.w) (Ok tt) c.inline.ensures.does
+
+pub returns-in-Retake-clause-stays : goal.returns-in-Retake-clause-stays
+returns-in-Retake-clause-stays c = world_stays c.args.self.now c.retake.new.self (event.Retake c.in-Retake.w) (Ok tt) c.retake.ensures.does
+
+pub returns-in-Steal-clause-stays : goal.returns-in-Steal-clause-stays
+returns-in-Steal-clause-stays c = world_stays c.args.self.now c.steal.new.self (event.Steal c.in-Steal.w c.in-Steal.v) c.steal.result c.steal.ensures.does
+
+pub returns-in-Settle-clause-stays : goal.returns-in-Settle-clause-stays
+returns-in-Settle-clause-stays c = world_stays c.args.self.now c.settle.new.self (event.Settle c.in-Settle.w) c.settle.result c.settle.ensures.does
+
+pub returns-in-Settle-clause-wants : goal.returns-in-Settle-clause-wants
+returns-in-Settle-clause-wants c =
+    subst (λ e. IsForMemory c.settle.result → MayWant c.args.self.now e) (sym c.in-Settle.is) (for_memory c.settle.result c.settle.ensures.wants)
+
+pub returns-in-Collect-clause-stays : goal.returns-in-Collect-clause-stays
+returns-in-Collect-clause-stays c = world_stays c.args.self.now c.collect.new.self (event.Collect c.in-Collect.w) (Ok tt) c.collect.ensures.does

@@ -5,6 +5,7 @@ use Rattle.cw_world.specs.Events.{with_top}
 use Rattle.cw_world.proofs.Strands.{is_even}
 use Rattle.cw_world.proofs.Turns.{ran, ran_whole}
 use Rattle.cw_world.proofs.Doing.{put_back, taken_works}
+use Rattle.cw_world.proofs.Wanting.{run_wants}
 use Rattle.cw_world.proofs.world.World.run.Goals as goal
 
 pub step-requires-clause-running : goal.step-requires-clause-running
@@ -21,16 +22,19 @@ step-requires-clause-even c =
 pub turn-requires-clause-root : goal.turn-requires-clause-root
 turn-requires-clause-root c =
     ran_whole (arc_value c.args.self.now.code) (scene c.args.self.now) c.args.w (posted c.take-post.result) (posted c.step.new.self) c.in-Ok.ended (jobs_of c.step.new.jobs)
-    c.requires.sound.right c.take-post.ensures.top c.in-Ok.ensures
+    c.requires.sound.right c.take-post.ensures.top c.in-Ok.ensures.does
 
 pub returns-in-Ok-clause-does : goal.returns-in-Ok-clause-does
 returns-in-Ok-clause-does c =
     ran (arc_value c.args.self.now.code) (scene c.args.self.now) c.args.w (posted c.take-post.result) (posted c.step.new.self) c.in-Ok.ended (jobs_of c.step.new.jobs) (stacks c.turn.new.begun) c.turn.ensures.stage
-    c.requires.sound.right c.take-post.ensures.top c.in-Ok.ensures c.turn.ensures.begun
+    c.requires.sound.right c.take-post.ensures.top c.in-Ok.ensures.does c.turn.ensures.begun
     (c.turn.ensures.is ∙ ap (λ (l : List (List Stage)). with_top l c.args.w c.turn.ensures.stage) c.take-post.ensures.left)
 
 pub returns-in-Err-clause-does : goal.returns-in-Err-clause-does
 returns-in-Err-clause-does c =
     let s = scene c.args.self.now in
     put_back s c.args.w (Goes (posted c.take-post.result)) (Goes (posted c.step.new.self)) (jobs_of c.step.new.jobs) (stacks c.take-post.new.begun) (stacks c.put.new.begun) s.board
-    c.take-post.ensures.top c.take-post.ensures.left c.put.ensures (ap (λ (q : Posted). Goes q) c.in-Err.ensures.0) c.in-Err.ensures.1 refl
+    c.take-post.ensures.top c.take-post.ensures.left c.put.ensures (ap (λ (q : Posted). Goes q) c.in-Err.ensures.does.0) c.in-Err.ensures.does.1 refl
+
+pub returns-in-Err-clause-wants : goal.returns-in-Err-clause-wants
+returns-in-Err-clause-wants c = run_wants c.args.self.now c.args.w c.take-post.result c.take-post.ensures.last c.in-Err.ensures.full
