@@ -169,7 +169,7 @@ impl Tables {
         }
     }
 
-    #[inline(always)]
+    #[inline(never)]
     fn end_call(&mut self, count: u64, part: Part) -> Result<(), AllocError>
         ensures { OnOk result (part.kind ≡ Call → Closes self.old self.new count part) }
     {
@@ -179,7 +179,7 @@ impl Tables {
         Ok(())
     }
 
-    #[inline(always)]
+    #[inline(never)]
     fn end_spawned_call(&mut self, count: u64, part: Part) -> Result<(), AllocError>
         ensures { OnOk result (part.kind ≡ SpawnedCall → Closes self.old self.new count part) }
     {
