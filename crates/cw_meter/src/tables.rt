@@ -143,7 +143,7 @@ impl Tables {
     }
 
     /// The block that runs, which has spawned since its last join, joins at this count.
-    #[inline(always)]
+    #[inline(never)]
     pub fn join(&mut self, count: u64) -> Result<(), AllocError>
         ensures told { OnOk result (JoinsSpawned self.old self.new count) }
         ensures joined { OnOk result (self.new.spawned ≡ false) }
