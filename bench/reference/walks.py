@@ -17,7 +17,7 @@ from ref import Program, Run
 
 FILE = os.path.join(os.path.dirname(os.path.abspath(__file__)), "../../crates/cw_world_rows/src/generated.rt")
 WIDE, LONGEST, LEAST_SPAWNS = 2000, 1200, 3
-WANTED = {"ended": 16, "trapped": 8}
+WANTED = {"ended": 10, "trapped": 4}
 HEAD = '''//! Random programs, written by `bench/reference/walks.py`.
 
 /// A random program with its arguments, and what its run costs: up to its end or its trap.
