@@ -1,4 +1,4 @@
-"""Writes sources of about 1 MiB, one for each kind of statement that is dear to read, into a folder."""
+"""Writes sources of about 1 MiB, one for each kind of statement that is slow to read, into a folder."""
 
 import pathlib
 import sys

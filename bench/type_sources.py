@@ -81,6 +81,16 @@ def sums_in(n):
     return f"void w{n}(){{{''.join(f's{i}+=1;' for i in range(32)) * 4}}}\n"
 
 
+def names_in(n):
+    """Names of one byte again and again, so that a name is hardly longer in the source than in a tree."""
+    return f"void w{n}(){{int x=1;int y=1;{'x=y;' * 250}}}\n"
+
+
+def operands_in(n):
+    """The same as operands of sums."""
+    return f"void w{n}(){{int x=1;{('x=' + '+'.join(['x'] * 120) + ';') * 4}}}\n"
+
+
 LAST = "void last({}){{}}\n".format(",".join(f"int a{i}[]" if i % 2 else f"int a{i}" for i in range(16)))
 REDUCERS = "".join(f"reducer sum s{i};\n" for i in range(32))
 
@@ -96,6 +106,8 @@ KINDS = {
     "short_calls": (short_calls_in, "void l(){}\n"),
     "regions": (regions_in, ""),
     "sums": (sums_in, REDUCERS),
+    "names": (names_in, ""),
+    "operands": (operands_in, ""),
 }
 
 
