@@ -1,6 +1,6 @@
 #!/bin/sh
 # What a run costs beside the same instructions in a switch loop of C, without measures and with them: machine
-# instructions a bytecode by callgrind, time and memory. Wants valgrind and gcc, and the program built:
+# instructions a bytecode by callgrind, time and memory, and last processor time by rounds (times.py). Wants valgrind and gcc, and the program built:
 # speed.sh PATH-OF-CILKWORK
 set -eu
 here=$(cd "$(dirname "$0")" && pwd)
@@ -59,3 +59,7 @@ echo
 echo 'With the same measures in C, but for regions:'
 echo
 table scale measures "$limit" 15000
+echo
+echo 'Processor time:'
+echo
+python3 "$here/times.py" "$cilkwork"
