@@ -4,7 +4,7 @@
     gate.py
 
 The sample before `rt ci` takes under two minutes: the reports of examples/ against the other implementation, that one
-against answers worked out by hand, and some turned clauses. It wants python3 and the kit alone. Where one of them differs
+against answers worked out by hand, the random programs of the walks of worlds, and some turned clauses. It wants python3 and the kit alone. Where one of them differs
 from what stands there, nothing else is run. The last line is that of `rt ci`, `N passed, M failed`, with one more failed
 where the program answers a random source otherwise than the other implementation.
 """
@@ -20,6 +20,7 @@ PROGRAM = os.path.join(TOP, "crates", "cilkwork", "out", "cilkwork")
 BEFORE = [
     ["bench/reference/examples.py", "--check"],
     ["bench/reference/check.py"],
+    ["bench/reference/walks.py", "--check"],
     ["bench/turned/turn.py", "--every", "100", "--jobs", "4"],
 ]
 AFTER = "bench/reference/fuzz.py"
