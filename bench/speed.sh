@@ -1,7 +1,7 @@
 #!/bin/sh
 # What a run costs beside the same instructions in a switch loop of C, without measures and with them: machine
-# instructions a bytecode by callgrind, time and memory, and last processor time by rounds (times.py). Wants valgrind and gcc, and the program built:
-# speed.sh PATH-OF-CILKWORK
+# instructions a bytecode by callgrind, time and memory, and last processor time by rounds (times.py), whose status is this
+# one's. Wants valgrind and gcc, and the program built: speed.sh PATH-OF-CILKWORK
 set -eu
 here=$(cd "$(dirname "$0")" && pwd)
 cilkwork=$1
