@@ -40,8 +40,8 @@ pub record IsRunOf (bytes : List ℕ) (args : List ℤ) (options : Options) (pro
 abbrev pub answer_to : Program → List ℤ → Options → Answer
 answer_to program args options = serial_answer program args options.limit
 
--- the report of a program; that of a check says nothing of what the program answers, and of a trap only a run writes what it
--- printed before
+-- the report of a program; that of a check says nothing of what the program answers, and of a trap only a run
+-- writes what it printed before
 abbrev pub text_of : Program → List ℤ → Options → List ℕ
 text_of program args options = text_in options.mode program options.burden (answer_to program args options)
 

@@ -80,7 +80,8 @@ file_rule = needed_rule (codes "FILE")
 
 -- the arguments of main: any number of words
 abbrev pub args_rule : Rule
-args_rule = record (new_rule (codes "ARGS")) { range = Some (record { start_inclusive = 0; end_inclusive = usize_max }); action = Some Append }
+args_rule = record (new_rule (codes "ARGS")) { range = Some
+    (record { start_inclusive = 0; end_inclusive = usize_max }); action = Some Append }
 
 -- the name of a command
 abbrev pub command_name : Verb → Text
@@ -109,7 +110,8 @@ line_of v = running_line (command_name v)
 -- a command is of this line, also below another one
 pub record IsCommandOf (line : App) (c : Command) : Type 0 where
   pub shape : app_of c ≡ line
-  pub below : (above whole : Command) → AddsSubcommand above c whole → app_of whole ≡ with_subcommand (app_of above) line.top
+  pub below : (above whole : Command) → AddsSubcommand above c whole
+      → app_of whole ≡ with_subcommand (app_of above) line.top
 
 -- the words follow the program's own name, and one of them has to be a command
 abbrev pub with_words_alone : App → App

@@ -11,8 +11,10 @@ HaveOneProgram = (bytes : List ℕ) (p q : Program) → IsSourceOf bytes p → I
 
 -- bytes that compile are refused for want of memory only
 abbrev pub CompiledAreNotRefused : Type 0
-CompiledAreNotRefused = (bytes : List ℕ) (p : Program) (f : Fault) → Compiles bytes p → IsRefused bytes f → f ≡ fault.Memory
+CompiledAreNotRefused = (bytes : List ℕ) (p : Program) (f : Fault) → Compiles bytes p → IsRefused bytes f
+    → f ≡ fault.Memory
 
 -- bytes are refused for one reason in one line, or for want of memory
 abbrev pub HaveOneRefusal : Type 0
-HaveOneRefusal = (bytes : List ℕ) (f g : Fault) → IsRefused bytes f → IsRefused bytes g → (f ≡ g) ⊎ (f ≡ fault.Memory) ⊎ (g ≡ fault.Memory)
+HaveOneRefusal = (bytes : List ℕ) (f g : Fault) → IsRefused bytes f → IsRefused bytes g → (f ≡ g) ⊎ (f ≡ fault.Memory)
+    ⊎ (g ≡ fault.Memory)

@@ -1,5 +1,6 @@
 -- What the words ask for.
-use Rattle.std.specs.Prelude.{◌≡◌, ◌≢◌, ◌≤◌, ℕ, ℤ, Bool, true, false, pos, List, [], ◌∷◌, map, All, Option, Some, None, unwrap_or, codes, string_bytes, is_some}
+use Rattle.std.specs.Prelude.{◌≡◌, ◌≢◌, ◌≤◌, ℕ, ℤ, Bool, true, false, pos, List, [], ◌∷◌, map, All, Option, Some}
+use Rattle.std.specs.Prelude.{None, unwrap_or, codes, string_bytes, is_some}
 use Rattle.std.specs.Option.{SomeIff}
 use Rattle.clap.specs.Words.{IsAmong, Kinds, Row, Text, all_of, fault_of, first_of, subcommand_of}
 use Rattle.clap.specs.declared.error.ErrorKind.{ErrorKind}

@@ -67,9 +67,12 @@ pub data PassesLimit (bytes : List ℕ) (line : ℕ) : Type 0 where
   length : IsTooLong bytes line → PassesLimit bytes line
   name : IsSourceText bytes → HasNameFault bytes line → PassesLimit bytes line
   tokens : (ts : List Token) → HasTokens bytes ts → IsLeastLine (token_faults 0 0 ts) line → PassesLimit bytes line
-  parts : (program : Program) → IsSourceOf bytes program → IsLeastLine (limit_faults program) line → PassesLimit bytes line
-  loops : (program : Program) → IsAccepted bytes program → IsLeastLine (loop_faults program) line → PassesLimit bytes line
-  code : (program : Program) → IsAccepted bytes program → loop_faults program ≡ [] → IsLeastLine (program_faults program) line → PassesLimit bytes line
+  parts : (program : Program) → IsSourceOf bytes program → IsLeastLine (limit_faults program) line
+      → PassesLimit bytes line
+  loops : (program : Program) → IsAccepted bytes program → IsLeastLine (loop_faults program) line
+      → PassesLimit bytes line
+  code : (program : Program) → IsAccepted bytes program → loop_faults program ≡ []
+      → IsLeastLine (program_faults program) line → PassesLimit bytes line
 
 -- what must hold of the bytes where this fault is answered for them: the first stage that refuses them, and its line
 abbrev pub IsRefused : List ℕ → Fault → Type 0

@@ -1,5 +1,6 @@
 -- What the program answers on a source: an exit status, a line on standard error, and what standard output took.
-use Rattle.std.specs.Prelude.{◌≡◌, ◌≢◌, ◌<◌, ℕ, Bool, false, List, [], ◌++◌, ◌⊎◌, codes, string_bytes, Option, Some, None, Result, Ok, Err}
+use Rattle.std.specs.Prelude.{◌≡◌, ◌≢◌, ◌<◌, ℕ, Bool, false, List, [], ◌++◌, ◌⊎◌, codes, string_bytes, Option, Some}
+use Rattle.std.specs.Prelude.{None, Result, Ok, Err}
 use Rattle.std.specs.declared.io.ErrorKind.{ErrorKind}
 use Rattle.std.specs.declared.io.ErrorKind.TheVariants as kind
 use Rattle.cw_text.specs.declared.fault.Fault.{Fault}
@@ -60,17 +61,20 @@ OnItsBytes known P = (bytes : List ℕ) × IsReadOf known bytes × P bytes
 -- two sinks, standard output and standard error, go from one state to another
 module _ {W E : Type 0} (seen : W → Seen) (old new : W) (seen' : E → Seen) (old' new' : E) where
   module _ (asked : Request) (reads_failed_before reads_failed_after : ℕ) (bytes : List ℕ) where
-    -- a read of the source failed, and nothing was written to standard output; or the bytes were analysed, and standard error got the
-    -- fault's line, and behind it an explanation where one is asked for
+    -- a read of the source failed, and nothing was written to standard output; or the bytes were analysed, and
+    -- standard error got the fault's line, and behind it an explanation where one is asked for
     pub data IsToolAnswer : ℕ → Type 0 where
-      unread : {status : ℕ} → reads_failed_before < reads_failed_after → new ≡ old → IsFileAnswer seen' old' new' status → IsToolAnswer status
-      analysed : (r : Result (Unit {0}) Fault) → IsAnalysed seen old new bytes asked.args.items asked.options r → IsTold seen' old' new' asked.explain (line_of r) →
+      unread : {status : ℕ} → reads_failed_before < reads_failed_after → new ≡ old
+          → IsFileAnswer seen' old' new' status → IsToolAnswer status
+      analysed : (r : Result (Unit {0}) Fault) → IsAnalysed seen old new bytes asked.args.items asked.options r
+          → IsTold seen' old' new' asked.explain (line_of r) →
           IsToolAnswer (status_of r)
 
   -- standard output took the help, or a beginning of it and standard error the line of the failed write
   pub data IsHelpAnswer (text : List ℕ) (status : ℕ) : Type 0 where
     whole : WritesAll (seen old) (seen new) text → new' ≡ old' → status ≡ 0 → IsHelpAnswer text status
-    cut_short : WritesPart (seen old) (seen new) text → IsRefusal seen' old' new' fault.Write status → IsHelpAnswer text status
+    cut_short : WritesPart (seen old) (seen new) text → IsRefusal seen' old' new' fault.Write status
+        → IsHelpAnswer text status
 
   -- standard error was given the text on the words
   pub record IsMisuseAnswer (text : List ℕ) (status : ℕ) : Type 0 where

@@ -4,7 +4,8 @@ use Rattle.clap.specs.Words.{Text}
 use Rattle.clap.specs.declared.error.ErrorKind.TheVariants as kind
 use Rattle.cw_model.specs.declared.limits.TheConstants.{USUAL_LIMIT, USUAL_BURDEN}
 use Rattle.cw_model.specs.Pieces.{decimal_value}
-use Rattle.cw_cli.specs.Command.{command_name, limit_row, burden_row, processors_row, workers_row, number_rows, usual_numbers, usual_edges}
+use Rattle.cw_cli.specs.Command.{command_name, limit_row, burden_row, processors_row, workers_row, number_rows}
+use Rattle.cw_cli.specs.Command.{usual_numbers, usual_edges}
 use Rattle.cw_cli.specs.declared.asked.TheConstants.{USUAL_WORKERS}
 use Rattle.cw_cli.specs.Requests.{AreRead, AreWithin, Words, faults}
 use Rattle.cw_cli.specs.declared.verb.Verb.{Verb}
@@ -122,7 +123,8 @@ TakenWordsAreRead = (given : List Text) → faults given ≡ [] → (words : Wor
 
 -- and in one way
 abbrev pub WordsAreReadOnce : Type 0
-WordsAreReadOnce = (given : List Text) (words words' : Words) → AreRead given words → AreRead given words' → words ≡ words'
+WordsAreReadOnce = (given : List Text) (words words' : Words) → AreRead given words → AreRead given words'
+    → words ≡ words'
 
 -- the words for the usual numbers are numbers in range, and write the usual limit, the usual burden, one processor and
 -- two workers
@@ -144,7 +146,8 @@ WordExamples =
     (running verb.Run (codes "f") [] (codes "9") (codes "0"))
     × AreRead (codes "run" ∷ codes "--limit=1" ∷ codes "--" ∷ codes "-f" ∷ codes "-1" ∷ [])
     (running verb.Run (codes "-f") (codes "-1" ∷ []) (codes "1") (codes "15000"))
-    × AreRead (codes "scale" ∷ codes "f" ∷ codes "4" ∷ codes "--burden=0" ∷ codes "7" ∷ codes "--limit" ∷ codes "9" ∷ [])
+    × AreRead (codes "scale" ∷ codes "f" ∷ codes "4" ∷ codes "--burden=0" ∷ codes "7" ∷ codes "--limit" ∷ codes "9"
+        ∷ [])
     (running verb.Scale (codes "f") (codes "4" ∷ codes "7" ∷ []) (codes "9") (codes "0"))
     × AreRead (codes "sites" ∷ codes "--burden" ∷ codes "1" ∷ codes "run" ∷ codes "--" ∷ codes "scale" ∷ [])
     (running verb.Sites (codes "run") (codes "scale" ∷ []) (codes "1000000000") (codes "1"))

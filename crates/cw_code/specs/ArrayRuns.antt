@@ -7,7 +7,9 @@ use Rattle.cw_model.specs.Syntax as source
 use Rattle.cw_model.specs.Sites.{Of}
 use Rattle.cw_model.specs.Answers.{OverLimit, main_name, serial_answer}
 use Rattle.cw_code.specs.declared.code.BlockKind.TheVariants.{Scope}
-use Rattle.cw_code.specs.declared.code.Instr.TheVariants.{Push, Load, Store, Binary, Skip, SkipIfZero, GoBack, Call, Recur, Start, NewArray, Length, Element, SetElement, Cut, EndCut, Open, Close, ReturnValue, Return}
+use Rattle.cw_code.specs.declared.code.Instr.TheVariants.{Push, Load, Store, Binary, Skip, SkipIfZero, GoBack, Call}
+use Rattle.cw_code.specs.declared.code.Instr.TheVariants.{Recur, Start, NewArray, Length, Element, SetElement, Cut}
+use Rattle.cw_code.specs.declared.code.Instr.TheVariants.{EndCut, Open, Close, ReturnValue, Return}
 use Rattle.cw_code.specs.Code.{Code}
 use Rattle.cw_code.specs.Run.{code_serial}
 
@@ -60,7 +62,8 @@ cut_source = record {
             (in_line 2 (source.Cut a_name (source.Number (pos 1)) l_name r_name
             (in_line 2 (source.Call Spawned 1 (Some n_name) f_name (source.Variable r_name ∷ []))
             (in_line 2 (source.AssignElement l_name (source.Number (pos 0)) (source.Number (pos 5))) End)))
-            (in_line 2 (source.Return (Some (source.Binary Plus (source.Element a_name (source.Number (pos 1))) (source.Variable n_name)))) End)));
+            (in_line 2 (source.Return (Some (source.Binary Plus (source.Element a_name (source.Number (pos 1)))
+                (source.Variable n_name)))) End)));
       }
       ∷ [];
 }
@@ -97,7 +100,8 @@ loop_source = record {
     params = [];
     body =
         in_line 1 (source.DeclareArray a_name (source.Number (pos 3)))
-        (in_line 1 (source.For i_name i_name i_name (source.Number (pos 1)) (source.Number (pos 3)) 1 (a_name ∷ []) (in_line 1 (source.AssignElement a_name (source.Variable i_name) (source.Variable i_name)) End))
+        (in_line 1 (source.For i_name i_name i_name (source.Number (pos 1)) (source.Number (pos 3)) 1 (a_name
+            ∷ []) (in_line 1 (source.AssignElement a_name (source.Variable i_name) (source.Variable i_name)) End))
         (in_line 1 (source.Return (Some (source.Element a_name (source.Number (pos 2))))) End));
   } ∷ [];
 }

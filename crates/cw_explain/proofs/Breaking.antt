@@ -1,5 +1,5 @@
 -- The lines of a program that break a rule, by the parts that the code looks at.
-use Rattle.std.proofs.Common.{Bool, true, false, if◌then◌else◌, not, ◌&&◌, ◌||◌, ◌==◌, ◌≡◌, ◌≤◌, ◌-◌, ℕ, suc, List, [], ◌∷◌, ◌++◌, length, drop, flat_map, map, get_or, refl, sym, ap, ◌∙◌, arith, append_assoc}
+use Rattle.std.proofs.Common.{Bool, true, false, if◌then◌else◌, not, ◌&&◌, ◌||◌, ◌==◌, ◌≡◌, ◌≤◌, ◌-◌, ℕ, suc, List, [], ◌∷◌, ◌++◌, length, flat_map, map, get_or, refl, sym, ap, ◌∙◌, arith, append_assoc}
 use Rattle.std.proofs.lemmas.List.{append-nil}
 use Rattle.cw_model.specs.Answers.{main_name}
 use Rattle.cw_model.specs.Lines.{unless}
@@ -149,12 +149,6 @@ longer_after line (Cut a e l r b) ks n h = h
 longer_after line (Region tag b) ks n h = h
 longer_after line (Print e) ks n h = h
 longer_after line (Return e) ks n h = h
-
--- all names are the oldest as many
-pub oldest_all : (ks : List Declared) → oldest (length ks) ks ≡ ks
-oldest_all ks =
-    let none : length ks - length ks ≡ 0 = omega arith in
-    ap (λ n. drop n ks) none
 
 -- the parameters are known in the body
 pub kinds_of_params : (line : ℕ) (ps : List Param) (locals : List Declared) → kinds (with_params line ps locals) ≡ known_of ps ++ kinds locals

@@ -33,17 +33,6 @@ found_last true r m b g h k = cc
 found_last false false m b g h k = cc
 found_last false true m b g h k = k
 
-pub last_fails : (a b f m : Bool) → true ≡ not m → true ≡ not (a && b && f && m)
-last_fails a b f true h = cc
-last_fails true true true false h = refl
-last_fails true true false false h = refl
-last_fails true false true false h = refl
-last_fails true false false false h = refl
-last_fails false true true false h = refl
-last_fails false true false false h = refl
-last_fails false false true false h = refl
-last_fails false false false false h = refl
-
 pub two_fail : (a b f m : Bool) → true ≡ not (f && m) → true ≡ not (a && b && f && m)
 two_fail true true true true h = h
 two_fail true true true false h = refl

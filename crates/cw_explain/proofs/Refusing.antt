@@ -170,9 +170,6 @@ and_three_last true true c h = h
 and_three_last true false c h = cc
 and_three_last false b c h = cc
 
-single_right : (around : Around) (taken : Taken) (d : Doing) → is_right around taken d ≡ true → are_right around taken (d ∷ []) ≡ true
-single_right around taken d h = ap (λ b. b && true) h
-
 joined_right : (around : Around) (taken : Taken) (xs ys : List Doing) → are_right around taken xs ≡ true → are_right around taken ys ≡ true →
     are_right around taken (xs ++ ys) ≡ true
 joined_right around taken xs ys h k = right_append around taken xs ys ∙ both (are_right around taken xs) (are_right around taken ys) h k

@@ -302,11 +302,6 @@ same_moved t rest now new s = λ x h.
     swapped true false c = refl
     swapped false b c = refl
 
--- a spawn takes two lists of names, one after the other
-pub taken_twice : (d : ℕ) (xs ys : List Name) (a : Taken) → taken_by d (xs ++ ys) a ≡ taken_by d xs (taken_by d ys a)
-taken_twice d [] ys a = refl
-taken_twice d (x ∷ xs) ys a = ap (λ rest. (x, SpawnIn d) ∷ rest) (taken_twice d xs ys a)
-
 -- behind a loop, and behind a cut
 pub behind_loop : (d : ℕ) (x : Name) (names : List Name) (whole mid new : Taken) → new ≡ without (x ∷ []) mid →
     AreSame mid (freed d (without names whole)) → AreSame new (freed d (without (x ∷ names) whole))

@@ -1,9 +1,9 @@
 -- A reason that is told of some statements is told of more.
-use Rattle.std.proofs.Common.{Bool, true, false, not, ◌||◌, ◌≡◌, ℕ, List, [], ◌∷◌, ◌++◌, Contains, Option, Some, None, IfSome, refl, arith}
+use Rattle.std.proofs.Common.{Bool, true, false, not, ◌||◌, ◌≡◌, ℕ, List, [], ◌++◌, Contains, Option, Some, None, IfSome, refl}
 use Rattle.std.proofs.lemmas.List.Elements.{Contains-append_left, Contains-append_right}
 use Rattle.cw_model.specs.Syntax.{Function, Program}
 use Rattle.cw_explain.specs.Standing.{Standing}
-use Rattle.cw_explain.specs.Told.{IsTold, IsToldAmong, IsToldOf, IsWrongAt, OfFunction}
+use Rattle.cw_explain.specs.Told.{IsTold, IsToldAmong, IsToldOf, OfFunction}
 use Rattle.cw_explain.specs.declared.typing.IllTyped.{IllTyped}
 
 pub told_within : (program : Program) (line : ℕ) (xs ys : List Standing) (found : Option IllTyped) →
@@ -19,11 +19,6 @@ told_left program line xs ys found h = told_within program line xs (xs ++ ys) fo
 pub told_right : (program : Program) (line : ℕ) (xs ys : List Standing) (found : Option IllTyped) →
     IfSome found (IsToldAmong program line ys) → IfSome found (IsToldAmong program line (xs ++ ys))
 told_right program line xs ys found h = told_within program line ys (xs ++ ys) found (Contains-append_right xs ys) h
-
-pub told_first : (program : Program) (line : ℕ) (s : Standing) (rest : List Standing) (r : IllTyped) → s.line ≡ line →
-    IsWrongAt program s r → IsToldAmong program line (s ∷ rest) r
-told_first program line s rest r at wrong =
-    record { statement = s; there = Contains-append_left (s ∷ []) rest s (0, omega arith, refl); at_line = at; wrong = wrong }
 
 -- one of the first two parts holds, and so one of three
 pub or_found : (x a b c : Bool) → x ≡ (a || b) → x ≡ true → x ≡ (a || (b || c))

@@ -22,12 +22,6 @@ use Rattle.cw_explain.specs.declared.owning.Touch.TheVariants as touch
 use Rattle.cw_explain.specs.declared.touched.Loop.{Loop}
 use Rattle.cw_explain.specs.declared.touched.Within.{Within}
 
--- what is from outside is so in the head of a further loop too
-pub outer_same : (b c : Bool) (locals : List Declared) (around : Option Loop) (x : Name) →
-    is_outer (around_in b locals around) x ≡ is_outer (around_in c locals around) x
-outer_same b c locals None x = refl
-outer_same b c locals (Some l) x = refl
-
 pub head_is : (locals : List Declared) (around : Option Loop) → around_in true locals around ≡ for_head (around_in false locals around)
 head_is locals None = refl
 head_is locals (Some l) = refl
@@ -69,15 +63,6 @@ outer_whole w a how (reason.OverTwice word) h o = absurd h
 outer_whole w a how (reason.OuterWritten word line) h o = absurd h
 outer_whole w a how (reason.OuterArray word line) h o = (h, o)
 outer_whole w a how (reason.OtherElement word variable line) h o = (h, o)
-
-pub taken_whole : (w : Where) (a : Name) (how : Touch) (r : Disowned) → IsTakenBy w.taken a how r → IsWrongWhole w a how r
-taken_whole w a how (reason.Taken word touch holder line) h = h
-taken_whole w a how (reason.EndsTaken word holder line) h = absurd h
-taken_whole w a how (reason.GivenTwice word callee) h = absurd h
-taken_whole w a how (reason.OverTwice word) h = absurd h
-taken_whole w a how (reason.OuterWritten word line) h = absurd h
-taken_whole w a how (reason.OuterArray word line) h = absurd h
-taken_whole w a how (reason.OtherElement word variable line) h = absurd h
 
 pub whole_wrong : (w : Where) (d : Doing) (r : Disowned) → is_of_array d ≡ true → may_be (judged w) d ≡ not (is_outer (judged w) (name_of d)) →
     IsWrongWhole w (name_of d) (touch_of d) r → IsWrongDoing w d r

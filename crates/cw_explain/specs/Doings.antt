@@ -2,7 +2,9 @@
 use Rattle.std.specs.Prelude.{Bool, true, false, not, if◌then◌else◌, List, [], ◌∷◌, ◌++◌, Option, Some, None, map}
 use Rattle.cw_model.specs.Meaning.{function_named}
 use Rattle.cw_model.specs.Ownership.{Around, is_outer, may_index, names_in}
-use Rattle.cw_model.specs.Syntax.{Name, Expr, Number, Variable, Element, Length, Negative, Not, Binary, Stmt, Declare, DeclareArray, Assign, AssignElement, Reduce, Call, If, IfElse, While, For, Cut, Print, Return, Param, Function}
+use Rattle.cw_model.specs.Syntax.{Name, Expr, Number, Variable, Element, Length, Negative, Not, Binary, Stmt, Declare}
+use Rattle.cw_model.specs.Syntax.{DeclareArray, Assign, AssignElement, Reduce, Call, If, IfElse, While, For, Cut, Print}
+use Rattle.cw_model.specs.Syntax.{Return, Param, Function}
 use Rattle.cw_explain.specs.declared.owning.Touch.{Touch}
 use Rattle.cw_explain.specs.declared.owning.Touch.TheVariants as touch
 

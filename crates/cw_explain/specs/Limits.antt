@@ -1,9 +1,12 @@
 -- What it means that a line passes a limit for a reason.
 use Rattle.std.specs.Prelude.{◌≡◌, ◌<◌, ◌≤◌, nat_le, ℕ, true, List, [], ◌∷◌, ◌++◌, length, map, flat_map, Contains}
-use Rattle.cw_model.specs.declared.limits.TheConstants.{MOST_CALL_STATEMENTS, MOST_DECLARED, MOST_FUNCTIONS, MOST_LOOPS, MOST_OPEN_BRACKETS, MOST_PARAMETERS, MOST_REDUCERS, MOST_TAG_BYTES, MOST_TAGS, MOST_TOKENS_IN_A_ROW}
+use Rattle.cw_model.specs.declared.limits.TheConstants.{MOST_CALL_STATEMENTS, MOST_DECLARED, MOST_FUNCTIONS, MOST_LOOPS}
+use Rattle.cw_model.specs.declared.limits.TheConstants.{MOST_OPEN_BRACKETS, MOST_PARAMETERS, MOST_REDUCERS}
+use Rattle.cw_model.specs.declared.limits.TheConstants.{MOST_TAG_BYTES, MOST_TAGS, MOST_TOKENS_IN_A_ROW}
 use Rattle.cw_model.specs.declared.token.Token.{Token}
 use Rattle.cw_model.specs.Lines.{unless}
-use Rattle.cw_model.specs.Sizes.{call_count, declaring_lines_in, first_places, lines_beyond, loops_in_block, open_after, regions_of, row_after}
+use Rattle.cw_model.specs.Sizes.{call_count, declaring_lines_in, first_places, lines_beyond, loops_in_block, open_after}
+use Rattle.cw_model.specs.Sizes.{regions_of, row_after}
 use Rattle.cw_model.specs.Sites.{sites_in, sites_in_block}
 use Rattle.cw_model.specs.Syntax.{Name, Stmt, Block, Function, Reducer, Program}
 use Rattle.cw_explain.specs.Rules.{has_line}

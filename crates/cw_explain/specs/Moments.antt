@@ -1,6 +1,7 @@
 -- The moments of a function at which a rule of ownership can be broken: before each statement, and as each block ends.
 use Rattle.std.specs.Prelude.{ℕ, ◌+◌, List, [], ◌∷◌, ◌++◌, map}
-use Rattle.cw_model.specs.Ownership.{Around, Closing, CutOf, Declared, InLoop, Joins, Leaves, NoLoop, Taken, at_end, declared_by, known_after, taken_after, taken_after_all}
+use Rattle.cw_model.specs.Ownership.{Around, Closing, CutOf, Declared, InLoop, Joins, Leaves, NoLoop, Taken, at_end}
+use Rattle.cw_model.specs.Ownership.{declared_by, known_after, taken_after, taken_after_all}
 use Rattle.cw_model.specs.Syntax.{Name, Stmt, If, IfElse, While, For, Scope, Cut, Region, Block, End, Then, Function}
 
 -- a place in a function: the innermost loop around and the line of its head (0 where there is none), the names that

@@ -1,9 +1,14 @@
 -- The rules of ownership by the parts that the code tests them in.
-use Rattle.std.specs.Prelude.{◌≡◌, ℕ, ◌+◌, Bool, true, false, not, ◌&&◌, List, [], ◌∷◌, ◌++◌, Option, Some, None, if◌then◌else◌}
+use Rattle.std.specs.Prelude.{◌≡◌, ℕ, ◌+◌, Bool, true, false, not, ◌&&◌, List, [], ◌∷◌, ◌++◌, Option, Some, None}
+use Rattle.std.specs.Prelude.{if◌then◌else◌}
 use Rattle.std.specs.List.{list_all}
 use Rattle.cw_model.specs.Names.{differ, is_among}
-use Rattle.cw_model.specs.Ownership.{Around, Closing, CutOf, Joins, Leaves, Taken, are_free, for_head, given, is_outer, is_taken, may_index, may_read, may_write, names_in, owner_faults, owner_faults_in, taken_after, target_names}
-use Rattle.cw_model.specs.Syntax.{Name, Expr, Stmt, Declare, DeclareArray, Assign, AssignElement, Reduce, Call, Start, Begin, Sync, If, IfElse, While, For, Scope, Cut, Region, Print, Return, Block, End, Then, Param, Function}
+use Rattle.cw_model.specs.Ownership.{Around, Closing, CutOf, Joins, Leaves, Taken, are_free, for_head, given, is_outer}
+use Rattle.cw_model.specs.Ownership.{is_taken, may_index, may_read, may_write, names_in, owner_faults, owner_faults_in}
+use Rattle.cw_model.specs.Ownership.{taken_after, target_names}
+use Rattle.cw_model.specs.Syntax.{Name, Expr, Stmt, Declare, DeclareArray, Assign, AssignElement, Reduce, Call, Start}
+use Rattle.cw_model.specs.Syntax.{Begin, Sync, If, IfElse, While, For, Scope, Cut, Region, Print, Return, Block, End}
+use Rattle.cw_model.specs.Syntax.{Then, Param, Function}
 use Rattle.cw_explain.specs.Disowned.{HasVariable, IsGivenTwice, IsOverTwice, Where, is_over, judged}
 use Rattle.cw_explain.specs.Doings.{Doing, NamesInOver, Passes}
 use Rattle.cw_explain.specs.Held.{has_taken, holder_of}

@@ -1,5 +1,6 @@
 -- Local names with the lines of their declarations.
-use Rattle.std.specs.Prelude.{ℕ, ◌-◌, Bool, true, false, if◌then◌else◌, List, [], ◌∷◌, Option, Some, None, drop, length, map}
+use Rattle.std.specs.Prelude.{ℕ, ◌-◌, Bool, true, false, if◌then◌else◌, List, [], ◌∷◌, Option, Some, None, drop, length}
+use Rattle.std.specs.Prelude.{map}
 use Rattle.cw_model.specs.Names.{same_name}
 use Rattle.cw_model.specs.Syntax.{Name, Stmt, Declare, DeclareArray, Param, Reducer}
 use Rattle.cw_model.specs.Typing.{Known}

@@ -1,12 +1,15 @@
 -- What it means that a rule of names and types is broken at a line for a reason.
-use Rattle.std.specs.Prelude.{◌≡◌, ℕ, ◌+◌, Bool, true, false, ◌&&◌, nat_le, List, [], ◌∷◌, Option, Some, None, MatchOption, Contains, is_some, length, map, option_map}
+use Rattle.std.specs.Prelude.{◌≡◌, ℕ, ◌+◌, Bool, true, false, ◌&&◌, nat_le, List, [], ◌∷◌, Option, Some, None}
+use Rattle.std.specs.Prelude.{MatchOption, Contains, is_some, length, map, option_map}
 use Rattle.std.specs.List.{slice_get}
 use Rattle.cw_model.specs.declared.limits.TheConstants.{MOST_GRAIN}
 use Rattle.cw_model.specs.declared.syntax.Reduction.{Reduction}
 use Rattle.cw_model.specs.Answers.{main_name}
 use Rattle.cw_model.specs.Names.{same_name}
-use Rattle.cw_model.specs.Syntax.{Name, Expr, Variable, Stmt, Declare, DeclareArray, Reduce, Call, For, Cut, Return, Param, Function, Program}
-use Rattle.cw_model.specs.Typing.{Returns, Nowhere, WithInt, Alone, called, is_array, is_int, is_reducer, reducer_called}
+use Rattle.cw_model.specs.Syntax.{Name, Expr, Variable, Stmt, Declare, DeclareArray, Reduce, Call, For, Cut, Return}
+use Rattle.cw_model.specs.Syntax.{Param, Function, Program}
+use Rattle.cw_model.specs.Typing.{Returns, Nowhere, WithInt, Alone, called, is_array, is_int, is_reducer}
+use Rattle.cw_model.specs.Typing.{reducer_called}
 use Rattle.cw_explain.specs.Names.{IsUnknown}
 use Rattle.cw_explain.specs.Places.{Declared, kind_and_line, kinds, name_and_line, newest}
 use Rattle.cw_explain.specs.Uses.{Use, uses}

@@ -1,10 +1,14 @@
 -- The rules of names and types by the parts that the code tests them in, and whether a line is one that breaks a rule.
-use Rattle.std.specs.Prelude.{ℕ, nat_le, ◌==◌, Bool, true, false, not, ◌&&◌, ◌||◌, List, [], ◌∷◌, ◌++◌, Some, if◌then◌else◌}
+use Rattle.std.specs.Prelude.{ℕ, nat_le, ◌==◌, Bool, true, false, not, ◌&&◌, ◌||◌, List, [], ◌∷◌, ◌++◌, Some}
+use Rattle.std.specs.Prelude.{if◌then◌else◌}
 use Rattle.std.specs.List.{list_any}
 use Rattle.cw_model.specs.Answers.{main_name}
 use Rattle.cw_model.specs.Names.{same_name}
-use Rattle.cw_model.specs.Syntax.{Stmt, Declare, DeclareArray, Assign, AssignElement, Reduce, Call, Start, Begin, Sync, If, IfElse, While, For, Scope, Cut, Region, Print, Return, Param, Function, Program}
-use Rattle.cw_model.specs.Typing.{Known, Returns, Nowhere, WithInt, Alone, block_returns, called, ends_block, faults_in_block, is_array, is_call, is_cut, is_fine, is_head_of_loop, is_int, is_new, is_reducer, may_return, surely_returns}
+use Rattle.cw_model.specs.Syntax.{Stmt, Declare, DeclareArray, Assign, AssignElement, Reduce, Call, Start, Begin, Sync}
+use Rattle.cw_model.specs.Syntax.{If, IfElse, While, For, Scope, Cut, Region, Print, Return, Param, Function, Program}
+use Rattle.cw_model.specs.Typing.{Known, Returns, Nowhere, WithInt, Alone, block_returns, called, ends_block}
+use Rattle.cw_model.specs.Typing.{faults_in_block, is_array, is_call, is_cut, is_fine, is_head_of_loop, is_int, is_new}
+use Rattle.cw_model.specs.Typing.{is_reducer, may_return, surely_returns}
 use Rattle.cw_tree.specs.declared.syntax.Call.{Call as CodeCall}
 use Rattle.cw_tree.specs.declared.syntax.Cut.{Cut as CodeCut}
 use Rattle.cw_tree.specs.declared.syntax.Head.{Head as CodeHead}

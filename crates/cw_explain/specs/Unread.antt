@@ -1,5 +1,6 @@
 -- What it means that the text of a line is no tokens for a reason.
-use Rattle.std.specs.Prelude.{◌≡◌, ◌<◌, ◌||◌, nat_le, ℕ, Bool, true, false, List, ◌++◌, length, slice_index, is_some, Contains}
+use Rattle.std.specs.Prelude.{◌≡◌, ◌<◌, ◌||◌, nat_le, ℕ, Bool, true, false, List, ◌++◌, length, slice_index, is_some}
+use Rattle.std.specs.Prelude.{Contains}
 use Rattle.std.specs.List.{list_all}
 use Rattle.cw_model.specs.declared.limits.TheConstants.{MOST_NAME_BYTES}
 use Rattle.cw_model.specs.Pieces.{is_digit, is_letter, is_separator, one_byte}

@@ -1,6 +1,8 @@
 -- The names that stand where an integer or an array must.
 use Rattle.std.specs.Prelude.{Bool, true, false, List, [], ◌∷◌, ◌++◌, Option, Some, None, map}
-use Rattle.cw_model.specs.Syntax.{Name, Expr, Number, Variable, Element, Length, Negative, Not, Binary, Stmt, Declare, DeclareArray, Assign, AssignElement, Reduce, Call, If, IfElse, While, For, Cut, Print, Return, Param, Function, Program}
+use Rattle.cw_model.specs.Syntax.{Name, Expr, Number, Variable, Element, Length, Negative, Not, Binary, Stmt, Declare}
+use Rattle.cw_model.specs.Syntax.{DeclareArray, Assign, AssignElement, Reduce, Call, If, IfElse, While, For, Cut, Print}
+use Rattle.cw_model.specs.Syntax.{Return, Param, Function, Program}
 use Rattle.cw_model.specs.Typing.{called}
 
 -- a name, and whether it must be an array where it stands, and not an integer

@@ -110,13 +110,7 @@ impl fmt::Display for TooLarge<'_> {
                 f,
                 "{name} declares more than {MOST_DECLARED} names, its parameters among them: move a part into a function of its own"
             ),
-            TooLarge::TagBytes(tag) => {
-                let bytes = tag.text.len();
-                write!(
-                    f,
-                    "the tag {tag} has {bytes} bytes: at most {MOST_TAG_BYTES}"
-                )
-            }
+            TooLarge::TagBytes(tag) => write_tag(f, *tag),
             TooLarge::Tags => write!(f, "there are more than {MOST_TAGS} different tags"),
             TooLarge::Loops => write!(f, "there are more than {MOST_LOOPS} cilk_for statements"),
             TooLarge::CallStatements(count) => write!(
@@ -129,6 +123,15 @@ impl fmt::Display for TooLarge<'_> {
             ),
         }
     }
+}
+
+// A tag that is too long, with the count of its bytes.
+fn write_tag<W: fmt::Write>(f: &mut fmt::Formatter<W>, tag: Word<'_>) -> fmt::Result {
+    let bytes = tag.text.len();
+    write!(
+        f,
+        "the tag {tag} has {bytes} bytes: at most {MOST_TAG_BYTES}"
+    )
 }
 
 /// A limit that the tokens of this line pass: one is told exactly where they pass one.

@@ -75,17 +75,7 @@ impl fmt::Display for At<'_> {
                 write_holder(f, *holder, *taken)?;
                 write_hint(f, *name, *touch, *holder, *taken > line)
             }
-            Disowned::EndsTaken(name, holder, taken) => {
-                write!(
-                    f,
-                    "the block of {name}, declared in line {line}, ends, and "
-                )?;
-                write_holder(f, *holder, *taken)?;
-                write!(
-                    f,
-                    "; put a cilk_sync before the end of the block; turns that run side by side are those of a cilk_for"
-                )
-            }
+            Disowned::EndsTaken(name, holder, taken) => write_end(f, *name, line, *holder, *taken),
             Disowned::GivenTwice(name, callee) => write!(
                 f,
                 "{callee} is given {name} twice: the arrays of a call differ; cut {name} and pass its parts"
@@ -110,6 +100,25 @@ impl fmt::Display for At<'_> {
             ),
         }
     }
+}
+
+// A name that is still taken as its block ends, with the line that declares it.
+fn write_end<W: fmt::Write>(
+    f: &mut fmt::Formatter<W>,
+    name: Word<'_>,
+    line: u32,
+    holder: Holder,
+    taken: u32,
+) -> fmt::Result {
+    write!(
+        f,
+        "the block of {name}, declared in line {line}, ends, and "
+    )?;
+    write_holder(f, holder, taken)?;
+    write!(
+        f,
+        "; put a cilk_sync before the end of the block; turns that run side by side are those of a cilk_for"
+    )
 }
 
 // What else helps with a name that is touched while something has it; a spawn that stands behind is of an earlier turn.

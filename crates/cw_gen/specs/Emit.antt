@@ -1,12 +1,17 @@
 -- The code of a program whose loops are lowered and whose names are looked up.
-use Rattle.std.specs.Prelude.{ℕ, suc, ◌+◌, ◌-◌, ◌*◌, ◌^◌, Bool, true, false, not, ◌&&◌, if◌then◌else◌, List, [], ◌∷◌, ◌++◌, length, map, filter, min, max, replicate, Option, Some, None, slice_get, slice_set}
+use Rattle.std.specs.Prelude.{ℕ, suc, ◌+◌, ◌-◌, ◌*◌, ◌^◌, Bool, true, false, not, ◌&&◌, if◌then◌else◌, List, [], ◌∷◌}
+use Rattle.std.specs.Prelude.{◌++◌, length, map, filter, min, max, replicate, Option, Some, None, slice_get}
+use Rattle.std.specs.Prelude.{slice_set}
 use Rattle.cw_model.specs.declared.syntax.CallKind.{CallKind}
 use Rattle.cw_model.specs.declared.syntax.CallKind.TheVariants.{Plain, Spawned}
 use Rattle.cw_model.specs.Sites.{Of}
 use Rattle.cw_model.specs.Syntax as model
 use Rattle.cw_tree.specs.Resolved.{Listed, Resolved}
 use Rattle.cw_tree.specs.Resolved as source
-use Rattle.cw_loops.specs.Slotted.{Expr, Number, Variable, Element, Length, Negative, Not, Binary, Argument, Int, Array, Stmt, Declare, DeclareArray, Assign, AssignElement, Reduce, Call, Start, Begin, Sync, If, IfElse, While, Scope, Cut, Region, Print, Return, Block, End, Then, Function}
+use Rattle.cw_loops.specs.Slotted.{Expr, Number, Variable, Element, Length, Negative, Not, Binary, Argument, Int}
+use Rattle.cw_loops.specs.Slotted.{Array, Stmt, Declare, DeclareArray, Assign, AssignElement, Reduce, Call, Start}
+use Rattle.cw_loops.specs.Slotted.{Begin, Sync, If, IfElse, While, Scope, Cut, Region, Print, Return, Block, End}
+use Rattle.cw_loops.specs.Slotted.{Then, Function}
 use Rattle.cw_code.specs.declared.code.UnaryOperator.TheVariants as unary
 use Rattle.cw_code.specs.declared.code.BlockKind.{BlockKind}
 use Rattle.cw_code.specs.declared.code.BlockKind.TheVariants as block

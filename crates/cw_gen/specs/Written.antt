@@ -1,5 +1,6 @@
 -- Parts of the code of functions, as they are written one after another.
-use Rattle.std.specs.Prelude.{◌≡◌, ℕ, ◌+◌, ◌-◌, ◌*◌, pos, max, Bool, false, List, [], ◌∷◌, ◌++◌, length, map, Option, option_map, slice_set, Result, OnOk}
+use Rattle.std.specs.Prelude.{◌≡◌, ℕ, ◌+◌, ◌-◌, ◌*◌, pos, max, Bool, false, List, [], ◌∷◌, ◌++◌, length, map, Option}
+use Rattle.std.specs.Prelude.{option_map, slice_set, Result, OnOk}
 use Rattle.std.specs.Global.{Vec}
 use Rattle.cw_model.specs.declared.syntax.CallKind.{CallKind}
 use Rattle.cw_model.specs.declared.syntax.Operator.TheVariants.{AtMost, Plus, Minus, Divide}
@@ -22,7 +23,8 @@ use Rattle.cw_loops.specs.declared.tree.Tree.{Tree}
 use Rattle.cw_loops.specs.Seen.{functions_of}
 use Rattle.cw_loops.specs.View.{argument_of, block_of, expr_of, loop_of, stmt_of}
 use Rattle.cw_loops.specs.Slotted.{Number, Binary, Assign, Scope, Block, Then, Function, Variable}
-use Rattle.cw_loops.specs.Expanded.{leaf, loop_text, loop_texts, low, high, node, turn_slot, left_slot, right_slot, numbers, range, on_line, with_bodies}
+use Rattle.cw_loops.specs.Expanded.{leaf, loop_text, loop_texts, low, high, node, turn_slot, left_slot, right_slot}
+use Rattle.cw_loops.specs.Expanded.{numbers, range, on_line, with_bodies}
 use Rattle.cw_loops.specs.Moved.{Loop}
 use Rattle.cw_code.specs.declared.code.Func.{Func}
 use Rattle.cw_code.specs.declared.code.Inner.{Inner}
@@ -32,9 +34,12 @@ use Rattle.cw_code.specs.declared.code.BlockKind.{BlockKind}
 use Rattle.cw_code.specs.declared.code.Reducer as code_reducer
 use Rattle.cw_code.specs.declared.code.Site.{Site}
 use Rattle.cw_code.specs.Code.{Code, CodeSite, site_view}
-use Rattle.cw_gen.specs.Emit.{callee_of, coded_reducers, distance, past, halves_of, passed_in, put_lists_in, ints_in_block, arrays_in_block, site_of}
-use Rattle.cw_gen.specs.Emit.{emitted, emitted_args, emitted_begin, emitted_block, emitted_cut, emitted_expr, emitted_func, emitted_funcs, emitted_function}
-use Rattle.cw_gen.specs.Emit.{emitted_inside, emitted_instrs, emitted_lists, emitted_loads, emitted_return, emitted_sites_of, emitted_stmt, emitted_turn}
+use Rattle.cw_gen.specs.Emit.{callee_of, coded_reducers, distance, past, halves_of, passed_in, put_lists_in}
+use Rattle.cw_gen.specs.Emit.{ints_in_block, arrays_in_block, site_of}
+use Rattle.cw_gen.specs.Emit.{emitted, emitted_args, emitted_begin, emitted_block, emitted_cut, emitted_expr}
+use Rattle.cw_gen.specs.Emit.{emitted_func, emitted_funcs, emitted_function}
+use Rattle.cw_gen.specs.Emit.{emitted_inside, emitted_instrs, emitted_lists, emitted_loads, emitted_return}
+use Rattle.cw_gen.specs.Emit.{emitted_sites_of, emitted_stmt, emitted_turn}
 
 -- these stand behind what stood there before, where memory did not run out
 abbrev pub Adds : {A R E : Type 0} → (old new : Vec A) → List A → Result R E → Type 0

@@ -1,5 +1,6 @@
 -- Worked examples: a lowered program answers as its source.
-use Rattle.std.specs.Prelude.{◌≡◌, ℕ, zero, suc, ◌+◌, ◌-◌, ◌*◌, ◌==◌, ◌&&◌, ℤ, pos, Bool, false, true, List, [], ◌∷◌, map, Option, Some, None}
+use Rattle.std.specs.Prelude.{◌≡◌, ℕ, zero, suc, ◌+◌, ◌-◌, ◌*◌, ◌==◌, ◌&&◌, ℤ, pos, Bool, false, true, List, [], ◌∷◌}
+use Rattle.std.specs.Prelude.{map, Option, Some, None}
 use Rattle.cw_model.specs.declared.trap.Trap.{Trap}
 use Rattle.cw_model.specs.declared.trap.Trap.TheVariants as trap
 use Rattle.cw_model.specs.Loops.{loop_cost}
@@ -9,7 +10,8 @@ use Rattle.cw_model.specs.declared.syntax.Reduction.TheVariants.{Sum, Max}
 use Rattle.cw_model.specs.declared.total.Total.{Total}
 use Rattle.cw_model.specs.declared.total.Total.TheVariants as total
 use Rattle.cw_model.specs.declared.syntax.CallKind.TheVariants.{Spawned}
-use Rattle.cw_model.specs.Syntax.{Number, Variable, Element, Length, Binary, Declare, DeclareArray, AssignElement, Reduce, Call, For, Print, Return, Sync, End, Then, Program}
+use Rattle.cw_model.specs.Syntax.{Number, Variable, Element, Length, Binary, Declare, DeclareArray, AssignElement}
+use Rattle.cw_model.specs.Syntax.{Reduce, Call, For, Print, Return, Sync, End, Then, Program}
 use Rattle.cw_model.specs.ExamplePrograms as example
 use Rattle.cw_model.specs.Examples.{serial}
 use Rattle.cw_loops.specs.Lowered.{lowered}
@@ -42,13 +44,15 @@ nested trap_at = record {
             (Then 6 (For example.i example.i example.i (Number (pos 1)) (Number (pos 6)) 2 (example.a ∷ [])
             (Then 7 (DeclareArray example.b (Binary Plus (Variable example.i) (Number (pos 2))))
             (Then 8 (For example.p example.p example.p (Number (pos 0)) (Length example.b) 1 (example.b ∷ [])
-            (Then 9 (AssignElement example.b (Variable example.p) (Binary Plus (Variable example.t) (Binary Times (Variable example.p) (Variable example.i))))
+            (Then 9 (AssignElement example.b (Variable example.p) (Binary Plus (Variable example.t)
+                (Binary Times (Variable example.p) (Variable example.i))))
             (Then 10 (Reduce Sum example.s (Element example.b (Variable example.p))) End)))
             (Then 11 (Declare example.x (Number (pos 0)))
             (Then 12 (Call Spawned 1 (Some example.x) example.f (Variable example.i ∷ []))
             (Then 13 (Print (Element example.b (Number (pos trap_at))))
             (Then 14 Sync
-            (Then 15 (AssignElement example.a (Variable example.i) (Binary Plus (Variable example.x) (Element example.b (Variable example.i)))) End))))))))
+            (Then 15 (AssignElement example.a (Variable example.i) (Binary Plus (Variable example.x)
+                (Element example.b (Variable example.i)))) End))))))))
             (Then 16 (Print (Element example.a (Number (pos 4))))
             (Then 17 (Return (Some (Element example.a (Number (pos 5))))) End))));
       }

@@ -3,7 +3,8 @@ use Rattle.std.specs.Prelude.{ℕ, zero, suc, ◌+◌, ◌*◌, pos, true, false
 use Rattle.cw_model.specs.declared.syntax.CallKind.TheVariants.{Plain, Spawned}
 use Rattle.cw_model.specs.declared.syntax.Operator.TheVariants.{AtMost, Less, Plus, Minus, Divide}
 use Rattle.cw_tree.specs.Resolved as source
-use Rattle.cw_loops.specs.Slotted.{Expr, Number, Variable, Binary, Argument, Int, Array, Stmt, Declare, Assign, Start, IfElse, While, Scope, Cut, Block, End, Then, Function}
+use Rattle.cw_loops.specs.Slotted.{Expr, Number, Variable, Binary, Argument, Int, Array, Stmt, Declare, Assign, Start}
+use Rattle.cw_loops.specs.Slotted.{IfElse, While, Scope, Cut, Block, End, Then, Function}
 use Rattle.cw_loops.specs.Moved.{Loop}
 use Rattle.cw_loops.specs.Lowers.{Bodies, made_of_tree}
 

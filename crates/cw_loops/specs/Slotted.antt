@@ -13,7 +13,8 @@ use Rattle.cw_model.specs.declared.syntax.Reduction.{Reduction}
 use Rattle.cw_model.specs.Syntax.{Name, Program}
 use Rattle.cw_model.specs.Syntax as model
 use Rattle.cw_model.specs.Names.{is_among}
-use Rattle.cw_tree.specs.Resolved.{Lists, Locals, slot_of, with_array, locals_after, locals_of, function_names, reducer_names, tags_of}
+use Rattle.cw_tree.specs.Resolved.{Lists, Locals, slot_of, with_array, locals_after, locals_of, function_names}
+use Rattle.cw_tree.specs.Resolved.{reducer_names, tags_of}
 use Rattle.cw_loops.specs.Lowered.{lowered}
 
 -- an expression

@@ -1,5 +1,6 @@
 -- A rest of the call that runs, which ran elsewhere, comes back: the machine goes on from where it came to.
-use Rattle.std.specs.Prelude.{◌≡◌, ◌≢◌, ℕ, zero, suc, ◌+◌, ◌<◌, ◌≤◌, ◌^◌, ℤ, true, if◌then◌else◌, List, [], ◌∷◌, ◌++◌, length, Option, Some, None, slice_get, slice_set}
+use Rattle.std.specs.Prelude.{◌≡◌, ◌≢◌, ℕ, zero, suc, ◌+◌, ◌<◌, ◌≤◌, ◌^◌, ℤ, true, if◌then◌else◌, List, [], ◌∷◌, ◌++◌}
+use Rattle.std.specs.Prelude.{length, Option, Some, None, slice_get, slice_set}
 use Rattle.std.specs.Option.{option_flatten}
 use Rattle.cw_slices.specs.Placed.{Placed, IsOwn}
 use Rattle.cw_slices.specs.Blocks.{Lodged, ins}

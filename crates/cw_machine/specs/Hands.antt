@@ -1,6 +1,7 @@
 -- The rest of a block is handed out at a spawn: arrays of the call that waits are out, and the machine goes on showing
 -- the same state.
-use Rattle.std.specs.Prelude.{◌≡◌, ℕ, zero, suc, ◌+◌, ◌-◌, ◌<◌, ◌≤◌, ℤ, Bool, true, false, if◌then◌else◌, nat_lt, nat_eq, List, [], ◌∷◌, ◌++◌, length, map, reverse, Some, slice_get, slice_set}
+use Rattle.std.specs.Prelude.{◌≡◌, ℕ, zero, suc, ◌+◌, ◌-◌, ◌<◌, ◌≤◌, ℤ, Bool, true, false, if◌then◌else◌, nat_lt}
+use Rattle.std.specs.Prelude.{nat_eq, List, [], ◌∷◌, ◌++◌, length, map, reverse, Some, slice_get, slice_set}
 use Rattle.cw_slices.specs.Placed.{Placed, IsOwn, after}
 use Rattle.cw_slices.specs.Blocks.{Lodged, outs, patched, Have, AreIn}
 use Rattle.cw_model.specs.declared.syntax.CallKind.TheVariants.{Spawned}

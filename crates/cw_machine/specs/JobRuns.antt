@@ -1,5 +1,6 @@
 -- The machine of a job: how it begins, and what is made of it at its end.
-use Rattle.std.specs.Prelude.{◌≡◌, ◌≢◌, ◌⊎◌, ℕ, ◌+◌, ◌-◌, ◌^◌, ◌<◌, ◌≤◌, ℤ, pos, List, [], ◌∷◌, ◌++◌, length, replicate, Option, Some, None, slice_get}
+use Rattle.std.specs.Prelude.{◌≡◌, ◌≢◌, ◌⊎◌, ℕ, ◌+◌, ◌-◌, ◌^◌, ◌<◌, ◌≤◌, ℤ, pos, List, [], ◌∷◌, ◌++◌, length}
+use Rattle.std.specs.Prelude.{replicate, Option, Some, None, slice_get}
 use Rattle.cw_slices.specs.Placed.{Placed, IsOwn}
 use Rattle.cw_slices.specs.Blocks.{Lodged, ins, Have}
 use Rattle.cw_model.specs.Outcome.{quiet}
@@ -14,7 +15,8 @@ use Rattle.cw_jobs.specs.declared.call.Rest.{Rest}
 use Rattle.cw_jobs.specs.Calls.{cell, placed, HoldsCall, HoldsFrame}
 use Rattle.cw_jobs.specs.Cuts.{cut_slots, AreNone, AreOwn, AreThere, RoundThere}
 use Rattle.cw_jobs.specs.Totals.{none_told}
-use Rattle.cw_jobs.specs.Jobs.{AreBlocks, IsOutermost, IsJob, own_or, home_of, IsOwnIn, KeepsHomes, KeepsEmpty, KeepsFixed}
+use Rattle.cw_jobs.specs.Jobs.{AreBlocks, IsOutermost, IsJob, own_or, home_of, IsOwnIn, KeepsHomes, KeepsEmpty}
+use Rattle.cw_jobs.specs.Jobs.{KeepsFixed}
 use Rattle.cw_verify.specs.declared.verified.Verified.{Verified}
 use Rattle.cw_machine.specs.declared.machine.Machine.{Machine}
 use Rattle.cw_machine.specs.declared.machine.View.{View}

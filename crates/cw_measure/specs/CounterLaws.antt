@@ -4,7 +4,8 @@ use Rattle.std.proofs.Common.{sym, ◌∙◌, ap, arith}
 use Rattle.cw_model.specs.declared.burden.Burden.{Burden}
 use Rattle.cw_model.specs.Burdens.{at_child, at_rest}
 use Rattle.cw_model.specs.Trees.{Event, Work, Series, Fork, Join, burdened_span, tree_of, parts_of}
-use Rattle.cw_measure.specs.Counters.{Sum, exactly, Counters, Unsynced, Synced, later, onward, fresh, ticked, forked, synced, heaviest, of_event, of_events}
+use Rattle.cw_measure.specs.Counters.{Sum, exactly, Counters, Unsynced, Synced, later, onward, fresh, ticked, forked}
+use Rattle.cw_measure.specs.Counters.{synced, heaviest, of_event, of_events}
 use Rattle.cw_measure.specs.SumLaws.{IsSum, exactly_is, later-later, later-max, later-under}
 
 -- the longest of two pieces and of a third

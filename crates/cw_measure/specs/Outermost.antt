@@ -1,5 +1,6 @@
 -- What is summed over the parts with a mark that lie in no other part with it, over a run so far.
-use Rattle.std.specs.Prelude.{◌≡◌, ℕ, zero, suc, ◌+◌, ◌-◌, ◌==◌, Bool, true, false, List, [], ◌∷◌, ◌++◌, Option, Some, None, sum_by}
+use Rattle.std.specs.Prelude.{◌≡◌, ℕ, zero, suc, ◌+◌, ◌-◌, ◌==◌, Bool, true, false, List, [], ◌∷◌, ◌++◌, Option, Some}
+use Rattle.std.specs.Prelude.{None, sum_by}
 use Rattle.cw_model.specs.Trees.{Mark, Marked, Tree, Event, Work, Join, tree_of}
 use Rattle.cw_model.specs.Rows.{outermost}
 use Rattle.cw_measure.specs.OpenParts.{Open, in_series, closed, has_spawned}

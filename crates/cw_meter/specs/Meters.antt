@@ -1,5 +1,6 @@
 -- What a meter tells of a run so far, and what each call on it does.
-use Rattle.std.specs.Prelude.{◌≡◌, ℕ, ◌+◌, ◌*◌, ◌≤◌, ◌<◌, Bool, true, false, List, [], ◌∷◌, ◌++◌, length, reverse, Option, Some, None}
+use Rattle.std.specs.Prelude.{◌≡◌, ℕ, ◌+◌, ◌*◌, ◌≤◌, ◌<◌, Bool, true, false, List, [], ◌∷◌, ◌++◌, length, reverse}
+use Rattle.std.specs.Prelude.{Option, Some, None}
 use Rattle.cw_model.specs.declared.burden.Burden.{Burden}
 use Rattle.cw_model.specs.declared.limits.TheConstants.{MOST_LIMIT, MOST_BURDEN}
 use Rattle.cw_model.specs.Trees.{Mark, Execution, Event, Work, Join}
@@ -30,7 +31,8 @@ abbrev pub nothing_open : ℕ → ℕ
 nothing_open number = 0
 
 -- a region table tells of a run so far, whose paths are read as the other tables read them
-pub record TellsTags (burden : Burden) (tags : Tags) (from : Origin) (os : List Open) (es : List Event) (table : RegionTable)
+pub record TellsTags (burden : Burden) (tags : Tags) (from : Origin) (os : List Open) (es : List Event)
+    (table : RegionTable)
     : Type 0 where
   pub along : Readings burden
   pub path_is : (qs : List Open) (fs : List Event) → along.path qs fs ≡ path_in 0 (base_of from) qs fs
@@ -62,7 +64,8 @@ pub record TablesTell (burden : Burden) (tags : Tags) (from : Origin) (count : �
   pub spawned_is : t.spawned ≡ has_spawned es
 
 -- a meter tells of a run so far: its tables tell of one that is alike, and the parts that are open there are kept
-pub record Meters (burden : Burden) (tags : Tags) (from : Origin) (count : ℕ) (os : List Open) (es : List Event) (m : Meter)
+pub record Meters (burden : Burden) (tags : Tags) (from : Origin) (count : ℕ) (os : List Open) (es : List Event)
+    (m : Meter)
     : Type 0 where
   pub told_open : List Open
   pub told : List Event

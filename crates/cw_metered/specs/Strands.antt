@@ -8,7 +8,8 @@ use Rattle.cw_model.specs.Outcome.{Trace, Done}
 use Rattle.cw_model.specs.Answers.{answer_of}
 use Rattle.cw_code.specs.declared.code.Func.{Func}
 use Rattle.cw_code.specs.Code.{Code}
-use Rattle.cw_code.specs.Run.{Slots, Around, State, On, Ends, step, first_transition, first_state, reducers_of, code_serial}
+use Rattle.cw_code.specs.Run.{Slots, Around, State, On, Ends, step, first_transition, first_state, reducers_of}
+use Rattle.cw_code.specs.Run.{code_serial}
 use Rattle.cw_measure.specs.OpenParts.{Open, no_joins}
 use Rattle.cw_sites.specs.OpenPaths.{here_in}
 use Rattle.cw_regions.specs.Regions.{Tags}
@@ -17,8 +18,10 @@ use Rattle.cw_meter.specs.declared.meter.Measures.{Measures}
 use Rattle.cw_meter.specs.Origins.{Origin, Main, Rest, base_of, first_open}
 use Rattle.cw_meter.specs.Meters.{Meters, Rests}
 use Rattle.cw_meter.specs.Whole.{AreMeasures, Reads}
-use Rattle.cw_strands.specs.Jobs.{Extent, WholeCall, ToJoin, has_come, Standing, standing, Job, job_start, root_job, Effect, Ended, Joined, TrapIn, OverLimit, Memory, JobMeaning}
-use Rattle.cw_strands.specs.Strands.{Strand, Going, Waits, Halted, Turn, Goes, HandsOut, ComesBack, turn, goes_on, resumed}
+use Rattle.cw_strands.specs.Jobs.{Extent, WholeCall, ToJoin, has_come, Standing, standing, Job, job_start, root_job}
+use Rattle.cw_strands.specs.Jobs.{Effect, Ended, Joined, TrapIn, OverLimit, Memory, JobMeaning}
+use Rattle.cw_strands.specs.Strands.{Strand, Going, Waits, Halted, Turn, Goes, HandsOut, ComesBack, turn, goes_on}
+use Rattle.cw_strands.specs.Strands.{resumed}
 use Rattle.cw_strands.specs.Promises.{IsStrandOf}
 use Rattle.cw_metered.specs.Opens.{opens_round, whole, Gauge, IsToldOf}
 

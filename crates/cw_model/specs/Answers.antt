@@ -13,8 +13,8 @@ use Rattle.cw_model.specs.Trees.{Tree, Invocation, Marked, tree_of, normal}
 use Rattle.cw_model.specs.Outcome.{Outcome, Done, Trapped, Over}
 use Rattle.cw_model.specs.Meaning.{Returned, Deeper, function_named, call}
 
--- the run ended, with its value, printed lines, totals of reducers and tree in normal form; or it trapped, with the lines printed
--- before; or its cost passed the limit, and nothing else is fixed
+-- the run ended, with its value, printed lines, totals of reducers and tree in normal form; or it trapped, with the
+-- lines printed before; or its cost passed the limit, and nothing else is fixed
 pub data Answer : Type 0 where
   Ended : (value : ℤ) (lines : List ℤ) (totals : List Total) (tree : Tree) → Answer
   TrappedAt : (trap : Trap) (line : ℕ) (lines : List ℤ) → Answer

@@ -2,10 +2,15 @@
 use Rattle.std.specs.Prelude.{◌≡◌, ℕ, [], ◌∷◌}
 use Rattle.cw_model.specs.declared.syntax.CallKind.TheVariants.{Plain}
 use Rattle.cw_model.specs.declared.syntax.Reduction.TheVariants.{Sum}
-use Rattle.cw_model.specs.Syntax.{Variable, Element, Length, Negative, Not, Stmt, Declare, DeclareArray, Assign, AssignElement, Reduce, Start, Begin, Sync, If, IfElse, While, For, Scope, Cut, Region, Print, Block, End, Then, Program}
+use Rattle.cw_model.specs.Syntax.{Variable, Element, Length, Negative, Not, Stmt, Declare, DeclareArray, Assign}
+use Rattle.cw_model.specs.Syntax.{AssignElement, Reduce, Start, Begin, Sync, If, IfElse, While, For, Scope, Cut}
+use Rattle.cw_model.specs.Syntax.{Region, Print, Block, End, Then, Program}
 use Rattle.cw_model.specs.Ownership.{ownership_faults}
 use Rattle.cw_model.specs.Examples.{IsAccepted, BreaksOwnership}
-use Rattle.cw_model.specs.ExamplePrograms.{a, b, f, g, h, i, j, l, n, p, q, r, s, t, v, x, y, z, main, number, plus, int_param, array_param, int_function, void_function, of_functions, on_line, block, give, call, call_into, spawn, spawn_into, main_of, alone, same_function, with_sum, followed_by, in_every_block, once_in_every_block}
+use Rattle.cw_model.specs.ExamplePrograms.{a, b, f, g, h, i, j, l, n, p, q, r, s, t, v, x, y, z, main, number, plus}
+use Rattle.cw_model.specs.ExamplePrograms.{int_param, array_param, int_function, void_function, of_functions, on_line}
+use Rattle.cw_model.specs.ExamplePrograms.{block, give, call, call_into, spawn, spawn_into, main_of, alone}
+use Rattle.cw_model.specs.ExamplePrograms.{same_function, with_sum, followed_by, in_every_block, once_in_every_block}
 
 -- int f(int v) { return v; } int g(int a[]) { return 0; } int q(int v, int b[]) { return v; } void h(int a[], int b[])
 -- { } before main

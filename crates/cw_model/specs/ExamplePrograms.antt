@@ -4,7 +4,9 @@ use Rattle.cw_model.specs.declared.syntax.Operator.{Operator}
 use Rattle.cw_model.specs.declared.syntax.Operator.TheVariants.{Less, Plus, Minus, Times, Divide}
 use Rattle.cw_model.specs.declared.syntax.CallKind.TheVariants.{Plain, Spawned}
 use Rattle.cw_model.specs.declared.syntax.Reduction.TheVariants.{Sum, Max}
-use Rattle.cw_model.specs.Syntax.{Name, Expr, Number, Variable, Element, Length, Negative, Binary, Stmt, Declare, DeclareArray, Assign, AssignElement, Reduce, Call, Sync, If, IfElse, While, For, Scope, Cut, Region, Print, Return, Block, End, Then, Param, Function, Program}
+use Rattle.cw_model.specs.Syntax.{Name, Expr, Number, Variable, Element, Length, Negative, Binary, Stmt, Declare}
+use Rattle.cw_model.specs.Syntax.{DeclareArray, Assign, AssignElement, Reduce, Call, Sync, If, IfElse, While, For}
+use Rattle.cw_model.specs.Syntax.{Scope, Cut, Region, Print, Return, Block, End, Then, Param, Function, Program}
 
 -- names, by how they are spelled
 
@@ -233,7 +235,8 @@ abbrev pub greatest_program : ℕ → ℕ → Program
 greatest_program from to =
     with_greatest (main_of
     (For i i i (number from) (number to) 2 []
-    (block (Reduce Max s (Binary Times (Variable i) (minus (number 3) (Variable i))) ∷ [])) ∷ give (number 0) ∷ []) ∷ [])
+    (block (Reduce Max s (Binary Times (Variable i) (minus (number 3) (Variable i))) ∷ [])) ∷ give (number 0) ∷ [])
+        ∷ [])
 
 -- the greatest number is added to a sum twice
 abbrev pub large_sum_program : Program
@@ -376,7 +379,8 @@ abbrev pub spawn_chain : Program
 spawn_chain = of_functions (
     int_function f 1 (int_param n ∷ []) (block (
     If (Binary Less (Variable n) (number 1)) (block (give (number 0) ∷ []))
-    ∷ Declare x (number 0) ∷ spawn_into x 1 f (minus (Variable n) (number 1) ∷ []) ∷ Sync ∷ give (plus (Variable x) (number 1)) ∷ []))
+    ∷ Declare x (number 0) ∷ spawn_into x 1 f (minus (Variable n) (number 1) ∷ []) ∷ Sync
+        ∷ give (plus (Variable x) (number 1)) ∷ []))
     ∷ int_function main 1 (int_param n ∷ [])
     (block (Declare r (number 0) ∷ call_into r 2 f (Variable n ∷ []) ∷ give (Variable r) ∷ []))
     ∷ [])

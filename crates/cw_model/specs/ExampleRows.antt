@@ -7,14 +7,18 @@ use Rattle.cw_model.specs.Syntax.{Variable, Binary, Declare, If, Region, Print, 
 use Rattle.cw_model.specs.Answers.{OverLimit}
 use Rattle.cw_model.specs.Report.{Check, Run, Scale, Sites, report_text, csv_field, csv_line, tags_of, parallelism}
 use Rattle.cw_model.specs.Examples.{serial, Scales, ScalesBoth, Attributes}
-use Rattle.cw_model.specs.ExamplePrograms.{f, i, n, p, r, t, v, main, number, minus, int_param, int_function, void_function, of_functions, block, give, call, call_into, spawn, main_of, alone, first_program, fib_program, greatest_program, idle_and, once_in_every_block}
+use Rattle.cw_model.specs.ExamplePrograms.{f, i, n, p, r, t, v, main, number, minus, int_param, int_function}
+use Rattle.cw_model.specs.ExamplePrograms.{void_function, of_functions, block, give, call, call_into, spawn, main_of}
+use Rattle.cw_model.specs.ExamplePrograms.{alone, first_program, fib_program, greatest_program, idle_and}
+use Rattle.cw_model.specs.ExamplePrograms.{once_in_every_block}
 
 -- a region in a recursion
 abbrev pub nested_region_program : Program
 nested_region_program = of_functions (
     int_function f 1 (int_param n ∷ []) (block (
     If (Binary Less (Variable n) (number 1)) (block (give (number 0) ∷ []))
-    ∷ Declare r (number 0) ∷ Region t (block (call_into r 1 f (minus (Variable n) (number 1) ∷ []) ∷ [])) ∷ give (Variable r) ∷ []))
+    ∷ Declare r (number 0) ∷ Region t (block (call_into r 1 f (minus (Variable n) (number 1) ∷ []) ∷ []))
+        ∷ give (Variable r) ∷ []))
     ∷ int_function main 1 (int_param n ∷ [])
     (block (Declare r (number 0) ∷ call_into r 2 f (Variable n ∷ []) ∷ give (Variable r) ∷ []))
     ∷ [])
@@ -81,7 +85,8 @@ pub record RowExamples : Type 0 where
   pub return_edges_in_a_region :
       ScalesBoth (of_functions (
       void_function p (int_param v ∷ []) (block (Print (Variable v) ∷ []))
-      ∷ main_of (Region r (block (spawn 1 p (number 1 ∷ []) ∷ Print (number 2) ∷ [])) ∷ give (number 0) ∷ []) ∷ [])) [] 10
+      ∷ main_of (Region r (block (spawn 1 p (number 1 ∷ []) ∷ Print (number 2) ∷ [])) ∷ give (number 0) ∷ []) ∷ []))
+          [] 10
       (codes ",11,9,1.222,19,0.578" ∷ codes "r,7,5,1.400,15,0.466" ∷ [])
   pub rows_of_a_greatest : Scales (greatest_program 0 4) [] 0 (codes ",122,74,1.648,74,1.648" ∷ [])
   pub two_tags :
@@ -98,7 +103,8 @@ pub record RowExamples : Type 0 where
       Attributes longer_rest_program [] (codes "0,root,1,main,1,8,8,10,8" ∷ codes "1,spawn,1,f,1,2,0,2,2" ∷ [])
   -- the child has work 3 + 3 + 1 and span 1 + (1 + 2) + 1, the rest 6
   pub wide_child : Attributes wide_child_program [] (codes "0,root,1,main,1,10,10,17,10"
-      ∷ codes "1,spawn,1,p,1,1,0,1,1" ∷ codes "2,spawn,1,p,1,1,0,1,1" ∷ codes "3,spawn,1,p,1,1,0,1,1" ∷ codes "4,spawn,1,f,1,4,0,7,5" ∷ [])
+      ∷ codes "1,spawn,1,p,1,1,0,1,1" ∷ codes "2,spawn,1,p,1,1,0,1,1" ∷ codes "3,spawn,1,p,1,1,0,1,1"
+          ∷ codes "4,spawn,1,f,1,4,0,7,5" ∷ [])
   -- the child has span 7, the rest work 2 + 2 + 2 + 2 and span 1 + 1 + 1 + 2
   pub wide_rest : Attributes wide_rest_program [] (codes "0,root,1,main,1,9,4,19,11"
       ∷ codes "1,spawn,1,f,1,7,7,7,7" ∷ codes "2,spawn,1,p,1,1,0,1,1"

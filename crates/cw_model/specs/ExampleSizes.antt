@@ -4,12 +4,17 @@ use Rattle.cw_model.specs.declared.token.Kind.TheVariants as kind
 use Rattle.cw_model.specs.declared.syntax.CallKind.TheVariants.{Spawned}
 use Rattle.cw_model.specs.declared.syntax.Operator.TheVariants.{Times}
 use Rattle.cw_model.specs.declared.syntax.Reduction.TheVariants.{Sum}
-use Rattle.cw_model.specs.Syntax.{Expr, Variable, Element, Length, Negative, Not, Binary, Stmt, Declare, DeclareArray, Assign, AssignElement, Reduce, Start, Begin, Sync, If, IfElse, While, For, Scope, Cut, Region, Print, Return, Block, End, Then, Program}
+use Rattle.cw_model.specs.Syntax.{Expr, Variable, Element, Length, Negative, Not, Binary, Stmt, Declare, DeclareArray}
+use Rattle.cw_model.specs.Syntax.{Assign, AssignElement, Reduce, Start, Begin, Sync, If, IfElse, While, For, Scope}
+use Rattle.cw_model.specs.Syntax.{Cut, Region, Print, Return, Block, End, Then, Program}
 use Rattle.cw_model.specs.Captured.{captured}
 use Rattle.cw_model.specs.Sites.{sites_in_block}
-use Rattle.cw_model.specs.Sizes.{token_faults, declaring_lines_in, regions_in_block, loops_in_block, limit_faults, static_size, block_size, program_faults}
+use Rattle.cw_model.specs.Sizes.{token_faults, declaring_lines_in, regions_in_block, loops_in_block, limit_faults}
+use Rattle.cw_model.specs.Sizes.{static_size, block_size, program_faults}
 use Rattle.cw_model.specs.Examples.{token}
-use Rattle.cw_model.specs.ExamplePrograms.{a, b, f, g, i, j, l, p, r, s, t, v, x, y, number, plus, int_param, array_param, int_function, void_function, of_functions, on_line, block, give, call, main_of, same_function, each_on_its_line, once_in_every_block}
+use Rattle.cw_model.specs.ExamplePrograms.{a, b, f, g, i, j, l, p, r, s, t, v, x, y, number, plus, int_param}
+use Rattle.cw_model.specs.ExamplePrograms.{array_param, int_function, void_function, of_functions, on_line, block}
+use Rattle.cw_model.specs.ExamplePrograms.{give, call, main_of, same_function, each_on_its_line, once_in_every_block}
 
 -- limits on tokens
 pub record TokenSizeExamples : Type 0 where
@@ -75,7 +80,8 @@ pub record DeclarationSizeExamples : Type 0 where
   pub most_reducers :
       limit_faults (record { reducers = replicate 32 (record { name = s; how = Sum; line = 7 }); functions = [] }) ≡ []
   pub reducers :
-      limit_faults (record { reducers = replicate 33 (record { name = s; how = Sum; line = 7 }); functions = [] }) ≡ 7 ∷ []
+      limit_faults (record { reducers = replicate 33 (record { name = s; how = Sum; line = 7 }); functions = [] }) ≡ 7
+          ∷ []
   pub most_tags : limit_faults (of_functions (int_function f 1 [] (tagged 64 1 End) ∷ [])) ≡ []
   pub tags : limit_faults (of_functions (int_function f 1 [] (tagged 65 1 End) ∷ [])) ≡ 65 ∷ []
   -- tags of all functions are counted together

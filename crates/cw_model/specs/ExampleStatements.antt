@@ -4,7 +4,9 @@ use Rattle.cw_model.specs.declared.trap.Trap.TheVariants as trap
 use Rattle.cw_model.specs.declared.syntax.CallKind.TheVariants.{Plain, Spawned}
 use Rattle.cw_model.specs.declared.syntax.Operator.TheVariants.{Equal, Less, AtMost, Times, Divide}
 use Rattle.cw_model.specs.declared.syntax.Reduction.TheVariants.{Sum, Max}
-use Rattle.cw_model.specs.Syntax.{Variable, Element, Length, Negative, Not, Binary, Stmt, Declare, DeclareArray, Assign, AssignElement, Reduce, Start, Begin, Sync, If, IfElse, While, For, Scope, Cut, Region, Print, Return, Block, End, Then, Function, Program}
+use Rattle.cw_model.specs.Syntax.{Variable, Element, Length, Negative, Not, Binary, Stmt, Declare, DeclareArray}
+use Rattle.cw_model.specs.Syntax.{Assign, AssignElement, Reduce, Start, Begin, Sync, If, IfElse, While, For, Scope}
+use Rattle.cw_model.specs.Syntax.{Cut, Region, Print, Return, Block, End, Then, Function, Program}
 use Rattle.cw_model.specs.Captured.{captured}
 use Rattle.cw_model.specs.Trees.{Tree, Leaf, Seq, Par}
 use Rattle.cw_model.specs.Loops.{loop_tree, inner_nodes, loop_cost}
@@ -14,7 +16,10 @@ use Rattle.cw_model.specs.Meaning.{Returned, Deeper}
 use Rattle.cw_model.specs.Meaning as meaning
 use Rattle.cw_model.specs.Answers.{TrappedAt}
 use Rattle.cw_model.specs.Examples.{serial, Writes, Scales, Attributes, TrapsAt, IsOver, Costs}
-use Rattle.cw_model.specs.ExamplePrograms.{a, b, f, g, h, i, j, l, n, p, r, s, t, v, x, y, z, main, number, plus, minus, int_param, array_param, int_function, void_function, of_functions, on_line, block, give, call, call_into, spawn, spawn_into, main_of, alone, with_sum, with_greatest, greatest_program, least, in_every_block}
+use Rattle.cw_model.specs.ExamplePrograms.{a, b, f, g, h, i, j, l, n, p, r, s, t, v, x, y, z, main, number, plus}
+use Rattle.cw_model.specs.ExamplePrograms.{minus, int_param, array_param, int_function, void_function, of_functions}
+use Rattle.cw_model.specs.ExamplePrograms.{on_line, block, give, call, call_into, spawn, spawn_into, main_of, alone}
+use Rattle.cw_model.specs.ExamplePrograms.{with_sum, with_greatest, greatest_program, least, in_every_block}
 
 -- a declaration in a line, and its value printed
 abbrev pub declared_and_printed : ℕ → Block
@@ -123,7 +128,8 @@ pub record EffectExamples : Type 0 where
       [] 1000
       (codes "max s = 2" ∷ codes "sum t = 4" ∷ codes "return 0" ∷ [])
   pub sums_after_printed_lines :
-      Writes (with_sum (main_of (Print (number 1) ∷ Reduce Sum s (number 2) ∷ Print (number 3) ∷ give (number 0) ∷ []) ∷ []))
+      Writes (with_sum (main_of (Print (number 1) ∷ Reduce Sum s (number 2) ∷ Print (number 3) ∷ give (number 0) ∷ [])
+          ∷ []))
       [] 1000
       (codes "1" ∷ codes "3" ∷ codes "sum s = 2" ∷ codes "return 0" ∷ [])
   pub arguments_of_main :
@@ -240,7 +246,8 @@ pub record JoinExamples : Type 0 where
 -- a loop lowered by hand: its function is begun on a range of two arrays with two integers from outside
 abbrev pub begun_program : Program
 begun_program = of_functions (
-    void_function f (int_param i ∷ int_param j ∷ int_param x ∷ int_param y ∷ array_param a ∷ array_param b ∷ []) (block (
+    void_function f (int_param i ∷ int_param j ∷ int_param x ∷ int_param y ∷ array_param a ∷ array_param b
+        ∷ []) (block (
     Print (Variable i) ∷ Print (Variable j) ∷ Print (minus (Variable x) (Variable y)) ∷ Print (Element a (number 0))
     ∷ Print (Length b)
     ∷ AssignElement a (number 1) (number 8) ∷ AssignElement b (number 1) (number 9) ∷ []))
@@ -248,7 +255,8 @@ begun_program = of_functions (
     Declare x (number 7) ∷ Declare y (number 4) ∷ DeclareArray a (number 4) ∷ DeclareArray b (number 3)
     ∷ AssignElement a (number 1) (number 5) ∷ AssignElement a (number 3) (number 6)
     ∷ Begin f (number 1) (number 3) (x ∷ y ∷ []) (a ∷ b ∷ [])
-    ∷ Print (Element a (number 1)) ∷ Print (Element a (number 2)) ∷ Print (Element a (number 3)) ∷ give (Element b (number 2)) ∷ [])
+    ∷ Print (Element a (number 1)) ∷ Print (Element a (number 2)) ∷ Print (Element a (number 3))
+        ∷ give (Element b (number 2)) ∷ [])
     ∷ [])
 
 -- one statement on line 5, in a function that is called at the greatest depth

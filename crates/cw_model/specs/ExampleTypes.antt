@@ -2,9 +2,14 @@
 use Rattle.std.specs.Prelude.{false, [], ◌∷◌, None}
 use Rattle.cw_model.specs.declared.syntax.CallKind.TheVariants.{Plain}
 use Rattle.cw_model.specs.declared.syntax.Reduction.TheVariants.{Sum, Max}
-use Rattle.cw_model.specs.Syntax.{Variable, Element, Length, Negative, Not, Stmt, Declare, DeclareArray, Assign, AssignElement, Reduce, Start, Begin, If, IfElse, While, For, Scope, Cut, Print, Return, Block, End, Then, Function, Program}
+use Rattle.cw_model.specs.Syntax.{Variable, Element, Length, Negative, Not, Stmt, Declare, DeclareArray, Assign}
+use Rattle.cw_model.specs.Syntax.{AssignElement, Reduce, Start, Begin, If, IfElse, While, For, Scope, Cut, Print}
+use Rattle.cw_model.specs.Syntax.{Return, Block, End, Then, Function, Program}
 use Rattle.cw_model.specs.Examples.{IsAccepted, BreaksTypes}
-use Rattle.cw_model.specs.ExamplePrograms.{a, b, f, g, h, i, l, q, r, s, t, v, x, y, main, number, plus, int_param, array_param, int_function, void_function, of_functions, on_line, block, give, call, call_into, main_of, alone, same_function, with_sum, with_greatest, once_in_every_block}
+use Rattle.cw_model.specs.ExamplePrograms.{a, b, f, g, h, i, l, q, r, s, t, v, x, y, main, number, plus, int_param}
+use Rattle.cw_model.specs.ExamplePrograms.{array_param, int_function, void_function, of_functions, on_line, block}
+use Rattle.cw_model.specs.ExamplePrograms.{give, call, call_into, main_of, alone, same_function, with_sum}
+use Rattle.cw_model.specs.ExamplePrograms.{with_greatest, once_in_every_block}
 
 -- int f(int v) { return v; } void g(int a[]) { } void h() { } int q(int v, int b[]) { return v; } before main
 abbrev pub with_callees : Function → Program
@@ -96,7 +101,8 @@ pub record CallTypeExamples : Type 0 where
   -- a call means the first function of its name
   pub first_of_two : BreaksTypes (of_functions (
       same_function ∷ (record { name = f; line = 2; gives_int = false; params = []; body = End })
-      ∷ int_function main 3 [] (Then 4 (Declare x (number 0)) (Then 5 (call_into x 1 f (number 1 ∷ [])) (Then 6 (give (Variable x)) End))) ∷ [])) (2 ∷ [])
+      ∷ int_function main 3 [] (Then 4 (Declare x (number 0)) (Then 5 (call_into x 1 f (number 1 ∷ []))
+          (Then 6 (give (Variable x)) End))) ∷ [])) (2 ∷ [])
   -- what only loops are lowered to
   pub lowered_call : IsMistyped (Start Plain h [])
   pub lowered_loop : IsMistyped (Begin h (number 0) (number 1) [] [])

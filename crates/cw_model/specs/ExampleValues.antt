@@ -3,13 +3,17 @@ use Rattle.std.specs.Prelude.{◌≡◌, ℕ, zero, suc, pos, negsuc, List, [], 
 use Rattle.cw_model.specs.declared.trap.Trap.{Trap}
 use Rattle.cw_model.specs.declared.trap.Trap.TheVariants as trap
 use Rattle.cw_model.specs.declared.syntax.Operator.{Operator}
-use Rattle.cw_model.specs.declared.syntax.Operator.TheVariants.{Equal, Unequal, Less, AtMost, Greater, AtLeast, Plus, Minus, Times, Divide, Modulo}
+use Rattle.cw_model.specs.declared.syntax.Operator.TheVariants.{Equal, Unequal, Less, AtMost, Greater, AtLeast, Plus}
+use Rattle.cw_model.specs.declared.syntax.Operator.TheVariants.{Minus, Times, Divide, Modulo}
 use Rattle.cw_model.specs.declared.syntax.Reduction.TheVariants.{Sum}
-use Rattle.cw_model.specs.Syntax.{Expr, Variable, Element, Length, Negative, Not, Binary, Stmt, Declare, DeclareArray, AssignElement, Reduce, If, IfElse, While, For, Cut, Region, Print, End, Then, Program}
+use Rattle.cw_model.specs.Syntax.{Expr, Variable, Element, Length, Negative, Not, Binary, Stmt, Declare, DeclareArray}
+use Rattle.cw_model.specs.Syntax.{AssignElement, Reduce, If, IfElse, While, For, Cut, Region, Print, End, Then}
+use Rattle.cw_model.specs.Syntax.{Program}
 use Rattle.cw_model.specs.Ints.{Value, trap_number, natural}
 use Rattle.cw_model.specs.Meaning.{new_length}
 use Rattle.cw_model.specs.Examples.{TrapsAt, IsOver, Costs}
-use Rattle.cw_model.specs.ExamplePrograms.{a, b, f, i, l, r, s, t, x, main, number, plus, minus, int_function, on_line, give, call, alone, same_function, with_sum}
+use Rattle.cw_model.specs.ExamplePrograms.{a, b, f, i, l, r, s, t, x, main, number, plus, minus, int_function}
+use Rattle.cw_model.specs.ExamplePrograms.{on_line, give, call, alone, same_function, with_sum}
 
 -- a number below 0
 abbrev pub below_0 : ℕ → Expr

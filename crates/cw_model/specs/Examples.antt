@@ -1,6 +1,8 @@
 -- Worked examples: what the programs report, trap with, cost and are refused for. Each line was worked out by hand.
-use Rattle.std.specs.Prelude.{◌≡◌, ℕ, zero, suc, ◌*◌, ◌^◌, ℤ, pos, List, [], ◌∷◌, ◌++◌, Some, None, flat_map, replicate, codes}
-use Rattle.cw_model.specs.declared.limits.TheConstants.{MOST_SOURCE_BYTES, MOST_NAME_BYTES, MOST_NUMBER, MOST_LIMIT, MOST_BURDEN, USUAL_LIMIT, USUAL_BURDEN}
+use Rattle.std.specs.Prelude.{◌≡◌, ℕ, zero, suc, ◌*◌, ◌^◌, ℤ, pos, List, [], ◌∷◌, ◌++◌, Some, None, flat_map}
+use Rattle.std.specs.Prelude.{replicate, codes}
+use Rattle.cw_model.specs.declared.limits.TheConstants.{MOST_SOURCE_BYTES, MOST_NAME_BYTES, MOST_NUMBER, MOST_LIMIT}
+use Rattle.cw_model.specs.declared.limits.TheConstants.{MOST_BURDEN, USUAL_LIMIT, USUAL_BURDEN}
 use Rattle.cw_model.specs.declared.trap.Trap.{Trap}
 use Rattle.cw_model.specs.declared.trap.Trap.TheVariants as trap
 use Rattle.cw_model.specs.declared.token.Token.{Token}
@@ -33,7 +35,8 @@ serial program args limit = serial_answer program (naturals args) limit
 
 -- a run writes these lines
 abbrev pub Writes : Program → (args : List ℕ) → (limit : ℕ) → List (List ℕ) → Type 0
-Writes program args limit texts = report_text Run program (on_spawns USUAL_BURDEN) (serial program args limit) ≡ lines texts
+Writes program args limit texts =
+    report_text Run program (on_spawns USUAL_BURDEN) (serial program args limit) ≡ lines texts
 
 -- the scale report has these rows
 abbrev pub Scales : Program → (args : List ℕ) → (burden : ℕ) → List (List ℕ) → Type 0
@@ -115,8 +118,10 @@ pub record CallExamples : Type 0 where
       ≡ TrappedAt trap.DivisionByZero 1 (pos 1 ∷ [])
   pub division_by_0_after_print_shows : Writes example.division_after_print (0 ∷ []) USUAL_LIMIT (codes "1" ∷ [])
   pub over_shows_no_line : report_text Run example.fib_program no_burden (serial example.fib_program (4 ∷ []) 119) ≡ []
-  pub over_shows_no_scale : report_text Scale example.fib_program no_burden (serial example.fib_program (4 ∷ []) 119) ≡ []
-  pub over_shows_no_site : report_text Sites example.fib_program no_burden (serial example.fib_program (4 ∷ []) 119) ≡ []
+  pub over_shows_no_scale : report_text Scale example.fib_program no_burden
+      (serial example.fib_program (4 ∷ []) 119) ≡ []
+  pub over_shows_no_site : report_text Sites example.fib_program no_burden
+      (serial example.fib_program (4 ∷ []) 119) ≡ []
   pub prints : Writes example.print_program [] USUAL_LIMIT (codes "1" ∷ codes "2" ∷ codes "3" ∷ codes "return 0" ∷ [])
   pub prints_scale : Scales example.print_program [] 0 (codes ",15,10,1.500,10,1.500" ∷ [])
   pub large_sum : Writes example.large_sum_program [] USUAL_LIMIT
@@ -152,9 +157,11 @@ pub record CallExamples : Type 0 where
   pub tie : Attributes example.tie_program [] (codes "0,root,1,main,1,6,4,8,6" ∷ codes "1,spawn,1,f,1,2,2,2,2" ∷ [])
   pub accepted : report_text Check example.first_program no_burden OverLimit ≡ lines (codes "ok" ∷ [])
   -- an accepted report of the scale or the sites shows nothing of a trap
-  pub trap_scale : report_text Scale example.division_program no_burden (serial example.division_program (0 ∷ []) USUAL_LIMIT)
+  pub trap_scale : report_text Scale example.division_program no_burden (serial example.division_program (0
+      ∷ []) USUAL_LIMIT)
       ≡ []
-  pub trap_sites : report_text Sites example.division_program no_burden (serial example.division_program (0 ∷ []) USUAL_LIMIT)
+  pub trap_sites : report_text Sites example.division_program no_burden (serial example.division_program (0
+      ∷ []) USUAL_LIMIT)
       ≡ []
 
 -- arrays, cuts and loops
@@ -283,7 +290,8 @@ pub record LimitExamples : Type 0 where
       example.int_function example.f 9 []
       (example.each_on_its_line 1 9
       (For example.i example.i example.i (example.number 0) (example.number 1) 64 [] End))
-      ∷ example.int_function example.main 1 [] (example.each_on_its_line 4096 1 (For example.i example.i example.i (example.number 0) (example.number 1) 64 [] End)) ∷ [])) ≡ 4096 ∷ []
+      ∷ example.int_function example.main 1 [] (example.each_on_its_line 4096 1 (For example.i example.i example.i
+          (example.number 0) (example.number 1) 64 [] End)) ∷ [])) ≡ 4096 ∷ []
   -- limits that no program here comes near
   pub longest_source : MOST_SOURCE_BYTES ≡ 1024 * 1024
   pub longest_name : MOST_NAME_BYTES ≡ 2 ^ 6
@@ -295,8 +303,10 @@ pub record LimitExamples : Type 0 where
 -- strand trees
 pub record TreeExamples : Type 0 where
   -- three prints, of which two are spawned
-  pub prints : (value : ℤ) × (printed : List ℤ) × (totals : List Total) × (serial example.print_program [] USUAL_LIMIT ≡ Ended value printed totals
-      (Marked (Invocation 0) (Seq (Leaf 2) (Seq (Par (Marked (Invocation 1) (Leaf 3)) (Seq (Leaf 2) (Par (Marked (Invocation 2) (Leaf 3)) (Leaf 2)))) (Leaf 3)))))
+  pub prints : (value : ℤ) × (printed : List ℤ) × (totals : List Total)
+      × (serial example.print_program [] USUAL_LIMIT ≡ Ended value printed totals
+      (Marked (Invocation 0) (Seq (Leaf 2) (Seq (Par (Marked (Invocation 1) (Leaf 3))
+          (Seq (Leaf 2) (Par (Marked (Invocation 2) (Leaf 3)) (Leaf 2)))) (Leaf 3)))))
   -- a plain call stands where it was made
   pub call_between : serial
       (example.with_same (example.call 1 example.f (example.number 1 ∷ []) ∷ example.give (example.number 0) ∷ [])) []

@@ -1,10 +1,12 @@
 -- What an expression gives in the state of a call, and at which cost.
-use Rattle.std.specs.Prelude.{ℕ, ◌+◌, ℤ, pos, negsuc, ◌+ℤ◌, ◌-ℤ◌, ◌*ℤ◌, neg_ℤ, int_lt, int_le, not, if◌then◌else◌, List, length, Option, Some, None, slice_get}
+use Rattle.std.specs.Prelude.{ℕ, ◌+◌, ℤ, pos, negsuc, ◌+ℤ◌, ◌-ℤ◌, ◌*ℤ◌, neg_ℤ, int_lt, int_le, not, if◌then◌else◌}
+use Rattle.std.specs.Prelude.{List, length, Option, Some, None, slice_get}
 use Rattle.cw_model.specs.declared.trap.Trap.{Trap}
 use Rattle.cw_model.specs.declared.trap.Trap.TheVariants as trap
 use Rattle.cw_model.specs.Ints.{Result, Value, Fails, exact, truth, quotient, remainder, is_zero, int_eq}
 use Rattle.cw_model.specs.declared.syntax.Operator.{Operator}
-use Rattle.cw_model.specs.declared.syntax.Operator.TheVariants.{Equal, Unequal, Less, AtMost, Greater, AtLeast, Plus, Minus, Times, Divide, Modulo}
+use Rattle.cw_model.specs.declared.syntax.Operator.TheVariants.{Equal, Unequal, Less, AtMost, Greater, AtLeast, Plus}
+use Rattle.cw_model.specs.declared.syntax.Operator.TheVariants.{Minus, Times, Divide, Modulo}
 use Rattle.cw_model.specs.Syntax.{Name, Expr, Number, Variable, Element, Length, Negative, Not, Binary}
 use Rattle.cw_model.specs.Names.{is_among}
 use Rattle.cw_model.specs.Frames.{Frame, int_of, array_of}

@@ -1,5 +1,6 @@
 -- Signed numbers of 64 bits: an operation gives a value, or traps.
-use Rattle.std.specs.Prelude.{ℕ, zero, suc, ◌^◌, Bool, true, false, ℤ, pos, negsuc, ◌-ℤ◌, int_div, int_rem, nat_lt, if◌then◌else◌}
+use Rattle.std.specs.Prelude.{ℕ, zero, suc, ◌^◌, Bool, true, false, ℤ, pos, negsuc, ◌-ℤ◌, int_div, int_rem, nat_lt}
+use Rattle.std.specs.Prelude.{if◌then◌else◌}
 use Rattle.cw_model.specs.declared.trap.Trap.{Trap}
 use Rattle.cw_model.specs.declared.trap.Trap.TheVariants as trap
 

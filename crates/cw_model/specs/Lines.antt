@@ -1,5 +1,6 @@
 -- Lists of the lines that break a rule: a rule is kept where its list is empty, and a refusal names the least line.
-use Rattle.std.specs.Prelude.{ℕ, ◌≤◌, nat_le, Bool, true, false, if◌then◌else◌, List, [], ◌∷◌, Option, Some, None, All, Contains}
+use Rattle.std.specs.Prelude.{ℕ, ◌≤◌, nat_le, Bool, true, false, if◌then◌else◌, List, [], ◌∷◌, Option, Some, None}
+use Rattle.std.specs.Prelude.{All, Contains}
 
 -- the line, unless the rule is kept
 abbrev pub unless : Bool → ℕ → List ℕ

@@ -1,5 +1,6 @@
 -- A loop by halves: the plain loop in its effect, with the costs of a recursion down to the grain.
-use Rattle.std.specs.Prelude.{◌≡◌, ℕ, zero, suc, ◌+◌, ◌-◌, ◌*◌, ◌/◌, Bool, true, ◌&&◌, ℤ, pos, ◌+ℤ◌, ◌-ℤ◌, int_lt, int_le, if◌then◌else◌, nat_le, List, [], ◌∷◌, length, take, drop}
+use Rattle.std.specs.Prelude.{◌≡◌, ℕ, zero, suc, ◌+◌, ◌-◌, ◌*◌, ◌/◌, Bool, true, ◌&&◌, ℤ, pos, ◌+ℤ◌, ◌-ℤ◌, int_lt}
+use Rattle.std.specs.Prelude.{int_le, if◌then◌else◌, nat_le, List, [], ◌∷◌, length, take, drop}
 use Rattle.cw_model.specs.declared.trap.Trap.TheVariants as trap
 use Rattle.cw_model.specs.declared.limits.TheConstants.{MOST_TURNS}
 use Rattle.cw_model.specs.Ints.{Result, Value, Fails}
@@ -91,7 +92,8 @@ loop_tree (suc depth) grain k q ts =
     then Seq (Leaf leaf_start) (turns_tree ts)
     else (let half = length ts / 2 in
     Seq (Leaf (node_start k q))
-    (Seq (Par (loop_tree depth grain k q (take half ts)) (Seq (Leaf (node_call k)) (loop_tree depth grain k q (drop half ts))))
+    (Seq (Par (loop_tree depth grain k q (take half ts))
+        (Seq (Leaf (node_call k)) (loop_tree depth grain k q (drop half ts))))
     (Leaf (node_end q))))
 
 -- how many inner nodes a loop of so many turns has; its leaves are one more

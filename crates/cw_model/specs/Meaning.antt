@@ -1,14 +1,18 @@
 -- What a program does as its serial elision, within a budget of instructions: a spawn runs its call at once.
-use Rattle.std.specs.Prelude.{ℕ, zero, suc, ◌+◌, false, ℤ, pos, negsuc, ◌+ℤ◌, if◌then◌else◌, nat_lt, List, [], ◌∷◌, ◌++◌, length, drop, take, map, replicate, Option, Some, None, slice_set}
+use Rattle.std.specs.Prelude.{ℕ, zero, suc, ◌+◌, false, ℤ, pos, negsuc, ◌+ℤ◌, if◌then◌else◌, nat_lt, List, [], ◌∷◌}
+use Rattle.std.specs.Prelude.{◌++◌, length, drop, take, map, replicate, Option, Some, None, slice_set}
 use Rattle.cw_model.specs.declared.trap.Trap.TheVariants as trap
 use Rattle.cw_model.specs.declared.limits.TheConstants.{MOST_ELEMENTS, MOST_DEPTH}
 use Rattle.cw_model.specs.Ints.{Result, Value, Fails, is_zero, natural}
 use Rattle.cw_model.specs.declared.syntax.CallKind.{CallKind}
 use Rattle.cw_model.specs.declared.syntax.CallKind.TheVariants.{Plain, Spawned}
-use Rattle.cw_model.specs.Syntax.{Name, Expr, Variable, Stmt, Declare, DeclareArray, Assign, AssignElement, Reduce, Call, Start, Begin, Sync, If, IfElse, While, For, Scope, Cut, Region, Print, Return, Block, End, Then, Param, Function}
+use Rattle.cw_model.specs.Syntax.{Name, Expr, Variable, Stmt, Declare, DeclareArray, Assign, AssignElement, Reduce}
+use Rattle.cw_model.specs.Syntax.{Call, Start, Begin, Sync, If, IfElse, While, For, Scope, Cut, Region, Print, Return}
+use Rattle.cw_model.specs.Syntax.{Block, End, Then, Param, Function}
 use Rattle.cw_model.specs.Names.{same_name}
 use Rattle.cw_model.specs.Captured.{captured}
-use Rattle.cw_model.specs.Frames.{Frame, no_frame, int_of, array_of, set_int, set_array, new_int, new_array, inside_loop, leave, set_result}
+use Rattle.cw_model.specs.Frames.{Frame, no_frame, int_of, array_of, set_int, set_array, new_int, new_array}
+use Rattle.cw_model.specs.Frames.{inside_loop, leave, set_result}
 use Rattle.cw_model.specs.Expressions.{Evaluated, Gives, and_then, dearer, written, index_cost, evaluate}
 use Rattle.cw_model.specs.Trees.{Tree, Invocation, Execution, Marked, Event, Series, Fork, Join}
 use Rattle.cw_model.specs.Outcome.{shows, Trapped, Over, Piece, ◌>>=◌, gives, show, pay, pay_for, as_one}

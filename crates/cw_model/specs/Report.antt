@@ -1,5 +1,6 @@
 -- The texts that are reported, byte by byte.
-use Rattle.std.specs.Prelude.{ℕ, ◌+◌, ◌*◌, ◌/◌, ◌%◌, zero, suc, ◌==◌, ◌||◌, Bool, if◌then◌else◌, ℤ, List, [], ◌∷◌, ◌++◌, Option, Some, None, flat_map, codes, decimal}
+use Rattle.std.specs.Prelude.{ℕ, ◌+◌, ◌*◌, ◌/◌, ◌%◌, zero, suc, ◌==◌, ◌||◌, Bool, if◌then◌else◌, ℤ, List, [], ◌∷◌}
+use Rattle.std.specs.Prelude.{◌++◌, Option, Some, None, flat_map, codes, decimal}
 use Rattle.std.specs.List.{list_any}
 use Rattle.std.specs.Fmt.{signed_decimal}
 use Rattle.cw_model.specs.declared.burden.Burden.{Burden}
@@ -8,7 +9,8 @@ use Rattle.cw_model.specs.declared.syntax.Reduction.TheVariants as reduction
 use Rattle.cw_model.specs.declared.total.Total.{Total}
 use Rattle.cw_model.specs.declared.total.Total.TheVariants as total
 use Rattle.cw_model.specs.declared.syntax.CallKind.TheVariants.{Plain, Spawned}
-use Rattle.cw_model.specs.Syntax.{Name, Stmt, If, IfElse, While, For, Scope, Cut, Region, Block, End, Then, Reducer, Program}
+use Rattle.cw_model.specs.Syntax.{Name, Stmt, If, IfElse, While, For, Scope, Cut, Region, Block, End, Then, Reducer}
+use Rattle.cw_model.specs.Syntax.{Program}
 use Rattle.cw_model.specs.Names.{new_names}
 use Rattle.cw_model.specs.Trees.{Tree, work, span, burdened_span}
 use Rattle.cw_model.specs.Rows.{site_row, region_row}

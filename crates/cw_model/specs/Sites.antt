@@ -1,7 +1,8 @@
 -- Call sites: where the invocations of a run are made, each with its number.
 use Rattle.std.specs.Prelude.{ℕ, suc, Bool, true, ◌&&◌, nat_eq, List, [], ◌∷◌, ◌++◌, flat_map}
 use Rattle.cw_model.specs.declared.syntax.CallKind.{CallKind}
-use Rattle.cw_model.specs.Syntax.{Name, Stmt, Call, If, IfElse, While, For, Scope, Cut, Region, Block, End, Then, Program}
+use Rattle.cw_model.specs.Syntax.{Name, Stmt, Call, If, IfElse, While, For, Scope, Cut, Region, Block, End, Then}
+use Rattle.cw_model.specs.Syntax.{Program}
 use Rattle.cw_model.specs.Meaning.{function_named}
 use Rattle.cw_model.specs.Answers.{main_name}
 

@@ -1,10 +1,17 @@
 -- What passes a limit: the lines of tokens, declarations, heads, regions and loops, and the counts of a whole program.
-use Rattle.std.specs.Prelude.{ℕ, ◌+◌, ◌-◌, ◌*◌, nat_le, if◌then◌else◌, List, [], ◌∷◌, ◌++◌, length, drop, map, flat_map, sum_by, Option, Some, None}
+use Rattle.std.specs.Prelude.{ℕ, ◌+◌, ◌-◌, ◌*◌, nat_le, if◌then◌else◌, List, [], ◌∷◌, ◌++◌, length, drop, map}
+use Rattle.std.specs.Prelude.{flat_map, sum_by, Option, Some, None}
 use Rattle.cw_model.specs.declared.token.Token.{Token}
 use Rattle.cw_model.specs.declared.token.Kind.{Kind}
 use Rattle.cw_model.specs.declared.token.Kind.TheVariants as kind
-use Rattle.cw_model.specs.declared.limits.TheConstants.{MOST_OPEN_BRACKETS, MOST_TOKENS_IN_A_ROW, MOST_FUNCTIONS, MOST_REDUCERS, MOST_PARAMETERS, MOST_DECLARED, MOST_TAG_BYTES, MOST_TAGS, MOST_LOOPS, MOST_INSTRUCTIONS, MOST_CALL_STATEMENTS}
-use Rattle.cw_model.specs.Syntax.{Name, Expr, Number, Variable, Element, Length, Negative, Not, Binary, Stmt, Declare, DeclareArray, Assign, AssignElement, Reduce, Call, Start, Begin, Sync, If, IfElse, While, For, Scope, Cut, Region, Print, Return, Block, End, Then, Param, Function, Program}
+use Rattle.cw_model.specs.declared.limits.TheConstants.{MOST_OPEN_BRACKETS, MOST_TOKENS_IN_A_ROW, MOST_FUNCTIONS}
+use Rattle.cw_model.specs.declared.limits.TheConstants.{MOST_REDUCERS, MOST_PARAMETERS, MOST_DECLARED, MOST_TAG_BYTES}
+use Rattle.cw_model.specs.declared.limits.TheConstants.{MOST_TAGS, MOST_LOOPS, MOST_INSTRUCTIONS}
+use Rattle.cw_model.specs.declared.limits.TheConstants.{MOST_CALL_STATEMENTS}
+use Rattle.cw_model.specs.Syntax.{Name, Expr, Number, Variable, Element, Length, Negative, Not, Binary, Stmt, Declare}
+use Rattle.cw_model.specs.Syntax.{DeclareArray, Assign, AssignElement, Reduce, Call, Start, Begin, Sync, If, IfElse}
+use Rattle.cw_model.specs.Syntax.{While, For, Scope, Cut, Region, Print, Return, Block, End, Then, Param, Function}
+use Rattle.cw_model.specs.Syntax.{Program}
 use Rattle.cw_model.specs.Names.{is_among}
 use Rattle.cw_model.specs.Captured.{captured}
 use Rattle.cw_model.specs.Meaning.{function_named}

@@ -2,7 +2,8 @@
 use Rattle.std.specs.Prelude.{ℕ, List}
 use Rattle.cw_model.specs.Syntax.{Expr, While, Block, Function}
 use Rattle.cw_model.specs.Typing.{block_returns}
-use Rattle.cw_model.specs.Ownership.{Taken, where_it_goes_on, without, own_names, taken_after, taken_after_all, IsLeastClosed}
+use Rattle.cw_model.specs.Ownership.{Taken, where_it_goes_on, without, own_names, taken_after, taken_after_all}
+use Rattle.cw_model.specs.Ownership.{IsLeastClosed}
 
 -- what the body leaves of a set, but for the names of its own; a body that surely returns leaves nothing
 abbrev pub one_turn : List Function → ℕ → Block → Taken → Taken

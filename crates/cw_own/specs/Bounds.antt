@@ -2,7 +2,8 @@
 use Rattle.std.specs.Prelude.{Bool, true, ◌&&◌, nat_lt, nat_le, Option, Some, None, length}
 use Rattle.std.specs.List.{list_all}
 use Rattle.cw_model.specs.declared.limits.TheConstants.{MOST_DECLARED, MOST_PARAMETERS}
-use Rattle.cw_tree.specs.Resolved.{Use, Argument, Int, Array, Stmt, Declare, DeclareArray, Call, If, IfElse, While, For, Scope, Cut, Region, Block, End, Then, Function}
+use Rattle.cw_tree.specs.Resolved.{Use, Argument, Int, Array, Stmt, Declare, DeclareArray, Call, If, IfElse, While}
+use Rattle.cw_tree.specs.Resolved.{For, Scope, Cut, Region, Block, End, Then, Function}
 
 -- a slot has a bit
 abbrev pub is_small : Use → Bool

@@ -3,10 +3,14 @@ use Rattle.std.specs.Prelude.{ℕ, ◌==◌, Bool, true, false, not, ◌&&◌, �
 use Rattle.std.specs.List.{list_all}
 use Rattle.cw_model.specs.Lines.{unless}
 use Rattle.cw_model.specs.Ownership.{Closing, Joins, Leaves}
-use Rattle.cw_tree.specs.Resolved.{Use, Expr, Number, Variable, Element, Length, Negative, Not, Binary, Argument, Int, Array, Stmt, Declare, DeclareArray, Assign, AssignElement, Reduce, Call, Sync, If, IfElse, While, For, Scope, Cut, Region, Print, Return, Head, Block, End, Then, Function}
+use Rattle.cw_tree.specs.Resolved.{Use, Expr, Number, Variable, Element, Length, Negative, Not, Binary, Argument, Int}
+use Rattle.cw_tree.specs.Resolved.{Array, Stmt, Declare, DeclareArray, Assign, AssignElement, Reduce, Call, Sync, If}
+use Rattle.cw_tree.specs.Resolved.{IfElse, While, For, Scope, Cut, Region, Print, Return, Head, Block, End, Then}
+use Rattle.cw_tree.specs.Resolved.{Function}
 use Rattle.cw_own.specs.declared.around.Loop as code
 use Rattle.cw_own.specs.Sets.{Slots, no_slot, with_slot, slots_of, Row, no_local, with_int, either_row, row_of}
-use Rattle.cw_own.specs.Taken.{Taken, nothing, int_taken, array_taken, inside, inside_cut, joined, with_parts, known_after, taken_after, taken_after_all, gain, with_params}
+use Rattle.cw_own.specs.Taken.{Taken, nothing, int_taken, array_taken, inside, inside_cut, joined, with_parts}
+use Rattle.cw_own.specs.Taken.{known_after, taken_after, taken_after_all, gain, with_params}
 
 -- the innermost loop around: the locals from outside its body and its variable, the slot of that, and the arrays of the
 -- loop

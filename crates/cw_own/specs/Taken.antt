@@ -1,12 +1,15 @@
 -- What is taken, by slots. A spawn takes for the innermost sync block around it, and what it took is free again as that
 -- block joins: so inside a sync block what spawns outside of it have taken stays as it is.
-use Rattle.std.specs.Prelude.{◌≡◌, ℕ, length, drop, Bool, ◌||◌, List, [], ◌∷◌, ◌++◌, ◌+◌, if◌then◌else◌, Option, Some, None}
+use Rattle.std.specs.Prelude.{◌≡◌, ℕ, length, drop, Bool, ◌||◌, List, [], ◌∷◌, ◌++◌, ◌+◌, if◌then◌else◌, Option, Some}
+use Rattle.std.specs.Prelude.{None}
 use Rattle.cw_model.specs.declared.syntax.CallKind.{CallKind}
 use Rattle.cw_model.specs.declared.syntax.CallKind.TheVariants.{Plain, Spawned}
-use Rattle.cw_tree.specs.Resolved.{Use, Parts, Argument, Int, Array, Stmt, Declare, DeclareArray, Call, Sync, If, IfElse, While, For, Scope, Cut, Region, Return, Block, End, Then}
+use Rattle.cw_tree.specs.Resolved.{Use, Parts, Argument, Int, Array, Stmt, Declare, DeclareArray, Call, Sync, If}
+use Rattle.cw_tree.specs.Resolved.{IfElse, While, For, Scope, Cut, Region, Return, Block, End, Then}
 use Rattle.cw_model.specs.Syntax.{Param}
 use Rattle.cw_own.specs.declared.taken.Taken as code
-use Rattle.cw_own.specs.Sets.{Slots, no_slot, with_slot, without_slot, either, slots_of, Row, no_local, with_int, with_array, either_row, both_rows, row_of}
+use Rattle.cw_own.specs.Sets.{Slots, no_slot, with_slot, without_slot, either, slots_of, Row, no_local, with_int}
+use Rattle.cw_own.specs.Sets.{with_array, either_row, both_rows, row_of}
 
 -- what is taken: by spawns outside the innermost sync block, by those inside it, and the arrays that are cut
 pub record Taken : Type 0 where

@@ -18,8 +18,10 @@ use Rattle.cw_own.specs.declared.row.Row as code_row
 use Rattle.cw_own.specs.declared.taken.Taken as code_taken
 use Rattle.cw_own.specs.declared.around.Loop as code_loop
 use Rattle.cw_own.specs.Sets.{Slots, slots_of, with_slot, without_slot, Row, both_rows, row_of}
-use Rattle.cw_own.specs.Taken.{Taken, taken_of, inside_cut, taken_by_call, other_of, after_all, gain, turns, turns_in, turns_within, cuts_after_all, left_by, taken_after_all}
-use Rattle.cw_own.specs.Rules.{Loop, loop_of, may_give, may_pass, seen_by, left_lines, lines_within, lines_in, block_lines, function_lines}
+use Rattle.cw_own.specs.Taken.{Taken, taken_of, inside_cut, taken_by_call, other_of, after_all, gain, turns, turns_in}
+use Rattle.cw_own.specs.Taken.{turns_within, cuts_after_all, left_by, taken_after_all}
+use Rattle.cw_own.specs.Rules.{Loop, loop_of, may_give, may_pass, seen_by, left_lines, lines_within, lines_in}
+use Rattle.cw_own.specs.Rules.{block_lines, function_lines}
 
 -- the set of slots that the code holds
 abbrev pub set_of : code_bits.Bits → Slots

@@ -13,7 +13,8 @@ use Rattle.cw_model.specs.Frames.{no_frame}
 use Rattle.cw_model.specs.Trees.{Tree}
 use Rattle.cw_model.specs.Outcome.{Trace, Done, Piece}
 use Rattle.cw_model.specs.Meaning.{Returned, Deeper, function_named, call}
-use Rattle.cw_model.specs.Answers.{Answer, Ended, TrappedAt, OverLimit, answer_of, total_to, main_name, main_frame, serial_answer}
+use Rattle.cw_model.specs.Answers.{Answer, Ended, TrappedAt, OverLimit, answer_of, total_to, main_name, main_frame}
+use Rattle.cw_model.specs.Answers.{serial_answer}
 use Rattle.cw_measure.specs.Measured.{most, ReadsTree}
 use Rattle.cw_reduce.specs.Held.{as_total}
 use Rattle.cw_reduce.specs.Shown.{held_of}

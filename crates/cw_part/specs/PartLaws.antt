@@ -4,7 +4,8 @@ use Rattle.std.proofs.Common.{sym, ◌∙◌, ap, arith}
 use Rattle.std.proofs.lemmas.Bool.Decides.{nat_tests}
 use Rattle.cw_model.specs.declared.limits.TheConstants.{MOST_LIMIT}
 use Rattle.cw_model.specs.declared.trap.Trap.{Trap}
-use Rattle.cw_part.specs.Parts.{Readings, IsLawful, Came, Completed, Trapped, Over, Memory, followed, over_if, within, Part, part_joined, nothing_ran, IsPart, PartsJoin}
+use Rattle.cw_part.specs.Parts.{Readings, IsLawful, Came, Completed, Trapped, Over, Memory, followed, over_if, within}
+use Rattle.cw_part.specs.Parts.{Part, part_joined, nothing_ran, IsPart, PartsJoin}
 
 pub below : (n k : ℕ) → n < k → nat_lt n k ≡ true
 below n k h = grind (arith, nat_tests)

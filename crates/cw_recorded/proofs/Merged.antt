@@ -61,9 +61,6 @@ same_both a b c d h k = λ later. onto-append a c later ∙ h (onto c later) ∙
 pub same_through : (a b c : List Code) → Same a b → Same b c → Same a c
 same_through a b c h k = λ later. h later ∙ k later
 
-pub same_back : (a b : List Code) → Same a b → Same b a
-same_back a b h = λ later. sym (h later)
-
 pub nothing_behind : (a : List Code) → Same (a ++ Instructions 0 ∷ []) a
 nothing_behind a = λ later. onto-append a (Instructions 0 ∷ []) later
 

@@ -103,15 +103,6 @@ fork_holds rest child rest_of later e h k =
     at true m = part_followed true (Par (normal child) (normal rest_of)) later m
     at false m = part_alone false (Par (normal child) (normal rest_of)) later refl
 
--- a part before events
-followed_of : (t : Tree) (es : List Event) → StandsBefore t es → IsFollowed t
-followed_of t [] h = λ rest later m. h rest later
-followed_of t (Work zero ∷ es) h = λ rest later m. h rest later
-followed_of t (Work (suc k) ∷ es) h = h
-followed_of t (Series u ∷ es) h = λ rest later m. h rest later
-followed_of t (e.Fork u ∷ es) h = λ rest later m. h rest later
-followed_of t (Join ∷ es) h = λ rest later m. h rest later
-
 stands_holds : (t : Tree) (es : List Event) → StandsBefore t es → (rest : Bool) (later : Tree) → Holds rest t (before (parts_of es).0 later)
 stands_holds t [] h = λ rest later. h rest later
 stands_holds t (Work zero ∷ es) h = λ rest later. h rest (before (parts_of (Work zero ∷ es)).0 later)

@@ -1,5 +1,6 @@
 -- The record of a run so far: what is noted of it, and what a recorder keeps.
-use Rattle.std.specs.Prelude.{ℕ, ◌+◌, ◌-◌, ◌≡◌, ◌≤◌, ◌<◌, Bool, true, false, not, List, [], ◌∷◌, ◌++◌, reverse, Option, Some, None, IsSome}
+use Rattle.std.specs.Prelude.{ℕ, ◌+◌, ◌-◌, ◌≡◌, ◌≤◌, ◌<◌, Bool, true, false, not, List, [], ◌∷◌, ◌++◌, reverse}
+use Rattle.std.specs.Prelude.{Option, Some, None, IsSome}
 use Rattle.cw_model.specs.declared.limits.TheConstants.{MOST_LIMIT}
 use Rattle.cw_model.specs.Trees.{Tree, Marked, Mark, Invocation, Execution, Event, Work, Series, Join, normal, tree_of}
 use Rattle.cw_model.specs.Trees as e

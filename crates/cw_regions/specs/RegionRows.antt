@@ -1,5 +1,6 @@
 -- What is counted of a region tag over a run so far.
-use Rattle.std.specs.Prelude.{◌≡◌, ℕ, ◌+◌, ◌-◌, ◌^◌, ◌<◌, ◌≤◌, ◌==◌, Bool, true, false, length, if◌then◌else◌, slice_index_or}
+use Rattle.std.specs.Prelude.{◌≡◌, ℕ, ◌+◌, ◌-◌, ◌^◌, ◌<◌, ◌≤◌, ◌==◌, Bool, true, false, length, if◌then◌else◌}
+use Rattle.std.specs.Prelude.{slice_index_or}
 use Rattle.cw_regions.specs.declared.rows.Row.{Row}
 use Rattle.cw_regions.specs.declared.rows.Rows.{Rows}
 use Rattle.cw_measure.specs.Outermost.{unless_open, Tally}

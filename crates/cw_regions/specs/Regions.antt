@@ -28,14 +28,16 @@ pub record Tags : Type 0 where
   pub differ : (j k : ℕ) → j < count → k < count → same_name (name j) (name k) ≡ true → j ≡ k
 
 -- a row counts the executions of a tag over a run so far
-pub record CountsTag (burden : Burden) (along : Readings burden) (tag : Name) (busy : ℕ) (os : List Open) (es : List Event)
+pub record CountsTag (burden : Burden) (along : Readings burden) (tag : Name) (busy : ℕ) (os : List Open)
+    (es : List Event)
     (r : Row) : Type 0 where
   pub work_is : Counts work work_in (is_tag tag) busy os es (work_tally r)
   pub span_is : Counts span along.path (is_tag tag) busy os es (span_tally r)
   pub burdened_is : Counts (burdened_span burden) along.burdened (is_tag tag) busy os es (burdened_tally r)
 
 -- a table tells, for each tag, of a run so far; so many executions of each were open round it
-abbrev pub TellsRegions : (burden : Burden) → Readings burden → Tags → (busy : ℕ → ℕ) → List Open → List Event → RegionTable
+abbrev pub TellsRegions : (burden : Burden) → Readings burden → Tags → (busy : ℕ → ℕ) → List Open → List Event
+    → RegionTable
     → Type 0
 TellsRegions burden along tags busy os es table =
     (k : ℕ) → k < tags.count → CountsTag burden along (tags.name k) (busy k) os es (row_of table.rows k)

@@ -1,5 +1,6 @@
 -- The texts of reports.
-use Rattle.std.specs.Prelude.{◌≡◌, ℕ, ℤ, List, [], ◌∷◌, ◌++◌, codes, decimal, map, flat_map, Result, Ok, Err, IfOk, OnOk}
+use Rattle.std.specs.Prelude.{◌≡◌, ℕ, ℤ, List, [], ◌∷◌, ◌++◌, codes, decimal, map, flat_map, Result, Ok, Err, IfOk}
+use Rattle.std.specs.Prelude.{OnOk}
 use Rattle.std.specs.Global.{Vec}
 use Rattle.indexmap.specs.IndexMap.{values}
 use Rattle.cw_model.specs.declared.total.Total.{Total}
@@ -7,7 +8,8 @@ use Rattle.cw_model.specs.Syntax as Syntax
 use Rattle.cw_model.specs.Syntax.{Name}
 use Rattle.cw_model.specs.Answers.{main_name}
 use Rattle.cw_model.specs.Sites.{Root, CallSite}
-use Rattle.cw_model.specs.Report.{value_line, reduction_word, total_line, total_lines, csv_line, end_of_line, scale_header, scale_line, sites_header, site_kind_text}
+use Rattle.cw_model.specs.Report.{value_line, reduction_word, total_line, total_lines, csv_line, end_of_line}
+use Rattle.cw_model.specs.Report.{scale_header, scale_line, sites_header, site_kind_text}
 use Rattle.cw_code.specs.Code.{Code, code_view, site_view, told_sites}
 use Rattle.cw_code.specs.declared.code.Reducer.{Reducer}
 use Rattle.cw_code.specs.declared.code.Site.{Site}

@@ -1,5 +1,6 @@
 -- What every list of events keeps.
-use Rattle.std.specs.Prelude.{◌≡◌, ◌≢◌, ◌⊎◌, ℕ, ◌+◌, ◌≤◌, ◌∷◌, ℤ, Bool, true, false, ◌||◌, nat_eq, List, [], length, Option, Some, slice_get}
+use Rattle.std.specs.Prelude.{◌≡◌, ◌≢◌, ◌⊎◌, ℕ, ◌+◌, ◌≤◌, ◌∷◌, ℤ, Bool, true, false, ◌||◌, nat_eq, List, [], length}
+use Rattle.std.specs.Prelude.{Option, Some, slice_get}
 use Rattle.cw_code.specs.declared.code.Func.{Func}
 use Rattle.cw_code.specs.Code.{Code}
 use Rattle.cw_code.specs.Fits.{Fits}

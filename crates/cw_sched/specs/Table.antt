@@ -1,11 +1,15 @@
 -- The events of the scheduler: which is possible in a world, and what it does.
-use Rattle.std.specs.Prelude.{ℕ, zero, suc, Bool, true, false, ◌&&◌, ◌||◌, not, if◌then◌else◌, nat_eq, List, [], ◌∷◌, ◌++◌, length, Option, Some, None, is_some, slice_get, slice_set}
+use Rattle.std.specs.Prelude.{ℕ, zero, suc, Bool, true, false, ◌&&◌, ◌||◌, not, if◌then◌else◌, nat_eq, List, [], ◌∷◌}
+use Rattle.std.specs.Prelude.{◌++◌, length, Option, Some, None, is_some, slice_get, slice_set}
 use Rattle.cw_code.specs.Code.{Code}
 use Rattle.cw_strands.specs.Jobs.{has_come, standing, Job, Effect, Joined}
 use Rattle.cw_strands.specs.Strands.{Strand, Going, Waits, Halted}
-use Rattle.cw_strands.specs.Steps.{started, Advanced, Ran, Handed, AtSync, Finished, Unfit, advance, give, skip, take_back, out_of_memory}
-use Rattle.cw_strands.specs.Worlds.{Place, Undecided, Kept, Offered, Runs, Made, Settled, Spent, World, effect_in, placed, joined_by, world_of}
-use Rattle.cw_sched.specs.Board.{Board, State, Unoffered, Out, newest, oldest, but_oldest, of_worker, offer, retake, steal, settle, collect}
+use Rattle.cw_strands.specs.Steps.{started, Advanced, Ran, Handed, AtSync, Finished, Unfit, advance, give, skip}
+use Rattle.cw_strands.specs.Steps.{take_back, out_of_memory}
+use Rattle.cw_strands.specs.Worlds.{Place, Undecided, Kept, Offered, Runs, Made, Settled, Spent, World, effect_in}
+use Rattle.cw_strands.specs.Worlds.{placed, joined_by, world_of}
+use Rattle.cw_sched.specs.Board.{Board, State, Unoffered, Out, newest, oldest, but_oldest, of_worker, offer, retake}
+use Rattle.cw_sched.specs.Board.{steal, settle, collect}
 
 -- one step of a worker; a worker is named by its number
 pub data Event : Type 0 where

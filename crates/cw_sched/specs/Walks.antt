@@ -4,7 +4,8 @@ use Rattle.cw_model.specs.Answers.{Answer}
 use Rattle.cw_code.specs.Run.{code_serial}
 use Rattle.cw_strands.specs.Jobs.{Effect, root_job, answered}
 use Rattle.cw_strands.specs.Walks.{printing, prints, failing, fails, lines_of}
-use Rattle.cw_sched.specs.Table.{Event, Run, Offer, Inline, Retake, Steal, Settle, Collect, Sched, is_possible, world_run, first_sched, outcome, all_possible}
+use Rattle.cw_sched.specs.Table.{Event, Run, Offer, Inline, Retake, Steal, Settle, Collect, Sched, is_possible}
+use Rattle.cw_sched.specs.Table.{world_run, first_sched, outcome, all_possible}
 
 -- no memory is wanting
 abbrev pub ample : List Event → List (Event × Bool)

@@ -1,8 +1,10 @@
 -- A state of the schedule as the loop keeps it, and what its parts do.
-use Rattle.std.specs.Prelude.{ℕ, ◌+◌, ◌-◌, ◌*◌, ◌≡◌, ◌<◌, ◌≤◌, Bool, true, false, List, length, Option, Some, None, slice_index_or, slice_set}
+use Rattle.std.specs.Prelude.{ℕ, ◌+◌, ◌-◌, ◌*◌, ◌≡◌, ◌<◌, ◌≤◌, Bool, true, false, List, length, Option, Some, None}
+use Rattle.std.specs.Prelude.{slice_index_or, slice_set}
 use Rattle.cw_model.specs.Trees.{Tree, work, span}
 use Rattle.cw_greedy.specs.Greedy.{greedy_length}
-use Rattle.cw_greedy.specs.Jumping.{Block, size, Going, Ready, Before, Both, Child, Rest, After, start, to_do, IsOver, Released}
+use Rattle.cw_greedy.specs.Jumping.{Block, size, Going, Ready, Before, Both, Child, Rest, After, start, to_do, IsOver}
+use Rattle.cw_greedy.specs.Jumping.{Released}
 use Rattle.cw_greedy.specs.Rounds.{IsAfter}
 use Rattle.cw_greedy.specs.Slots.{Slots}
 use Rattle.cw_schedule.specs.declared.plan.Begins.{Begins}

@@ -42,20 +42,6 @@ handed_on Q P e (Err x) p h = subst P (sym h) p
 pub requested : (code : Code) (args : List ℤ) (n processors : ℕ) → is_asked code args n processors ≡ true → is_request code args n no_burden ≡ true
 requested code args n processors h = second_true (is_counted processors) (is_request code args n no_burden) h
 
--- on one processor or more
-pub has_processor : (code : Code) (args : List ℤ) (n processors : ℕ) → is_asked code args n processors ≡ true → 1 ≤ processors
-has_processor code args n processors h =
-    le_of 1 processors (first_true (nat_le 1 processors) (nat_le processors MOST_PROCESSORS)
-    (first_true (is_counted processors) (is_request code args n no_burden) h))
-
--- within a limit in its range
-pub has_limit : (code : Code) (args : List ℤ) (n : ℕ) → is_request code args n no_burden ≡ true → n ≤ MOST_LIMIT
-has_limit code args n h =
-    le_of n MOST_LIMIT
-    (first_true (nat_le n MOST_LIMIT) (nat_le no_burden.charge MOST_BURDEN)
-    (second_true (nat_le 1 n) (nat_le n MOST_LIMIT && nat_le no_burden.charge MOST_BURDEN)
-    (second_true (nat_eq (length args) (main_params code)) (nat_le 1 n && (nat_le n MOST_LIMIT && nat_le no_burden.charge MOST_BURDEN)) h)))
-
 -- why a run has no value is why it has no schedule
 pub not_scheduled : (code : Code) (args : List ℤ) (n processors : ℕ) (e : Fault) → is_asked code args n processors ≡ true → IsFailure code args n no_burden e → IsNotScheduled code args n processors e
 not_scheduled code args n processors fault.Arguments asked h = ap (λ b. is_counted processors && b) h ∙ none (is_counted processors)
@@ -95,8 +81,3 @@ kept_of code args n whole kept m r =
 pub record_kept : (t : Tree) (kept : Recorded) → IsSome kept → IsKept t kept → (strand_count t ≤ MOST_STRANDS) × IsRecordOf t kept
 record_kept t None some k = cc
 record_kept t (Some codes) some k = k
-
--- nothing is kept of too many
-pub many_strands : (t : Tree) (kept : Recorded) → (IsSome kept → ⊥) → IsKept t kept → MOST_STRANDS < strand_count t
-many_strands t None none k = k
-many_strands t (Some codes) none k = absurd (none refl)

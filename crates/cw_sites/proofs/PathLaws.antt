@@ -304,7 +304,3 @@ ends_gone q steps f n ps e = by_longest f.longest e
 -- the longest child is chosen where it weighs as much as the rest
 pub best_kept : (q : ℕ) (steps : List Steps) (from to w : ℕ) (l : Option ℕ) (n : Path) → l ≡ Some w → n.weight ≤ w → part q steps from to w ≡ best (option_map (part q steps from to) l) n
 best_kept q steps from to w l n e h = sym (takes_first (part q steps from to w) n h) ∙ ap (λ (x : Option ℕ). best (option_map (part q steps from to) x) n) (sym e)
-
-pub best_left : (q : ℕ) (steps : List Steps) (from to : ℕ) (l : Option ℕ) (n : Path) → ((w : ℕ) → l ≡ Some w → w < n.weight) → n ≡ best (option_map (part q steps from to) l) n
-best_left q steps from to None n h = refl
-best_left q steps from to (Some w) n h = sym (takes_second (part q steps from to w) n (h w refl))

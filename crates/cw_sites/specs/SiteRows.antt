@@ -1,5 +1,6 @@
 -- What is counted of a site over a run so far.
-use Rattle.std.specs.Prelude.{◌≡◌, ℕ, ◌+◌, ◌-◌, ◌^◌, ◌<◌, ◌≤◌, ◌==◌, Bool, true, false, List, [], ◌∷◌, length, if◌then◌else◌, slice_index_or}
+use Rattle.std.specs.Prelude.{◌≡◌, ℕ, ◌+◌, ◌-◌, ◌^◌, ◌<◌, ◌≤◌, ◌==◌, Bool, true, false, List, [], ◌∷◌, length}
+use Rattle.std.specs.Prelude.{if◌then◌else◌, slice_index_or}
 use Rattle.cw_model.specs.Trees.{Tree, Event, tree_of, work, span}
 use Rattle.cw_model.specs.Rows.{is_site, leaves, weight_of_site, calls_of}
 use Rattle.cw_measure.specs.OpenParts.{Open, work_in}

@@ -5,7 +5,8 @@ use Rattle.cw_sites.specs.declared.steps.Steps.{Steps}
 use Rattle.cw_sites.specs.declared.paths.Block.{Block}
 use Rattle.cw_sites.specs.declared.paths.Paths.{Paths}
 use Rattle.cw_sites.specs.StepSums.{upto, whole, if_site, Fits}
-use Rattle.cw_sites.specs.StrandPaths.{SeenBlock, StrandPath, takes, goes_on, longest_path, extends_by, forks, appends, appends_block, whole as all_of}
+use Rattle.cw_sites.specs.StrandPaths.{SeenBlock, StrandPath, takes, goes_on, longest_path, extends_by, forks}
+use Rattle.cw_sites.specs.StrandPaths.{appends, appends_block, whole as all_of}
 
 -- the path of this weight whose steps lie from a place to another
 abbrev pub part : (site : ℕ) → List Steps → (from to weight : ℕ) → Path

@@ -1,5 +1,6 @@
 -- What a list of steps says of a site.
-use Rattle.std.specs.Prelude.{◌≡◌, ℕ, zero, suc, ◌+◌, ◌-◌, min, slice_index_or, ◌^◌, ◌<◌, ◌≤◌, ◌==◌, List, [], ◌∷◌, length, if◌then◌else◌, ◌⊎◌}
+use Rattle.std.specs.Prelude.{◌≡◌, ℕ, zero, suc, ◌+◌, ◌-◌, min, slice_index_or, ◌^◌, ◌<◌, ◌≤◌, ◌==◌, List, [], ◌∷◌}
+use Rattle.std.specs.Prelude.{length, if◌then◌else◌, ◌⊎◌}
 use Rattle.cw_sites.specs.ChosenPaths.{Path}
 use Rattle.cw_sites.specs.declared.steps.Steps.{Steps}
 

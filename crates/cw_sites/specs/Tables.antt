@@ -1,5 +1,6 @@
 -- What a site table tells of a run so far.
-use Rattle.std.specs.Prelude.{◌≡◌, ℕ, ◌-◌, ◌^◌, ◌<◌, ◌≤◌, ◌==◌, Bool, true, false, ◌||◌, not, List, [], ◌∷◌, ◌++◌, Option, Some, None}
+use Rattle.std.specs.Prelude.{◌≡◌, ℕ, ◌-◌, ◌^◌, ◌<◌, ◌≤◌, ◌==◌, Bool, true, false, ◌||◌, not, List, [], ◌∷◌, ◌++◌}
+use Rattle.std.specs.Prelude.{Option, Some, None}
 use Rattle.cw_model.specs.Trees.{Mark, Invocation, Execution, Event, Join, tree_of}
 use Rattle.cw_model.specs.Rows.{SiteRow, is_site, site_row}
 use Rattle.cw_measure.specs.OpenParts.{Open, in_series, in_fork, closed, has_spawned, Since, work_in}

@@ -1,5 +1,6 @@
 -- The effect of the newest job out is given.
-use Rattle.std.specs.Prelude.{◌≡◌, ◌≢◌, ℕ, ◌+◌, ◌-◌, ℤ, Bool, nat_lt, List, [], ◌∷◌, ◌++◌, length, Option, Some, None, slice_get}
+use Rattle.std.specs.Prelude.{◌≡◌, ◌≢◌, ℕ, ◌+◌, ◌-◌, ℤ, Bool, nat_lt, List, [], ◌∷◌, ◌++◌, length, Option, Some, None}
+use Rattle.std.specs.Prelude.{slice_get}
 use Rattle.cw_model.specs.declared.total.Total.{Total}
 use Rattle.cw_slices.specs.Placed.{Placed}
 use Rattle.cw_meter.specs.Meters.{Rests}

@@ -1,5 +1,6 @@
 -- How a strand in memory holds a strand of the definitions.
-use Rattle.std.specs.Prelude.{◌≡◌, ◌≢◌, ℕ, ◌+◌, ◌≤◌, Bool, true, false, List, [], ◌∷◌, length, map, reverse, Some, slice_get}
+use Rattle.std.specs.Prelude.{◌≡◌, ◌≢◌, ℕ, ◌+◌, ◌≤◌, Bool, true, false, List, [], ◌∷◌, length, map, reverse, Some}
+use Rattle.std.specs.Prelude.{slice_get}
 use Rattle.cw_model.specs.declared.limits.TheConstants.{MOST_LIMIT, MOST_BURDEN}
 use Rattle.cw_code.specs.Code.{code_view}
 use Rattle.cw_code.specs.Run.{State}
@@ -110,7 +111,8 @@ rests_at p _ _ = []
 
 -- the run of a strand shows a state after so many instructions, with a job out at each of these levels
 pub record Runs (self : Strand) (is : IsFit (its_code self)) (j : jobs.Job)
-    (g : Ground (its_code self) is (its_parts self) j) (levels : List Level) (s : State) (count : ℕ) (jobs_out : List jobs.Job) : Type 0 where
+    (g : Ground (its_code self) is (its_parts self) j) (levels : List Level) (s : State) (count : ℕ)
+        (jobs_out : List jobs.Job) : Type 0 where
   pub counts : count ≡ self.count
   pub outs : List Out
   pub lends : Lends (its_code self) is (its_parts self) g.base levels outs (reverse self.lent.items)

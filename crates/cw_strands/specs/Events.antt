@@ -4,8 +4,10 @@ use Rattle.cw_model.specs.Answers.{Answer}
 use Rattle.cw_code.specs.Code.{Code}
 use Rattle.cw_strands.specs.Jobs.{Job, Effect, Memory, answered}
 use Rattle.cw_strands.specs.Strands.{Strand, Waits, Halted}
-use Rattle.cw_strands.specs.Steps.{started, Advanced, Ran, Handed, AtSync, Finished, Unfit, advance, give, skip, take_back, out_of_memory}
-use Rattle.cw_strands.specs.Worlds.{Place, Undecided, Kept, Offered, Runs, Made, Settled, Spent, World, effect_in, placed, joined_by, After}
+use Rattle.cw_strands.specs.Steps.{started, Advanced, Ran, Handed, AtSync, Finished, Unfit, advance, give, skip}
+use Rattle.cw_strands.specs.Steps.{take_back, out_of_memory}
+use Rattle.cw_strands.specs.Worlds.{Place, Undecided, Kept, Offered, Runs, Made, Settled, Spent, World, effect_in}
+use Rattle.cw_strands.specs.Worlds.{placed, joined_by, After}
 
 -- an event, at the job of this number
 pub data Event : Type 0 where

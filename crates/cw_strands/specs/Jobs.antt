@@ -1,6 +1,7 @@
 -- Jobs: a whole call, or the rest of a sync block up to its join; how a run of one ends, what its effect is, and what
 -- an effect must be.
-use Rattle.std.specs.Prelude.{◌≡◌, ℕ, zero, suc, ◌-◌, ℤ, Bool, true, false, ◌&&◌, if◌then◌else◌, List, [], ◌∷◌, Option, Some, None, slice_get}
+use Rattle.std.specs.Prelude.{◌≡◌, ℕ, zero, suc, ◌-◌, ℤ, Bool, true, false, ◌&&◌, if◌then◌else◌, List, [], ◌∷◌}
+use Rattle.std.specs.Prelude.{Option, Some, None, slice_get}
 use Rattle.cw_model.specs.declared.trap.Trap.{Trap}
 use Rattle.cw_model.specs.Frames.{no_frame}
 use Rattle.cw_model.specs.Outcome.{Trace, Done, Trapped, Over}
@@ -9,7 +10,8 @@ use Rattle.cw_code.specs.declared.code.Func.{Func}
 use Rattle.cw_code.specs.declared.code.Instr.{Instr}
 use Rattle.cw_code.specs.declared.code.Instr.TheVariants.{EndCut, Sync, Close, ReturnValue, Return}
 use Rattle.cw_code.specs.Code.{Code}
-use Rattle.cw_code.specs.Run.{Slots, Around, State, Transition, On, Ends, Stops, Stuck, settled, slots_of, arrays_of, fresh, step, reducers_of}
+use Rattle.cw_code.specs.Run.{Slots, Around, State, Transition, On, Ends, Stops, Stuck, settled, slots_of, arrays_of}
+use Rattle.cw_code.specs.Run.{fresh, step, reducers_of}
 
 -- how far a run goes: to the end of its call, or to before the join of the sync block that it begins in
 pub data Extent : Type 0 where

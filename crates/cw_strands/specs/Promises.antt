@@ -5,7 +5,8 @@ use Rattle.cw_model.specs.declared.syntax.CallKind.{CallKind}
 use Rattle.cw_model.specs.declared.syntax.CallKind.TheVariants.{Plain, Spawned}
 use Rattle.cw_code.specs.Code.{Code}
 use Rattle.cw_code.specs.Run.{Waiting, Around, Caller, Block, State}
-use Rattle.cw_strands.specs.Jobs.{Came, Arrives, Returns, Falls, Beyond, travel, Job, course, Effect, Ended, Joined, TrapIn, OverLimit, Memory}
+use Rattle.cw_strands.specs.Jobs.{Came, Arrives, Returns, Falls, Beyond, travel, Job, course, Effect, Ended, Joined}
+use Rattle.cw_strands.specs.Jobs.{TrapIn, OverLimit, Memory}
 use Rattle.cw_strands.specs.Strands.{Strand, Going, Waits, Halted, rest_of, rest_at, cost_of}
 
 -- so many instructions, and from there on as another run goes

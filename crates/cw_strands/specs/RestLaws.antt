@@ -3,8 +3,10 @@ use Rattle.std.specs.Prelude.{◌≡◌, ◌⊎◌, ℕ, ℤ, List, [], ◌++◌
 use Rattle.cw_model.specs.Outcome.{joined}
 use Rattle.cw_code.specs.declared.code.Func.{Func}
 use Rattle.cw_code.specs.Code.{Code}
-use Rattle.cw_code.specs.Run.{State, slots_of, arrays_of, Entering, begun, back, first_transition, On, first_state, code_serial}
-use Rattle.cw_strands.specs.Jobs.{Extent, WholeCall, Came, Arrives, Returns, Falls, Beyond, Lost, moved, travel, Job, course, root_job, Effect, Memory, JobMeaning, answered}
+use Rattle.cw_code.specs.Run.{State, slots_of, arrays_of, Entering, begun, back, first_transition, On, first_state}
+use Rattle.cw_code.specs.Run.{code_serial}
+use Rattle.cw_strands.specs.Jobs.{Extent, WholeCall, Came, Arrives, Returns, Falls, Beyond, Lost, moved, travel, Job}
+use Rattle.cw_strands.specs.Jobs.{course, root_job, Effect, Memory, JobMeaning, answered}
 use Rattle.cw_strands.specs.Strands.{Strand, rest_at, resumed, Reached, Makes}
 use Rattle.cw_strands.specs.Promises.{IsStrandOf}
 

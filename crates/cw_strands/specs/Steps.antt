@@ -2,8 +2,10 @@
 use Rattle.std.specs.Prelude.{◌≡◌, ℕ, ◌+◌, ◌≤◌, if◌then◌else◌, nat_lt, List, [], ◌∷◌}
 use Rattle.cw_code.specs.Code.{Code}
 use Rattle.cw_code.specs.Run.{State, Transition, On, Ends, Stops, Stuck, step}
-use Rattle.cw_strands.specs.Jobs.{has_come, standing, Job, job_start, Effect, Ended, Joined, TrapIn, OverLimit, Memory, JobMeaning}
-use Rattle.cw_strands.specs.Strands.{Strand, Going, Waits, Halted, outs_of, Turn, Goes, HandsOut, ComesBack, turn, spawn_job, resumed, stopped_after, dropped, cost_of}
+use Rattle.cw_strands.specs.Jobs.{has_come, standing, Job, job_start, Effect, Ended, Joined, TrapIn, OverLimit}
+use Rattle.cw_strands.specs.Jobs.{Memory, JobMeaning}
+use Rattle.cw_strands.specs.Strands.{Strand, Going, Waits, Halted, outs_of, Turn, Goes, HandsOut, ComesBack, turn}
+use Rattle.cw_strands.specs.Strands.{spawn_job, resumed, stopped_after, dropped, cost_of}
 use Rattle.cw_strands.specs.Promises.{IsStrandOf}
 
 -- a strand begins its job

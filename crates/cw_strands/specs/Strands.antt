@@ -1,5 +1,6 @@
 -- Strands: what runs a job, hands the rest of a sync block out as a job at a spawn and goes on with the call.
-use Rattle.std.specs.Prelude.{◌≡◌, ℕ, ◌+◌, ◌≤◌, ◌<◌, ℤ, true, false, List, [], ◌∷◌, ◌++◌, map, Option, Some, None, slice_get}
+use Rattle.std.specs.Prelude.{◌≡◌, ℕ, ◌+◌, ◌≤◌, ◌<◌, ℤ, true, false, List, [], ◌∷◌, ◌++◌, map, Option, Some, None}
+use Rattle.std.specs.Prelude.{slice_get}
 use Rattle.cw_model.specs.declared.trap.Trap.{Trap}
 use Rattle.cw_model.specs.declared.syntax.CallKind.{CallKind}
 use Rattle.cw_model.specs.declared.syntax.CallKind.TheVariants.{Plain, Spawned}
@@ -7,8 +8,10 @@ use Rattle.cw_model.specs.Outcome.{Trace, joined}
 use Rattle.cw_code.specs.declared.code.Instr.{Instr}
 use Rattle.cw_code.specs.declared.code.Instr.TheVariants as instr
 use Rattle.cw_code.specs.Code.{Code}
-use Rattle.cw_code.specs.Run.{Waiting, Around, Caller, State, On, Ends, Stops, Slots, settled, Taken, Whole, slot_taken, taken_from, moved_out, passed_by, step}
-use Rattle.cw_strands.specs.Jobs.{ToJoin, has_come, Standing, standing, Job, job_start, Effect, Ended, Joined, TrapIn, OverLimit, Memory}
+use Rattle.cw_code.specs.Run.{Waiting, Around, Caller, State, On, Ends, Stops, Slots, settled, Taken, Whole}
+use Rattle.cw_code.specs.Run.{slot_taken, taken_from, moved_out, passed_by, step}
+use Rattle.cw_strands.specs.Jobs.{ToJoin, has_come, Standing, standing, Job, job_start, Effect, Ended, Joined, TrapIn}
+use Rattle.cw_strands.specs.Jobs.{OverLimit, Memory}
 
 -- a strand and the jobs that it handed out and was not given back, the newest first: it goes on, from a state of the
 -- serial run, so many instructions after its job's start; or a spawned call in it has ended, so that it waits for the

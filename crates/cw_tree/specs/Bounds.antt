@@ -3,7 +3,10 @@
 use Rattle.std.specs.Prelude.{ℕ, Bool, true, ◌&&◌, nat_lt, nat_le, length, Option, Some, None}
 use Rattle.std.specs.List.{list_all}
 use Rattle.cw_model.specs.declared.limits.TheConstants.{MOST_DECLARED}
-use Rattle.cw_tree.specs.Resolved.{Expr, Number, Variable, Element, Length, Negative, Not, Binary, Use, Argument, Int, Array, Head, Parts, Stmt, Declare, DeclareArray, Assign, AssignElement, Reduce, Call, Sync, If, IfElse, While, For, Scope, Cut, Region, Print, Return, Block, End, Then, Function, Resolved}
+use Rattle.cw_tree.specs.Resolved.{Expr, Number, Variable, Element, Length, Negative, Not, Binary, Use, Argument, Int}
+use Rattle.cw_tree.specs.Resolved.{Array, Head, Parts, Stmt, Declare, DeclareArray, Assign, AssignElement, Reduce}
+use Rattle.cw_tree.specs.Resolved.{Call, Sync, If, IfElse, While, For, Scope, Cut, Region, Print, Return, Block, End}
+use Rattle.cw_tree.specs.Resolved.{Then, Function, Resolved}
 
 -- how many there are: slots of integers and of arrays, functions, reducers and tags
 pub record Counts : Type 0 where

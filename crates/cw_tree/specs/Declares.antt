@@ -1,6 +1,7 @@
 -- How many names a block declares.
 use Rattle.std.specs.Prelude.{ℕ, ◌+◌, Bool, true, false}
-use Rattle.cw_model.specs.Syntax.{Stmt, Declare, DeclareArray, If, IfElse, While, For, Scope, Cut, Region, Block, End, Then}
+use Rattle.cw_model.specs.Syntax.{Stmt, Declare, DeclareArray, If, IfElse, While, For, Scope, Cut, Region, Block, End}
+use Rattle.cw_model.specs.Syntax.{Then}
 
 abbrev mutual
   -- how many names a statement declares, its blocks included

@@ -7,7 +7,8 @@
 -- `is_resolved (resolved_of tree) ≡ true`, from which the law `slots_are_right` gives
 -- `resolved_of tree ≡ resolved (program_of tree)`: the slot of a name is its place among the integers or among the
 -- arrays that are known there.
-use Rattle.std.specs.Prelude.{ℕ, suc, ℤ, ◌==◌, max, nat_lt, Bool, not, ◌&&◌, if◌then◌else◌, List, [], ◌∷◌, ◌++◌, length, map, filter, Option, Some, None, option_map}
+use Rattle.std.specs.Prelude.{ℕ, suc, ℤ, ◌==◌, max, nat_lt, Bool, not, ◌&&◌, if◌then◌else◌, List, [], ◌∷◌, ◌++◌}
+use Rattle.std.specs.Prelude.{length, map, filter, Option, Some, None, option_map}
 use Rattle.std.specs.List.{list_any}
 use Rattle.cw_model.specs.declared.syntax.CallKind.{CallKind}
 use Rattle.cw_model.specs.declared.syntax.Operator.{Operator}

@@ -3,7 +3,8 @@ use Rattle.std.specs.Prelude.{ℕ, List, [], ◌∷◌, map, option_map}
 use Rattle.cw_tree.specs.declared.resolved.Use as code_use
 use Rattle.cw_tree.specs.declared.resolved.Listed as code_listed
 use Rattle.cw_tree.specs.declared.resolved.Expr.{Expr}
-use Rattle.cw_tree.specs.declared.resolved.Expr.TheVariants.{Number, Variable, Element', Length, Negative', Not', Binary'}
+use Rattle.cw_tree.specs.declared.resolved.Expr.TheVariants.{Number, Variable, Element', Length, Negative', Not'}
+use Rattle.cw_tree.specs.declared.resolved.Expr.TheVariants.{Binary'}
 use Rattle.cw_tree.specs.declared.resolved.Argument.{Argument}
 use Rattle.cw_tree.specs.declared.resolved.Argument.TheVariants.{Int, Array}
 use Rattle.cw_tree.specs.declared.resolved.Head.{Head}

@@ -1,11 +1,17 @@
 -- Whether each slot, each index and each count of slots of a resolved tree is right: a test, since a `Typed` can keep
 -- only that. A tree that passes it is `resolved` of its program, as the law `slots_are_right` says.
-use Rattle.std.specs.Prelude.{◌==◌, Bool, true, false, not, ◌&&◌, bytes_eq, List, [], ◌∷◌, ◌++◌, length, Option, Some, None}
+use Rattle.std.specs.Prelude.{◌==◌, Bool, true, false, not, ◌&&◌, bytes_eq, List, [], ◌∷◌, ◌++◌, length, Option, Some}
+use Rattle.std.specs.Prelude.{None}
 use Rattle.std.specs.List.{list_all}
 use Rattle.cw_model.specs.Syntax.{Name}
 use Rattle.cw_model.specs.Names.{is_among}
 use Rattle.cw_model.specs.Answers.{main_name}
-use Rattle.cw_tree.specs.Resolved.{Use, Listed, Expr, Number, Variable, Element, Length, Negative, Not, Binary, Argument, Int, Array, Head, Parts, Stmt, Declare, DeclareArray, Assign, AssignElement, Reduce, Call, Sync, If, IfElse, While, For, Scope, Cut, Region, Print, Return, Block, End, Then, Function, Resolved, Lists, Locals, slot_of, with_int, with_array, locals_after, captured_in, ints_in_block, arrays_in_block, locals_of, lists_of, tags_of, plain_stmt, plain}
+use Rattle.cw_tree.specs.Resolved.{Use, Listed, Expr, Number, Variable, Element, Length, Negative, Not, Binary}
+use Rattle.cw_tree.specs.Resolved.{Argument, Int, Array, Head, Parts, Stmt, Declare, DeclareArray, Assign}
+use Rattle.cw_tree.specs.Resolved.{AssignElement, Reduce, Call, Sync, If, IfElse, While, For, Scope, Cut, Region}
+use Rattle.cw_tree.specs.Resolved.{Print, Return, Block, End, Then, Function, Resolved, Lists, Locals, slot_of}
+use Rattle.cw_tree.specs.Resolved.{with_int, with_array, locals_after, captured_in, ints_in_block, arrays_in_block}
+use Rattle.cw_tree.specs.Resolved.{locals_of, lists_of, tags_of, plain_stmt, plain}
 
 -- a use has the slot of its name
 abbrev pub is_use : List Name → Use → Bool

@@ -30,7 +30,8 @@ use Rattle.cw_tree.specs.Declares.{declares_in_block}
 use Rattle.cw_types.specs.Heads.{call_of, resolved_call, resolved_head, resolved_cut}
 use Rattle.cw_types.specs.Locals.{locals_view, lists_view}
 use Rattle.cw_tree.specs.Resolved as spec
-use Rattle.cw_tree.specs.ResolvedView.{use_of, expr_of, argument_of, head_of, parts_of, stmt_of, block_of, function_of, reducer_of}
+use Rattle.cw_tree.specs.ResolvedView.{use_of, expr_of, argument_of, head_of, parts_of, stmt_of, block_of}
+use Rattle.cw_tree.specs.ResolvedView.{function_of, reducer_of}
 
 -- an expression, where these locals are known
 abbrev pub IsExpr : Locals → Expr → made_expr.Expr → Type 0

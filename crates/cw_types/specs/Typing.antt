@@ -1,8 +1,13 @@
 -- The rules of names and types by the parts that the code tests them in.
-use Rattle.std.specs.Prelude.{ℕ, ◌-◌, Bool, true, false, not, ◌&&◌, ◌||◌, List, [], ◌∷◌, ◌++◌, length, map, drop, Option, Some, None, if◌then◌else◌}
-use Rattle.cw_model.specs.Syntax.{Name, Param, Function, Program, Stmt, Declare, DeclareArray, Assign, AssignElement, Reduce, Call, Start, Begin, Sync, If, IfElse, While, For, Scope, Cut, Region, Print, Return}
+use Rattle.std.specs.Prelude.{ℕ, ◌-◌, Bool, true, false, not, ◌&&◌, ◌||◌, List, [], ◌∷◌, ◌++◌, length, map, drop}
+use Rattle.std.specs.Prelude.{Option, Some, None, if◌then◌else◌}
+use Rattle.cw_model.specs.Syntax.{Name, Param, Function, Program, Stmt, Declare, DeclareArray, Assign, AssignElement}
+use Rattle.cw_model.specs.Syntax.{Reduce, Call, Start, Begin, Sync, If, IfElse, While, For, Scope, Cut, Region, Print}
+use Rattle.cw_model.specs.Syntax.{Return}
 use Rattle.cw_model.specs.Names.{same_name}
-use Rattle.cw_model.specs.Typing.{Known, Returns, Nowhere, is_fine, is_new, is_int, is_array, is_reducer, is_call, called, are_arguments, is_head_of_loop, is_cut, may_return, block_returns, faults_in_block}
+use Rattle.cw_model.specs.Typing.{Known, Returns, Nowhere, is_fine, is_new, is_int, is_array, is_reducer, is_call}
+use Rattle.cw_model.specs.Typing.{called, are_arguments, is_head_of_loop, is_cut, may_return, block_returns}
+use Rattle.cw_model.specs.Typing.{faults_in_block}
 use Rattle.std.specs.List.{list_any}
 use Rattle.cw_model.specs.Answers.{main_name}
 use Rattle.cw_tree.specs.declared.syntax.Call.{Call as Made}

@@ -68,12 +68,6 @@ is_come xs ys zs h all e =
 pub is_both : (xs ys zs : Row) → brings xs ys ≡ true → zs ≡ either_empty xs ys → IsEither xs ys zs true
 is_both xs ys zs h e = record { items = e; same = λ f. cc; fewer = λ f. omega (arith, ap unmarked e, either_fewer xs ys h) }
 
--- what a row is brought from a slot on
-pub brings_on : (xs ys : Row) (a : ℕ) (x y found : Bool) → slice_get xs a ≡ Some x → slice_get ys a ≡ Some y → ((found || (not x && y)) || brings (drop (suc a) xs) (drop (suc a) ys)) ≡ (found || brings (drop a xs) (drop a ys))
-brings_on xs ys a x y found e f =
-    or_again found (not x && y) (brings (drop (suc a) xs) (drop (suc a) ys))
-    ∙ sym (ap (λ l. found || brings l (drop a ys)) (drop_at xs a x e) ∙ ap (λ l. found || brings (x ∷ drop (suc a) xs) l) (drop_at ys a y f))
-
 none_brought : (row : Row) → brings row [] ≡ false
 none_brought [] = refl
 none_brought (x ∷ row) = refl
@@ -92,9 +86,6 @@ none_marked [] h = refl
 none_marked (x ∷ row) h =
     let both = or_false x (any_empty row) h in
     ap (λ b. b ∷ row) both.0 ∙ ap (λ l. false ∷ l) (none_marked row both.1)
-
-pub empty_on : (row : Row) (a : ℕ) (x found : Bool) → slice_get row a ≡ Some x → ((found || x) || any_empty (drop (suc a) row)) ≡ (found || any_empty (drop a row))
-empty_on row a x found e = or_again found x (any_empty (drop (suc a) row)) ∙ sym (ap (λ l. found || any_empty l) (drop_at row a x e))
 
 pub either_none : (xs : Row) → either_empty xs [] ≡ xs
 either_none [] = refl

@@ -16,11 +16,6 @@ worker_get f [] w q e = let never : ⊥ = cc in absurd never
 worker_get f (x ∷ qs) zero q e = let same : x ≡ q = cc in ap f same
 worker_get f (x ∷ qs) (suc w) q e = worker_get f qs w q e
 
-pub worker_none : {Q O : Type 0} (f : Q → List O) (qs : List Q) (w : ℕ) → slice_get qs w ≡ None → of_worker (map f qs) w ≡ []
-worker_none f [] w e = refl
-worker_none f (x ∷ qs) zero e = let never : ⊥ = cc in absurd never
-worker_none f (x ∷ qs) (suc w) e = worker_none f qs w e
-
 -- the list that is read at a worker
 pub worker_read : {Q O : Type 0} (f : Q → List O) (qs : List Q) (w : ℕ) (q : Q) → w < length qs → q ≡ get_or qs w q → of_worker (map f qs) w ≡ f q
 worker_read f qs w q lt e = worker_get f qs w q (slice_get_read qs (length qs) w q refl lt e)

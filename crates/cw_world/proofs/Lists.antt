@@ -44,30 +44,6 @@ newest_is [] x e = absurd (subst IsSomeOf (sym e) tt)
 newest_is (y ∷ []) x e = ap (λ z. z ∷ []) (some_is y x e)
 newest_is (y ∷ (z ∷ zs)) x e = ap (λ l. y ∷ l) (newest_is (z ∷ zs) x e)
 
-pub newest_map : {A B : Type 0} (f : A → B) (xs : List A) (x : A) → newest xs ≡ Some x → newest (map f xs) ≡ Some (f x)
-newest_map f [] x e = absurd (subst IsSomeOf (sym e) tt)
-newest_map f (y ∷ []) x e = ap (λ z. Some (f z)) (some_is y x e)
-newest_map f (y ∷ (z ∷ zs)) x e = newest_map f (z ∷ zs) x e
-
-pub but_newest_map : {A B : Type 0} (f : A → B) (xs : List A) → but_newest (map f xs) ≡ map f (but_newest xs)
-but_newest_map f [] = refl
-but_newest_map f (y ∷ []) = refl
-but_newest_map f (y ∷ (z ∷ zs)) = ap (λ l. f y ∷ l) (but_newest_map f (z ∷ zs))
-
-pub but_oldest_map : {A B : Type 0} (f : A → B) (xs : List A) → but_oldest (map f xs) ≡ map f (but_oldest xs)
-but_oldest_map f [] = refl
-but_oldest_map f (y ∷ ys) = refl
-
-pub pushed_map : {A B : Type 0} (f : A → B) (xs : List A) (x : A) → map f (xs ++ x ∷ []) ≡ map f xs ++ f x ∷ []
-pushed_map f [] x = refl
-pushed_map f (y ∷ ys) x = ap (λ l. f y ∷ l) (pushed_map f ys x)
-
--- a worker's list under a map
-pub of_worker_map : {A B : Type 0} (f : A → B) (ls : List (List A)) (w : ℕ) → of_worker (map (map f) ls) w ≡ map f (of_worker ls w)
-of_worker_map f [] w = refl
-of_worker_map f (l ∷ ls) zero = refl
-of_worker_map f (l ∷ ls) (suc w) = of_worker_map f ls w
-
 pub of_worker_set : {A : Type 0} (ls : List (List A)) (w : ℕ) (l : List A) → w < length ls → of_worker (slice_set ls w l) w ≡ l
 of_worker_set [] w l h = absurd (omega arith)
 of_worker_set (x ∷ ls) zero l h = refl

@@ -18,23 +18,6 @@ use Rattle.cw_world.proofs.Lists.{none_from_length}
 true_false : true ≡ false → ⊥
 true_false e = cc
 
-pub stopped_at_sync : (s : Strand) → HasStopped s → IsAtSync s
-stopped_at_sync s h e = true_false (sym h ∙ ap stops e)
-
-pub waits_not_stopped : (s : Strand) → IsWaiting s → HasStopped s → ⊥
-waits_not_stopped s w h = true_false (sym h ∙ ap stops w)
-
--- the flag is right where it says whether the strand has stopped
-pub stands_stopped : (p : Posted) → (p.at_join ≡ true → HasStopped p.strand) → (IsAtSync p.strand → p.at_join ≡ false → IsWaiting p.strand) → p.outs ≢ [] → StandsRight p
-stands_stopped p stopped waits some = (
-  (λ j. (stopped_at_sync p.strand (stopped j), some)),
-  λ h _. by_flag p.at_join refl h,
-)
-  where
-    by_flag : (b : Bool) → p.at_join ≡ b → HasStopped p.strand → p.at_join ≡ true
-    by_flag true e h = e
-    by_flag false e h = absurd (waits_not_stopped p.strand (waits (stopped_at_sync p.strand h) e) h)
-
 -- with nothing out no flag is set
 pub stands_none : (p : Posted) → p.at_join ≡ false → p.outs ≡ [] → StandsRight p
 stands_none p e none = ((λ j. absurd (true_false (sym j ∙ e))), λ _ some. absurd (some none))
@@ -98,11 +81,6 @@ steps_to_spawn old new jobs jobs' job n os of stands k j =
       stays = record { numbered = n; of = of; running = k.0; outs_are = os; left_are = k.1; stands = stands };
       jobs_are = j;
     })
-
--- it has ended
-pub steps_to_end : (old new : Posted) (jobs jobs' : List Job) (e : Effect) → new.number ≡ old.number → length old.outs ≡ length (outs old.strand)
-    → KeptBy (step.Ended e) old.strand new.strand → jobs' ≡ jobs → Steps (Ok (Some e)) old new jobs jobs'
-steps_to_end old new jobs jobs' e n even k j = ((n, k.0, none_out old.outs (outs old.strand) even k.1), j)
 
 -- the newest job out came back: what the post comes to is told of the post that lacked it
 pub comes_back : (r : Option Effect) (old mid new : Posted) (job : Job) (others : List Job) → mid.number ≡ old.number → mid.outs ≡ old.outs → its_job mid.strand ≡ its_job old.strand

@@ -48,10 +48,6 @@ module _ (qs : List (Vec Begun Global)) (w : ℕ) (q q' : Vec Begun Global) wher
 pub there : (qs : List (Vec Begun Global)) (w : ℕ) → newest (of_worker (map stages qs) w) ≢ None → w < length qs
 there qs w some = newest_there stages qs w some
 
--- the list that has room is the one that is read
-pub is_read : (qs : List (Vec Begun Global)) (w : ℕ) (v q : Vec Begun Global) → slice_get qs w ≡ Some v → q ≡ get_or qs w q → q ≡ v
-is_read qs w v q e h = h ∙ get_or_from_slice_get qs w v q e
-
 last_at : {O : Type 0} (l : List O) (k : ℕ) → k + 1 ≡ length l → newest l ≡ slice_get l k
 last_at [] k e = absurd (omega (arith, e))
 last_at (x ∷ []) zero e = refl

@@ -1,5 +1,6 @@
 -- The board: each worker's deque, and the effects that wait in their cells, each with its number.
-use Rattle.std.specs.Prelude.{◌≡◌, ℕ, nat_eq, List, [], ◌∷◌, map, Option, Some, None, slice_get, slice_set, position, replicate, ◌<◌, ◌≤◌}
+use Rattle.std.specs.Prelude.{◌≡◌, ℕ, nat_eq, List, [], ◌∷◌, map, Option, Some, None, slice_get, slice_set, position}
+use Rattle.std.specs.Prelude.{replicate, ◌<◌, ◌≤◌}
 use Rattle.std.specs.Global.{Vec}
 use Rattle.std.specs.Vec.{vec_len, vec_capacity}
 use Rattle.std.specs.VecDeque.{deque_len, deque_capacity}

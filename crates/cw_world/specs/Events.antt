@@ -1,5 +1,6 @@
 -- What each event does.
-use Rattle.std.specs.Prelude.{◌≡◌, ◌≢◌, ◌⊎◌, ℕ, ◌<◌, ℤ, Result, Ok, Err, slice_get, List, [], length, Option, Some, None, slice_set}
+use Rattle.std.specs.Prelude.{◌≡◌, ◌≢◌, ◌⊎◌, ℕ, ◌<◌, ℤ, Result, Ok, Err, slice_get, List, [], length, Option, Some}
+use Rattle.std.specs.Prelude.{None, slice_set}
 use Rattle.std.specs.Global.{Vec}
 use Rattle.std.specs.Vec.{vec_len, vec_capacity}
 use Rattle.cw_model.specs.declared.burden.Burden.{Burden}

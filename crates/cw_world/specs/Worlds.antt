@@ -124,8 +124,8 @@ abbrev pub Leads : List Event → (old new : World) → Type 0
 Leads [] old new = new ≡ old
 Leads (event ∷ events) old new = (mid : World) × Tries old event mid × Leads events mid new
 
--- what a list of events comes to: what the world answers that they lead to from one that has begun, if it has ended, and
--- that is what the code gives, or memory
+-- what a list of events comes to: what the world answers that they lead to from one that has begun, if it has
+-- ended, and that is what the code gives, or memory
 pub record Played (v : Verified) (args : List ℤ) (n : ℕ) (burden : Burden) (workers : ℕ)
     (events : List Event) (outcome : Option (Result alone.Ended Fault)) : Type 0 where
   pub first : World

@@ -56,9 +56,3 @@ duty_view c (Duty d b n j) m is o q = dite (ℕ_discrete d c) (λ e. open_duty c
 -- a duty that was not yet begun is one for some job
 pub duties : (c : ℕ) (m : Me (Option Effect) CellView) → is_duty c m.0 ≡ true → m.1 ≡ [] → OnDuties c m
 duties c m o q = duty_view c m.0 m refl o q
-
-pub duty_now : (c n : ℕ) (j : Job) → is_duty c (Duty c false n j) ≡ true
-duty_now c n j = ap (λ b. if b then true else false) (eq-eqb c c refl)
-
-pub duty_of : (c n : ℕ) (j : Job) (m : Me (Option Effect) CellView) → m ≡ (Duty c false n j, []) → is_duty c m.0 ≡ true
-duty_of c n j m e = subst (λ (x : Me (Option Effect) CellView). is_duty c x.0 ≡ true) (sym e) (duty_now c n j)

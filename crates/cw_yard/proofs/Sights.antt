@@ -95,10 +95,3 @@ shares id v s h at = (
       let m = same_marked s.views id z.1.0 v at z.1.1 in inr (z.0, (m.0, before_at (set s.views id v) Unseen Marked m.0 m.1)))
       h.2,
 )
-
-pub opens_unseen : Ends (opening (0 ∷ []) [] Unseen)
-opens_unseen = (0, refl, inl (refl, λ id v e. one id v e))
-  where
-    one : (id : ℕ) (v : MarkView) → get_elem? (Unseen ∷ []) id ≡ some v → v ≡ Unseen
-    one zero v e = sym (some-injective Unseen v e)
-    one (suc id) v e = absurd (some-ne-none v (sym e))

@@ -1,6 +1,7 @@
 -- What ties seats, tickets and duties to their yard.
 use Rattle.std.specs.Prelude.{◌≡◌, ◌≤◌, ◌++◌, ◌⊎◌, ℕ, false, List, [], ◌∷◌, length, slice_get, Option, Some, None}
-use Rattle.crossbeam_deque.specs.Handles.{view, IsPassOf, stealer_deque, worker_view, worker_flavor, worker_capacity, worker_index}
+use Rattle.crossbeam_deque.specs.Handles.{view, IsPassOf, stealer_deque, worker_view, worker_flavor, worker_capacity}
+use Rattle.crossbeam_deque.specs.Handles.{worker_index}
 use Rattle.crossbeam_utils.specs.Padded.{padded_value}
 use Rattle.atomic_table.specs.Seated.{TableId}
 use Rattle.cw_jobs.specs.declared.job.Job.{Job}

@@ -4,10 +4,13 @@ use Rattle.std.specs.Prelude.{if◌then◌else◌, not, ◌||◌, nat_le}
 use Rattle.std.specs.List.{list_all}
 use Rattle.cw_model.specs.declared.limits.TheConstants.{MOST_GRAIN}
 use Rattle.cw_model.specs.Lines.{unless}
-use Rattle.cw_model.specs.Syntax.{Name, Expr, Stmt, Declare, DeclareArray, Assign, AssignElement, Reduce, Call, Start, Begin, Sync, If, IfElse, While, For, Scope, Cut, Region, Print, Return, Block, End, Then, Program}
+use Rattle.cw_model.specs.Syntax.{Name, Expr, Stmt, Declare, DeclareArray, Assign, AssignElement, Reduce, Call, Start}
+use Rattle.cw_model.specs.Syntax.{Begin, Sync, If, IfElse, While, For, Scope, Cut, Region, Print, Return, Block, End}
+use Rattle.cw_model.specs.Syntax.{Then, Program}
 use Rattle.cw_model.specs.Names.{same_name, is_among}
 use Rattle.cw_model.specs.Captured.{declared_in, declared_in_block}
-use Rattle.cw_model.specs.Typing.{Known, is_fine, is_int, is_array, is_new, is_head_of_loop, is_cut, ends_block, surely_returns, faults_in, faults_in_block, declares, Returns, Nowhere}
+use Rattle.cw_model.specs.Typing.{Known, is_fine, is_int, is_array, is_new, is_head_of_loop, is_cut, ends_block}
+use Rattle.cw_model.specs.Typing.{surely_returns, faults_in, faults_in_block, declares, Returns, Nowhere}
 use Rattle.cw_model.specs.lemmas.Kept.{left_none, right_none, kept}
 use Rattle.cw_loops.specs.lemmas.Tests.{both_true, not_true}
 use Rattle.cw_loops.specs.lemmas.Naming.{Placed, at_front, after_it, placed, Side, in_first, in_second, side}

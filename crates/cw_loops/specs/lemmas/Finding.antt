@@ -1,11 +1,13 @@
 -- Functions that are found by their names, among those of a lowered program.
-use Rattle.std.proofs.Common.{◌≡◌, ℕ, ◌+◌, ◌≤◌, Bool, true, false, List, [], ◌∷◌, ◌++◌, arith, refl, sym, ◌∙◌, ap, append_assoc, subst}
+use Rattle.std.proofs.Common.{◌≡◌, ℕ, ◌+◌, ◌≤◌, Bool, true, false, List, [], ◌∷◌, ◌++◌, arith, refl, sym, ◌∙◌, ap}
+use Rattle.std.proofs.Common.{append_assoc, subst}
 use Rattle.std.specs.Prelude.{if◌then◌else◌}
 use Rattle.std.specs.List.{list_all}
 use Rattle.cw_model.specs.Syntax.{Name, Function}
 use Rattle.cw_model.specs.Names.{same_name}
 use Rattle.cw_model.specs.Meaning.{no_function, function_named}
-use Rattle.cw_loops.specs.Lowered.{is_plain, loop_name, loop_count_in, made_in, lower_function, lower_functions, made_of}
+use Rattle.cw_loops.specs.Lowered.{is_plain, loop_name, loop_count_in, made_in, lower_function, lower_functions}
+use Rattle.cw_loops.specs.Lowered.{made_of}
 use Rattle.cw_loops.specs.Lowerable.{can_lower_function}
 use Rattle.cw_loops.specs.lemmas.Tests.{both_true}
 use Rattle.cw_loops.specs.lemmas.Apart.{same_itself, plain_apart, apart_plain}
@@ -34,11 +36,15 @@ found_numbered [] pre k h skips = tt
 found_numbered (f ∷ made) pre k h skips =
     let here : function_named f.name (f ∷ made) ≡ f =
     ap (λ b. if b then f else function_named f.name made) (same_itself f.name) in
-    let skip : function_named f.name (pre ++ f ∷ made) ≡ function_named f.name (f ∷ made) = subst (λ n. function_named n (pre ++ f ∷ made) ≡ function_named n (f ∷ made)) (sym h.0) (skips k (omega arith) (f ∷ made)) in (
+    let skip : function_named f.name (pre ++ f ∷ made) ≡ function_named f.name (f ∷ made) = subst
+        (λ n. function_named n (pre ++ f ∷ made) ≡ function_named n (f ∷ made)) (sym h.0) (skips k (omega arith) (f
+        ∷ made)) in (
       skip ∙ here,
-      subst (λ t. Found t made) (append_assoc pre (f ∷ []) made) (found_numbered made (pre ++ f ∷ []) (k + 1) h.1 (λ j le rest.
+      subst (λ t. Found t made) (append_assoc pre (f ∷ []) made) (found_numbered made (pre ++ f ∷ []) (k + 1) h.1
+          (λ j le rest.
           ap (function_named (loop_name j)) (append_assoc pre (f ∷ []) rest) ∙ skips j (omega arith) (f ∷ rest)
-          ∙ ap (λ b. if b then f else function_named (loop_name j) rest) (ap (λ n. same_name (loop_name j) n) h.0 ∙ loops_apart j k (omega arith)))),
+          ∙ ap (λ b. if b then f else function_named (loop_name j) rest) (ap (λ n. same_name (loop_name j) n) h.0
+              ∙ loops_apart j k (omega arith)))),
     )
 
 lowered_plain : (all0 fs : List Function) (k : ℕ) → list_all (can_lower_function all0) fs ≡ true → (j : ℕ) →

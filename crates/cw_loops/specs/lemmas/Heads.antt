@@ -6,7 +6,8 @@ use Rattle.cw_model.specs.Lines.{unless}
 use Rattle.cw_model.specs.Syntax.{Name, Param, Function, Program}
 use Rattle.cw_model.specs.Names.{same_name, is_among, differ}
 use Rattle.cw_model.specs.Answers.{main_name}
-use Rattle.cw_model.specs.Typing.{Known, is_known, is_int, is_array, globals, block_returns, known_of, is_head, faults_of, repeated_names, IsWellTyped}
+use Rattle.cw_model.specs.Typing.{Known, is_known, is_int, is_array, globals, block_returns, known_of, is_head}
+use Rattle.cw_model.specs.Typing.{faults_of, repeated_names, IsWellTyped}
 use Rattle.cw_model.specs.lemmas.Kept.{left_none, right_none, kept}
 use Rattle.cw_loops.specs.Lowerable.{integers_of, arrays_of}
 use Rattle.cw_loops.specs.lemmas.Tests.{both_true, not_true, never, none_of, either_right}

@@ -1,7 +1,8 @@
 -- Names that are known, and those that a statement makes known.
 use Rattle.std.proofs.Common.{◌≡◌, Bool, true, false, List, [], ◌∷◌, refl}
 use Rattle.std.specs.Prelude.{if◌then◌else◌, not, ◌||◌, map}
-use Rattle.cw_model.specs.Syntax.{Name, Expr, Stmt, Declare, DeclareArray, Assign, AssignElement, Reduce, Call, Start, Begin, Sync, If, IfElse, While, For, Scope, Cut, Region, Print, Return, Program}
+use Rattle.cw_model.specs.Syntax.{Name, Expr, Stmt, Declare, DeclareArray, Assign, AssignElement, Reduce, Call, Start}
+use Rattle.cw_model.specs.Syntax.{Begin, Sync, If, IfElse, While, For, Scope, Cut, Region, Print, Return, Program}
 use Rattle.cw_model.specs.Names.{same_name, is_among}
 use Rattle.cw_model.specs.Typing.{Known, is_known, is_int, is_array, is_new, globals, declares}
 use Rattle.cw_model.specs.Ownership.{known_after}

@@ -1,6 +1,9 @@
 -- What loops are made into: as many functions, named by numbers in turn.
-use Rattle.std.proofs.Common.{◌≡◌, ℕ, suc, ◌+◌, ◌<◌, false, List, [], ◌∷◌, ◌++◌, length, arith, refl, sym, ◌∙◌, subst, length-append, ap}
-use Rattle.cw_model.specs.Syntax.{Stmt, Declare, DeclareArray, Assign, AssignElement, Reduce, Call, Start, Begin, Sync, If, IfElse, While, For, Scope, Cut, Region, Print, Return, Block, End, Then, Function}
+use Rattle.std.proofs.Common.{◌≡◌, ℕ, suc, ◌+◌, ◌<◌, false, List, [], ◌∷◌, ◌++◌, length, arith, refl, sym, ◌∙◌, subst}
+use Rattle.std.proofs.Common.{length-append, ap}
+use Rattle.cw_model.specs.Syntax.{Stmt, Declare, DeclareArray, Assign, AssignElement, Reduce, Call, Start, Begin}
+use Rattle.cw_model.specs.Syntax.{Sync, If, IfElse, While, For, Scope, Cut, Region, Print, Return, Block, End, Then}
+use Rattle.cw_model.specs.Syntax.{Function}
 use Rattle.cw_model.specs.Names.{same_name}
 use Rattle.cw_tree.specs.Resolved.{function_names}
 use Rattle.cw_loops.specs.Lowered.{loop_name, loop_count, loop_count_in, lower_functions, made_by, made_in, made_of}

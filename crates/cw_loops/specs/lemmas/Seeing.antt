@@ -4,19 +4,28 @@ use Rattle.std.specs.Prelude.{if◌then◌else◌, not, ◌&&◌, ◌||◌, Opti
 use Rattle.std.specs.List.{list_all}
 use Rattle.cw_model.specs.Lines.{unless}
 use Rattle.cw_model.specs.declared.syntax.CallKind.{CallKind}
-use Rattle.cw_model.specs.Syntax.{Name, Expr, Number, Variable, Element, Length, Negative, Not, Binary, Stmt, Declare, DeclareArray, Assign, AssignElement, Reduce, Call, Start, Begin, Sync, If, IfElse, While, For, Scope, Cut, Region, Print, Return, Block, End, Then, Param, Function, Program}
+use Rattle.cw_model.specs.Syntax.{Name, Expr, Number, Variable, Element, Length, Negative, Not, Binary, Stmt, Declare}
+use Rattle.cw_model.specs.Syntax.{DeclareArray, Assign, AssignElement, Reduce, Call, Start, Begin, Sync, If, IfElse}
+use Rattle.cw_model.specs.Syntax.{While, For, Scope, Cut, Region, Print, Return, Block, End, Then, Param, Function}
+use Rattle.cw_model.specs.Syntax.{Program}
 use Rattle.cw_model.specs.Names.{same_name, is_among, differ}
 use Rattle.cw_model.specs.Meaning.{function_named}
 use Rattle.cw_model.specs.Answers.{main_name}
 use Rattle.cw_model.specs.Captured.{read_by, read_by_all, read_in, read_in_block, declared_in, declared_in_block}
-use Rattle.cw_model.specs.Typing.{Known, is_int, is_array, is_fine, is_new, is_reducer, is_argument, are_arguments, called, is_target, is_call, is_head_of_loop, may_return, ends_block, surely_returns, faults_in, faults_in_block, declares, Returns, Nowhere, WithInt, Alone}
-use Rattle.cw_model.specs.Ownership.{Around, InLoop, for_head, is_outer, may_read, may_write, are_free, are_inner, names_in, arrays_given, given, target_names, known_after, Taken, Declared, Closing, Leaves, Joins, CutOf, taken_after, declared_by, owner_faults, owner_faults_in}
+use Rattle.cw_model.specs.Typing.{Known, is_int, is_array, is_fine, is_new, is_reducer, is_argument, are_arguments}
+use Rattle.cw_model.specs.Typing.{called, is_target, is_call, is_head_of_loop, may_return, ends_block, surely_returns}
+use Rattle.cw_model.specs.Typing.{faults_in, faults_in_block, declares, Returns, Nowhere, WithInt, Alone}
+use Rattle.cw_model.specs.Ownership.{Around, InLoop, for_head, is_outer, may_read, may_write, are_free, are_inner}
+use Rattle.cw_model.specs.Ownership.{names_in, arrays_given, given, target_names, known_after, Taken, Declared}
+use Rattle.cw_model.specs.Ownership.{Closing, Leaves, Joins, CutOf, taken_after, declared_by, owner_faults}
+use Rattle.cw_model.specs.Ownership.{owner_faults_in}
 use Rattle.cw_model.specs.lemmas.Kept.{left_none, right_none, kept}
 use Rattle.cw_loops.specs.Lowered.{is_plain}
 use Rattle.cw_loops.specs.SourceLike.{is_source_expr, is_source_stmt, is_source_block, is_source_target}
 use Rattle.cw_loops.specs.lemmas.Tests.{both_true, not_true, never, none_of}
 use Rattle.cw_loops.specs.lemmas.Apart.{same_are}
-use Rattle.cw_loops.specs.lemmas.Naming.{Placed, at_front, after_it, placed, Side, in_first, in_second, side, none_any, among_left, among_right, front_among, later_among}
+use Rattle.cw_loops.specs.lemmas.Naming.{Placed, at_front, after_it, placed, Side, in_first, in_second, side}
+use Rattle.cw_loops.specs.lemmas.Naming.{none_any, among_left, among_right, front_among, later_among}
 use Rattle.cw_loops.specs.lemmas.Knowing.{Adds, an_int, an_array, nothing, adds, known_more, known_array_more}
 use Rattle.cw_loops.specs.lemmas.Declaring.{HeadKept, head_kept, CutKept, cut_kept}
 
@@ -407,8 +416,10 @@ module _ (program : Program) (fs : List Function) (fs_is : program.functions ≡
       go (in_second p) =
           seen_before around known l true (r ∷ declared_in_block b) declared x
           (later_among x l (r ∷ declared_in_block b)) (front_among l (r ∷ declared_in_block b))
-          (seen_before around ((l, true) ∷ known) r true (declared_in_block b) (r ∷ declared_in_block b) x (later_among x r (declared_in_block b)) (front_among r (declared_in_block b))
-          (more Nowhere ((r, true) ∷ (l, true) ∷ known) (r ∷ l ∷ owners) around inside_known (depth + 1) Joins ((a, CutOf) ∷ taken) [] s3.1 (right_none _ _ types) (right_none _ _ owns) x p))
+          (seen_before around ((l, true) ∷ known) r true (declared_in_block b) (r ∷ declared_in_block b) x
+              (later_among x r (declared_in_block b)) (front_among r (declared_in_block b))
+          (more Nowhere ((r, true) ∷ (l, true) ∷ known) (r ∷ l ∷ owners) around inside_known (depth + 1) Joins
+              ((a, CutOf) ∷ taken) [] s3.1 (right_none _ _ types) (right_none _ _ owns) x p))
 
   -- a statement before others
   later_seen : (s : Stmt) (known : Known) (around : Around) (rest : List Name) (x : Name) →
@@ -440,8 +451,10 @@ module _ (program : Program) (fs : List Function) (fs_is : program.functions ≡
           (here returns known owners around same depth line taken both.0 (left_none _ _ types) (left_none _ _ owns) x
           p)
       go (in_second p) = later_seen s known around (declared_in_block b) x
-          (more returns (declares s known) (known_after owners s) around (after_known s known owners same) depth closing (taken_after fs depth s taken) (declared_by line s declared) both.1
-          (right_none (unless (not (surely_returns s) || ends_block b) line) _ (right_none (faults_in program returns known line s) _ types)) (right_none _ _ owns) x p)
+          (more returns (declares s known) (known_after owners s) around (after_known s known owners same) depth
+              closing (taken_after fs depth s taken) (declared_by line s declared) both.1
+          (right_none (unless (not (surely_returns s) || ends_block b) line) _
+              (right_none (faults_in program returns known line s) _ types)) (right_none _ _ owns) x p)
 
   returned_seen : (e : Expr) (returns : Returns) (known : Known) → may_return returns known (Some e) ≡ true →
       is_fine known e ≡ true

@@ -6,8 +6,10 @@ use Rattle.cw_model.specs.declared.burden.Edges.TheVariants.{Spawn, Both}
 use Rattle.cw_model.specs.declared.burden.Burden.{Burden}
 use Rattle.cw_model.specs.Burdens.{on_returns, at_child, at_rest}
 use Rattle.cw_model.specs.Trees.{Event, Work, Series, Fork, Join, burdened_span, tree_of}
-use Rattle.cw_measure.specs.Counters.{exactly, Counters, Unsynced, Synced, later, onward, fresh, heaviest, of_event, of_events}
-use Rattle.cw_measure.specs.BlockWeights.{BlockWeight, Straight, Split, now_of, gone_on, child_ended, top_of, after, after_all, BlocksWeighTheirSpans}
+use Rattle.cw_measure.specs.Counters.{exactly, Counters, Unsynced, Synced, later, onward, fresh, heaviest, of_event}
+use Rattle.cw_measure.specs.Counters.{of_events}
+use Rattle.cw_measure.specs.BlockWeights.{BlockWeight, Straight, Split, now_of, gone_on, child_ended, top_of, after}
+use Rattle.cw_measure.specs.BlockWeights.{after_all, BlocksWeighTheirSpans}
 use Rattle.cw_measure.specs.SumLaws.{exactly_is}
 use Rattle.cw_measure.specs.CounterLaws.{onward-assoc, onward-fresh_first, onward-fresh_last, heaviest-of_events}
 

@@ -2,7 +2,8 @@
 use Rattle.std.specs.Prelude.{◌≡◌, ℕ, ◌+◌, ◌-◌, Bool, true, false, List, [], ◌∷◌, ◌++◌, Option, Some, None, refl}
 use Rattle.std.proofs.Common.{sym, ◌∙◌, ap, subst, arith}
 use Rattle.cw_model.specs.Trees.{Mark, Tree, Leaf, Seq, Par, Event, Work, Series, Fork, Join, tree_of, parts_of, work}
-use Rattle.cw_measure.specs.OpenParts.{Open, marked, part_of, event_of, closed, spawned_after, has_spawned_from, has_spawned, IsSince, sum_in, work_in}
+use Rattle.cw_measure.specs.OpenParts.{Open, marked, part_of, event_of, closed, spawned_after, has_spawned_from}
+use Rattle.cw_measure.specs.OpenParts.{has_spawned, IsSince, sum_in, work_in}
 
 -- a sum over the parts of a tree
 pub record Adds (F : Tree → ℕ) : Type 0 where

@@ -1,12 +1,15 @@
 -- Lemmas of tallies: the calls of a run keep the sums over its outermost parts.
-use Rattle.std.specs.Prelude.{◌≡◌, ℕ, zero, suc, ◌+◌, ◌==◌, ◌≤◌, ◌<◌, Bool, true, false, if◌then◌else◌, List, [], ◌∷◌, ◌++◌, Option, Some, None, sum_by, refl}
+use Rattle.std.specs.Prelude.{◌≡◌, ℕ, zero, suc, ◌+◌, ◌==◌, ◌≤◌, ◌<◌, Bool, true, false, if◌then◌else◌, List, [], ◌∷◌}
+use Rattle.std.specs.Prelude.{◌++◌, Option, Some, None, sum_by, refl}
 use Rattle.std.proofs.Common.{sym, ◌∙◌, ap, subst, true≢false, arith}
 use borrow.Author.Tests.{eqb-true}
 use Rattle.std.proofs.lemmas.List.Sums.{sum_by-append}
 use Rattle.cw_model.specs.Trees.{Mark, Tree, Leaf, Seq, Par, Marked, Event, Work, Join, tree_of}
 use Rattle.cw_model.specs.Rows.{outermost}
 use Rattle.cw_measure.specs.OpenParts.{Open, marked, event_of, closed, has_spawned, sum_in}
-use Rattle.cw_measure.specs.Outermost.{is_counted, one_if, active_in, outer_sum, outer_in, Reading, Meters, BeganAt, Began, Tally, begun_at, begun, ended_at, ended, Counts, TalliesKeep, unless_at, unless_open, joined_tally}
+use Rattle.cw_measure.specs.Outermost.{is_counted, one_if, active_in, outer_sum, outer_in, Reading, Meters, BeganAt}
+use Rattle.cw_measure.specs.Outermost.{Began, Tally, begun_at, begun, ended_at, ended, Counts, TalliesKeep, unless_at}
+use Rattle.cw_measure.specs.Outermost.{unless_open, joined_tally}
 use Rattle.cw_measure.specs.lemmas.OpenParts.{Adds, tree_in, adds_none, adds_more, adds_append, tree_in-part_of}
 
 outer_adds : (f : Tree → ℕ) (picks : Mark → Bool) (n : ℕ) → Adds (outer_sum f picks n)

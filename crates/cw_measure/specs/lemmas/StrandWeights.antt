@@ -2,13 +2,17 @@
 use Rattle.std.specs.Prelude.{◌≡◌, ℕ, ◌+◌, ◌-◌, ◌≤◌, Bool, true, false, List, [], ◌∷◌, ◌++◌, Option, Some, None, refl}
 use Rattle.std.proofs.Common.{sym, ◌∙◌, ap, subst, arith}
 use Rattle.cw_model.specs.declared.burden.Burden.{Burden}
-use Rattle.cw_model.specs.Trees.{Mark, Tree, Leaf, Seq, Par, Marked, Event, Work, Series, Fork, Join, tree_of, work, burdened_span}
+use Rattle.cw_model.specs.Trees.{Mark, Tree, Leaf, Seq, Par, Marked, Event, Work, Series, Fork, Join, tree_of, work}
+use Rattle.cw_model.specs.Trees.{burdened_span}
 use Rattle.cw_measure.specs.declared.burdened_path.BurdenedBlock.{BurdenedBlock}
 use Rattle.cw_measure.specs.declared.burdened_path.BurdenedPath.{BurdenedPath}
-use Rattle.cw_measure.specs.OpenParts.{Open, in_series, marked, part_of, event_of, closed, spawned_after, has_spawned_from, has_spawned, work_in}
+use Rattle.cw_measure.specs.OpenParts.{Open, in_series, marked, part_of, event_of, closed, spawned_after}
+use Rattle.cw_measure.specs.OpenParts.{has_spawned_from, has_spawned, work_in}
 use Rattle.cw_measure.specs.Outermost.{Meters}
-use Rattle.cw_measure.specs.BlockWeights.{BlockWeight, Straight, Split, now_of, gone_on, top_of, after, after_all, enters, block_weight, weight_in, burdened_work, charge_if, burdened_work_in}
-use Rattle.cw_measure.specs.StrandWeights.{StrandWeight, reversed, strand_weight, noted_at, StandsOn, Under, ShowsWeight, TellsLate, TellsWeight, SeriesNeedNoCall}
+use Rattle.cw_measure.specs.BlockWeights.{BlockWeight, Straight, Split, now_of, gone_on, top_of, after, after_all}
+use Rattle.cw_measure.specs.BlockWeights.{enters, block_weight, weight_in, burdened_work, charge_if, burdened_work_in}
+use Rattle.cw_measure.specs.StrandWeights.{StrandWeight, reversed, strand_weight, noted_at, StandsOn, Under}
+use Rattle.cw_measure.specs.StrandWeights.{ShowsWeight, TellsLate, TellsWeight, SeriesNeedNoCall}
 use Rattle.cw_measure.specs.lemmas.BlockWeights.{top-after_all, child_charge}
 use Rattle.cw_measure.specs.lemmas.OpenParts.{work_adds, sum_begun, left_work}
 
@@ -29,7 +33,8 @@ abbrev pub is_split : BlockWeight → Bool
 is_split (Straight n) = false
 is_split (Split l n) = true
 
-split_after : (burden : Burden) (L : BlockWeight) (e : Event) → is_split (after burden L e) ≡ spawned_after (is_split L) e
+split_after : (burden : Burden) (L : BlockWeight) (e : Event)
+    → is_split (after burden L e) ≡ spawned_after (is_split L) e
 split_after burden (Straight n) (Work k) = refl
 split_after burden (Split l n) (Work k) = refl
 split_after burden (Straight n) (Series t) = refl
@@ -259,5 +264,6 @@ late_ended burden o os es path b n h =
     let P : ℕ → Type 0 = λ k. TellsWeight burden os (closed o es) (noted_at k path) in
     record {
       late = omega arith;
-      tells = subst P (sym e) ((series_need_no_call burden (noted_at (work_in (o ∷ os) es) path)).ends o os es b n h.tells);
+      tells = subst P (sym e) ((series_need_no_call burden (noted_at (work_in (o ∷ os) es) path)).ends o os es b n
+          h.tells);
     }

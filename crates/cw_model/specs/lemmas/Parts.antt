@@ -1,7 +1,8 @@
 -- The tree of a list of events, up to how it is grouped.
 use Rattle.std.proofs.Common.{ℕ, zero, suc, List, [], ◌∷◌, ◌++◌, add-one, add_comm}
 use Rattle.cw_model.specs.Trees.{Tree, Leaf, Seq, Par, Event, Series, Fork, Join, works, parts_of, tree_of}
-use Rattle.cw_model.specs.TreeLaws.{Regrouped, same, back, further, to_the_right, as_one_strand, nothing_before, in_series, in_fork}
+use Rattle.cw_model.specs.TreeLaws.{Regrouped, same, back, further, to_the_right, as_one_strand, nothing_before}
+use Rattle.cw_model.specs.TreeLaws.{in_series, in_fork}
 
 -- the two parts of a list of events, each grouped in some way
 pub record PartsAre (events : List Event) (first second : Tree) : Type 0 where

@@ -1,14 +1,18 @@
 -- Trees that differ only in grouping have one normal form, and all that is read off them is the same.
-use Rattle.std.proofs.Common.{◌≡◌, ℕ, zero, suc, ◌+◌, Bool, true, false, List, [], ◌∷◌, ◌++◌, arith, refl, sym, ◌∙◌, ap, add-zero, suc-add, append_assoc, append-nil}
+use Rattle.std.proofs.Common.{◌≡◌, ℕ, zero, suc, ◌+◌, Bool, true, false, List, [], ◌∷◌, ◌++◌, arith, refl, sym, ◌∙◌}
+use Rattle.std.proofs.Common.{ap, add-zero, suc-add, append_assoc, append-nil}
 use Prim.Native.Nat.add
 use Rattle.std.specs.Prelude.{nat_le, if◌then◌else◌, ◌==◌, sum_by, filter}
 use Rattle.std.proofs.lemmas.List.Sums.{sum_by-append}
 use Rattle.std.proofs.lemmas.List.Elements.{filter-append}
 use Rattle.cw_model.specs.declared.burden.Burden.{Burden}
 use Rattle.cw_model.specs.Burdens.{no_burden}
-use Rattle.cw_model.specs.Trees.{Mark, Tree, Leaf, Seq, Par, Marked, work, span, burdened_span, leaf_before, part_before, before, normal}
-use Rattle.cw_model.specs.Rows.{leaves, chosen_leaves, site_inside, weight_of_site, is_site, is_tag, outermost, calls_of}
-use Rattle.cw_model.specs.TreeLaws.{Regrouped, same, back, further, to_the_right, as_one_strand, nothing_before, nothing_after, in_series, in_fork, in_mark, ReadSame}
+use Rattle.cw_model.specs.Trees.{Mark, Tree, Leaf, Seq, Par, Marked, work, span, burdened_span, leaf_before}
+use Rattle.cw_model.specs.Trees.{part_before, before, normal}
+use Rattle.cw_model.specs.Rows.{leaves, chosen_leaves, site_inside, weight_of_site, is_site, is_tag, outermost}
+use Rattle.cw_model.specs.Rows.{calls_of}
+use Rattle.cw_model.specs.TreeLaws.{Regrouped, same, back, further, to_the_right, as_one_strand, nothing_before}
+use Rattle.cw_model.specs.TreeLaws.{nothing_after, in_series, in_fork, in_mark, ReadSame}
 
 -- two strands before a tree are one
 leaf-leaf_before : (j k : ℕ) (t : Tree) → leaf_before j (leaf_before k t) ≡ leaf_before (j + k) t
@@ -207,7 +211,8 @@ same_chosen site outer (in_series {a = a} {a' = a'} {b = b} {b' = b'} r s) =
       same_chosen site outer s,
     ) refl
 same_chosen site outer (in_fork {child = a} {child' = a'} {rest = b} {rest' = b'} r s) =
-    same_choice site (span b) (span a) (span b') (span a') _ _ _ _ (same_burdened no_burden s) (same_burdened no_burden r)
+    same_choice site (span b) (span a) (span b') (span a') _ _ _ _ (same_burdened no_burden s)
+        (same_burdened no_burden r)
     (same_chosen site outer r) (same_chosen site outer s)
 same_chosen site outer (in_mark mark r) = same_chosen site (site_inside mark outer) r
 

@@ -13,7 +13,8 @@ use Rattle.cw_regions.specs.RegionRows.{row_of, work_tally, span_tally, burdened
 use Rattle.cw_regions.specs.Regions.{Readings, Tags, CountsTag, IsNoExecution, RegionsNeedNoCall}
 
 -- a row for each of its tallies
-row_work : (burden : Burden) (along : Readings burden) (tag : Name) (busy : ℕ) (os : List Open) (es : List Event) (r : Row)
+row_work : (burden : Burden) (along : Readings burden) (tag : Name) (busy : ℕ) (os : List Open) (es : List Event)
+    (r : Row)
     (k : ℕ) → CountsTag burden along tag busy os es r → CountsTag burden along tag busy os (es ++ Work k ∷ []) r
 row_work burden along tag busy os es r k h = record {
   work_is = counts_work work work_in (is_tag tag) busy os es (work_tally r) k h.work_is;
@@ -22,7 +23,8 @@ row_work burden along tag busy os es r k h = record {
       counts_work (burdened_span burden) along.burdened (is_tag tag) busy os es (burdened_tally r) k h.burdened_is;
 }
 
-row_join : (burden : Burden) (along : Readings burden) (tag : Name) (busy : ℕ) (os : List Open) (es : List Event) (r : Row)
+row_join : (burden : Burden) (along : Readings burden) (tag : Name) (busy : ℕ) (os : List Open) (es : List Event)
+    (r : Row)
     → CountsTag burden along tag busy os es r → CountsTag burden along tag busy os (es ++ Join ∷ []) r
 row_join burden along tag busy os es r h = record {
   work_is = counts_join work work_in (is_tag tag) busy os es (work_tally r) h.work_is;
@@ -31,7 +33,8 @@ row_join burden along tag busy os es r h = record {
       counts_join (burdened_span burden) along.burdened (is_tag tag) busy os es (burdened_tally r) h.burdened_is;
 }
 
-pub row_other : (burden : Burden) (along : Readings burden) (tag : Name) (busy : ℕ) (o : Open) (os : List Open) (r : Row)
+pub row_other : (burden : Burden) (along : Readings burden) (tag : Name) (busy : ℕ) (o : Open) (os : List Open)
+    (r : Row)
     → is_counted (is_tag tag) o.mark ≡ false → CountsTag burden along tag busy os o.outer r
     → CountsTag burden along tag busy (o ∷ os) [] r
 row_other burden along tag busy o os r e h = record {

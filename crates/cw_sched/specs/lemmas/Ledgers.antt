@@ -2,7 +2,8 @@
 use Rattle.std.proofs.Common.{◌≡◌, ℕ, Bool, true, false, List, [], ◌∷◌, ◌++◌, refl, ap, ◌∙◌}
 use Rattle.std.specs.Prelude.{is_some, if◌then◌else◌}
 use Rattle.cw_sched.specs.Board.{pushed, oldest, but_newest, but_oldest}
-use Rattle.cw_sched.specs.Ledger.{Fate, Lies, Back, Gone, if_lies, outs, ledger_offer, taken_back, ledger_retake, steal_at, ledger_steal}
+use Rattle.cw_sched.specs.Ledger.{Fate, Lies, Back, Gone, if_lies, outs, ledger_offer, taken_back, ledger_retake}
+use Rattle.cw_sched.specs.Ledger.{steal_at, ledger_steal}
 
 module _ {A : Type 0} where
   lies_on : (f : Fate) (y : A) (xs : List A) (x : A) → if_lies f y (xs ++ x ∷ []) ≡ if_lies f y xs ++ x ∷ []

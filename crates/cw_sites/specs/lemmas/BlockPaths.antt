@@ -4,9 +4,12 @@ use Rattle.std.proofs.Common.{sym, ◌∙◌, ap, subst, inl, inr, arith}
 use Rattle.std.proofs.lemmas.Bool.{cases_lt}
 use Rattle.std.proofs.lemmas.Bool.Decides.{nat_tests}
 use Rattle.cw_model.specs.Trees.{Event, Work, Series, Fork, Join, tree_of}
-use Rattle.cw_sites.specs.ChosenPaths.{Path, nowhere, plus, heavier, steps_of, chosen, PathCounters, Unsynced, Synced, either, best, onward, fresh, reading, of_event, of_events}
+use Rattle.cw_sites.specs.ChosenPaths.{Path, nowhere, plus, heavier, steps_of, chosen, PathCounters, Unsynced, Synced}
+use Rattle.cw_sites.specs.ChosenPaths.{either, best, onward, fresh, reading, of_event, of_events}
 use Rattle.cw_sites.specs.BlockPaths.{BlockPath, Straight, Split, extended, child_ended, finished, after, after_all}
-use Rattle.cw_sites.specs.lemmas.ChosenPaths.{plus-assoc, plus-nowhere_last, takes_first, takes_second, plus-heavier, either-none, onward-assoc, onward-fresh_first, onward-fresh_last, reading-of_events}
+use Rattle.cw_sites.specs.lemmas.ChosenPaths.{plus-assoc, plus-nowhere_last, takes_first, takes_second, plus-heavier}
+use Rattle.cw_sites.specs.lemmas.ChosenPaths.{either-none, onward-assoc, onward-fresh_first, onward-fresh_last}
+use Rattle.cw_sites.specs.lemmas.ChosenPaths.{reading-of_events}
 
 -- what is kept stands for counters whose continuation begins after a path
 abbrev pub StandsAt : (start : Path) (longest : Option Path) (continuation : Path) → BlockPath → Type 0

@@ -1,11 +1,13 @@
 -- Lemmas of chosen paths: they join in any grouping, and the counters of events read that of their tree.
-use Rattle.std.specs.Prelude.{◌≡◌, ℕ, ◌+◌, ◌==◌, ◌≤◌, ◌<◌, Bool, true, false, List, [], ◌∷◌, Option, Some, None, if◌then◌else◌, refl}
+use Rattle.std.specs.Prelude.{◌≡◌, ℕ, ◌+◌, ◌==◌, ◌≤◌, ◌<◌, Bool, true, false, List, [], ◌∷◌, Option, Some, None}
+use Rattle.std.specs.Prelude.{if◌then◌else◌, refl}
 use Rattle.std.proofs.Common.{sym, ◌∙◌, ap, subst, inl, inr, arith}
 use Rattle.std.proofs.lemmas.Bool.{cases_lt}
 use Rattle.std.proofs.lemmas.Bool.Decides.{nat_tests}
 use Rattle.cw_model.specs.Trees.{Tree, Leaf, Seq, Par, Marked, Event, Work, Series, Fork, Join, span, tree_of, parts_of}
 use Rattle.cw_model.specs.Rows.{site_inside}
-use Rattle.cw_sites.specs.ChosenPaths.{Path, nowhere, plus, heavier, steps_of, chosen, PathCounters, Unsynced, Synced, later, either, best, onward, fresh, reading, of_events}
+use Rattle.cw_sites.specs.ChosenPaths.{Path, nowhere, plus, heavier, steps_of, chosen, PathCounters, Unsynced, Synced}
+use Rattle.cw_sites.specs.ChosenPaths.{later, either, best, onward, fresh, reading, of_events}
 
 pub plus-assoc : (a b c : Path) → plus (plus a b) c ≡ plus a (plus b c)
 plus-assoc a b c =

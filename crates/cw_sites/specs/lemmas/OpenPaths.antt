@@ -4,7 +4,8 @@ use Rattle.std.proofs.Common.{sym, ◌∙◌, ap, subst}
 use Rattle.cw_model.specs.Trees.{Mark, Tree, Event, Work, Series, Fork, Join, tree_of}
 use Rattle.cw_measure.specs.OpenParts.{Open, marked, closed, spawned_after, has_spawned_from, has_spawned}
 use Rattle.cw_sites.specs.ChosenPaths.{Path, nowhere, plus, best, steps_of, chosen}
-use Rattle.cw_sites.specs.BlockPaths.{BlockPath, Straight, Split, now_of, extended, longest_of, child_ended, finished, joins as joined, after, after_all}
+use Rattle.cw_sites.specs.BlockPaths.{BlockPath, Straight, Split, now_of, extended, longest_of, child_ended, finished}
+use Rattle.cw_sites.specs.BlockPaths.{joins as joined, after, after_all}
 use Rattle.cw_sites.specs.StrandPaths.{SeenBlock, StrandPath, begins, again, chooses, ends_at, ends, joins}
 use Rattle.cw_sites.specs.OpenPaths.{inside, here_in, enters, block_path, StandsOn, RestsOn, Under, Shows, is_split}
 use Rattle.cw_sites.specs.lemmas.ChosenPaths.{plus-nowhere_first, plus-nowhere_last}

@@ -12,7 +12,8 @@ use Rattle.cw_sites.specs.OpenPaths.{inside, here_in}
 use Rattle.cw_sites.specs.SiteRows.{row_of}
 use Rattle.cw_sites.specs.Laws.{AllRunsAreShown}
 use Rattle.cw_sites.specs.Tables.{IsQuiet, QuietParts}
-use Rattle.cw_sites.specs.lemmas.OpenPaths.{shows_work, shows_entered, shows_spawned, shows_spawned_again, shows_joined, shows_unjoined, shows_left, shows_ended, shows_all}
+use Rattle.cw_sites.specs.lemmas.OpenPaths.{shows_work, shows_entered, shows_spawned, shows_spawned_again}
+use Rattle.cw_sites.specs.lemmas.OpenPaths.{shows_joined, shows_unjoined, shows_left, shows_ended, shows_all}
 use Rattle.cw_sites.specs.lemmas.SiteRows.{row_other, row_other_left}
 
 -- parts that are no invocation

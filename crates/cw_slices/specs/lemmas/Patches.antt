@@ -1,5 +1,7 @@
 -- What is in a block and what is out, place by place, once others are in the place of some cells.
-use Rattle.std.proofs.Common.{◌≡◌, ◌≢◌, ℕ, ◌+◌, ◌-◌, ◌<◌, ◌≤◌, ◌⊎◌, ℤ, Bool, true, List, [], ◌∷◌, ◌++◌, length, take, drop, replicate, Option, Some, None, slice_get, slice_set, refl, sym, ap, ap₂, inl, inr, ◌∙◌, arith}
+use Rattle.std.proofs.Common.{◌≡◌, ◌≢◌, ℕ, ◌+◌, ◌-◌, ◌<◌, ◌≤◌, ◌⊎◌, ℤ, Bool, true, List, [], ◌∷◌, ◌++◌, length, take}
+use Rattle.std.proofs.Common.{drop, replicate, Option, Some, None, slice_get, slice_set, refl, sym, ap, ap₂, inl, inr}
+use Rattle.std.proofs.Common.{◌∙◌, arith}
 use Prim.Native.Nat.{zero, suc}
 use lib.ListN.{length-append, length-drop, length-replicate}
 use lib.Seq.{length-take-le}
@@ -93,12 +95,6 @@ get_ins [] k x e = absurd (none-some (Some x) e)
 get_ins (y ∷ xs) zero x e = same_Some (Some y) (Some x) e
 get_ins (y ∷ xs) (suc k) x e = get_ins xs k x e
 
--- a place of cells that are all out has nothing
-pub outs_get : (n k : ℕ) → k < n → slice_get (outs n) k ≡ Some None
-outs_get zero k lt = absurd (omega (arith, lt))
-outs_get (suc n) zero lt = refl
-outs_get (suc n) (suc k) lt = outs_get n k (omega (arith, lt))
-
 -- as many cells as numbers, and as many as are out
 pub length_ins : (xs : List ℤ) → length (ins xs) ≡ length xs
 length_ins [] = refl
@@ -111,14 +107,6 @@ there : {X : Type 0} (xs : List X) (k : ℕ) → k < length xs → (x : X) × (s
 there [] k lt = absurd (omega (arith, lt))
 there (x ∷ xs) zero lt = (x, refl)
 there (x ∷ xs) (suc k) lt = there xs k (omega (arith, lt))
-
--- so many cells have one list of numbers from a place on
-pub have_same : (cells : Cells) (from : ℕ) (xs ys : List ℤ) → Have cells from xs → Have cells from ys
-    → length xs ≡ length ys → xs ≡ ys
-have_same cells from xs ys hx hy e = same_each xs ys e (λ k x at.
-    let got = there ys k (omega (arith, e, slice_get_within xs k x at)) in
-    let same = same_Some x got.0 (same_Some (Some x) (Some got.0) (sym (hx k x at) ∙ hy k got.0 got.1)) in
-    got.1 ∙ sym (ap (λ (z : ℤ). Some z) same))
 
 -- cells that are all in have their numbers, and no others
 pub have_ins : (xs : List ℤ) → Have (ins xs) 0 xs
@@ -199,70 +187,12 @@ same_or (suc j) (suc k) = up (same_or j k)
     up (inl e) = inl (ap suc e)
     up (inr apart) = inr (λ e. apart (omega (arith, e)))
 
--- another number among those that cells have
-pub have_set : (cells : Cells) (from : ℕ) (xs : List ℤ) (j : ℕ) (y : ℤ) → Have cells from xs → j < length xs
-    → Have (slice_set cells (from + j) (Some y)) from (slice_set xs j y)
-have_set cells from xs j y has lt k x e = by_place (same_or j k)
-  where
-    by_place : (k ≡ j) ⊎ (k ≢ j) → slice_get (slice_set cells (from + j) (Some y)) (from + k) ≡ Some (Some x)
-    by_place (inl is) =
-        let old = there xs j lt in let within = slice_get_within cells (from + j) (Some old.0) (has j old.0 old.1) in
-        let at = same_place (slice_set xs j y) j k (sym is) ∙ e in
-        let same = same_Some y x (sym (set_here xs j y lt) ∙ at) in
-        same_place (slice_set cells (from + j) (Some y)) (from + k) (from + j) (ap (λ (i : ℕ). from + i) is) ∙
-        set_here cells (from + j) (Some y) within ∙ ap (λ (z : ℤ). Some (Some z)) same
-    by_place (inr apart) =
-        set_other cells (from + j) (from + k) (Some y) (λ is. apart (omega (arith, is))) ∙
-        has k x (sym (set_other xs j k y apart) ∙ e)
-
--- another number beside those
-pub have_set_beside : (cells : Cells) (from : ℕ) (xs : List ℤ) (i : ℕ) (c : Option ℤ) → Have cells from xs
-    → (i < from) ⊎ (from + length xs ≤ i) → Have (slice_set cells i c) from xs
-have_set_beside cells from xs i c has beside k x e =
-    set_other cells i (from + k) c (λ is. away beside is) ∙ has k x e
-  where
-    away : (i < from) ⊎ (from + length xs ≤ i) → from + k ≡ i → ⊥
-    away (inl before) is = absurd (omega (arith, before, is))
-    away (inr after) is = absurd (omega (arith, after, is, slice_get_within xs k x e))
-
--- other cells have the numbers that they had, beside those that others are in the place of
-pub have_beside : (from at : ℕ) (new cells : Cells) (xs : List ℤ) → from + length new ≤ length cells
-    → (at + length xs ≤ from) ⊎ (from + length new ≤ at) → Have cells at xs → Have (patched from new cells) at xs
-have_beside from at new cells xs fits (inl before) has k x e =
-    patched_before from new cells fits (at + k) (omega (arith, before, slice_get_within xs k x e)) ∙ has k x e
-have_beside from at new cells xs fits (inr after) has k x e =
-    patched_after from new cells fits (at + k) (omega (arith, after)) ∙ has k x e
-
 -- numbers that were given back are there
 pub have_back : (from : ℕ) (xs : List ℤ) (cells : Cells) → from + length xs ≤ length cells
     → Have (patched from (ins xs) cells) from xs
 have_back from xs cells fits k x e =
     let as_many = length_ins xs in let lt : k < length xs = slice_get_within xs k x e in
     patched_at from (ins xs) cells (omega (arith, fits, as_many)) k (omega (arith, as_many, lt)) ∙ ins_get xs k x e
-
--- what was lent is out
-pub out_there : (from count : ℕ) (cells : Cells) → from + count ≤ length cells
-    → AreOut (patched from (outs count) cells) from count
-out_there from count cells fits k lt =
-    let as_many = length_outs count in
-    patched_at from (outs count) cells (omega (arith, fits, as_many)) k (omega (arith, as_many, lt)) ∙
-    outs_get count k lt
-
--- what was out beside those that others are in the place of is out
-pub out_beside : (from at count : ℕ) (new cells : Cells) → from + length new ≤ length cells
-    → (at + count ≤ from) ⊎ (from + length new ≤ at) → AreOut cells at count → AreOut (patched from new cells) at count
-out_beside from at count new cells fits (inl before) out k lt =
-    patched_before from new cells fits (at + k) (omega (arith, before, lt)) ∙ out k lt
-out_beside from at count new cells fits (inr after) out k lt =
-    patched_after from new cells fits (at + k) (omega (arith, after)) ∙ out k lt
-
--- what is out stays out where a number is written
-pub out_set : (cells : Cells) (at count i : ℕ) (y : ℤ) → IsIn cells i → AreOut cells at count
-    → AreOut (slice_set cells i (Some y)) at count
-out_set cells at count i y is out k lt = set_other cells i (at + k) (Some y) (λ e. none-some is.0 (differ e)) ∙ out k lt
-  where
-    differ : at + k ≡ i → None ≡ Some is.0
-    differ e = same_Some None (Some is.0) (sym (out k lt) ∙ same_place cells (at + k) i e ∙ is.1)
 
 -- each cell has a number and a mark; those that are all in are all marked
 pub length_numbers : (cells : Cells) → length (numbers cells) ≡ length cells
@@ -282,14 +212,6 @@ marks_ins (x ∷ xs) = ap (λ (l : List Bool). true ∷ l) (marks_ins xs)
 -- which places are in: each of cells that are all in
 pub in_ins : (xs : List ℤ) (k : ℕ) → k < length xs → IsIn (ins xs) k
 in_ins xs k lt = let x = there xs k lt in (x.0, ins_get xs k x.0 x.1)
-
--- one that was in, once a number is written anywhere
-pub in_set : (cells : Cells) (i k : ℕ) (y : ℤ) → IsIn cells k → IsIn (slice_set cells i (Some y)) k
-in_set [] i k y is = absurd (none-some (Some is.0) is.1)
-in_set (c ∷ cells) zero zero y is = (y, refl)
-in_set (c ∷ cells) zero (suc k) y is = is
-in_set (c ∷ cells) (suc i) zero y is = is
-in_set (c ∷ cells) (suc i) (suc k) y is = in_set cells i k y is
 
 -- one that was in, beside those that others are in the place of
 pub in_beside : (from : ℕ) (new cells : Cells) (k : ℕ) → from + length new ≤ length cells

@@ -1,5 +1,6 @@
 -- What an instruction does, by the kind of its move.
-use Rattle.std.proofs.Common.{◌≡◌, ℕ, ◌+◌, ◌-◌, ℤ, pos, ◌+ℤ◌, Bool, true, false, nat_lt, if◌then◌else◌, Option, Some, None, List, [], ◌∷◌, length, refl}
+use Rattle.std.proofs.Common.{◌≡◌, ℕ, ◌+◌, ◌-◌, ℤ, pos, ◌+ℤ◌, Bool, true, false, nat_lt, if◌then◌else◌, Option, Some}
+use Rattle.std.proofs.Common.{None, List, [], ◌∷◌, length, refl}
 use Rattle.std.specs.Prelude.{map, take, drop, is_none, slice_get, slice_set}
 use Rattle.cw_model.specs.declared.trap.Trap.{Trap}
 use Rattle.cw_model.specs.declared.trap.Trap.TheVariants as trap
@@ -20,7 +21,12 @@ use Rattle.cw_code.specs.declared.code.Func.{Func}
 use Rattle.cw_code.specs.declared.code.Instr.{Instr}
 use Rattle.cw_code.specs.declared.code.Instr.TheVariants as instr
 use Rattle.cw_code.specs.Code.{Code, reducer_names}
-use Rattle.cw_code.specs.Run.{Slots, State, Transition, On, Stops, Stuck, synced, on_top, on_two, on_slot, is_full, apply_unary, operated, set_array, adds, settled, put_in, Whole, arrays_in, Entering, arguments_of, may_begin, begun, begins, call_of, on_arrays, enter, recur, parts_of, looped, on_range, start, back, opened, opened_region, cut_arrays, may_cut, cuts, Opened, Around, Caller, Block, resumes, closed, uncut_arrays, resumes_uncut, cut_ends, passed_by, act}
+use Rattle.cw_code.specs.Run.{Slots, State, Transition, On, Stops, Stuck, synced, on_top, on_two, on_slot, is_full}
+use Rattle.cw_code.specs.Run.{apply_unary, operated, set_array, adds, settled, put_in, Whole, arrays_in, Entering}
+use Rattle.cw_code.specs.Run.{arguments_of, may_begin, begun, begins, call_of, on_arrays, enter, recur, parts_of}
+use Rattle.cw_code.specs.Run.{looped, on_range, start, back, opened, opened_region, cut_arrays, may_cut, cuts, Opened}
+use Rattle.cw_code.specs.Run.{Around, Caller, Block, resumes, closed, uncut_arrays, resumes_uncut, cut_ends}
+use Rattle.cw_code.specs.Run.{passed_by, act}
 use Rattle.cw_strands.specs.Jobs.{joins}
 use Rattle.cw_strands.specs.Strands.{Turn, Goes, turn_call, turn_in, turn_of}
 
@@ -114,7 +120,8 @@ module _ (code : Code) (s : State) (P : (joins : Bool) → Turn → Transition �
     recurs : (kind : CallKind) (passed : List ℕ) (o : Option Func) →
         P false (turn_call kind None (map (λ a. Whole a) passed)) (recur s kind passed o)
     recurs kind passed None = moves.stuck false (turn_call kind None (map (λ a. Whole a) passed))
-    recurs kind passed (Some f) = with_arrays (turn_call kind None (map (λ a. Whole a) passed)) (arrays_in passed s.arrays) _ (λ given. begin (record {
+    recurs kind passed (Some f) = with_arrays (turn_call kind None (map (λ a. Whole a) passed))
+        (arrays_in passed s.arrays) _ (λ given. begin (record {
       kind = kind;
       site = None;
       target = None;
@@ -186,7 +193,8 @@ module _ (code : Code) (s : State) (P : (joins : Bool) → Turn → Transition �
         by_cut None = moves.stuck true Goes
         by_cut (Some h) =
             part (slice_get (settled s.arrived s.arrays) h.left) _ (λ left.
-            part (slice_get (settled s.arrived s.arrays) h.right) _ (λ right. moves.leaves (uncut_arrays h left right (settled s.arrived s.arrays)) o around e))
+            part (slice_get (settled s.arrived s.arrays) h.right) _
+                (λ right. moves.leaves (uncut_arrays h left right (settled s.arrived s.arrays)) o around e))
 
     -- every instruction is of one of these kinds
     pub acts_by : (o : Option Instr) → P (joins o) (turn_of code o s.around) (act code s o)
@@ -227,6 +235,7 @@ module _ (code : Code) (s : State) (P : (joins : Bool) → Turn → Transition �
     acts_by (Some instr.Close) = closes s.around refl
     acts_by (Some instr.Print) =
         top false Goes _ (λ v rest. moves.local (s.place + 1) rest s.slots s.arrays (v ∷ []) [])
-    acts_by (Some (instr.Reduce k)) = top false Goes _ (λ v rest. names (slice_get (reducer_names code.reducers) k) v rest)
+    acts_by (Some (instr.Reduce k)) = top false Goes _ (λ v rest. names (slice_get (reducer_names code.reducers) k) v
+        rest)
     acts_by (Some instr.ReturnValue) = top true (turn_in s.around) _ (λ v rest. moves.returns (Some v))
     acts_by (Some instr.Return) = moves.returns None

@@ -1,9 +1,12 @@
 -- A run that ends within one budget ends so within each that reaches, and in the same count of instructions.
-use Rattle.std.proofs.Common.{◌≡◌, ℕ, zero, suc, ◌+◌, ◌-◌, ◌≤◌, Bool, true, false, refl, sym, ap, ◌∙◌, subst, inl, inr, arith}
+use Rattle.std.proofs.Common.{◌≡◌, ℕ, zero, suc, ◌+◌, ◌-◌, ◌≤◌, Bool, true, false, refl, sym, ap, ◌∙◌, subst, inl}
+use Rattle.std.proofs.Common.{inr, arith}
 use Rattle.std.proofs.lemmas.Bool.{cases_lt}
 use Rattle.cw_code.specs.Code.{Code}
 use Rattle.cw_code.specs.Run.{State, Transition, On, Ends, Stops, Stuck, step}
-use Rattle.cw_strands.specs.Jobs.{Extent, has_come, standing, Came, Arrives, Returns, Falls, Beyond, Lost, moved, travel, Job, course, Effect, Ended, Joined, TrapIn, OverLimit, Memory, IsOf, JobMeaning, Same, Passed, Short}
+use Rattle.cw_strands.specs.Jobs.{Extent, has_come, standing, Came, Arrives, Returns, Falls, Beyond, Lost, moved}
+use Rattle.cw_strands.specs.Jobs.{travel, Job, course, Effect, Ended, Joined, TrapIn, OverLimit, Memory, IsOf}
+use Rattle.cw_strands.specs.Jobs.{JobMeaning, Same, Passed, Short}
 use Rattle.cw_strands.specs.Strands.{cost_of}
 use Rattle.cw_strands.specs.Promises.{Takes, StandsFor}
 use Rattle.cw_strands.specs.lemmas.Tests.{taken, not_taken}

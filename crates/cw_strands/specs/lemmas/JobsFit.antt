@@ -1,5 +1,6 @@
 -- A strand of a job of code that fits always finds what its next instruction needs.
-use Rattle.std.proofs.Common.{◌≡◌, ℕ, zero, suc, ℤ, pos, Bool, true, false, ◌&&◌, Option, Some, None, List, [], ◌∷◌, ◌++◌, refl, sym, ap, ◌∙◌, subst, append_assoc}
+use Rattle.std.proofs.Common.{◌≡◌, ℕ, zero, suc, ℤ, pos, Bool, true, false, ◌&&◌, Option, Some, None, List, [], ◌∷◌}
+use Rattle.std.proofs.Common.{◌++◌, refl, sym, ap, ◌∙◌, subst, append_assoc}
 use Rattle.std.specs.Prelude.{map, slice_get}
 use Rattle.std.proofs.lemmas.List.{append-nil}
 use Rattle.cw_model.specs.declared.syntax.CallKind.TheVariants.{Spawned}
@@ -7,9 +8,12 @@ use Rattle.cw_model.specs.Outcome.{Trace, quiet}
 use Rattle.cw_code.specs.declared.code.Func.{Func}
 use Rattle.cw_code.specs.Code.{Code}
 use Rattle.cw_code.specs.Fits.{Shape, Fits}
-use Rattle.cw_code.specs.Run.{Slots, Results, Taken, slot_taken, Waiting, Around, Caller, State, Transition, On, Ends, Stops, Stuck, settled, Entering, waiting_at, begun, result_of, going_on, step}
-use Rattle.cw_code.specs.Good.{slots_in, Seat, Good, IsGiven, AllResume, GoodState, GoodTransition, FitSteps, FitSettles}
-use Rattle.cw_strands.specs.Jobs.{Extent, WholeCall, ToJoin, joins, is_first, has_come, Standing, standing, Came, Arrives, Returns, Falls, Beyond, Lost, moved, travel, Job, job_start}
+use Rattle.cw_code.specs.Run.{Slots, Results, Taken, slot_taken, Waiting, Around, Caller, State, Transition, On, Ends}
+use Rattle.cw_code.specs.Run.{Stops, Stuck, settled, Entering, waiting_at, begun, result_of, going_on, step}
+use Rattle.cw_code.specs.Good.{slots_in, Seat, Good, IsGiven, AllResume, GoodState, GoodTransition, FitSteps}
+use Rattle.cw_code.specs.Good.{FitSettles}
+use Rattle.cw_strands.specs.Jobs.{Extent, WholeCall, ToJoin, joins, is_first, has_come, Standing, standing, Came}
+use Rattle.cw_strands.specs.Jobs.{Arrives, Returns, Falls, Beyond, Lost, moved, travel, Job, job_start}
 use Rattle.cw_strands.specs.Strands.{spawn_job, resumed}
 use Rattle.cw_strands.specs.Over.{beneath, results_under, arrived_under, under, transition_under}
 use Rattle.cw_strands.specs.lemmas.Under.{act_under}
@@ -138,7 +142,8 @@ module _ (code : Code) (fits : Fits code) (steps_well : FitSteps code fits) (set
               subst (λ ops. Good f shape
               (record (going_on w around quiet) { operands = ops; results = r.results; arrived = r.arrived }))
               none
-              (subst (λ x. Good f shape (record (going_on w around quiet) { arrays = x; results = r.results; arrived = r.arrived })) (sym same.arrays)
+              (subst (λ x. Good f shape (record (going_on w around quiet) { arrays = x; results = r.results;
+                  arrived = r.arrived })) (sym same.arrays)
               (subst (λ x. Good f shape (record after { slots = x })) (sym same.slots) r.good));
           others = h.1;
         };
@@ -285,8 +290,10 @@ module _ (code : Code) (fits : Fits code) (steps_well : FitSteps code fits) (set
   gone_back f shape b frame slots arrays first second others first' second' others' same same' g =
       let s : State = record b { place = frame.place; operands = frame.operands; slots = slots; arrays = arrays } in
       let one = settles f shape s (first ++ second) others (first' ++ second') others'
-      (subst (λ r. Good f shape (record s { results = r; arrived = (first' ++ second') ++ others' })) (sym (append_assoc first second others))
-      (subst (λ r. Good f shape (record s { results = first ++ (second ++ others); arrived = r })) (sym (append_assoc first' second' others')) g)) in
+      (subst (λ r. Good f shape (record s { results = r; arrived = (first' ++ second') ++ others' }))
+          (sym (append_assoc first second others))
+      (subst (λ r. Good f shape (record s { results = first ++ (second ++ others); arrived = r }))
+          (sym (append_assoc first' second' others')) g)) in
       subst (λ x. Good f shape
       (record s { slots = x; arrays = settled second' frame.arrays; results = others; arrived = others' }))
       (settled_append first second slots ∙ ap (settled second) (sym same))
@@ -302,8 +309,12 @@ module _ (code : Code) (fits : Fits code) (steps_well : FitSteps code fits) (set
       let g =
       gone_back a.seat.func a.seat.shape s frame a.slots a.arrays a.results s.results [] a.returned s.arrived []
       a.same a.same_arrays
-      (subst (λ r. Good a.seat.func a.seat.shape (record s { place = frame.place; operands = frame.operands; slots = a.slots; arrays = a.arrays; results = a.results ++ r; arrived = a.returned ++ (s.arrived ++ []) })) (sym (append-nil s.results))
-      (subst (λ r. Good a.seat.func a.seat.shape (record s { place = frame.place; operands = frame.operands; slots = a.slots; arrays = a.arrays; results = a.results ++ s.results; arrived = a.returned ++ r })) (sym (append-nil s.arrived)) a.good)) in
+      (subst (λ r. Good a.seat.func a.seat.shape (record s { place = frame.place; operands = frame.operands;
+          slots = a.slots; arrays = a.arrays; results = a.results ++ r; arrived = a.returned ++ (s.arrived ++ []) }))
+          (sym (append-nil s.results))
+      (subst (λ r. Good a.seat.func a.seat.shape (record s { place = frame.place; operands = frame.operands;
+          slots = a.slots; arrays = a.arrays; results = a.results ++ s.results; arrived = a.returned ++ r }))
+          (sym (append-nil s.arrived)) a.good)) in
       record {
         seat = a.seat;
         call = record { as_many = g.as_many; ints = g.ints; arrays = g.arrays; cuts = g.cuts };
@@ -335,8 +346,12 @@ module _ (code : Code) (fits : Fits code) (steps_well : FitSteps code fits) (set
           let k =
           gone_back a.seat.func a.seat.shape (under b (record s { around = y ∷ around })) frame a.slots a.arrays
           a.results s.results [] a.returned s.arrived [] a.same a.same_arrays
-          (subst (λ r. Good a.seat.func a.seat.shape (record (under b (record s { around = y ∷ around })) { place = frame.place; operands = frame.operands; slots = a.slots; arrays = a.arrays; results = a.results ++ r; arrived = a.returned ++ (s.arrived ++ []) })) (sym (append-nil s.results))
-          (subst (λ r. Good a.seat.func a.seat.shape (record (under b (record s { around = y ∷ around })) { place = frame.place; operands = frame.operands; slots = a.slots; arrays = a.arrays; results = a.results ++ s.results; arrived = a.returned ++ r })) (sym (append-nil s.arrived)) g)) in
+          (subst (λ r. Good a.seat.func a.seat.shape (record (under b (record s { around = y ∷ around }))
+              { place = frame.place; operands = frame.operands; slots = a.slots; arrays = a.arrays;
+              results = a.results ++ r; arrived = a.returned ++ (s.arrived ++ []) })) (sym (append-nil s.results))
+          (subst (λ r. Good a.seat.func a.seat.shape (record (under b (record s { around = y ∷ around }))
+              { place = frame.place; operands = frame.operands; slots = a.slots; arrays = a.arrays;
+              results = a.results ++ s.results; arrived = a.returned ++ r })) (sym (append-nil s.arrived)) g)) in
           record {
             seat = a.seat;
             call = record { as_many = k.as_many; ints = k.ints; arrays = k.arrays; cuts = k.cuts };

@@ -1,5 +1,7 @@
 -- A run of the rest of a block comes to a join of the function that it began in.
-use Rattle.std.proofs.Common.{◌≡◌, ◌⊎◌, inl, inr, ⊎_elim, ℕ, zero, suc, ◌+◌, ◌<◌, ◌≤◌, ℤ, ◌+ℤ◌, Bool, true, false, ◌&&◌, nat_lt, if◌then◌else◌, Option, Some, None, List, [], ◌∷◌, length, refl, sym, ap, ◌∙◌, subst, arith}
+use Rattle.std.proofs.Common.{◌≡◌, ◌⊎◌, inl, inr, ⊎_elim, ℕ, zero, suc, ◌+◌, ◌<◌, ◌≤◌, ℤ, ◌+ℤ◌, Bool, true, false}
+use Rattle.std.proofs.Common.{◌&&◌, nat_lt, if◌then◌else◌, Option, Some, None, List, [], ◌∷◌, length, refl, sym, ap}
+use Rattle.std.proofs.Common.{◌∙◌, subst, arith}
 use Rattle.std.specs.Prelude.{map, take, drop, is_none, slice_get, slice_set}
 use Rattle.cw_model.specs.declared.trap.Trap.TheVariants as trap
 use Rattle.cw_model.specs.declared.limits.TheConstants.{MOST_DEPTH}
@@ -20,8 +22,14 @@ use Rattle.cw_code.specs.declared.code.Instr.TheVariants as instr
 use Rattle.cw_code.specs.Code.{Code, reducer_names}
 use Rattle.cw_code.specs.Fits.{Shape, nexts, Table, FlowsIntoEach, LieFrom, Fits, leaves}
 use Rattle.cw_code.specs.Good.{Seat, GoodState, GoodTransition, FitFacts, FitSteps}
-use Rattle.cw_code.specs.Run.{Slots, Results, State, Transition, On, Ends, Stops, Stuck, on_top, on_two, on_slot, is_full, apply_unary, operated, set_array, adds, settled, put_in, Whole, arrays_in, Entering, arguments_of, may_begin, begun, begins, call_of, on_arrays, enter, recur, parts_of, looped, on_range, start, given_back, result_of, returns_to, going_on, rejoined, event_of, back, opened, opened_region, cut_arrays, may_cut, cuts, Around, Caller, Block, resumes, closed, resumes_uncut, cut_ends, passed_by, act, step}
-use Rattle.cw_strands.specs.Jobs.{ToJoin, joins, is_first, has_come, Standing, standing, Came, Arrives, Returns, Falls, Beyond, Lost, moved, travel}
+use Rattle.cw_code.specs.Run.{Slots, Results, State, Transition, On, Ends, Stops, Stuck, on_top, on_two, on_slot}
+use Rattle.cw_code.specs.Run.{is_full, apply_unary, operated, set_array, adds, settled, put_in, Whole, arrays_in}
+use Rattle.cw_code.specs.Run.{Entering, arguments_of, may_begin, begun, begins, call_of, on_arrays, enter, recur}
+use Rattle.cw_code.specs.Run.{parts_of, looped, on_range, start, given_back, result_of, returns_to, going_on}
+use Rattle.cw_code.specs.Run.{rejoined, event_of, back, opened, opened_region, cut_arrays, may_cut, cuts, Around}
+use Rattle.cw_code.specs.Run.{Caller, Block, resumes, closed, resumes_uncut, cut_ends, passed_by, act, step}
+use Rattle.cw_strands.specs.Jobs.{ToJoin, joins, is_first, has_come, Standing, standing, Came, Arrives, Returns}
+use Rattle.cw_strands.specs.Jobs.{Falls, Beyond, Lost, moved, travel}
 use Rattle.cw_strands.specs.Over.{under, transition_under}
 use Rattle.cw_strands.specs.lemmas.Under.{act_under}
 use Rattle.cw_strands.specs.lemmas.Budgets.{come_at, none_left, go_one}

@@ -1,12 +1,16 @@
 -- Where no limit is passed, a program is small.
-use Rattle.std.proofs.Common.{◌≡◌, ℕ, ◌+◌, ◌-◌, ◌≤◌, nat_le, List, [], ◌∷◌, ◌++◌, length, map, drop, flat_map, All, sym, ap, ◌∙◌, arith, length-append, length-drop}
+use Rattle.std.proofs.Common.{◌≡◌, ℕ, ◌+◌, ◌-◌, ◌≤◌, nat_le, List, [], ◌∷◌, ◌++◌, length, map, drop, flat_map, All}
+use Rattle.std.proofs.Common.{sym, ap, ◌∙◌, arith, length-append, length-drop}
 use Rattle.std.proofs.lemmas.List.{length-map}
 use Rattle.std.proofs.lemmas.List.Elements.{All-cons}
 use Rattle.cw_model.specs.Lines.{unless}
-use Rattle.cw_model.specs.Syntax.{Name, Param, Reducer, Stmt, Declare, DeclareArray, Assign, AssignElement, Reduce, Call, Start, Begin, Sync, If, IfElse, While, For, Scope, Cut, Region, Print, Return, Block, End, Then, Program}
+use Rattle.cw_model.specs.Syntax.{Name, Param, Reducer, Stmt, Declare, DeclareArray, Assign, AssignElement, Reduce}
+use Rattle.cw_model.specs.Syntax.{Call, Start, Begin, Sync, If, IfElse, While, For, Scope, Cut, Region, Print, Return}
+use Rattle.cw_model.specs.Syntax.{Block, End, Then, Program}
 use Rattle.cw_model.specs.Syntax as model
 use Rattle.cw_model.specs.declared.limits.TheConstants.{MOST_PARAMETERS, MOST_DECLARED, MOST_TAG_BYTES}
-use Rattle.cw_model.specs.Sizes.{declaring_lines, declaring_lines_in, function_limits, limit_faults, lines_beyond, first_places, regions_of}
+use Rattle.cw_model.specs.Sizes.{declaring_lines, declaring_lines_in, function_limits, limit_faults, lines_beyond}
+use Rattle.cw_model.specs.Sizes.{first_places, regions_of}
 use Rattle.cw_model.specs.lemmas.Kept.{left_none, right_none}
 use Rattle.cw_tree.specs.declared.syntax.Function.{Function}
 use Rattle.cw_tree.specs.SyntaxView as parsed

@@ -1,5 +1,6 @@
 -- A tree whose slots, indices and counts are right is its program with each name looked up.
-use Rattle.std.proofs.Common.{◌≡◌, ℕ, ◌==◌, List, [], ◌∷◌, ◌++◌, length, Bool, true, false, not, ◌&&◌, if◌then◌else◌, Option, Some, None, refl, sym, ap, ◌∙◌, bytes_eq}
+use Rattle.std.proofs.Common.{◌≡◌, ℕ, ◌==◌, List, [], ◌∷◌, ◌++◌, length, Bool, true, false, not, ◌&&◌, if◌then◌else◌}
+use Rattle.std.proofs.Common.{Option, Some, None, refl, sym, ap, ◌∙◌, bytes_eq}
 use Rattle.std.specs.Prelude.{map, option_map}
 use Rattle.std.specs.List.{list_all}
 use Rattle.std.proofs.lemmas.Bool.{eqb-true}
@@ -8,8 +9,17 @@ use Rattle.cw_model.specs.Syntax.{Name, Reducer}
 use Rattle.cw_model.specs.Names.{is_among}
 use Rattle.cw_model.specs.Answers.{main_name}
 use Rattle.cw_model.specs.lemmas.Kept.{both_left, both_right}
-use Rattle.cw_tree.specs.Resolved.{Use, Listed, Expr, Number, Variable, Element, Length, Negative, Not, Binary, Argument, Int, Array, Head, Parts, Stmt, Declare, DeclareArray, Assign, AssignElement, Reduce, Call, Sync, If, IfElse, While, For, Scope, Cut, Region, Print, Return, Block, End, Then, Function, Resolved, Lists, Locals, slot_of, use_of, next_use, listed_in, with_int, with_array, locals_after, captured_in, ints_in_block, arrays_in_block, locals_of, lists_of, tags_of, resolved_expr, resolved_argument, resolved_stmt, resolved_block, resolved_function, resolved, plain_expr, plain_argument, plain_stmt, plain_block, plain_function, plain}
-use Rattle.cw_tree.specs.Slots.{is_use, is_next, is_listed, same_uses, same_names, is_right_expr, is_right_argument, is_right_target, is_right_return, is_right_head, is_right_cut, is_right_stmt, is_right_block, is_right_function, is_resolved}
+use Rattle.cw_tree.specs.Resolved.{Use, Listed, Expr, Number, Variable, Element, Length, Negative, Not, Binary}
+use Rattle.cw_tree.specs.Resolved.{Argument, Int, Array, Head, Parts, Stmt, Declare, DeclareArray, Assign}
+use Rattle.cw_tree.specs.Resolved.{AssignElement, Reduce, Call, Sync, If, IfElse, While, For, Scope, Cut, Region}
+use Rattle.cw_tree.specs.Resolved.{Print, Return, Block, End, Then, Function, Resolved, Lists, Locals, slot_of}
+use Rattle.cw_tree.specs.Resolved.{use_of, next_use, listed_in, with_int, with_array, locals_after, captured_in}
+use Rattle.cw_tree.specs.Resolved.{ints_in_block, arrays_in_block, locals_of, lists_of, tags_of, resolved_expr}
+use Rattle.cw_tree.specs.Resolved.{resolved_argument, resolved_stmt, resolved_block, resolved_function, resolved}
+use Rattle.cw_tree.specs.Resolved.{plain_expr, plain_argument, plain_stmt, plain_block, plain_function, plain}
+use Rattle.cw_tree.specs.Slots.{is_use, is_next, is_listed, same_uses, same_names, is_right_expr, is_right_argument}
+use Rattle.cw_tree.specs.Slots.{is_right_target, is_right_return, is_right_head, is_right_cut, is_right_stmt}
+use Rattle.cw_tree.specs.Slots.{is_right_block, is_right_function, is_resolved}
 
 abbrev use_with : Name → ℕ → Use
 use_with x k = record { name = x; slot = k }
@@ -188,7 +198,8 @@ module _ (lists : Lists) where
         ∙ ap (AssignElement (use_of l.arrays u.name) (resolved_expr l (plain_expr i)))
         (expr_is l e (both_right (is_use l.arrays u && is_right_expr l i) (is_right_expr l e) h))
     stmt_is l (Reduce how s e) h =
-        ap (λ q. Reduce how q e) (listed_is lists.reducers s (both_left (is_listed lists.reducers s) (is_right_expr l e) h))
+        ap (λ q. Reduce how q e) (listed_is lists.reducers s (both_left (is_listed lists.reducers s)
+            (is_right_expr l e) h))
         ∙ ap (Reduce how (listed_in lists.reducers s.name))
         (expr_is l e (both_right (is_listed lists.reducers s) (is_right_expr l e) h))
     stmt_is l (Call kind site target f es) h =

@@ -7,7 +7,8 @@ use Rattle.cw_model.specs.Typing.{reducer_called, reduces_so}
 use Rattle.cw_tree.specs.Resolved.{reducer_names}
 
 -- a name by which a reducer is called that reduces so is the name of a reducer
-pub is_named : (how : Reduction) (s : Name) (rs : List Reducer) → reduces_so how (reducer_called s rs) ≡ true → is_among s (reducer_names rs) ≡ true
+pub is_named : (how : Reduction) (s : Name) (rs : List Reducer) → reduces_so how (reducer_called s rs) ≡ true
+    → is_among s (reducer_names rs) ≡ true
 is_named how s [] h = h
 is_named how s (r ∷ rs) h = first (same_name s r.name) h (λ g. is_named how s rs g)
   where

@@ -1,5 +1,6 @@
 -- A body takes no more slots than its function declares names.
-use Rattle.std.proofs.Common.{Bool, true, false, not, if◌then◌else◌, map, filter, ◌≡◌, ℕ, suc, ◌+◌, ◌≤◌, max, List, [], ◌∷◌, ◌++◌, length, length-append, refl, ap, arith}
+use Rattle.std.proofs.Common.{Bool, true, false, not, if◌then◌else◌, map, filter, ◌≡◌, ℕ, suc, ◌+◌, ◌≤◌, max, List}
+use Rattle.std.proofs.Common.{[], ◌∷◌, ◌++◌, length, length-append, refl, ap, arith}
 use Rattle.cw_model.specs.Syntax as model
 use Rattle.cw_model.specs.Syntax.{Name, Param}
 use Rattle.cw_tree.specs.Declares.{declares_in, declares_in_block}
