@@ -2,15 +2,15 @@
 # What strands cost whose rests are taken back, whether they take memory for each, and whether any is lost. Wants valgrind,
 # gcc, and rt on the path: bench/rests is a program, which is proved and built in a folder of its own beside the crates that
 # it calls. Its files end in .txt, since the gate reads each .rt and .antt file as one of a crate that it checks; what
-# drives strands, and code that is written by hand, it has from cw_strand_rows.
+# drives strands, and code that is written by hand, it has from cw_strand_tests.
 # rests.sh
 set -eu
 here=$(cd "$(dirname "$0")" && pwd)
 work=$(mktemp -d)
 trap 'rm -rf "$work"' EXIT
 
-# the line of crates.txt with the crates that cw_strand_rows stands on, each with its line
-libraries="$(sed -n 's/^cw_strand_rows: //p' "$here/../crates.txt")"
+# the line of crates.txt with the crates that cw_strand_tests stands on, each with its line
+libraries="$(sed -n 's/^cw_strand_tests: //p' "$here/../crates.txt")"
 program=$work/crates/rests_bench
 mkdir "$work/crates"
 cp "$here/../HANDLES" "$work/"
@@ -23,13 +23,13 @@ cp -a "$here/rests" "$program"
 find "$program" -name '*.txt' | while read -r file; do
     mv "$file" "${file%.txt}"
 done
-rows=$here/../crates/cw_strand_rows
+rows=$here/../crates/cw_strand_tests
 for part in driving programs calls; do
     cp "$rows/src/$part.rt" "$program/src/"
     [ ! -d "$rows/proofs/$part" ] || cp -a "$rows/proofs/$part" "$program/proofs/"
 done
-grep -rl cw_strand_rows "$program/proofs" | while read -r file; do
-    sed -i 's/cw_strand_rows/rests_bench/g' "$file"
+grep -rl cw_strand_tests "$program/proofs" | while read -r file; do
+    sed -i 's/cw_strand_tests/rests_bench/g' "$file"
 done
 echo "rests_bench: $libraries" >>"$work/crates.txt"
 git -C "$work" init -q

@@ -4,7 +4,7 @@
     examples.py [--check]
 
 Beside NAME.cilk and NAME.args (an argument a line) stand NAME.out (what `cilkwork run` prints), NAME.scale.csv,
-NAME.sites.csv and NAME.greedy.csv (of `cilkwork greedy 8`). All of them are also written as constants of tests, into crates/cw_rows/src/examples.
+NAME.sites.csv and NAME.greedy.csv (of `cilkwork greedy 8`). All of them are also written as constants of tests, into crates/cw_tests/src/examples.
 """
 import glob
 import os
@@ -45,7 +45,7 @@ def texts_of(name, path):
     texts = {path + ending: report(mode, run, Burden(15000), PROCESSORS)[1] for mode, ending in MODES}
     fields = [("words", " ".join([name + ".cilk"] + arguments)), ("source", source)]
     fields += [(mode, texts[path + ending]) for mode, ending in MODES]
-    texts[os.path.join(TOP, "crates", "cw_rows", "src", "examples", name + ".rt")] = constant(name, fields)
+    texts[os.path.join(TOP, "crates", "cw_tests", "src", "examples", name + ".rt")] = constant(name, fields)
     return texts
 
 

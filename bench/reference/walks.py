@@ -4,7 +4,7 @@
     walks.py [--check]
 
 Of the programs of `gen.py`, by seeds from 1 on, those are taken that make some spawns and are short: some that end, some
-that trap. Each stands in crates/cw_world_rows/src/generated.rt with its arguments and its cost.
+that trap. Each stands in crates/cw_world_tests/src/generated.rt with its arguments and its cost.
 """
 import collections
 import os
@@ -15,7 +15,7 @@ from fuzz import arguments_of
 from gen import Generator
 from ref import Program, Run
 
-FILE = os.path.join(os.path.dirname(os.path.abspath(__file__)), "../../crates/cw_world_rows/src/generated.rt")
+FILE = os.path.join(os.path.dirname(os.path.abspath(__file__)), "../../crates/cw_world_tests/src/generated.rt")
 WIDE, LONGEST, LEAST_SPAWNS = 2000, 1200, 3
 WANTED = {"ended": 10, "trapped": 4}
 HEAD = '''//! Random programs, written by `bench/reference/walks.py`.
