@@ -2,8 +2,9 @@
 """Runs by workers beside the run with one, on the built program.
 
     crew.py PROGRAM same [COUNT [TIMES]]   the programs of examples/ and so many random ones (200), each so many times (50) in the
-                                           modes run, scale and sites with 2, 3, 4 and 64 workers: the bytes, both streams and
-                                           the status of one worker
+                                           modes run, scale and sites with 2, 3, 4 and 64 workers, each within another limit,
+                                           which none reaches: the bytes, both streams and the status of one worker. On a
+                                           program of `unproved.py OUT stumbling` the limit says where workers are held
     crew.py PROGRAM limits                 each limit from 1 to the cost of a run and one more, on six programs: the same
     crew.py PROGRAM deep                   rests out at each depth, past the cells of a worker and down to the greatest depth
     crew.py PROGRAM refusals               each single allocation refused in turn with 1, 2 and 4 workers: the answer, or
@@ -26,6 +27,7 @@ HERE = pathlib.Path(__file__).resolve().parent
 EXAMPLES = HERE.parent / "examples"
 sys.path.insert(0, str(HERE / "reference"))
 CREWS = (2, 3, 4, 64)
+MOST = 100000000
 MEMORY = (6, "", "memory\n")
 
 FIB = """int fib(int n) { if (n < 2) { return n; } int x = 0; int y = 0; x = cilk_spawn fib(n - 1); y = fib(n - 2); cilk_sync; return x + y; }
@@ -91,9 +93,9 @@ def same(program, count="200", times="50"):
     with tempfile.TemporaryDirectory() as folder, concurrent.futures.ThreadPoolExecutor(3) as pool:
         for path, arguments in [*examples(), *random_programs(pathlib.Path(folder), int(count))]:
             for mode in ("run", "scale", "sites"):
-                words = [mode, str(path), *arguments, "--limit", "100000000"]
-                wanted = asked(program, [*words, "--workers", "1"])
-                tries = [pool.submit(differs, program, words, workers, wanted) for workers in CREWS for _ in range(int(times))]
+                words = [mode, str(path), *arguments, "--limit"]
+                wanted = asked(program, [*words, str(MOST), "--workers", "1"])
+                tries = [pool.submit(differs, program, [*words, str(MOST + k)], workers, wanted) for workers in CREWS for k in range(int(times))]
                 wrong += sum(it.result() for it in tries)
                 runs += len(tries)
     print(runs, "runs by workers beside those with one:", wrong, "wrong")

@@ -58,7 +58,7 @@ fn statement_beyond(room: usize, line: u32, stmt: &Stmt, least: &mut LeastLine) 
             block_beyond(left, c, least)
         }
         Stmt::For(_, b) => {
-            let left = beyond(room, line, least);
+            let left = least.note_past(room, line);
             block_beyond(left, b, least)
         }
         Stmt::Declare(_, _)
@@ -71,15 +71,4 @@ fn statement_beyond(room: usize, line: u32, stmt: &Stmt, least: &mut LeastLine) 
         | Stmt::Print(_)
         | Stmt::Return(_) => room,
     }
-}
-
-// One loop more, which breaks the limit where there is no room left for it; what room is left then.
-fn beyond(room: usize, line: u32, least: &mut LeastLine) -> usize
-    ensures { TakesRoom room result (line ∷ []) least.old least.new }
-{
-    if room == 0 {
-        least.note(false, line);
-        return 0;
-    }
-    room - 1
 }

@@ -1,7 +1,8 @@
 //! The least line of those that break a rule.
 
-ghost use Rattle.std.specs.Prelude.{◌≡◌, None};
+ghost use Rattle.std.specs.Prelude.{◌≡◌, ◌∷◌, [], None};
 ghost use Rattle.cw_model.specs.Lines.{lowest, unless};
+ghost use Rattle.cw_text.specs.Noted.{TakesRoom};
 
 /// The least line so far, if there is one.
 #[derive(Clone, Copy, Debug, PartialEq, Eq)]
@@ -32,5 +33,16 @@ impl LeastLine {
                 }
             }
         }
+    }
+    /// One line more of what a limit counts, of which there may be so many more: it breaks the limit where there is no
+    /// room left for it. Gives what room is left then.
+    pub fn note_past(&mut self, room: usize, line: u32) -> usize
+        ensures { TakesRoom room result (line ∷ []) self.old self.new }
+    {
+        if room == 0 {
+            self.note(false, line);
+            return 0;
+        }
+        room - 1
     }
 }

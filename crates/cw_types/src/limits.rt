@@ -42,7 +42,7 @@ fn functions_beyond(functions: &[Function], least: &mut LeastLine)
 {
     let mut room = MOST_FUNCTIONS;
     for function in functions {
-        room = beyond(room, function.line, least);
+        room = least.note_past(room, function.line);
     }
 }
 
@@ -52,7 +52,7 @@ fn reducers_beyond(reducers: &[Reducer], least: &mut LeastLine)
 {
     let mut room = MOST_REDUCERS;
     for reducer in reducers {
-        room = beyond(room, reducer.line, least);
+        room = least.note_past(room, reducer.line);
     }
 }
 
@@ -80,7 +80,7 @@ fn params_beyond(room: usize, line: u32, params: &[Param], least: &mut LeastLine
 {
     let mut left = room;
     for _param in params {
-        left = beyond(left, line, least);
+        left = least.note_past(left, line);
     }
     left
 }
@@ -103,7 +103,7 @@ fn statement_beyond(room: usize, line: u32, stmt: &Stmt, least: &mut LeastLine) 
     ensures { TakesRoom room result (declaring_lines line (stmt_of stmt.now)) least.old least.new }
 {
     match stmt {
-        Stmt::Declare(_, _) | Stmt::DeclareArray(_, _) => beyond(room, line, least),
+        Stmt::Declare(_, _) | Stmt::DeclareArray(_, _) => least.note_past(room, line),
         Stmt::If(_, b) | Stmt::While(_, b) | Stmt::Scope(b) | Stmt::Region(_, b) => {
             block_beyond(room, b, least)
         }
@@ -112,12 +112,12 @@ fn statement_beyond(room: usize, line: u32, stmt: &Stmt, least: &mut LeastLine) 
             block_beyond(left, c, least)
         }
         Stmt::For(_, b) => {
-            let left = beyond(room, line, least);
+            let left = least.note_past(room, line);
             block_beyond(left, b, least)
         }
         Stmt::Cut(_, b) => {
-            let after_one = beyond(room, line, least);
-            let after_both = beyond(after_one, line, least);
+            let after_one = least.note_past(room, line);
+            let after_both = least.note_past(after_one, line);
             block_beyond(after_both, b, least)
         }
         Stmt::Assign(_, _)
@@ -128,17 +128,6 @@ fn statement_beyond(room: usize, line: u32, stmt: &Stmt, least: &mut LeastLine) 
         | Stmt::Print(_)
         | Stmt::Return(_) => room,
     }
-}
-
-// One line more, which breaks the limit where there is no room left for it; what room is left then.
-fn beyond(room: usize, line: u32, least: &mut LeastLine) -> usize
-    ensures { TakesRoom room result (line ∷ []) least.old least.new }
-{
-    if room == 0 {
-        least.note(false, line);
-        return 0;
-    }
-    room - 1
 }
 
 // Notes the lines of regions whose tags are too long.
@@ -174,7 +163,7 @@ fn tag_beyond<'a>(
     if seen.has(region.tag) {
         return Ok(room);
     }
-    let left = beyond(room, region.line, least);
+    let left = least.note_past(room, region.line);
     seen.declare(region.tag, false)?;
     Ok(left)
 }
