@@ -9,15 +9,18 @@
     crew.py PROGRAM deep                   rests out at each depth, past the cells of a worker and down to the greatest depth
     crew.py PROGRAM refusals               each single allocation refused in turn with 1, 2 and 4 workers: the answer, or
                                            `memory` with nothing written; wants gcc, which compiles bench/refuse.c
-    crew.py PROGRAM speed [ROUNDS]         seconds with 1, 2, 4 and 64 workers, the least of so many interleaved rounds (5),
-                                           and one worker's as multiples of the others'; and how long four runs with
-                                           one worker each take at once, which share nothing: what the machine can give
+    crew.py PROGRAM speed [ROUNDS]         seconds with 1, 2, 4 and 64 workers, the median (and the least) of so many
+                                           interleaved rounds (9), and one worker's as multiples of the others'; and how long
+                                           four runs with one worker each take at once, which share nothing: what the machine
+                                           can give. Too little is told where one worker by four is below what is wanted and
+                                           its share of what the machine gives is, too
 
 Random programs are those of bench/reference. Each run has a minute; one that takes longer is told as wrong.
 """
 import concurrent.futures
 import pathlib
 import re
+import statistics
 import subprocess
 import sys
 import tempfile
@@ -167,7 +170,7 @@ def seconds(commands):
     return time.perf_counter() - began
 
 
-def speed(program, rounds="5"):
+def speed(program, rounds="9"):
     crews = (1, 2, 4, 64)
     short = 0
     with tempfile.TemporaryDirectory() as folder:
@@ -177,14 +180,17 @@ def speed(program, rounds="5"):
                 path = pathlib.Path(folder) / f"{name}.cilk"
                 path.write_text(MATRIX)
             command = [program, "scale", str(path), *arguments, "--limit", "100000000000", "--workers"]
-            least = dict.fromkeys((*crews, "apart"), 1e9)
+            took = {it: [] for it in (*crews, "apart")}
             for _ in range(int(rounds)):
                 for workers in crews:
-                    least[workers] = min(least[workers], seconds([[*command, str(workers)]]))
-                least["apart"] = min(least["apart"], seconds([[*command, "1"]] * 4))
-            ratios = "  ".join(f"1 by {workers}: {least[1] / least[workers]:.2f}" for workers in crews[1:])
-            short += least[1] / least[4] < wanted
-            print(f"{name} {' '.join(arguments)}: " + "  ".join(f"{workers}: {least[workers]:.3f} s" for workers in crews) + f"  {ratios}  (1 by 4 wanted: {wanted}; four runs apart at once: {least['apart']:.3f} s, so the machine gives {4 * least[1] / least['apart']:.2f})", flush=True)
+                    took[workers].append(seconds([[*command, str(workers)]]))
+                took["apart"].append(seconds([[*command, "1"]] * 4))
+            mid = {it: statistics.median(times) for it, times in took.items()}
+            gains, machine = mid[1] / mid[4], 4 * mid[1] / mid["apart"]
+            short += gains < wanted and gains / machine < wanted / 4
+            print(f"{name} {' '.join(arguments)}: " + "  ".join(f"{it}: {mid[it]:.3f} s ({min(took[it]):.3f})" for it in took), flush=True)
+            ratios = "  ".join(f"1 by {workers}: {mid[1] / mid[workers]:.2f}" for workers in crews[1:])
+            print(f"    {ratios}  (1 by 4 wanted: {wanted}; four runs apart gain {machine:.2f}, of which four workers have {gains / machine:.2f})", flush=True)
     return short
 
 
