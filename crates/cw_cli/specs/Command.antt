@@ -80,8 +80,11 @@ file_rule = needed_rule (codes "FILE")
 
 -- the arguments of main: any number of words
 abbrev pub args_rule : Rule
-args_rule = record (new_rule (codes "ARGS")) { range = Some
-    (record { start_inclusive = 0; end_inclusive = usize_max }); action = Some Append }
+args_rule = record (new_rule (codes "ARGS")) {
+  range = Some
+      (record { start_inclusive = 0; end_inclusive = usize_max });
+  action = Some Append;
+}
 
 -- the name of a command
 abbrev pub command_name : Verb → Text

@@ -147,7 +147,7 @@ WordExamples =
     × AreRead (codes "run" ∷ codes "--limit=1" ∷ codes "--" ∷ codes "-f" ∷ codes "-1" ∷ [])
     (running verb.Run (codes "-f") (codes "-1" ∷ []) (codes "1") (codes "15000"))
     × AreRead (codes "scale" ∷ codes "f" ∷ codes "4" ∷ codes "--burden=0" ∷ codes "7" ∷ codes "--limit" ∷ codes "9"
-        ∷ [])
+    ∷ [])
     (running verb.Scale (codes "f") (codes "4" ∷ codes "7" ∷ []) (codes "9") (codes "0"))
     × AreRead (codes "sites" ∷ codes "--burden" ∷ codes "1" ∷ codes "run" ∷ codes "--" ∷ codes "scale" ∷ [])
     (running verb.Sites (codes "run") (codes "scale" ∷ []) (codes "1000000000") (codes "1"))

@@ -63,7 +63,7 @@ cut_source = record {
             (in_line 2 (source.Call Spawned 1 (Some n_name) f_name (source.Variable r_name ∷ []))
             (in_line 2 (source.AssignElement l_name (source.Number (pos 0)) (source.Number (pos 5))) End)))
             (in_line 2 (source.Return (Some (source.Binary Plus (source.Element a_name (source.Number (pos 1)))
-                (source.Variable n_name)))) End)));
+            (source.Variable n_name)))) End)));
       }
       ∷ [];
 }
@@ -101,7 +101,7 @@ loop_source = record {
     body =
         in_line 1 (source.DeclareArray a_name (source.Number (pos 3)))
         (in_line 1 (source.For i_name i_name i_name (source.Number (pos 1)) (source.Number (pos 3)) 1 (a_name
-            ∷ []) (in_line 1 (source.AssignElement a_name (source.Variable i_name) (source.Variable i_name)) End))
+        ∷ []) (in_line 1 (source.AssignElement a_name (source.Variable i_name) (source.Variable i_name)) End))
         (in_line 1 (source.Return (Some (source.Element a_name (source.Number (pos 2))))) End));
   } ∷ [];
 }

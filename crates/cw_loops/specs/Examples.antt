@@ -45,14 +45,14 @@ nested trap_at = record {
             (Then 7 (DeclareArray example.b (Binary Plus (Variable example.i) (Number (pos 2))))
             (Then 8 (For example.p example.p example.p (Number (pos 0)) (Length example.b) 1 (example.b ∷ [])
             (Then 9 (AssignElement example.b (Variable example.p) (Binary Plus (Variable example.t)
-                (Binary Times (Variable example.p) (Variable example.i))))
+            (Binary Times (Variable example.p) (Variable example.i))))
             (Then 10 (Reduce Sum example.s (Element example.b (Variable example.p))) End)))
             (Then 11 (Declare example.x (Number (pos 0)))
             (Then 12 (Call Spawned 1 (Some example.x) example.f (Variable example.i ∷ []))
             (Then 13 (Print (Element example.b (Number (pos trap_at))))
             (Then 14 Sync
             (Then 15 (AssignElement example.a (Variable example.i) (Binary Plus (Variable example.x)
-                (Element example.b (Variable example.i)))) End))))))))
+            (Element example.b (Variable example.i)))) End))))))))
             (Then 16 (Print (Element example.a (Number (pos 4))))
             (Then 17 (Return (Some (Element example.a (Number (pos 5))))) End))));
       }

@@ -48,7 +48,7 @@ pub record AreMeasures (burden : Burden) (count : ℕ) (names : List Name) (t : 
 abbrev pub Reads : Meter → (count sites tags : ℕ) → Measures → Type 0
 Reads m count sites tags all =
     (burden : Burden) (by_number : Tags) (names : List Name) (es : List Event) → count ≤ MOST_LIMIT
-        → burden.charge ≤ MOST_BURDEN
+    → burden.charge ≤ MOST_BURDEN
     → HasNames by_number names → length names ≡ tags
     → Meters burden by_number Main count [] (Series (Marked (Invocation 0) (tree_of es)) ∷ []) m
     → AreMeasures burden sites names (normal (Marked (Invocation 0) (tree_of es))) all

@@ -236,7 +236,7 @@ greatest_program from to =
     with_greatest (main_of
     (For i i i (number from) (number to) 2 []
     (block (Reduce Max s (Binary Times (Variable i) (minus (number 3) (Variable i))) ∷ [])) ∷ give (number 0) ∷ [])
-        ∷ [])
+    ∷ [])
 
 -- the greatest number is added to a sum twice
 abbrev pub large_sum_program : Program
@@ -380,7 +380,7 @@ spawn_chain = of_functions (
     int_function f 1 (int_param n ∷ []) (block (
     If (Binary Less (Variable n) (number 1)) (block (give (number 0) ∷ []))
     ∷ Declare x (number 0) ∷ spawn_into x 1 f (minus (Variable n) (number 1) ∷ []) ∷ Sync
-        ∷ give (plus (Variable x) (number 1)) ∷ []))
+    ∷ give (plus (Variable x) (number 1)) ∷ []))
     ∷ int_function main 1 (int_param n ∷ [])
     (block (Declare r (number 0) ∷ call_into r 2 f (Variable n ∷ []) ∷ give (Variable r) ∷ []))
     ∷ [])

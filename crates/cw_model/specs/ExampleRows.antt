@@ -18,7 +18,7 @@ nested_region_program = of_functions (
     int_function f 1 (int_param n ∷ []) (block (
     If (Binary Less (Variable n) (number 1)) (block (give (number 0) ∷ []))
     ∷ Declare r (number 0) ∷ Region t (block (call_into r 1 f (minus (Variable n) (number 1) ∷ []) ∷ []))
-        ∷ give (Variable r) ∷ []))
+    ∷ give (Variable r) ∷ []))
     ∷ int_function main 1 (int_param n ∷ [])
     (block (Declare r (number 0) ∷ call_into r 2 f (Variable n ∷ []) ∷ give (Variable r) ∷ []))
     ∷ [])
@@ -86,7 +86,7 @@ pub record RowExamples : Type 0 where
       ScalesBoth (of_functions (
       void_function p (int_param v ∷ []) (block (Print (Variable v) ∷ []))
       ∷ main_of (Region r (block (spawn 1 p (number 1 ∷ []) ∷ Print (number 2) ∷ [])) ∷ give (number 0) ∷ []) ∷ []))
-          [] 10
+      [] 10
       (codes ",11,9,1.222,19,0.578" ∷ codes "r,7,5,1.400,15,0.466" ∷ [])
   pub rows_of_a_greatest : Scales (greatest_program 0 4) [] 0 (codes ",122,74,1.648,74,1.648" ∷ [])
   pub two_tags :
@@ -104,7 +104,7 @@ pub record RowExamples : Type 0 where
   -- the child has work 3 + 3 + 1 and span 1 + (1 + 2) + 1, the rest 6
   pub wide_child : Attributes wide_child_program [] (codes "0,root,1,main,1,10,10,17,10"
       ∷ codes "1,spawn,1,p,1,1,0,1,1" ∷ codes "2,spawn,1,p,1,1,0,1,1" ∷ codes "3,spawn,1,p,1,1,0,1,1"
-          ∷ codes "4,spawn,1,f,1,4,0,7,5" ∷ [])
+      ∷ codes "4,spawn,1,f,1,4,0,7,5" ∷ [])
   -- the child has span 7, the rest work 2 + 2 + 2 + 2 and span 1 + 1 + 1 + 2
   pub wide_rest : Attributes wide_rest_program [] (codes "0,root,1,main,1,9,4,19,11"
       ∷ codes "1,spawn,1,f,1,7,7,7,7" ∷ codes "2,spawn,1,p,1,1,0,1,1"

@@ -81,7 +81,7 @@ pub record DeclarationSizeExamples : Type 0 where
       limit_faults (record { reducers = replicate 32 (record { name = s; how = Sum; line = 7 }); functions = [] }) ≡ []
   pub reducers :
       limit_faults (record { reducers = replicate 33 (record { name = s; how = Sum; line = 7 }); functions = [] }) ≡ 7
-          ∷ []
+      ∷ []
   pub most_tags : limit_faults (of_functions (int_function f 1 [] (tagged 64 1 End) ∷ [])) ≡ []
   pub tags : limit_faults (of_functions (int_function f 1 [] (tagged 65 1 End) ∷ [])) ≡ 65 ∷ []
   -- tags of all functions are counted together

@@ -129,7 +129,7 @@ pub record EffectExamples : Type 0 where
       (codes "max s = 2" ∷ codes "sum t = 4" ∷ codes "return 0" ∷ [])
   pub sums_after_printed_lines :
       Writes (with_sum (main_of (Print (number 1) ∷ Reduce Sum s (number 2) ∷ Print (number 3) ∷ give (number 0) ∷ [])
-          ∷ []))
+      ∷ []))
       [] 1000
       (codes "1" ∷ codes "3" ∷ codes "sum s = 2" ∷ codes "return 0" ∷ [])
   pub arguments_of_main :
@@ -247,7 +247,7 @@ pub record JoinExamples : Type 0 where
 abbrev pub begun_program : Program
 begun_program = of_functions (
     void_function f (int_param i ∷ int_param j ∷ int_param x ∷ int_param y ∷ array_param a ∷ array_param b
-        ∷ []) (block (
+    ∷ []) (block (
     Print (Variable i) ∷ Print (Variable j) ∷ Print (minus (Variable x) (Variable y)) ∷ Print (Element a (number 0))
     ∷ Print (Length b)
     ∷ AssignElement a (number 1) (number 8) ∷ AssignElement b (number 1) (number 9) ∷ []))
@@ -256,7 +256,7 @@ begun_program = of_functions (
     ∷ AssignElement a (number 1) (number 5) ∷ AssignElement a (number 3) (number 6)
     ∷ Begin f (number 1) (number 3) (x ∷ y ∷ []) (a ∷ b ∷ [])
     ∷ Print (Element a (number 1)) ∷ Print (Element a (number 2)) ∷ Print (Element a (number 3))
-        ∷ give (Element b (number 2)) ∷ [])
+    ∷ give (Element b (number 2)) ∷ [])
     ∷ [])
 
 -- one statement on line 5, in a function that is called at the greatest depth

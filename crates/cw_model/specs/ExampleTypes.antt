@@ -102,7 +102,7 @@ pub record CallTypeExamples : Type 0 where
   pub first_of_two : BreaksTypes (of_functions (
       same_function ∷ (record { name = f; line = 2; gives_int = false; params = []; body = End })
       ∷ int_function main 3 [] (Then 4 (Declare x (number 0)) (Then 5 (call_into x 1 f (number 1 ∷ []))
-          (Then 6 (give (Variable x)) End))) ∷ [])) (2 ∷ [])
+      (Then 6 (give (Variable x)) End))) ∷ [])) (2 ∷ [])
   -- what only loops are lowered to
   pub lowered_call : IsMistyped (Start Plain h [])
   pub lowered_loop : IsMistyped (Begin h (number 0) (number 1) [] [])

@@ -291,7 +291,7 @@ pub record LimitExamples : Type 0 where
       (example.each_on_its_line 1 9
       (For example.i example.i example.i (example.number 0) (example.number 1) 64 [] End))
       ∷ example.int_function example.main 1 [] (example.each_on_its_line 4096 1 (For example.i example.i example.i
-          (example.number 0) (example.number 1) 64 [] End)) ∷ [])) ≡ 4096 ∷ []
+      (example.number 0) (example.number 1) 64 [] End)) ∷ [])) ≡ 4096 ∷ []
   -- limits that no program here comes near
   pub longest_source : MOST_SOURCE_BYTES ≡ 1024 * 1024
   pub longest_name : MOST_NAME_BYTES ≡ 2 ^ 6
@@ -306,7 +306,7 @@ pub record TreeExamples : Type 0 where
   pub prints : (value : ℤ) × (printed : List ℤ) × (totals : List Total)
       × (serial example.print_program [] USUAL_LIMIT ≡ Ended value printed totals
       (Marked (Invocation 0) (Seq (Leaf 2) (Seq (Par (Marked (Invocation 1) (Leaf 3))
-          (Seq (Leaf 2) (Par (Marked (Invocation 2) (Leaf 3)) (Leaf 2)))) (Leaf 3)))))
+      (Seq (Leaf 2) (Par (Marked (Invocation 2) (Leaf 3)) (Leaf 2)))) (Leaf 3)))))
   -- a plain call stands where it was made
   pub call_between : serial
       (example.with_same (example.call 1 example.f (example.number 1 ∷ []) ∷ example.give (example.number 0) ∷ [])) []

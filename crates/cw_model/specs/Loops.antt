@@ -93,7 +93,7 @@ loop_tree (suc depth) grain k q ts =
     else (let half = length ts / 2 in
     Seq (Leaf (node_start k q))
     (Seq (Par (loop_tree depth grain k q (take half ts))
-        (Seq (Leaf (node_call k)) (loop_tree depth grain k q (drop half ts))))
+    (Seq (Leaf (node_call k)) (loop_tree depth grain k q (drop half ts))))
     (Leaf (node_end q))))
 
 -- how many inner nodes a loop of so many turns has; its leaves are one more

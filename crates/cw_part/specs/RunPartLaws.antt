@@ -35,7 +35,7 @@ same_came : (n : ℕ) (x y : Came Read) → x ≡ y
 same_came n x y e l k t u =
     let P : Came Read → Type 0 = λ z. (v : is_above readings n z ≡ false) → part_with n x l t ≡ part_with n z k v in
     (subst P e (λ v. ap (λ (a : nat_lt MOST_LIMIT n ≡ false). part_with n x a t) (Bool-set (nat_lt MOST_LIMIT n) false
-        l k)
+    l k)
     ∙ ap (part_with n x k) (Bool-set (is_above readings n x) false t v))) u
 
 same_with : (n m : ℕ) (x y : Came Read) → n ≡ m → x ≡ y

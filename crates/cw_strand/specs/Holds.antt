@@ -112,7 +112,7 @@ rests_at p _ _ = []
 -- the run of a strand shows a state after so many instructions, with a job out at each of these levels
 pub record Runs (self : Strand) (is : IsFit (its_code self)) (j : jobs.Job)
     (g : Ground (its_code self) is (its_parts self) j) (levels : List Level) (s : State) (count : ℕ)
-        (jobs_out : List jobs.Job) : Type 0 where
+    (jobs_out : List jobs.Job) : Type 0 where
   pub counts : count ≡ self.count
   pub outs : List Out
   pub lends : Lends (its_code self) is (its_parts self) g.base levels outs (reverse self.lent.items)

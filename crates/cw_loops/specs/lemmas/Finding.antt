@@ -37,14 +37,14 @@ found_numbered (f ∷ made) pre k h skips =
     let here : function_named f.name (f ∷ made) ≡ f =
     ap (λ b. if b then f else function_named f.name made) (same_itself f.name) in
     let skip : function_named f.name (pre ++ f ∷ made) ≡ function_named f.name (f ∷ made) = subst
-        (λ n. function_named n (pre ++ f ∷ made) ≡ function_named n (f ∷ made)) (sym h.0) (skips k (omega arith) (f
-        ∷ made)) in (
+    (λ n. function_named n (pre ++ f ∷ made) ≡ function_named n (f ∷ made)) (sym h.0) (skips k (omega arith) (f
+    ∷ made)) in (
       skip ∙ here,
       subst (λ t. Found t made) (append_assoc pre (f ∷ []) made) (found_numbered made (pre ++ f ∷ []) (k + 1) h.1
           (λ j le rest.
           ap (function_named (loop_name j)) (append_assoc pre (f ∷ []) rest) ∙ skips j (omega arith) (f ∷ rest)
           ∙ ap (λ b. if b then f else function_named (loop_name j) rest) (ap (λ n. same_name (loop_name j) n) h.0
-              ∙ loops_apart j k (omega arith)))),
+          ∙ loops_apart j k (omega arith)))),
     )
 
 lowered_plain : (all0 fs : List Function) (k : ℕ) → list_all (can_lower_function all0) fs ≡ true → (j : ℕ) →

@@ -417,9 +417,9 @@ module _ (program : Program) (fs : List Function) (fs_is : program.functions ≡
           seen_before around known l true (r ∷ declared_in_block b) declared x
           (later_among x l (r ∷ declared_in_block b)) (front_among l (r ∷ declared_in_block b))
           (seen_before around ((l, true) ∷ known) r true (declared_in_block b) (r ∷ declared_in_block b) x
-              (later_among x r (declared_in_block b)) (front_among r (declared_in_block b))
+          (later_among x r (declared_in_block b)) (front_among r (declared_in_block b))
           (more Nowhere ((r, true) ∷ (l, true) ∷ known) (r ∷ l ∷ owners) around inside_known (depth + 1) Joins
-              ((a, CutOf) ∷ taken) [] s3.1 (right_none _ _ types) (right_none _ _ owns) x p))
+          ((a, CutOf) ∷ taken) [] s3.1 (right_none _ _ types) (right_none _ _ owns) x p))
 
   -- a statement before others
   later_seen : (s : Stmt) (known : Known) (around : Around) (rest : List Name) (x : Name) →
@@ -452,9 +452,9 @@ module _ (program : Program) (fs : List Function) (fs_is : program.functions ≡
           p)
       go (in_second p) = later_seen s known around (declared_in_block b) x
           (more returns (declares s known) (known_after owners s) around (after_known s known owners same) depth
-              closing (taken_after fs depth s taken) (declared_by line s declared) both.1
+          closing (taken_after fs depth s taken) (declared_by line s declared) both.1
           (right_none (unless (not (surely_returns s) || ends_block b) line) _
-              (right_none (faults_in program returns known line s) _ types)) (right_none _ _ owns) x p)
+          (right_none (faults_in program returns known line s) _ types)) (right_none _ _ owns) x p)
 
   returned_seen : (e : Expr) (returns : Returns) (known : Known) → may_return returns known (Some e) ≡ true →
       is_fine known e ≡ true

@@ -212,7 +212,7 @@ same_chosen site outer (in_series {a = a} {a' = a'} {b = b} {b' = b'} r s) =
     ) refl
 same_chosen site outer (in_fork {child = a} {child' = a'} {rest = b} {rest' = b'} r s) =
     same_choice site (span b) (span a) (span b') (span a') _ _ _ _ (same_burdened no_burden s)
-        (same_burdened no_burden r)
+    (same_burdened no_burden r)
     (same_chosen site outer r) (same_chosen site outer s)
 same_chosen site outer (in_mark mark r) = same_chosen site (site_inside mark outer) r
 

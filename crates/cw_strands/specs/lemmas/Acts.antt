@@ -122,15 +122,15 @@ module _ (code : Code) (s : State) (P : (joins : Bool) → Turn → Transition �
     recurs kind passed None = moves.stuck false (turn_call kind None (map (λ a. Whole a) passed))
     recurs kind passed (Some f) = with_arrays (turn_call kind None (map (λ a. Whole a) passed))
         (arrays_in passed s.arrays) _ (λ given. begin (record {
-      kind = kind;
-      site = None;
-      target = None;
-      depth = s.depth;
-      func = f;
-      arguments = arguments_of f s.operands;
-      given = given;
-      taken = map (λ a. Whole a) passed;
-    }))
+          kind = kind;
+          site = None;
+          target = None;
+          depth = s.depth;
+          func = f;
+          arguments = arguments_of f s.operands;
+          given = given;
+          taken = map (λ a. Whole a) passed;
+        }))
 
     ranges : (arguments : List ℤ) (go : ℤ → ℤ → List ℤ → Transition) →
         ((low high : ℤ) (captured : List ℤ) → P false Goes (go low high captured)) →
@@ -194,7 +194,7 @@ module _ (code : Code) (s : State) (P : (joins : Bool) → Turn → Transition �
         by_cut (Some h) =
             part (slice_get (settled s.arrived s.arrays) h.left) _ (λ left.
             part (slice_get (settled s.arrived s.arrays) h.right) _
-                (λ right. moves.leaves (uncut_arrays h left right (settled s.arrived s.arrays)) o around e))
+            (λ right. moves.leaves (uncut_arrays h left right (settled s.arrived s.arrays)) o around e))
 
     -- every instruction is of one of these kinds
     pub acts_by : (o : Option Instr) → P (joins o) (turn_of code o s.around) (act code s o)

@@ -142,8 +142,11 @@ module _ (code : Code) (fits : Fits code) (steps_well : FitSteps code fits) (set
               subst (λ ops. Good f shape
               (record (going_on w around quiet) { operands = ops; results = r.results; arrived = r.arrived }))
               none
-              (subst (λ x. Good f shape (record (going_on w around quiet) { arrays = x; results = r.results;
-                  arrived = r.arrived })) (sym same.arrays)
+              (subst (λ x. Good f shape (record (going_on w around quiet) {
+                arrays = x;
+                results = r.results;
+                arrived = r.arrived;
+              })) (sym same.arrays)
               (subst (λ x. Good f shape (record after { slots = x })) (sym same.slots) r.good));
           others = h.1;
         };
@@ -291,9 +294,9 @@ module _ (code : Code) (fits : Fits code) (steps_well : FitSteps code fits) (set
       let s : State = record b { place = frame.place; operands = frame.operands; slots = slots; arrays = arrays } in
       let one = settles f shape s (first ++ second) others (first' ++ second') others'
       (subst (λ r. Good f shape (record s { results = r; arrived = (first' ++ second') ++ others' }))
-          (sym (append_assoc first second others))
+      (sym (append_assoc first second others))
       (subst (λ r. Good f shape (record s { results = first ++ (second ++ others); arrived = r }))
-          (sym (append_assoc first' second' others')) g)) in
+      (sym (append_assoc first' second' others')) g)) in
       subst (λ x. Good f shape
       (record s { slots = x; arrays = settled second' frame.arrays; results = others; arrived = others' }))
       (settled_append first second slots ∙ ap (settled second) (sym same))
@@ -309,12 +312,24 @@ module _ (code : Code) (fits : Fits code) (steps_well : FitSteps code fits) (set
       let g =
       gone_back a.seat.func a.seat.shape s frame a.slots a.arrays a.results s.results [] a.returned s.arrived []
       a.same a.same_arrays
-      (subst (λ r. Good a.seat.func a.seat.shape (record s { place = frame.place; operands = frame.operands;
-          slots = a.slots; arrays = a.arrays; results = a.results ++ r; arrived = a.returned ++ (s.arrived ++ []) }))
-          (sym (append-nil s.results))
-      (subst (λ r. Good a.seat.func a.seat.shape (record s { place = frame.place; operands = frame.operands;
-          slots = a.slots; arrays = a.arrays; results = a.results ++ s.results; arrived = a.returned ++ r }))
-          (sym (append-nil s.arrived)) a.good)) in
+      (subst (λ r. Good a.seat.func a.seat.shape (record s {
+        place = frame.place;
+        operands = frame.operands;
+        slots = a.slots;
+        arrays = a.arrays;
+        results = a.results ++ r;
+        arrived = a.returned ++ (s.arrived ++ []);
+      }))
+      (sym (append-nil s.results))
+      (subst (λ r. Good a.seat.func a.seat.shape (record s {
+        place = frame.place;
+        operands = frame.operands;
+        slots = a.slots;
+        arrays = a.arrays;
+        results = a.results ++ s.results;
+        arrived = a.returned ++ r;
+      }))
+      (sym (append-nil s.arrived)) a.good)) in
       record {
         seat = a.seat;
         call = record { as_many = g.as_many; ints = g.ints; arrays = g.arrays; cuts = g.cuts };
@@ -346,12 +361,22 @@ module _ (code : Code) (fits : Fits code) (steps_well : FitSteps code fits) (set
           let k =
           gone_back a.seat.func a.seat.shape (under b (record s { around = y ∷ around })) frame a.slots a.arrays
           a.results s.results [] a.returned s.arrived [] a.same a.same_arrays
-          (subst (λ r. Good a.seat.func a.seat.shape (record (under b (record s { around = y ∷ around }))
-              { place = frame.place; operands = frame.operands; slots = a.slots; arrays = a.arrays;
-              results = a.results ++ r; arrived = a.returned ++ (s.arrived ++ []) })) (sym (append-nil s.results))
-          (subst (λ r. Good a.seat.func a.seat.shape (record (under b (record s { around = y ∷ around }))
-              { place = frame.place; operands = frame.operands; slots = a.slots; arrays = a.arrays;
-              results = a.results ++ s.results; arrived = a.returned ++ r })) (sym (append-nil s.arrived)) g)) in
+          (subst (λ r. Good a.seat.func a.seat.shape (record (under b (record s { around = y ∷ around })) {
+            place = frame.place;
+            operands = frame.operands;
+            slots = a.slots;
+            arrays = a.arrays;
+            results = a.results ++ r;
+            arrived = a.returned ++ (s.arrived ++ []);
+          })) (sym (append-nil s.results))
+          (subst (λ r. Good a.seat.func a.seat.shape (record (under b (record s { around = y ∷ around })) {
+            place = frame.place;
+            operands = frame.operands;
+            slots = a.slots;
+            arrays = a.arrays;
+            results = a.results ++ s.results;
+            arrived = a.returned ++ r;
+          })) (sym (append-nil s.arrived)) g)) in
           record {
             seat = a.seat;
             call = record { as_many = k.as_many; ints = k.ints; arrays = k.arrays; cuts = k.cuts };

@@ -199,7 +199,7 @@ module _ (lists : Lists) where
         (expr_is l e (both_right (is_use l.arrays u && is_right_expr l i) (is_right_expr l e) h))
     stmt_is l (Reduce how s e) h =
         ap (λ q. Reduce how q e) (listed_is lists.reducers s (both_left (is_listed lists.reducers s)
-            (is_right_expr l e) h))
+        (is_right_expr l e) h))
         ∙ ap (Reduce how (listed_in lists.reducers s.name))
         (expr_is l e (both_right (is_listed lists.reducers s) (is_right_expr l e) h))
     stmt_is l (Call kind site target f es) h =
