@@ -14,12 +14,12 @@ fn tokens_of(alloc: Global, text: &[u8]) -> Result<Vec<Token>, Fault> {
 }
 
 // A part of a text: its kind, and its length in bytes.
-type Part = (Kind, usize);
+type Part = (Kind, u32);
 
 // Tokens that stand side by side from the first byte on, in the first line.
 fn side_by_side(alloc: Global, parts: &[Part]) -> Result<Vec<Token>, AllocError> {
     let mut tokens = Vec::new(alloc);
-    let mut start = 0usize;
+    let mut start = 0u32;
     for (kind, len) in parts {
         let end = start.saturating_add(*len);
         tokens.push(Token {
@@ -60,7 +60,7 @@ fn keywords_are_no_names(rt: HostRuntime) -> Result<(), Fail> {
         ("cilk_for", Kind::For),
     ] {
         let tokens = tokens_of(alloc, text.as_bytes())?;
-        let wanted = side_by_side(alloc, &[(kind, text.len())])?;
+        let wanted = side_by_side(alloc, &[(kind, text.len() as u32)])?;
         assert_eq!(rt; tokens, wanted, "{text}");
     }
     Ok(())
@@ -84,7 +84,7 @@ fn other_words_are_names(rt: HostRuntime) -> Result<(), Fail> {
         "name_of_exactly_64_bytes_abcdefghijklmnopqrstuvwxyz_ABCDEFGHIJKL",
     ] {
         let tokens = tokens_of(alloc, text.as_bytes())?;
-        let wanted = side_by_side(alloc, &[(Kind::Name, text.len())])?;
+        let wanted = side_by_side(alloc, &[(Kind::Name, text.len() as u32)])?;
         assert_eq!(rt; tokens, wanted, "{text}");
     }
     Ok(())
@@ -174,7 +174,7 @@ fn comments_leave_no_token(rt: HostRuntime) -> Result<(), Fail> {
 fn tokens_have_places_and_lines(rt: HostRuntime) -> Result<(), Fail> {
     let alloc = rt.alloc();
     // the only token of each text, from, to and in its line
-    let cases: [(&[u8], usize, usize, u32); 7] = [
+    let cases: [(&[u8], u32, u32, u32); 7] = [
         (b"\r\n\tx", 3, 4, 2),
         (b"x // end", 0, 1, 1),
         (b"// y\nx", 5, 6, 2),

@@ -42,8 +42,8 @@ pub fn lex(alloc: Global, source: &Source) -> Result<Vec<Token>, Fault>
             Front::Token(kind, len) => {
                 tokens.push(Token {
                     kind,
-                    start: at,
-                    end: at + len,
+                    start: at as u32,
+                    end: (at + len) as u32,
                     line,
                 })?;
                 at += len;

@@ -83,7 +83,7 @@ fn count_that_goes_on(alloc: Global, text: &[u8], tokens: &[Token]) -> Result<us
     let mut high = tokens.len();
     while low < high {
         let middle = low + (high - low) / 2;
-        let shorter = with_word(alloc, text, tokens[middle].end, "")?;
+        let shorter = with_word(alloc, text, tokens[middle].end as usize, "")?;
         if goes_on(alloc, shorter.as_slice())? {
             low = middle + 1;
         } else {
@@ -95,8 +95,8 @@ fn count_that_goes_on(alloc: Global, text: &[u8], tokens: &[Token]) -> Result<us
 
 // The text of a token.
 fn word_of<'a>(text: &'a [u8], token: Token) -> Word<'a> {
-    let end = token.end.min(text.len());
-    let start = token.start.min(end);
+    let end = (token.end as usize).min(text.len());
+    let start = (token.start as usize).min(end);
     Word {
         text: &text[start..end],
     }
@@ -130,7 +130,7 @@ pub fn first_unparsed<'a>(
     let mut end = 0;
     if count > 0 && count <= tokens.len() {
         let token = tokens[count - 1];
-        end = token.end;
+        end = token.end as usize;
         if token.kind == Kind::Name {
             before = Some(word_of(text, token));
         }

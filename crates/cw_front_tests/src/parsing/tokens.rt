@@ -9,7 +9,7 @@ use std::test::Fail;
 // A text, and its tokens, each with the byte that it begins at, the byte behind it, and its line.
 struct Worked {
     text: &'static str,
-    tokens: &'static [(Kind, usize, usize, u32)],
+    tokens: &'static [(Kind, u32, u32, u32)],
 }
 
 const TEXTS: [Worked; 13] = [
