@@ -1,5 +1,5 @@
 -- What statements of the tree are in the definitions.
-use Rattle.std.proofs.Common.{◌≡◌, ℕ, Vec, Global}
+use Rattle.std.proofs.Common.{◌≡◌, ℕ, Box, Vec, Global}
 use Rattle.cw_loops.specs.declared.tree.Expr.{Expr}
 use Rattle.cw_loops.specs.declared.tree.Cut.{Cut}
 use Rattle.cw_loops.specs.declared.tree.Line.{Line}
@@ -18,6 +18,6 @@ pub while_is : (e : Expr) (b : Vec Line Global) → stmt_of (variant.While e b) 
 unfolding tree_stmt.roll-Stmt denote.Hole.Carrier.roll
 while_is e b = fold-roll-Stmt spec.Stmt (ℕ × spec.Stmt) stmt_step line_step (Stmt-F.While e b)
 
-pub cut_is : (k : Cut) (b : Vec Line Global) → stmt_of (variant.Cut k b) ≡ spec.Cut k.array (expr_of k.at) k.left k.right (block_of b.items)
+pub cut_is : (k : Box Cut Global) (b : Vec Line Global) → stmt_of (variant.Cut k b) ≡ spec.Cut k.value.array (expr_of k.value.at) k.value.left k.value.right (block_of b.items)
 unfolding tree_stmt.roll-Stmt denote.Hole.Carrier.roll
 cut_is k b = fold-roll-Stmt spec.Stmt (ℕ × spec.Stmt) stmt_step line_step (Stmt-F.Cut k b)

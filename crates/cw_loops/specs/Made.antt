@@ -2,6 +2,7 @@
 use Rattle.std.specs.Prelude.{◌≡◌, ℕ, List, map, Option, option_map}
 use Rattle.std.specs.Global.{Vec}
 use Rattle.cw_tree.specs.declared.resolved.Argument as code_argument
+use Rattle.cw_tree.specs.declared.resolved.Call.{Call}
 use Rattle.cw_tree.specs.declared.resolved.Cut.{Cut}
 use Rattle.cw_tree.specs.declared.resolved.Expr as code_expr
 use Rattle.cw_tree.specs.declared.resolved.Function.{Function}
@@ -56,6 +57,13 @@ AreArrays moves uses made = made ≡ spec.moved_arrays (moves_view moves) (uses_
 -- the beginning of a loop, whose function has this index
 abbrev pub IsBeginning : Moves → (callee : ℕ) → Head → Stmt → Type 0
 IsBeginning moves callee head made = stmt_of made ≡ spec.moved_head (moves_view moves) callee (source.head_of head)
+
+-- a call statement
+abbrev pub IsCall : Moves → Call → Stmt → Type 0
+IsCall moves c made =
+    stmt_of made
+    ≡ spec.moved_alone (moves_view moves) (resolved.Call c.kind c.site (option_map source.use_of c.target)
+    (source.listed_of c.callee) (map source.argument_of c.arguments.items))
 
 -- a statement without blocks
 abbrev pub IsAlone : Moves → code_stmt.Stmt → Stmt → Type 0

@@ -38,14 +38,17 @@ stmt_step (Stmt-F.DeclareArray u e) = spec.DeclareArray u (expr_of e)
 stmt_step (Stmt-F.Assign u e) = spec.Assign u (expr_of e)
 stmt_step (Stmt-F.AssignElement u i e) = spec.AssignElement u (expr_of i) (expr_of e)
 stmt_step (Stmt-F.Reduce how s e) = spec.Reduce how s (expr_of e)
-stmt_step (Stmt-F.Call c) = spec.Call c.kind c.site c.target c.callee (map argument_of c.arguments.items)
-stmt_step (Stmt-F.Begin b) = spec.Begin b.callee (expr_of b.from) (expr_of b.to) b.captured.items b.over.items
+stmt_step (Stmt-F.Call c) =
+    spec.Call c.value.kind c.value.site c.value.target c.value.callee (map argument_of c.value.arguments.items)
+stmt_step (Stmt-F.Begin b) =
+    spec.Begin b.value.callee (expr_of b.value.from) (expr_of b.value.to) b.value.captured.items b.value.over.items
 stmt_step Stmt-F.Sync = spec.Sync
 stmt_step (Stmt-F.If e b) = spec.If (expr_of e) (block_from b.items)
 stmt_step (Stmt-F.IfElse e b c) = spec.IfElse (expr_of e) (block_from b.items) (block_from c.items)
 stmt_step (Stmt-F.While e b) = spec.While (expr_of e) (block_from b.items)
 stmt_step (Stmt-F.Scope b) = spec.Scope (block_from b.items)
-stmt_step (Stmt-F.Cut c b) = spec.Cut c.array (expr_of c.at) c.left c.right (block_from b.items)
+stmt_step (Stmt-F.Cut c b) =
+    spec.Cut c.value.array (expr_of c.value.at) c.value.left c.value.right (block_from b.items)
 stmt_step (Stmt-F.Region tag b) = spec.Region tag (block_from b.items)
 stmt_step (Stmt-F.Print e) = spec.Print (expr_of e)
 stmt_step (Stmt-F.Return e) = spec.Return (option_map expr_of e)

@@ -167,5 +167,5 @@ fn in_cut(
         left: here.moves.array(cut.left.slot),
         right: here.moves.array(cut.right.slot),
     };
-    Ok(tree::Stmt::Cut(parts, body))
+    Ok(tree::Stmt::Cut(Box::new(alloc, parts)?, body))
 }

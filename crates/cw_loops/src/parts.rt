@@ -141,27 +141,30 @@ pub(crate) fn beginning(
     let to = expression(alloc, moves, &head.to)?;
     let captured = ints(alloc, moves, &head.captured)?;
     let over = arrays(alloc, moves, &head.over)?;
-    Ok(tree::Stmt::Begin(tree::Begin {
+    let begun = tree::Begin {
         callee,
         from,
         to,
         captured,
         over,
-    }))
+    };
+    Ok(tree::Stmt::Begin(Box::new(alloc, begun)?))
 }
 
 // A call statement.
 fn call(alloc: Global, moves: Moves, c: &Call) -> Result<tree::Stmt, AllocError>
-    ensures { IfOk result (moved.IsAlone moves.entry (Stmt.Call c.now)) }
+    ensures { IfOk result (moved.IsCall moves.entry c.now) }
 {
     let arguments = arguments(alloc, moves, &c.arguments)?;
-    Ok(tree::Stmt::Call(tree::Call {
+    let call = tree::Call {
         kind: c.kind,
         site: c.site,
         target: target(moves, &c.target),
         callee: c.callee.index,
         arguments,
-    }))
+    };
+    let made = Box::new(alloc, call)?;
+    Ok(tree::Stmt::Call(made))
 }
 
 /// A statement without blocks.

@@ -100,9 +100,9 @@ pub enum Stmt {
     /// How a reducer reduces, the reducer, and what it is told.
     Reduce(Reduction, u32, Expr),
     /// A call, plain or spawned.
-    Call(Call),
+    Call(Box<Call>),
     /// The beginning of a loop.
-    Begin(Begin),
+    Begin(Box<Begin>),
     /// A join of all that the innermost sync block has spawned.
     Sync,
     /// A condition, and what is done where it is not 0.
@@ -114,7 +114,7 @@ pub enum Stmt {
     /// A block that joins what it has spawned.
     Scope(Vec<Line>),
     /// A cut, and the block in which the two parts have their slots.
-    Cut(Cut, Vec<Line>),
+    Cut(Box<Cut>, Vec<Line>),
     /// A tag, and what is counted under it.
     Region(u32, Vec<Line>),
     /// What is printed.

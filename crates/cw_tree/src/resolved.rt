@@ -119,7 +119,7 @@ pub enum Stmt {
     /// How a reducer reduces, the reducer, and what it is told.
     Reduce(Reduction, Listed, Expr),
     /// A call, plain or spawned.
-    Call(Call),
+    Call(Box<Call>),
     /// A join of all that the innermost sync block has spawned.
     Sync,
     /// A condition, and what is done where it is not 0.
@@ -129,11 +129,11 @@ pub enum Stmt {
     /// A condition, and what is done again and again while it is not 0.
     While(Expr, Vec<Line>),
     /// A parallel loop.
-    For(Head, Vec<Line>),
+    For(Box<Head>, Vec<Line>),
     /// A block that joins what it has spawned.
     Scope(Vec<Line>),
     /// A cut, and the block in which the two parts have their names.
-    Cut(Cut, Vec<Line>),
+    Cut(Box<Cut>, Vec<Line>),
     /// A tag, and what is counted under it.
     Region(Listed, Vec<Line>),
     /// What is printed.

@@ -115,7 +115,7 @@ fn turns<'a>(
     let body = block(alloc, lists, locals, b)?;
     locals.ints.forget();
     let head = head(alloc, locals, h, &body)?;
-    Ok(tree::Stmt::For(head, body))
+    Ok(tree::Stmt::For(Box::new(alloc, head)?, body))
 }
 
 // A cut, each name looked up; the parts are known in its block alone.
@@ -138,7 +138,7 @@ fn with_parts<'a>(
     let body = block(alloc, lists, locals, b)?;
     locals.arrays.forget();
     locals.arrays.forget();
-    Ok(tree::Stmt::Cut(parts, body))
+    Ok(tree::Stmt::Cut(Box::new(alloc, parts)?, body))
 }
 
 // A statement without blocks, each name looked up.
@@ -176,7 +176,10 @@ fn plain(
             let value = expression(alloc, locals, e)?;
             Ok(tree::Stmt::Reduce(*how, reducer, value))
         }
-        Stmt::Call(c) => Ok(tree::Stmt::Call(call(alloc, lists, locals, c)?)),
+        Stmt::Call(c) => {
+            let call = call(alloc, lists, locals, c)?;
+            Ok(tree::Stmt::Call(Box::new(alloc, call)?))
+        }
         Stmt::Print(e) => Ok(tree::Stmt::Print(expression(alloc, locals, e)?)),
         Stmt::Return(e) => Ok(tree::Stmt::Return(returned(alloc, locals, e)?)),
         Stmt::Sync

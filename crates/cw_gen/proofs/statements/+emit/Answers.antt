@@ -2,6 +2,7 @@ use Rattle.std.proofs.Common.{◌≡◌, [], ◌++◌, ◌-◌, length, drop, re
 use Rattle.std.specs.Prelude.{slice_set}
 use Rattle.std.proofs.Math.ListN.{drop_of_length-le}
 use Rattle.cw_loops.specs.View as view
+use Rattle.cw_loops.specs.declared.tree.Cut.{Cut}
 use Rattle.cw_code.specs.declared.code.Instr.TheVariants as instr
 use Rattle.cw_gen.specs.Emit as spec
 use Rattle.cw_gen.specs.Emit.{distance}
@@ -84,12 +85,14 @@ pub statement-returns-in_ok-cut-in-Cut-clause-instrs : goal.statement-returns-in
 statement-returns-in_ok-cut-in-Cut-clause-instrs t c =
     let start = c.args.instrs.now.items in
     let first = c.args.first in
-    let parts = c.in-Cut.parts in
+    let parts = c.in-Cut.parts.value in
     let at_code = spec.emitted_expr c.args.line (view.expr_of parts.at) in
     let h0 = c.expression-in-Cut.new.instrs.items in
     let code = spec.emitted_cut c.args.line (spec.halves_of parts.array parts.left parts.right) (spec.emitted_block first (view.block_of c.in-Cut.b.items)) in
     c.in_ok-cut-in-Cut.ensures
-    ∙ ap (λ l. h0 ++ spec.emitted_cut c.args.line (spec.halves_of parts.array parts.left parts.right) (spec.emitted_block first (view.block_of l))) c.deref-in-Cut.ensures.value
+    ∙ ap (λ (k : Cut). h0 ++ spec.emitted_cut c.args.line (spec.halves_of k.array k.left k.right) (spec.emitted_block first (view.block_of c.deref-in-Cut-3.result.now))) c.deref-in-Cut-2.ensures
+    ∙ ap (λ l. h0 ++ spec.emitted_cut c.args.line (spec.halves_of parts.array parts.left parts.right) (spec.emitted_block first (view.block_of l))) c.deref-in-Cut-3.ensures.value
     ∙ ap (λ l. l ++ code) c.in_ok-expression-in-Cut.ensures
+    ∙ ap (λ (k : Cut). (start ++ spec.emitted_expr c.args.line (view.expr_of k.at)) ++ code) c.deref-in-Cut.ensures
     ∙ append_assoc start at_code code
-    ∙ sym (ap (λ s. start ++ spec.emitted_stmt first c.args.line s) (ap view.stmt_of c.in-Cut.is ∙ cut_is parts c.in-Cut.b))
+    ∙ sym (ap (λ s. start ++ spec.emitted_stmt first c.args.line s) (ap view.stmt_of c.in-Cut.is ∙ cut_is c.in-Cut.parts c.in-Cut.b))

@@ -1,5 +1,6 @@
 use Rattle.std.proofs.Common.{◌≡◌, ◌++◌, ◌+◌, drop, map, ap, sym, ◌∙◌, arith}
 use Rattle.std.proofs.lemmas.Grind.{common_steps}
+use Rattle.cw_tree.specs.declared.resolved.Cut.{Cut}
 use Rattle.cw_tree.specs.declared.resolved.Line.{the_lemmas}
 use Rattle.cw_tree.specs.declared.resolved.Stmt.{the_lemmas as stmt_lemmas}
 use Rattle.cw_tree.specs.Resolved.{Then, reads, reads_in, reads_in_block, first_uses}
@@ -54,12 +55,13 @@ pub statement-returns-in_ok-block-in-Cut : goal.statement-returns-in_ok-block-in
 statement-returns-in_ok-block-in-Cut t c =
     let n = c.args.count in
     let found = map use_of c.args.found.now.items in
-    let e = reads (expr_of c.in-Cut.cut.at) in
+    let e = reads (expr_of c.in-Cut.cut.value.at) in
     let b = reads_in_block (block_of c.in-Cut.b.items) in
     let seen : reads_in (stmt_of c.args.stmt.now) ≡ e ++ b = grind (arith, common_steps, stmt_lemmas) in
     c.in_ok-block-in-Cut.ensures
-    ∙ ap (λ ls. first_uses n (map use_of c.expression-in-Cut.new.found.items) (reads_in_block (block_of ls))) c.deref-in-Cut.ensures.value
+    ∙ ap (λ ls. first_uses n (map use_of c.expression-in-Cut.new.found.items) (reads_in_block (block_of ls))) c.deref-in-Cut-2.ensures.value
     ∙ ap (λ us. first_uses n us b) c.in_ok-expression-in-Cut.ensures
+    ∙ ap (λ (k : Cut). first_uses n (first_uses n found (reads (expr_of k.at))) b) c.deref-in-Cut.ensures
     ∙ sym (uses_append n found e b)
     ∙ ap (first_uses n found) (sym seen)
 
