@@ -8,7 +8,6 @@ ghost use Rattle.cw_gen.specs.Written.{AddsSites, call_site, seen_sites};
 ghost use Rattle.cw_tree.specs.ResolvedView.{block_of, stmt_of};
 
 use cw_code::code::Site;
-use cw_model::syntax::Name;
 use cw_tree::resolved::{Call, Function, Line, Stmt};
 use std::alloc::{AllocError, Global};
 
@@ -64,11 +63,11 @@ fn sites_at(alloc: Global, sites: &mut Vec<Site>, line: u32, stmt: &Stmt) -> Res
     }
 }
 
-// The call site of a call of this line, with a copy of the name that it calls.
+// The call site of a call of this line, with the name that it calls.
 fn site_of(alloc: Global, line: u32, c: &Call) -> Result<Site, AllocError>
     ensures { IfOk result (λ made. code.site_view made ≡ call_site line c.now) }
 {
-    let callee = Name::new(alloc, c.callee.name.as_bytes())?;
+    let callee = c.callee.name.share(alloc)?;
     Ok(Site {
         number: c.site,
         kind: c.kind,

@@ -100,7 +100,7 @@ fn reducers_of(alloc: Global, reducers: &[resolved::Reducer]) -> Result<Vec<Redu
 {
     let mut kept = Vec::new(alloc);
     for r in reducers {
-        let name = Name::new(alloc, r.name.as_bytes())?;
+        let name = r.name.share(alloc)?;
         kept.push(Reducer { name, how: r.how })?;
     }
     Ok(kept)
@@ -112,7 +112,7 @@ fn tags_of(alloc: Global, tags: &[Name]) -> Result<Vec<Name>, AllocError>
 {
     let mut names = Vec::new(alloc);
     for tag in tags {
-        let name = Name::new(alloc, tag.as_bytes())?;
+        let name = tag.share(alloc)?;
         names.push(name)?;
     }
     Ok(names)

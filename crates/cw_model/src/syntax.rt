@@ -1,22 +1,25 @@
 //! Parts of a program's tree that every stage has as they are.
 
 ghost use Rattle.std.specs.Prelude.{◌≡◌, IfOk};
+ghost use Rattle.std.specs.Arc.{arc_value};
 
 use std::alloc::{AllocError, Global};
 use std::marker::Model;
+use std::sync::Arc;
 
-/// A name by its bytes.
+/// A name by its bytes, which stand in memory once for all that share it.
 #[derive(Drop, Debug)]
 pub struct Name {
-    text: Vec<u8>,
+    text: Arc<Vec<u8>>,
 }
 
 impl Model for Name {
     ghost use Rattle.std.specs.Prelude.{List, ℕ};
+    ghost use Rattle.std.specs.Arc.{arc_value};
 
     ghost Value = { List ℕ };
 
-    ghost view = { λ name. name.text.items };
+    ghost view = { λ name. (arc_value name.text).items };
 }
 
 impl Name {
@@ -24,9 +27,19 @@ impl Name {
     pub fn new(alloc: Global, text: &[u8]) -> Result<Name, AllocError>
         ensures { IfOk result (λ name. name ≡ text.now) }
     {
-        Ok(Name {
-            text: Vec::from_slice(alloc, text)?,
-        })
+        let text = Arc::new(alloc, Vec::from_slice(alloc, text)?)?;
+        Ok(Name { text })
+    }
+
+    /// The same name once more, whose bytes are shared. It takes no memory but where 2^63 share them already: then they
+    /// are copied, and it is an error where memory runs out.
+    pub fn share(&self, alloc: Global) -> Result<Name, AllocError>
+        ensures { IfOk result (λ name. name ≡ self.now) }
+    {
+        match Arc::try_clone(&self.text) {
+            Ok(text) => Ok(Name { text }),
+            Err(_) => Name::new(alloc, self.as_bytes()),
+        }
     }
 
     /// The bytes of the name.

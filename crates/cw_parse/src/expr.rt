@@ -8,6 +8,7 @@ ghost use Rattle.cw_parse.specs.Parts.{unindexed, element, named, measured, atom
 
 use crate::input::{Read, Reading};
 use crate::marks::{Mark, expect, past};
+use crate::names::bytes_of;
 use crate::stop::Stop;
 use cw_model::syntax::Operator;
 use cw_model::token::{Kind, Token};
@@ -21,9 +22,8 @@ const HIGHEST: usize = 4;
 pub(crate) fn name_of(reading: Reading<'_>, token: Token) -> Result<Name, AllocError>
     ensures { IfOk result (λ name. name ≡ name_of reading.entry.text.now token) }
 {
-    let end = token.end.min(reading.text.len());
-    let start = token.start.min(end);
-    Name::new(reading.alloc, &reading.text[start..end])
+    let bytes = bytes_of(reading.text, token);
+    reading.names.name(reading.alloc, bytes)
 }
 
 // The operator of a kind of token, and its level: 1 binds most tightly.

@@ -1,5 +1,6 @@
 //! What the parts of a source are read from, and what reading them gives.
 
+use crate::names::Names;
 use crate::stop::Stop;
 use cw_model::token::Token;
 use std::alloc::Global;
@@ -10,6 +11,8 @@ pub(crate) struct Reading<'t> {
     pub(crate) alloc: Global,
     /// The text of the source, which names are taken from.
     pub(crate) text: &'t [u8],
+    /// The names of the source, each once.
+    pub(crate) names: &'t Names,
     /// The number of tokens: a bound on parts in a row, and on operands in one another.
     pub(crate) limit: usize,
 }

@@ -7,6 +7,7 @@ mod item;
 pub mod laws;
 mod list;
 mod marks;
+mod names;
 mod nesting;
 mod opening;
 mod parser;

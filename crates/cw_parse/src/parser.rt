@@ -10,6 +10,7 @@ ghost use Rattle.cw_parse.specs.Parsed.{HasNoTree, IsParsed, IsUnparsed};
 
 use crate::input::Reading;
 use crate::item::whole;
+use crate::names::Names;
 use crate::nesting::test_nesting;
 use crate::stop::Stop;
 use cw_model::token::Token;
@@ -64,10 +65,22 @@ fn tree_of(alloc: Global, source: &Source, tokens: &[Token]) -> Result<Ast, Faul
     ensures { MatchResult result (λ ast. Derives source.now tokens.now (program_of ast))
         (HasNoTree source.now tokens.now) }
 {
+    let names = Names::of(alloc, source.bytes(), tokens)?;
+    let ast = tree_with(alloc, source, &names, tokens)?;
+    Ok(ast)
+}
+
+// The same, with names that were kept.
+fn tree_with(alloc: Global, source: &Source, names: &Names, tokens: &[Token]) -> Result<Ast, Fault>
+    requires { IsTokenCut source.now tokens.now }
+    ensures { MatchResult result (λ ast. Derives source.now tokens.now (program_of ast))
+        (HasNoTree source.now tokens.now) }
+{
     let text = source.bytes();
     let reading = Reading {
         alloc,
         text,
+        names,
         limit: tokens.len(),
     };
     match whole(reading, tokens) {

@@ -8,7 +8,6 @@ ghost use Rattle.cw_tree.specs.Resolved.{reads_in, reads_in_block, is_slot_in};
 ghost use Rattle.cw_tree.specs.ResolvedView.{use_of, expr_of, argument_of, head_of, stmt_of, block_of};
 
 use cw_tree::resolved::{Argument, Expr, Head, Line, Stmt, Use};
-use cw_tree::syntax::Name;
 use std::alloc::{AllocError, Global};
 
 /// The integers that a body reads of those that have the first so many slots, each once and in the
@@ -38,7 +37,7 @@ fn note(alloc: Global, count: u32, found: &mut Vec<Use>, used: &Use) -> Result<(
     ensures { OnOk result (FindsOne count (use_of used.now) found.old found.new) }
 {
     if used.slot < count && !has_slot(found, used.slot) {
-        let name = Name::new(alloc, used.name.as_bytes())?;
+        let name = used.name.share(alloc)?;
         let slot = used.slot;
         found.push(Use { name, slot })?;
     }

@@ -17,8 +17,8 @@ use std::alloc::{AllocError, Global};
 pub fn copy(alloc: Global, name: &Name) -> Result<Name, AllocError>
     ensures { IfOk result (λ copied. copied ≡ name.now) }
 {
-    let copied = Name::new(alloc, name.as_bytes())?;
-    Ok(copied)
+    let shared = name.share(alloc)?;
+    Ok(shared)
 }
 
 /// A use of a name among these.

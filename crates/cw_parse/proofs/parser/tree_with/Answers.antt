@@ -5,7 +5,7 @@ use Rattle.cw_parse.specs.Reading.{Fails}
 use Rattle.cw_parse.specs.Parts.{whole}
 use Rattle.cw_parse.proofs.Items.{Answer, whole_answers}
 use Rattle.cw_parse.proofs.Cuts.{fewer_tokens}
-use Rattle.cw_parse.proofs.parser.tree_of.Goals as goal
+use Rattle.cw_parse.proofs.parser.tree_with.Goals as goal
 
 pub whole-requires : goal.whole-requires
 whole-requires c =

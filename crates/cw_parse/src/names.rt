@@ -1,0 +1,105 @@
+//! The different names of a source, each once in memory.
+
+ghost use Rattle.std.specs.Prelude.{◌≡◌, ◌<◌, length, IfOk, IfSome};
+ghost use Rattle.cw_model.specs.Grammar.{name_of};
+
+use cw_model::token::{Kind, Token};
+use cw_tree::syntax::Name;
+use std::alloc::{AllocError, Global};
+
+// The most places that a table has.
+const MOST_PLACES: usize = 1 << 14;
+
+// How many places are looked at for a name.
+const LOOKED_AT: usize = 4;
+
+/// Different names, each in a place near the one that its bytes say. A name that finds no place there is not kept, so
+/// that looking one up takes the same few steps whatever the names are.
+#[derive(Drop)]
+pub(crate) struct Names {
+    places: Vec<Option<Name>>,
+}
+
+/// The bytes of a text that a token spells.
+pub(crate) fn bytes_of(text: &[u8], token: Token) -> &[u8]
+    ensures { result.now ≡ name_of text.now token }
+{
+    let end = (token.end as usize).min(text.len());
+    let start = (token.start as usize).min(end);
+    &text[start..end]
+}
+
+// The place that bytes say.
+fn place_of(bytes: &[u8]) -> usize {
+    let mut hash: u64 = 0xcbf2_9ce4_8422_2325;
+    for byte in bytes {
+        hash = (hash ^ u64::from(*byte)).wrapping_mul(0x0100_0000_01b3);
+    }
+    (hash ^ (hash >> 32)) as usize
+}
+
+impl Names {
+    /// The names among the tokens of a text. An error where memory runs out.
+    pub(crate) fn of(alloc: Global, text: &[u8], tokens: &[Token]) -> Result<Names, AllocError> {
+        let mut names = Names::none(alloc, tokens.len().min(MOST_PLACES))?;
+        for token in tokens {
+            if let Kind::Name = token.kind {
+                names.keep(alloc, bytes_of(text, *token))?;
+            }
+        }
+        Ok(names)
+    }
+
+    // No names, in so many places.
+    fn none(alloc: Global, count: usize) -> Result<Names, AllocError> {
+        let mut places = Vec::with_capacity(alloc, count)?;
+        for _ in 0..count {
+            places.push(None)?;
+        }
+        Ok(Names { places })
+    }
+
+    // The first place for these bytes that has them or is empty.
+    fn seek(&self, bytes: &[u8]) -> Option<usize>
+        ensures { IfSome result (λ place. place < length self.now.places.items) }
+    {
+        let first = place_of(bytes);
+        for step in 0..LOOKED_AT {
+            let place = first.wrapping_add(step).checked_rem(self.places.len())?;
+            match self.places.get(place) {
+                None => return None,
+                Some(None) => return Some(place),
+                Some(Some(name)) => {
+                    if name.as_bytes() == bytes {
+                        return Some(place);
+                    }
+                }
+            }
+        }
+        None
+    }
+
+    // The name with these bytes too, where there is a place for it.
+    fn keep(&mut self, alloc: Global, bytes: &[u8]) -> Result<(), AllocError> {
+        if let Some(place) = self.seek(bytes) {
+            if self.places[place].is_none() {
+                self.places[place] = Some(Name::new(alloc, bytes)?);
+            }
+        }
+        Ok(())
+    }
+
+    /// The name with these bytes: one that is kept, or a copy. An error where memory runs out.
+    pub(crate) fn name(&self, alloc: Global, bytes: &[u8]) -> Result<Name, AllocError>
+        ensures { IfOk result (λ name. name ≡ bytes.now) }
+    {
+        if let Some(place) = self.seek(bytes) {
+            if let Some(name) = &self.places[place] {
+                if name.as_bytes() == bytes {
+                    return name.share(alloc);
+                }
+            }
+        }
+        Name::new(alloc, bytes)
+    }
+}
