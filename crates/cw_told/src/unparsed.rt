@@ -93,6 +93,13 @@ fn count_that_goes_on(alloc: Global, text: &[u8], tokens: &[Token]) -> Result<us
     Ok(low)
 }
 
+// Where a token ends.
+fn end_of(token: Token) -> usize
+    ensures { result ≡ token.end }
+{
+    token.end as usize
+}
+
 // The text of a token.
 fn word_of<'a>(text: &'a [u8], token: Token) -> Word<'a> {
     let end = (token.end as usize).min(text.len());
@@ -130,7 +137,7 @@ pub fn first_unparsed<'a>(
     let mut end = 0;
     if count > 0 && count <= tokens.len() {
         let token = tokens[count - 1];
-        end = token.end as usize;
+        end = end_of(token);
         if token.kind == Kind::Name {
             before = Some(word_of(text, token));
         }
