@@ -59,7 +59,7 @@ struct Place<'a> {
     alloc: Global,
     ast: &'a Ast,
     line: u32,
-    depth: u32,
+    depth: usize,
     around: Option<Loop<'a>>,
 }
 
@@ -77,7 +77,7 @@ impl<'a> Place<'a> {
 }
 
 /// A rule of ownership that this line breaks: one is told exactly where the line breaks one. An error where memory is
-/// refused, or, as for that, where more sync blocks lie inside one another than 32 bits count.
+/// refused.
 pub fn broken_ownership<'a>(
     alloc: Global,
     ast: &'a Ast,
@@ -164,7 +164,7 @@ fn in_block<'a>(
 }
 
 // What is taken as a block ends: a sync block joins its spawns.
-fn end_block(taken: &mut Taken<'_>, joins: bool, depth: u32)
+fn end_block(taken: &mut Taken<'_>, joins: bool, depth: usize)
     ensures { taken_of taken.new ≡ rule.at_end (closing joins) depth (taken_of taken.old) }
 {
     if joins {

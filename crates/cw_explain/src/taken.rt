@@ -37,14 +37,14 @@ use std::alloc::{AllocError, Global};
 /// What took a name: a spawn of the sync block at a depth, for its result or as an argument, or a cut.
 #[derive(Clone, Copy, Debug)]
 pub enum Holder {
-    Result(u32),
-    Argument(u32),
+    Result(usize),
+    Argument(usize),
     Cut,
 }
 
 impl Holder {
     // Whether it is a spawn of the sync block at this depth.
-    fn is_spawn_in(self, depth: u32) -> bool
+    fn is_spawn_in(self, depth: usize) -> bool
         ensures { result ≡ rule.is_spawn_in depth (holder_of self) }
     {
         match self {
@@ -177,7 +177,7 @@ impl<'a> Taken<'a> {
     }
 
     /// Without what the spawns of the sync block at this depth took.
-    pub fn free(&mut self, depth: u32)
+    pub fn free(&mut self, depth: usize)
         ensures { taken_of self.new ≡ rule.freed depth (taken_of self.old) }
     {
         self.held.retain(|held| !held.holder.is_spawn_in(depth));
@@ -232,9 +232,9 @@ impl<'a> Taken<'a> {
     }
 }
 
-/// One sync block deeper. An error, as for a want of memory, where more of them lie inside one another than 32 bits
-/// count.
-pub fn deeper(depth: u32) -> Result<u32, AllocError>
+/// One sync block deeper. An error where as many of them lie inside one another as there are addresses: no memory holds
+/// the tree of so many.
+pub fn deeper(depth: usize) -> Result<usize, AllocError>
     ensures { IfOk result (λ inner. inner ≡ depth + 1) }
 {
     match depth.checked_add(1) {
@@ -322,7 +322,7 @@ fn given<'a>(alloc: Global, ast: &Ast, call: &'a Call) -> Result<Vec<Word<'a>>, 
 
 // A spawn in a line takes these arrays.
 fn take_all<'a>(
-    depth: u32,
+    depth: usize,
     line: u32,
     names: &[Word<'a>],
     taken: &mut Taken<'a>,
@@ -342,7 +342,7 @@ fn take_all<'a>(
 
 // A spawn in a line takes the name that its result goes to.
 fn take_target<'a>(
-    depth: u32,
+    depth: usize,
     line: u32,
     target: &'a Option<Name>,
     taken: &mut Taken<'a>,
@@ -365,7 +365,7 @@ fn take_target<'a>(
 fn after_spawn<'a>(
     alloc: Global,
     ast: &Ast,
-    depth: u32,
+    depth: usize,
     call: &'a Call,
     line: u32,
     taken: &mut Taken<'a>,
@@ -383,13 +383,13 @@ fn after_spawn<'a>(
     Ok(())
 }
 
-/// What is taken after a statement that lies in so many sync blocks. An error where memory is refused, or by `deeper`;
+/// What is taken after a statement that lies in so many sync blocks. An error where memory is refused;
 /// what is held as taken is then of no statement.
 #[cycle(taking)]
 pub fn after<'a>(
     alloc: Global,
     ast: &Ast,
-    depth: u32,
+    depth: usize,
     line: &'a Line,
     taken: &mut Taken<'a>,
 ) -> Result<(), AllocError>
@@ -458,7 +458,7 @@ pub fn after<'a>(
 fn after_loop<'a>(
     alloc: Global,
     ast: &Ast,
-    depth: u32,
+    depth: usize,
     head: &Head,
     lines: &'a [Line],
     taken: &mut Taken<'a>,
@@ -480,7 +480,7 @@ fn after_loop<'a>(
 fn after_cut<'a>(
     alloc: Global,
     ast: &Ast,
-    depth: u32,
+    depth: usize,
     line: u32,
     cut: &'a Cut,
     lines: &'a [Line],
@@ -507,7 +507,7 @@ fn after_cut<'a>(
 fn after_branch<'a>(
     alloc: Global,
     ast: &Ast,
-    depth: u32,
+    depth: usize,
     lines: &'a [Line],
     taken: &mut Taken<'a>,
 ) -> Result<(), AllocError>
@@ -530,7 +530,7 @@ fn after_branch<'a>(
 fn after_sync_block<'a>(
     alloc: Global,
     ast: &Ast,
-    depth: u32,
+    depth: usize,
     lines: &'a [Line],
     taken: &mut Taken<'a>,
 ) -> Result<(), AllocError>
@@ -552,7 +552,7 @@ fn after_sync_block<'a>(
 fn after_block<'a>(
     alloc: Global,
     ast: &Ast,
-    depth: u32,
+    depth: usize,
     lines: &'a [Line],
     taken: &mut Taken<'a>,
 ) -> Result<(), AllocError>
@@ -575,7 +575,7 @@ fn after_block<'a>(
 fn after_all<'a>(
     alloc: Global,
     ast: &Ast,
-    depth: u32,
+    depth: usize,
     lines: &'a [Line],
     taken: &mut Taken<'a>,
 ) -> Result<(), AllocError>
@@ -595,7 +595,7 @@ fn after_all<'a>(
 fn after_lines<'a>(
     alloc: Global,
     ast: &Ast,
-    depth: u32,
+    depth: usize,
     lines: &'a [Line],
     taken: &mut Taken<'a>,
 ) -> Result<(), AllocError>
