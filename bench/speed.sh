@@ -1,7 +1,7 @@
 #!/bin/sh
-# What a run costs beside the same instructions in a switch loop of C, without measures and with them: machine
-# instructions a bytecode by callgrind, time and memory, and last processor time by rounds (times.py), whose status is this
-# one's. Wants valgrind and gcc, and the program built: speed.sh PATH-OF-CILKWORK
+# What a run by one worker costs beside the same instructions in a switch loop of C, without measures and with them:
+# machine instructions a bytecode by callgrind, time and memory, and last processor time by rounds (times.py), whose
+# status is this one's. Wants valgrind and gcc, and the program built: speed.sh PATH-OF-CILKWORK
 set -eu
 here=$(cd "$(dirname "$0")" && pwd)
 cilkwork=$1
@@ -29,11 +29,11 @@ row() {
     shift 5
     one=$("$work/$c" "$work/code" "$@" "$small" 2>&1 >/dev/null | awk '{ print $1 }')
     two=$("$work/$c" "$work/code" "$@" "$large" 2>&1 >/dev/null | awk '{ print $1 }')
-    ours=$(($(machine "$cilkwork" "$mode" "$source" "$large") - $(machine "$cilkwork" "$mode" "$source" "$small")))
+    ours=$(($(machine "$cilkwork" "$mode" --workers 1 "$source" "$large") - $(machine "$cilkwork" "$mode" --workers 1 "$source" "$small")))
     theirs=$(($(machine "$work/$c" "$work/code" "$@" "$large") - $(machine "$work/$c" "$work/code" "$@" "$small")))
     echo "$(basename "$source" .cilk) $large $two $one $ours $theirs" |
         awk '{ n = $3 - $4; printf "| %s %s | %d | %.2f | %.2f | %.2f |", $1, $2, n, $5 / n, $6 / n, $5 / $6 }'
-    echo " $(taken "$cilkwork" "$mode" "$source" "$large") | $(taken "$work/$c" "$work/code" "$@" "$large") |"
+    echo " $(taken "$cilkwork" "$mode" --workers 1 "$source" "$large") | $(taken "$work/$c" "$work/code" "$@" "$large") |"
 }
 
 table() { # the mode of cilkwork, and the C program with the words before its arguments
