@@ -1,11 +1,15 @@
 -- The effect of a whole run.
-use Rattle.std.specs.Prelude.{ℕ, ℤ, List}
+use Rattle.std.specs.Prelude.{◌≡◌, ℕ, ℤ, List, Result, Ok, Err}
 use Rattle.cw_model.specs.declared.burden.Burden.{Burden}
 use Rattle.cw_verify.specs.declared.verified.Verified.{Verified}
+use Rattle.cw_text.specs.declared.fault.Fault.{Fault}
+use Rattle.cw_text.specs.declared.fault.Fault.TheVariants as fault
 use Rattle.cw_jobs.specs.declared.effect.Effect.{Effect}
+use Rattle.cw_jobs.specs.declared.effect.Effect.TheVariants as effect
 use Rattle.cw_jobs.specs.declared.job.Job.{Job}
 use Rattle.cw_jobs.specs.Jobs.{IsRoot}
 use Rattle.cw_jobs.specs.Means.{IsMeaningOf}
+use Rattle.cw_machine.specs.declared.alone.Ended as alone
 
 -- an effect means the job of some whole run of this code
 pub record IsOfWhole (v : Verified) (e : Effect) : Type 0 where
@@ -15,3 +19,16 @@ pub record IsOfWhole (v : Verified) (e : Effect) : Type 0 where
   pub root : Job
   pub is : IsRoot v args limit burden root.parts.value
   pub means : IsMeaningOf root e
+
+-- a run that ended, or memory, where there was none to tell of one
+abbrev pub IsEndOrMemory : Result alone.Ended Fault → Type 0
+IsEndOrMemory (Ok e) = Unit {0}
+IsEndOrMemory (Err f) = f ≡ fault.Memory
+
+-- WHAT IS TOLD OF AN EFFECT: memory only where the effect says that it was wanting, or of a run that ended
+abbrev pub IsAnswerOf : Effect → Result alone.Ended Fault → Type 0
+IsAnswerOf (effect.Ended value shown) r = IsEndOrMemory r
+IsAnswerOf (effect.Joined frame replaced shown) r = ⊥
+IsAnswerOf (effect.Trapped trap line lines cost back) r = r ≡ Err (fault.Trap trap line lines)
+IsAnswerOf (effect.OverLimit back) r = r ≡ Err fault.OverLimit
+IsAnswerOf (effect.Memory back) r = r ≡ Err fault.Memory

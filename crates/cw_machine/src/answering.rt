@@ -6,7 +6,7 @@ ghost use Rattle.cw_jobs.specs.Jobs.{IsRoot};
 ghost use Rattle.cw_jobs.specs.Means.{IsMeaningOf};
 ghost use Rattle.cw_jobs.specs.declared.job.Job as jobs;
 ghost use Rattle.cw_model.specs.declared.burden.Burden.{Burden};
-ghost use Rattle.cw_machine.specs.Answering.{IsOfWhole};
+ghost use Rattle.cw_machine.specs.Answering.{IsOfWhole, IsAnswerOf};
 ghost use Rattle.cw_machine.specs.Runs.{RunsAsCode};
 
 use crate::alone::{Ended, end_of};
@@ -22,7 +22,8 @@ use std::alloc::Global;
 /// The error is `OverLimit` or `Trap`, as the effect tells, and `Memory` where memory was wanting, in the run or here.
 pub fn answer(alloc: Global, code: &Verified, effect: Effect) -> Result<Ended, Fault>
     requires whole { ∥ IsOfWhole code.now effect ∥₁ }
-    ensures { (args : List ℤ) (n : ℕ) (burden : Burden) (root : jobs.Job) → IsRoot code.now args n burden root.parts.value
+    ensures tells { IsAnswerOf effect result }
+    ensures as_code { (args : List ℤ) (n : ℕ) (burden : Burden) (root : jobs.Job) → IsRoot code.now args n burden root.parts.value
         → IsMeaningOf root effect → RunsAsCode (code_view code.now.code) args n burden result }
 {
     the_root_answers_what_the_code_gives();

@@ -10,20 +10,20 @@ use Rattle.cw_machine.proofs.answering.answer.Goals as goal
 pub end_of-requires : goal.end_of-requires
 end_of-requires c = ∥∥₁_elim c.args.code.now.ok (hlevel Bool-set) (λ ok. ok.fits.tags)
 
-pub returns-in-Ended : goal.returns-in-Ended
-returns-in-Ended c = λ args n burden root r means.
+pub returns-in-Ended-clause-as_code : goal.returns-in-Ended-clause-as_code
+returns-in-Ended-clause-as_code c = λ args n burden root r means.
     ended_as_code c.the_root_answers_what_the_code_gives.ensures c.args.code.now args n burden root r c.in-Ended.value c.in-Ended.shown c.in_ok-ended-in-Ended.ended
     (subst (λ (e : Effect). IsMeaningOf root e) c.in-Ended.is means) c.in_ok-ended-in-Ended.ensures
 
-pub returns-in-Trapped : goal.returns-in-Trapped
-returns-in-Trapped c = λ args n burden root r means. (
+pub returns-in-Trapped-clause-as_code : goal.returns-in-Trapped-clause-as_code
+returns-in-Trapped-clause-as_code c = λ args n burden root r means. (
   r.asked,
   trapped_as_code c.the_root_answers_what_the_code_gives.ensures c.args.code.now args n burden root r c.in-Trapped.trap c.in-Trapped.line c.in-Trapped.lines c.in-Trapped.cost c.in-Trapped.back
       (subst (λ (e : Effect). IsMeaningOf root e) c.in-Trapped.is means),
 )
 
-pub returns-in-OverLimit : goal.returns-in-OverLimit
-returns-in-OverLimit c = λ args n burden root r means. (
+pub returns-in-OverLimit-clause-as_code : goal.returns-in-OverLimit-clause-as_code
+returns-in-OverLimit-clause-as_code c = λ args n burden root r means. (
   r.asked,
   over_as_code c.the_root_answers_what_the_code_gives.ensures c.args.code.now args n burden root r c.in-OverLimit.back
       (subst (λ (e : Effect). IsMeaningOf root e) c.in-OverLimit.is means),
