@@ -1,3 +1,4 @@
+pub mod Losing
 pub mod Levels
 pub mod Course
 pub mod Flat

@@ -104,6 +104,7 @@ pub begins : ((code : Code) → CallsKeep code) → CallsKeepMeters → (job : J
 begins keep meters job p' self of parts none bare zero going b = record {
   of = of;
   outs = ap (λ l. map (λ h. h.job.value) (reverse l)) none;
+  goes = going;
   running = record {
     keeps = record {
       code = ap (λ q. code_of q) parts ∙ begun.code;

@@ -184,7 +184,11 @@ pub record IsRunning (self : Strand) : Type 0 where
   pub holds : (is : IsFit (its_code self)) (j : jobs.Job) → IsJob (its_code self) is (its_parts self) j
       → ∥ Holds self is j ∥₁
 
--- how it stands: it waits for the newest job out; it has stopped; or either
+-- how it stands: it goes on; it waits for the newest job out; it has stopped, also for want of memory; or it does not
+-- go on
+abbrev pub IsGoing : Strand → Type 0
+IsGoing self = self.mode ≡ mode.Going
+
 abbrev pub IsWaiting : Strand → Type 0
 IsWaiting self = self.mode ≡ mode.Waiting
 
@@ -200,6 +204,9 @@ is_lost _ = false
 
 abbrev pub HasStopped : Strand → Type 0
 HasStopped self = stops self.mode ≡ true
+
+abbrev pub IsLost : Strand → Type 0
+IsLost self = is_lost self.mode ≡ true
 
 abbrev pub IsAtSync : Strand → Type 0
 IsAtSync self = self.mode ≢ mode.Going

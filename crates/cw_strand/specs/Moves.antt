@@ -38,7 +38,7 @@ use Rattle.cw_strand.specs.declared.strand.Step.TheVariants as step
 use Rattle.cw_strand.specs.declared.strand.Strand.{Strand}
 use Rattle.cw_strand.specs.Levels.{levels_of}
 use Rattle.cw_strand.specs.Holds.{its_job, its_parts, its_code, outs, Ground, setting_of, ok_with, Lends, rests_at}
-use Rattle.cw_strand.specs.Holds.{KeepsJob, AreSpare, AreRests, IsRunning, IsAtSync, HasStopped, is_lost}
+use Rattle.cw_strand.specs.Holds.{KeepsJob, AreSpare, AreRests, IsRunning, IsGoing, IsAtSync, HasStopped, is_lost}
 
 -- a run begins a job, whose arrays moved into it
 pub record BeginsRun (p p' : Parts) (r : Run) : Type 0 where
@@ -57,6 +57,7 @@ pub record Begins (job : Job) (self : Strand) : Type 0 where
   pub of : its_job self ≡ job
   pub outs : outs self ≡ []
   pub running : IsRunning self
+  pub goes : IsGoing self
 
 -- WHAT AN EVENT OF A STRAND KEEPS: it handed a job out; or it waits for the newest one out; or it ended with nothing
 -- out, with an effect that means its job

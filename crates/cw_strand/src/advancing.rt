@@ -3,6 +3,7 @@
 ghost use Rattle.std.specs.Prelude.{◌≡◌, ◌-◌, ◌<◌};
 ghost use Rattle.cw_strand.specs.declared.strand.Mode.TheVariants as mode;
 ghost use Rattle.cw_strand.specs.Holds.{its_parts, IsRunning};
+ghost use Rattle.cw_strand.specs.Losing.{LeavesBy};
 ghost use Rattle.cw_strand.specs.Moves.{AdvancesBy};
 
 use crate::strand::{Advance, Event, Mode, Step, Strand};
@@ -17,6 +18,7 @@ impl Strand {
         requires below { self.old.count < end }
         ensures of { self.new.of ≡ self.old.of }
         ensures advances { AdvancesBy result self.old self.new }
+        ensures leaves { LeavesBy result self.old self.new }
     {
         let next = self.count + 1;
         let stop = self.run_on(next);
@@ -36,6 +38,7 @@ impl Strand {
         requires { IsRunning self.old }
         ensures of { self.new.of ≡ self.old.of }
         ensures advances { AdvancesBy result self.old self.new }
+        ensures leaves { LeavesBy result self.old self.new }
     {
         match self.mode {
             Mode::Going => {

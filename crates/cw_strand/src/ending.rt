@@ -5,6 +5,7 @@ ghost use Rattle.cw_machine.specs.declared.run.Stop.TheVariants as stop;
 ghost use Rattle.cw_machine.specs.JobRuns as runs;
 ghost use Rattle.cw_jobs.specs.Means.{IsMeaningOf};
 ghost use Rattle.cw_strand.specs.Holds.{its_job, outs, HasStopped, IsRunning};
+ghost use Rattle.cw_strand.specs.Losing.{ComesFrom};
 ghost use Rattle.cw_strand.specs.Moves.{HasCome, IsShown};
 
 use crate::lending::empty_rest;
@@ -59,6 +60,7 @@ impl Strand {
         requires none { outs self.old ≡ [] }
         ensures of { self.new.of ≡ self.old.of }
         ensures means { IsMeaningOf (its_job self.old) result }
+        ensures comes { ComesFrom result self.old }
     {
         calls_on_a_strand_keep_its_job();
         machines_that_stop_remain();
@@ -90,6 +92,7 @@ impl Strand {
         requires comes { HasCome self.old end (stop.Gave value) }
         ensures of { self.new.of ≡ self.old.of }
         ensures means { IsMeaningOf (its_job self.old) result }
+        ensures comes { ComesFrom result self.old }
         ensures none { outs self.old ≡ [] }
     {
         calls_on_a_strand_keep_its_job();
@@ -105,6 +108,7 @@ impl Strand {
         requires comes { HasCome self.old end stop.Joined }
         ensures of { self.new.of ≡ self.old.of }
         ensures means { IsMeaningOf (its_job self.old) result }
+        ensures comes { ComesFrom result self.old }
         ensures none { outs self.old ≡ [] }
     {
         calls_on_a_strand_keep_its_job();

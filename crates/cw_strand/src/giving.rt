@@ -1,11 +1,13 @@
 //! The effect of the newest job out, which ran elsewhere, is given.
 
-ghost use Rattle.std.specs.Prelude.{◌≡◌, ◌<◌, length, MatchOption, OnOk};
+ghost use Rattle.std.specs.Prelude.{◌≡◌, ◌<◌, false, length, MatchOption, OnOk};
 ghost use Rattle.cw_jobs.specs.declared.effect.Effect.TheVariants as effect;
 ghost use Rattle.cw_machine.specs.Gives.{MayGive};
 ghost use Rattle.cw_strand.specs.Holds.{HasStopped, IsAtSync, IsRunning, IsWaiting};
 ghost use Rattle.cw_strand.specs.Giving.{passes_limit, AreJoined, GivesBack, HasJoined, HasTaken, IsGiven, IsJoinedAt, IsMemory, IsOfRest, LeavesOthers};
 ghost use Rattle.cw_strand.specs.Giving as giving;
+ghost use Rattle.cw_strand.specs.Losing.{MayLack, MayLose};
+ghost use Rattle.cw_strand.specs.declared.strand.Mode.TheVariants as mode;
 
 use crate::strand::{Lent, Mode, Strand};
 use cw_code::laws::{results_may_go_back, runs_stay_in_their_functions};
@@ -126,6 +128,8 @@ impl Strand {
         ensures of { self.new.of ≡ self.old.of }
         ensures running { IsRunning self.new }
         ensures outs { LeavesOthers self.old self.new }
+        ensures lacks { MayLack self.new → passes_limit self.old shown.cost ≡ false }
+        ensures back { IsWaiting self.new → ⊥ }
     {
         calls_on_a_strand_keep_its_job();
         calls_keep_what_meters_tell();
@@ -167,6 +171,8 @@ impl Strand {
         ensures of { self.new.of ≡ self.old.of }
         ensures running { IsRunning self.new }
         ensures outs { LeavesOthers self.old self.new }
+        ensures lacks { MayLack self.new → passes_limit self.old cost ≡ false }
+        ensures back { IsWaiting self.new → ⊥ }
     {
         calls_on_a_strand_keep_its_job();
         machines_that_stop_remain();
@@ -195,6 +201,7 @@ impl Strand {
         ensures of { self.new.of ≡ self.old.of }
         ensures running { IsRunning self.new }
         ensures outs { LeavesOthers self.old self.new }
+        ensures over { self.new.mode ≡ mode.Over }
     {
         calls_on_a_strand_keep_its_job();
         machines_that_stop_remain();
@@ -213,6 +220,8 @@ impl Strand {
         ensures of { self.new.of ≡ self.old.of }
         ensures running { IsRunning self.new }
         ensures outs { LeavesOthers self.old self.new }
+        ensures lacks { MayLack self.new → MayLose self.old effect }
+        ensures back { IsWaiting self.new → ⊥ }
     {
         calls_on_a_strand_keep_its_job();
         match effect {
@@ -243,6 +252,8 @@ impl Strand {
         ensures of { self.new.of ≡ self.old.of }
         ensures running { IsRunning self.new }
         ensures outs { LeavesOthers self.old self.new }
+        ensures lacks { MayLack self.new → MayLose self.old effect }
+        ensures back { IsWaiting self.new → ⊥ }
     {
         calls_on_a_strand_keep_its_job();
         match arrays_of(*self.lent.allocator(), effect) {
@@ -266,6 +277,8 @@ impl Strand {
         ensures of { self.new.of ≡ self.old.of }
         ensures running { IsRunning self.new }
         ensures outs { LeavesOthers self.old self.new }
+        ensures lacks { MayLack self.new → MayLose self.old effect }
+        ensures back { IsWaiting self.new → ⊥ }
     {
         match self.mode {
             Mode::Waiting => self.give_waiting(effect),

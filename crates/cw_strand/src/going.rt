@@ -4,6 +4,7 @@ ghost use Rattle.std.specs.Prelude.{◌≡◌, ◌≢◌, ◌-◌, ◌≤◌, tr
 ghost use Rattle.cw_strand.specs.declared.strand.Mode.TheVariants as mode;
 ghost use Rattle.cw_jobs.specs.Means.{IsMeaningOf};
 ghost use Rattle.cw_strand.specs.Holds.{its_job, its_parts, outs, HasStopped, IsAtSync, IsRunning};
+ghost use Rattle.cw_strand.specs.Losing.{ComesFrom, GoesOn, Leaves, LeavesAt, LeavesEnd};
 ghost use Rattle.cw_strand.specs.Moves.{EndsBy, HasCome, IsSame, IsStill, KeptBy, ComesTo, EndsAt};
 
 use crate::strand::{End, Event, Mode, Step, Strand};
@@ -47,6 +48,7 @@ impl Strand {
         requires stopped { HasStopped self.old }
         ensures of { self.new.of ≡ self.old.of }
         ensures keeps { ComesTo result self.old self.new }
+        ensures goes { GoesOn result self.new }
     {
         if self.lent.is_empty() {
             return Event::AtEnd(End::Stopped);
@@ -61,6 +63,7 @@ impl Strand {
         requires end { end ≡ (its_parts self.old).limit - (its_parts self.old).before }
         ensures of { self.new.of ≡ self.old.of }
         ensures keeps { ComesTo result self.old self.new }
+        ensures goes { GoesOn result self.new }
     {
         calls_on_a_strand_keep_its_job();
         machines_that_stop_remain();
@@ -93,6 +96,7 @@ impl Strand {
         requires going { self.old.mode ≡ mode.Going }
         ensures of { self.new.of ≡ self.old.of }
         ensures ends { EndsBy result self.old self.new }
+        ensures leaves { LeavesEnd result self.old self.new }
     {
         let count = self.count;
         let stop = self.run_on(count);
@@ -125,6 +129,7 @@ impl Strand {
         requires { IsRunning self.old }
         ensures of { self.new.of ≡ self.old.of }
         ensures keeps { ComesTo result self.old self.new }
+        ensures leaves { LeavesAt result self.old self.new }
     {
         match self.mode {
             Mode::Going => {
@@ -148,6 +153,7 @@ impl Strand {
         ensures of { self.new.of ≡ self.old.of }
         ensures means { IsMeaningOf (its_job self.old) result }
         ensures none { outs self.old ≡ [] }
+        ensures comes { ComesFrom result self.old }
     {
         match end {
             End::Stopped => self.stop_effect(),
@@ -162,6 +168,7 @@ impl Strand {
         requires { IsRunning self.old }
         ensures of { self.new.of ≡ self.old.of }
         ensures keeps { KeptBy result self.old self.new }
+        ensures leaves { Leaves result self.old self.new }
     {
         match self.next_event() {
             Event::Spawned(job) => Step::Spawned(job),
@@ -177,6 +184,7 @@ impl Strand {
         requires { IsRunning self.old }
         ensures of { self.new.of ≡ self.old.of }
         ensures ends { EndsBy result self.old self.new }
+        ensures leaves { LeavesEnd result self.old self.new }
         ensures stopped { HasStopped self.old → outs self.old ≡ [] → IsSome result }
     {
         if !self.lent.is_empty() {

@@ -6,6 +6,7 @@ ghost use Rattle.cw_jobs.specs.Jobs.{code_of};
 ghost use Rattle.cw_machine.specs.declared.run.Stop.TheVariants as stop;
 ghost use Rattle.cw_machine.specs.Calls.{listed};
 ghost use Rattle.cw_strand.specs.Holds.{its_parts, its_code, AreSpare};
+ghost use Rattle.cw_strand.specs.Losing.{GoesOn};
 ghost use Rattle.cw_strand.specs.Moves.{HasCome, ComesTo, HasCut, HasSpared, IsAddressed};
 
 use crate::strand::{Event, Lent, Mode, Strand};
@@ -116,6 +117,7 @@ impl Strand {
         requires comes { HasCome self.old end (stop.Spawned spawn) }
         ensures of { self.new.of ≡ self.old.of }
         ensures keeps { ComesTo result self.old self.new }
+        ensures goes { GoesOn result self.new }
     {
         calls_on_a_strand_keep_its_job();
         machines_that_stop_remain();

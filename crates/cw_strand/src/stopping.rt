@@ -95,6 +95,7 @@ impl Strand {
         ensures running { IsRunning self.new }
         ensures stopped { HasStopped self.new }
         ensures outs { job ∷ outs self.new ≡ outs self.old }
+        ensures mode { self.new.mode ≡ self.old.mode }
     {
         let Job { parts } = job;
         let mut parts = parts;

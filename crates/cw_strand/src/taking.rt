@@ -3,7 +3,7 @@
 ghost use Rattle.std.specs.Prelude.{◌≡◌, ◌∷◌, List};
 ghost use Rattle.cw_jobs.specs.declared.job.Job as jobs;
 ghost use Rattle.cw_jobs.specs.Jobs.{code_of};
-ghost use Rattle.cw_strand.specs.Holds.{its_code, outs, AreSpare, IsRunning, IsWaiting};
+ghost use Rattle.cw_strand.specs.Holds.{its_code, outs, AreSpare, IsGoing, IsRunning, IsWaiting};
 ghost use Rattle.cw_strand.specs.Moves.{HasSpared};
 
 use crate::strand::{Mode, Strand};
@@ -41,6 +41,7 @@ impl Strand {
         ensures of { self.new.of ≡ self.old.of }
         ensures running { IsRunning self.new }
         ensures outs { job ∷ outs self.new ≡ outs self.old }
+        ensures goes { IsGoing self.new }
     {
         calls_on_a_strand_keep_its_job();
         let Job { parts } = job;
@@ -60,6 +61,7 @@ impl Strand {
         ensures of { self.new.of ≡ self.old.of }
         ensures running { IsRunning self.new }
         ensures outs { job ∷ outs self.new ≡ outs self.old }
+        ensures goes { IsGoing self.new }
     {
         self.take_in(job);
     }
@@ -74,6 +76,7 @@ impl Strand {
         ensures of { self.new.of ≡ self.old.of }
         ensures running { IsRunning self.new }
         ensures outs { job ∷ outs self.new ≡ outs self.old }
+        ensures goes { IsGoing self.new }
     {
         if job.parts.rest.slices.is_empty() && self.spares.len() < self.spares.capacity() {
             self.take_in(job);

@@ -1,6 +1,7 @@
 pub mod Lists
 pub mod Boards
 pub mod Strands
+pub mod Lacking
 pub mod Posts
 pub mod Sounds
 pub mod Turns
@@ -15,3 +16,4 @@ pub mod Rooms
 pub mod Wanting
 pub mod Staying
 pub mod Plays
+pub mod Keeping

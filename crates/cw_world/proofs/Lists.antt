@@ -1,7 +1,9 @@
 -- Lists whose newest stands at the back, and lists of them by worker.
-use Rattle.std.proofs.Common.{◌≡◌, ◌≢◌, ◌∙◌, ℕ, zero, suc, ◌<◌, List, [], ◌∷◌, ◌++◌, Option, Some, None, refl, sym, ap, subst, length, reverse, arith}
+use Rattle.std.proofs.Common.{◌≡◌, ◌≢◌, ◌∙◌, ℕ, zero, suc, ◌<◌, List, [], ◌∷◌, ◌++◌, Option, Some, None, refl, sym, ap, subst, length, reverse, arith, Vec, Global, ◌==◌, true, false}
+use Rattle.std.proofs.lemmas.Bool.Decides.{nat_tests}
 use Rattle.std.proofs.lemmas.List.{reverse-append, length-reverse}
 use Rattle.std.specs.Prelude.{map, slice_get, slice_set}
+use Rattle.std.specs.Vec.{vec_len}
 use Rattle.cw_world.specs.Boards.{Each}
 use Rattle.cw_sched.specs.Board.{pushed, newest, but_newest, oldest, but_oldest, of_worker}
 
@@ -165,3 +167,15 @@ reverse_pushed xs x = reverse-append xs (x ∷ [])
 pub none_from_length : {A : Type 0} (xs : List A) → length xs ≡ 0 → xs ≡ []
 none_from_length [] h = refl
 none_from_length (x ∷ xs) h = absurd (omega arith)
+
+zero_of : (n : ℕ) → (n == 0) ≡ true → n ≡ 0
+zero_of n h = grind (arith, nat_tests)
+
+zero_is : (n : ℕ) → n ≡ 0 → (n == 0) ≡ true
+zero_is n h = grind (arith, nat_tests)
+
+pub empty_from : {A : Type 0} (v : Vec A Global) → (vec_len v == 0) ≡ true → v.items ≡ []
+empty_from v e = none_from_length v.items (sym v.ok.0 ∙ zero_of (vec_len v) e)
+
+pub some_from : {A : Type 0} (v : Vec A Global) → (vec_len v == 0) ≡ false → v.items ≢ []
+some_from v e none = let bad : true ≡ false = sym (zero_is (vec_len v) (v.ok.0 ∙ ap length none)) ∙ e in let never : ⊥ = cc in never

@@ -138,7 +138,7 @@ each_drop P xs zero h = h
 each_drop P [] (suc i) h = tt
 each_drop P (x ∷ xs) (suc i) h = each_drop P xs i h.1
 
-each_remove : {A : Type 0} (P : A → Type 0) (xs : List A) (i : ℕ) → Each P xs → Each P (remove xs i)
+pub each_remove : {A : Type 0} (P : A → Type 0) (xs : List A) (i : ℕ) → Each P xs → Each P (remove xs i)
 each_remove P xs i h = each_append P (take i xs) (drop (suc i) xs) (each_take P xs i h) (each_drop P xs (suc i) h)
 
 pub run_sound : (v : Verified) (s s' : Scene) (w : ℕ) → Sound v s → Runs v s s' w → Sound v s'

@@ -81,7 +81,7 @@ ended_stage v jobs old new e (Made n d) h same means none b =
     ((b.0 ∙ same, (λ z. b.1 (same ∙ z)), none), m)
 ended_stage v jobs old new e (Answered r) h same means none b = (
   (sym same ∙ b.0, none),
-  λ args n burden root is_named is. b.1 args n burden root is (subst (λ j. IsMeaningOf j e) (same_job jobs old.number 0 (its_job old.strand) root (sym same ∙ b.0) h is_named) means),
+  λ args n burden root is_named is. b.2 args n burden root is (subst (λ j. IsMeaningOf j e) (same_job jobs old.number 0 (its_job old.strand) root (sym same ∙ b.0) h is_named) means),
 )
 
 -- what it comes to is laid down
@@ -121,5 +121,5 @@ works_other jobs p older o o' w e same own =
       lent = ap (map (λ x. slice_get jobs (out_number x))) (reverse_pushed older o')
           ∙ (ap (λ k. slice_get jobs k ∷ jobs_at jobs older) same ∙ (ap (λ x. x ∷ jobs_at jobs older) n.named_is ∙ (ap (λ l. Some n.job ∷ l) n.older_are ∙ ap named (sym n.is))));
       own = each_pushed (IsOwn jobs) older o' n.own own;
-      stands = ((λ j. ((w.stands.0 j).0, some)), (λ h _. w.stands.1 h some_old));
+      stands = ((λ j. ((w.stands.0 j).0, some)), (λ h _. w.stands.1 h some_old), w.stands.2);
     }

@@ -1,11 +1,12 @@
 -- What events do, by what a post came to and what was laid on its worker's list.
-use Rattle.std.proofs.Common.{◌≡◌, ◌⊎◌, ◌∙◌, ℕ, Bool, List, [], ◌∷◌, ◌++◌, Option, Some, None, refl, sym, ap, subst, length, reverse, inl, inr}
+use Rattle.std.proofs.Common.{◌≡◌, ◌⊎◌, ◌∙◌, ℕ, Bool, true, List, [], ◌∷◌, ◌++◌, Option, Some, None, refl, sym, ap, subst, length, reverse, inl, inr}
 use Rattle.std.specs.Prelude.{map, slice_get, IfSome, Ok}
 use Rattle.cw_verify.specs.declared.verified.Verified.{Verified}
 use Rattle.cw_jobs.specs.declared.effect.Effect.{Effect}
 use Rattle.cw_jobs.specs.declared.job.Job.{Job}
 use Rattle.cw_machine.specs.Answering.{IsOfWhole}
-use Rattle.cw_strand.specs.Holds.{its_job, outs}
+use Rattle.cw_strand.specs.Holds.{its_job, outs, is_lost}
+use Rattle.cw_strand.specs.Losing.{MayLack}
 use Rattle.cw_world.specs.declared.post.Out.{Out}
 use Rattle.cw_world.specs.declared.post.Out.TheVariants as out
 use Rattle.cw_world.specs.Boards.{Each, Boarded}
@@ -15,6 +16,8 @@ use Rattle.cw_world.specs.Sound.{IsJobOf, IsOwn, out_number, Works, HasRoot, Sou
 use Rattle.cw_world.specs.Events.{with_top, but_top, GoesOn, ComesTo, IsBegun, Runs, Spawns, WentOn}
 use Rattle.cw_world.proofs.Lists.{named, each_weaken, each_pushed, get_pushed, get_last, same_names, reverse_pushed}
 use Rattle.cw_world.proofs.Strands.{jobs_at, newest_out_of, comes_stays, comes_to, ended_stage, comes_whole}
+use Rattle.cw_world.specs.Lacking.{lacks_memory, LacksAfter}
+use Rattle.cw_world.proofs.Lacking.{stage_lacks}
 use Rattle.cw_world.proofs.Sounds.{top_stage, kept_job, kept_own}
 
 -- the parts of a scene
@@ -27,13 +30,14 @@ abbrev pub scene_of : (jobs : List Job) (begun : List (List Stage)) (board : Boa
 scene_of jobs begun board = record { jobs = jobs; begun = begun; board = board }
 
 ran_on : (v : Verified) (s : Scene) (w : ℕ) (p q : Posted) (jobs' : List Job) (begun' : List (List Stage)) (x : Stage) → top s w ≡ Some (Goes p) → Works s.jobs p
-    → Stays p q p.outs (outs p.strand) → jobs' ≡ s.jobs → Went p q → x ≡ Goes q → begun' ≡ with_top (but_top s.begun w) w x → Runs v s (scene_of jobs' begun' s.board) w
-ran_on v s w p q jobs' begun' x at works stays same went b is =
+    → Stays p q p.outs (outs p.strand) → jobs' ≡ s.jobs → Went p q → (lacks_memory x ≡ true → MayLack p.strand) → x ≡ Goes q → begun' ≡ with_top (but_top s.begun w) w x → Runs v s (scene_of jobs' begun' s.board) w
+ran_on v s w p q jobs' begun' x at works stays same went lacks b is =
     record {
       at = record { post = p; is = at };
       stage = x;
       comes = subst (λ y. ComesTo v s.jobs p p.outs y) (sym b) (comes_stays v s.jobs p q p.outs (outs p.strand) stays works.named works.lent works.own);
       went = subst (λ y. WentOn p y) (sym b) went;
+      lacks = lacks;
       is = same_scene jobs' s.jobs begun' (with_top (but_top s.begun w) w x) s.board same is;
     }
 
@@ -43,13 +47,14 @@ went_out v p q e (Made n d) b = tt
 went_out v p q e (Answered r) b = tt
 
 ran_out : (v : Verified) (s : Scene) (w : ℕ) (p q : Posted) (e : Effect) (jobs' : List Job) (begun' : List (List Stage)) (x : Stage) → top s w ≡ Some (Goes p) → Works s.jobs p
-    → Comes (Some e) p q [] → jobs' ≡ s.jobs → IsBegun v q (Some e) x → begun' ≡ with_top (but_top s.begun w) w x → Runs v s (scene_of jobs' begun' s.board) w
-ran_out v s w p q e jobs' begun' x at works c same b is =
+    → Comes (Some e) p q [] → jobs' ≡ s.jobs → (lacks_memory x ≡ true → MayLack p.strand) → IsBegun v q (Some e) x → begun' ≡ with_top (but_top s.begun w) w x → Runs v s (scene_of jobs' begun' s.board) w
+ran_out v s w p q e jobs' begun' x at works c same lacks b is =
     record {
       at = record { post = p; is = at };
       stage = x;
       comes = ended_stage v s.jobs p q e x works.named c.0 c.1 c.2 b;
       went = went_out v p q e x b;
+      lacks = lacks;
       is = same_scene jobs' s.jobs begun' (with_top (but_top s.begun w) w x) s.board same is;
     }
 
@@ -72,17 +77,20 @@ spawned v s w p q jobs' begun' x at works h b is =
       at = record { post = p; is = at };
       job = h.job;
       post = q;
+      goes = ap is_lost h.goes;
       comes = comes_stays v more p q (p.outs ++ o ∷ []) (h.job ∷ outs p.strand) h.stays (kept_job s.jobs h.job p.number (its_job p.strand) works.named) (spawned_names s.jobs p h.job works) own;
       is = same_scene jobs' more begun' (with_top (but_top s.begun w) w (Goes q)) s.board h.jobs_are (is ∙ ap (with_top (but_top s.begun w) w) b);
     }
 
 -- one instruction
 pub ran : (v : Verified) (s : Scene) (w : ℕ) (p q : Posted) (ended : Option Effect) (jobs' : List Job) (begun' : List (List Stage)) (x : Stage) → Sound v s → top s w ≡ Some (Goes p)
-    → Steps (Ok ended) p q s.jobs jobs' → IsBegun v q ended x → begun' ≡ with_top (but_top s.begun w) w x
+    → Steps (Ok ended) p q s.jobs jobs' → (LacksAfter ended q.strand → MayLack p.strand) → IsBegun v q ended x → begun' ≡ with_top (but_top s.begun w) w x
     → Runs v s (scene_of jobs' begun' s.board) w ⊎ Spawns v s (scene_of jobs' begun' s.board) w
-ran v s w p q None jobs' begun' x h at (inl c) b is = inl (ran_on v s w p q jobs' begun' x at (top_stage v s w (Goes p) h at) c.0 c.1 c.2 b is)
-ran v s w p q None jobs' begun' x h at (inr c) b is = inr (spawned v s w p q jobs' begun' x at (top_stage v s w (Goes p) h at) c b is)
-ran v s w p q (Some e) jobs' begun' x h at c b is = inl (ran_out v s w p q e jobs' begun' x at (top_stage v s w (Goes p) h at) c.0 c.1 b is)
+ran v s w p q None jobs' begun' x h at (inl c) l b is =
+    inl (ran_on v s w p q jobs' begun' x at (top_stage v s w (Goes p) h at) c.0 c.1 c.2 (λ m. l (stage_lacks v q None x b m)) b is)
+ran v s w p q None jobs' begun' x h at (inr c) l b is = inr (spawned v s w p q jobs' begun' x at (top_stage v s w (Goes p) h at) c b is)
+ran v s w p q (Some e) jobs' begun' x h at c l b is =
+    inl (ran_out v s w p q e jobs' begun' x at (top_stage v s w (Goes p) h at) c.0 c.1 (λ m. l (stage_lacks v q (Some e) x b m)) b is)
 
 -- the root's effect is that of a whole run, by one instruction
 pub ran_whole : (v : Verified) (s : Scene) (w : ℕ) (p q : Posted) (ended : Option Effect) (jobs' : List Job) → Sound v s → top s w ≡ Some (Goes p)

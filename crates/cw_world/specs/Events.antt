@@ -1,6 +1,6 @@
 -- What each event does.
 use Rattle.std.specs.Prelude.{◌≡◌, ◌≢◌, ◌⊎◌, ℕ, ◌<◌, ℤ, Result, Ok, Err, slice_get, List, [], length, Option, Some}
-use Rattle.std.specs.Prelude.{None, slice_set}
+use Rattle.std.specs.Prelude.{None, slice_set, true, false}
 use Rattle.std.specs.Global.{Vec}
 use Rattle.std.specs.Vec.{vec_len, vec_capacity}
 use Rattle.cw_model.specs.declared.burden.Burden.{Burden}
@@ -11,7 +11,9 @@ use Rattle.cw_jobs.specs.Means.{IsMeaningOf}
 use Rattle.cw_machine.specs.Runs.{RunsAsCode}
 use Rattle.cw_jobs.specs.declared.effect.Effect.{Effect}
 use Rattle.cw_jobs.specs.declared.job.Job.{Job}
-use Rattle.cw_strand.specs.Holds.{its_job}
+use Rattle.cw_machine.specs.Answering.{IsAnswerOf}
+use Rattle.cw_strand.specs.Holds.{its_job, IsWaiting, IsLost}
+use Rattle.cw_strand.specs.Losing.{MayLack, MayLose}
 use Rattle.cw_sched.specs.Board.{of_worker, pushed, newest, but_newest, oldest}
 use Rattle.cw_world.specs.declared.board.Offer.{Offer}
 use Rattle.cw_world.specs.declared.event.Refused.{Refused}
@@ -22,6 +24,8 @@ use Rattle.cw_world.specs.declared.post.Out.TheVariants as out
 use Rattle.cw_world.specs.declared.post.Post.{Post}
 use Rattle.cw_world.specs.declared.world.Begun.{Begun}
 use Rattle.cw_world.specs.Boards.{Boarded, offered, retaken, stolen, settled, collected, cell_of, newest_number}
+use Rattle.cw_world.specs.Boards.{IsCellAt}
+use Rattle.cw_world.specs.Lacking.{lacks_memory, HasEnded}
 use Rattle.cw_world.specs.Scenes.{posted, stacks, Posted, Stage, Goes, Made, Answered, Scene, top}
 use Rattle.cw_world.specs.Posts.{Went}
 use Rattle.cw_world.specs.Sound.{IsStage}
@@ -68,12 +72,13 @@ WentOn p (Goes q) = Went p q
 WentOn p (Made n e) = Unit {0}
 WentOn p (Answered r) = Unit {0}
 
--- RUN: one instruction, by which a strand goes on or ends
+-- RUN: one instruction, by which a strand goes on or ends; it lacks memory only if it went on, or did before
 pub record Runs (v : Verified) (s s' : Scene) (w : ℕ) : Type 0 where
   pub at : AtPost s w
   pub stage : Stage
   pub comes : ComesTo v s.jobs at.post at.post.outs stage
   pub went : WentOn at.post stage
+  pub lacks : lacks_memory stage ≡ true → MayLack at.post.strand
   pub is : s' ≡ turned s w stage s.board
 
 -- or a spawn, whose rest gets the next number
@@ -83,6 +88,7 @@ pub record Spawns (v : Verified) (s s' : Scene) (w : ℕ) : Type 0 where
   pub post : Posted
   pub comes : ComesTo v (pushed s.jobs job) at.post
       (pushed at.post.outs (out.Undecided (length s.jobs) job)) (Goes post)
+  pub goes : lacks_memory (Goes post) ≡ false
   pub is : s' ≡ record {
     jobs = pushed s.jobs job;
     begun = with_top (but_top s.begun w) w (Goes post);
@@ -128,15 +134,17 @@ IsBack b w (out.Offered n) job =
 IsBack b w (out.Kept n kept) job = kept ≡ job
 IsBack b w (out.Undecided n kept) job = ⊥
 
--- RETAKE: the strand has its newest job back
+-- RETAKE: the strand has its newest job back; it lacks memory only if it did before, or has waited and come to its end
 pub record Retakes (v : Verified) (s s' : Scene) (w : ℕ) : Type 0 where
   pub at : AtOut s w
   pub back : IsAtBack s.board w at.newest
   pub stage : Stage
   pub comes : ComesTo v s.jobs at.at.post at.older stage
+  pub lacks : lacks_memory stage ≡ true
+      → IsLost at.at.post.strand ⊎ (IsWaiting at.at.post.strand × HasEnded stage)
   pub is : s' ≡ turned s w stage (board_without s.board w at.newest)
 
--- STEAL: a strand begins the oldest job of a deque
+-- STEAL: a strand begins the oldest job of a deque; it lacks memory only if it has come to its end
 pub record Steals (v : Verified) (s s' : Scene) (w victim : ℕ) : Type 0 where
   pub there : w < length s.begun
   pub offer : Offer
@@ -145,6 +153,7 @@ pub record Steals (v : Verified) (s s' : Scene) (w victim : ℕ) : Type 0 where
   pub post : Posted
   pub begins : (post.number ≡ offer.number) × (its_job post.strand ≡ offer.job) × (post.outs ≡ [])
   pub comes : ComesTo v s.jobs post [] stage
+  pub lacks : lacks_memory stage ≡ true → HasEnded stage
   pub is : s' ≡ record {
     jobs = s.jobs;
     begun = with_top s.begun w stage;
@@ -162,15 +171,18 @@ pub record Settles (s s' : Scene) (w : ℕ) : Type 0 where
     board = settled s.board (record { number = number; effect = effect });
   }
 
--- COLLECT: the strand is given the effect
+-- COLLECT: the strand is given the effect, and lacks memory only if that may lose it
 pub record Collects (v : Verified) (s s' : Scene) (w : ℕ) : Type 0 where
   pub at : AtOut s w
   pub number : ℕ
   pub newest : at.newest ≡ out.Offered number
   pub place : ℕ
   pub waits : cell_of s.board number ≡ Some place
+  pub effect : Effect
+  pub cell : IsCellAt s.board place number effect
   pub stage : Stage
   pub comes : ComesTo v s.jobs at.at.post at.older stage
+  pub lacks : lacks_memory stage ≡ true → MayLose at.at.post.strand effect
   pub is : s' ≡ turned s w stage (collected s.board place)
 
 -- WHAT AN EVENT DOES, in a world of this code
@@ -200,6 +212,7 @@ IsBegun v p (Some e) (Goes q) = ⊥
 IsBegun v p (Some e) (Made n d) = (n ≡ p.number) × (p.number ≢ 0) × (d ≡ e)
 IsBegun v p (Some e) (Answered r) =
     (p.number ≡ 0)
+    × IsAnswerOf e r
     × ((args : List ℤ) (n : ℕ) (burden : Burden) (root : Job)
     → IsRoot v args n burden root.parts.value → IsMeaningOf root e → RunsAsCode (code_view v.code) args n burden r)
 

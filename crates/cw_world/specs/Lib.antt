@@ -4,6 +4,7 @@ pub mod Table
 pub mod Posts
 pub mod Sound
 pub mod Places
+pub mod Lacking
 pub mod Events
 pub mod Wants
 pub mod Copied

@@ -12,7 +12,7 @@ use Rattle.cw_strand.specs.declared.strand.Strand.{Strand}
 use Rattle.cw_strand.specs.declared.strand.Advance.TheVariants as advance
 use Rattle.cw_strand.specs.declared.strand.Step.TheVariants as step
 use Rattle.cw_strand.specs.Moves.{AdvancesBy, EndsBy, KeptBy}
-use Rattle.cw_strand.specs.Holds.{its_job, outs, IsRunning, IsAtSync, HasStopped}
+use Rattle.cw_strand.specs.Holds.{its_job, outs, IsRunning, IsGoing, IsWaiting, IsAtSync, HasStopped}
 use Rattle.cw_sched.specs.Board.{pushed}
 use Rattle.cw_world.specs.declared.post.Out.{Out}
 use Rattle.cw_world.specs.declared.post.Out.TheVariants as out
@@ -27,13 +27,15 @@ pub record Begins (number : ℕ) (job : Job) (p : Post) : Type 0 where
   pub none : outs p.strand ≡ []
   pub outs_are : p.outs.items ≡ []
   pub goes : p.at_join ≡ false
+  pub fresh : IsGoing p.strand
 
 -- at a join only with a strand that is at a join, and with jobs out; and there where it has stopped
--- with jobs out
+-- with jobs out, and where it waits
 abbrev pub StandsRight : Posted → Type 0
 StandsRight p =
     (p.at_join ≡ true → IsAtSync p.strand × (p.outs ≢ []))
     × (HasStopped p.strand → p.outs ≢ [] → p.at_join ≡ true)
+    × (IsWaiting p.strand → p.at_join ≡ true)
 
 -- it goes on with the same job; its list has these, and its strand has these jobs out
 pub record Stays (old new : Posted) (list : List Out) (left : List Job) : Type 0 where
@@ -74,6 +76,7 @@ pub record HandsOut (old new : Posted) (jobs jobs' : List Job) : Type 0 where
   pub stays : Stays old new
       (pushed old.outs (out.Undecided (length jobs) job)) (job ∷ outs old.strand)
   pub jobs_are : jobs' ≡ pushed jobs job
+  pub goes : IsGoing new.strand
 
 -- one instruction was done, after which its strand had not come to its end; or none, and it waits
 -- from now on
@@ -107,3 +110,7 @@ abbrev pub ComesBack : Option Effect → (old : Post) → Job → (new : Post) �
 ComesBack ended old job new =
     (others : List Job) → outs old.strand ≡ job ∷ others
     → Comes ended (posted old) (posted new) others
+
+-- a strand whose newest job is back unrun goes on, if it waited; one that has stopped stays so
+abbrev pub IsBackIn : (old new : Strand) → Type 0
+IsBackIn old new = (IsWaiting old × IsGoing new) ⊎ (HasStopped old × (new.mode ≡ old.mode))

@@ -10,6 +10,7 @@ use Rattle.cw_verify.specs.declared.verified.Verified.{Verified}
 use Rattle.cw_jobs.specs.Jobs.{is_request}
 use Rattle.cw_machine.specs.declared.alone.Ended as alone
 use Rattle.cw_machine.specs.Runs.{RunsAsCode}
+use Rattle.cw_strand.specs.Holds.{IsGoing}
 use Rattle.cw_sched.specs.Board.{of_worker, oldest}
 use Rattle.cw_world.specs.declared.event.Event.{Event}
 use Rattle.cw_world.specs.declared.event.Refused.{Refused}
@@ -22,6 +23,7 @@ use Rattle.cw_world.specs.Sound.{Sound, IsRunOf}
 use Rattle.cw_world.specs.Places.{OnePlace, RootIsFirst}
 use Rattle.cw_world.specs.Events.{Does, DoesOr}
 use Rattle.cw_world.specs.Table.{is_possible}
+use Rattle.cw_world.specs.Lacking.{KeepsMemory, LacksNone, LacksBy}
 use Rattle.cw_world.specs.Wants.{MayWant}
 use Rattle.cw_world.specs.Copied.{IsOptionCopy}
 
@@ -70,6 +72,7 @@ pub record IsStarted (v : Verified) (args : List ℤ) (n : ℕ) (burden : Burden
   pub is : IsWorldOf v args n burden w
   pub post : Posted
   pub root : (post.number ≡ 0) × (post.outs ≡ [])
+  pub goes : IsGoing post.strand
   pub begun : (scene w).begun ≡ (Goes post ∷ []) ∷ idle (workers - 1)
   pub board : (scene w).board ≡ opened workers
 
@@ -118,14 +121,24 @@ pub record Tries (old : World) (event : Event) (new : World) : Type 0 where
   pub happens : Happens old event answer new
   pub not_now : IsNotNow answer ↔ (is_possible (scene old) event ≡ false)
   pub wants : IsForMemory answer → MayWant old event
+  pub memory : KeepsMemory event (scene old) (scene new)
 
 -- EVENTS, ONE AFTER THE OTHER, lead from a world to another one
 abbrev pub Leads : List Event → (old new : World) → Type 0
 Leads [] old new = new ≡ old
 Leads (event ∷ events) old new = (mid : World) × Tries old event mid × Leads events mid new
 
+-- AND BY ONE OF THEM MEMORY IS WANTING, before which it was wanting nowhere
+abbrev pub LeadsToLack : List Event → (old new : World) → Type 0
+LeadsToLack [] old new = ⊥
+LeadsToLack (event ∷ events) old new =
+    (mid : World) × Tries old event mid
+    × ((LacksNone (scene old) × LacksBy event (scene old) (scene mid) × Leads events mid new)
+    ⊎ LeadsToLack events mid new)
+
 -- what a list of events comes to: what the world answers that they lead to from one that has begun, if it has
--- ended, and that is what the code gives, or memory
+-- ended, and that is what the code gives, or memory; and the world answers memory only where it was wanting by one of
+-- the events
 pub record Played (v : Verified) (args : List ℤ) (n : ℕ) (burden : Burden) (workers : ℕ)
     (events : List Event) (outcome : Option (Result alone.Ended Fault)) : Type 0 where
   pub first : World
@@ -133,6 +146,7 @@ pub record Played (v : Verified) (args : List ℤ) (n : ℕ) (burden : Burden) (
   pub last : World
   pub leads : Leads events first last
   pub copy : IsOptionCopy (answer_of (scene last)) outcome
+  pub memory : answer_of (scene last) ≡ Some (Err fault.Memory) → LeadsToLack events first last
   pub serial : IfSome outcome (RunsAsCode (code_view v.code) args n burden)
 
 -- that is the outcome; or there is no world

@@ -1,13 +1,15 @@
 //! A strand that a worker has begun, beside the jobs that it has out.
 
-ghost use Rattle.std.specs.Prelude.{◌≡◌, ◌⊎◌, ◌∷◌, List, MatchResult, OnErr};
+ghost use Rattle.std.specs.Prelude.{◌≡◌, ◌⊎◌, ◌∷◌, List, IfOk, IsSome, MatchResult, OnErr};
 ghost use Rattle.cw_jobs.specs.declared.job.Job as jobs;
-ghost use Rattle.cw_strand.specs.Holds.{outs, IsAtSync, IsRunning};
+ghost use Rattle.cw_strand.specs.Holds.{outs, IsAtSync, IsGoing, IsLost, IsRunning, IsWaiting};
+ghost use Rattle.cw_strand.specs.Losing.{LeavesEnd, MayLack, MayLose};
 ghost use Rattle.cw_strand.specs.Giving.{IsGiven};
 ghost use Rattle.cw_sched.specs.Board.{pushed};
 ghost use Rattle.cw_world.specs.Scenes.{jobs_of, posted};
 ghost use Rattle.cw_world.specs.Boards.{IsFull};
-ghost use Rattle.cw_world.specs.Posts.{Begins, Comes, ComesBack, HasRoom, HasStepped, IsEven, Lacks, LacksOne, ListsNext, StandsRight};
+ghost use Rattle.cw_world.specs.Lacking.{LacksAfter};
+ghost use Rattle.cw_world.specs.Posts.{Begins, Comes, ComesBack, HasRoom, HasStepped, IsBackIn, IsEven, Lacks, LacksOne, ListsNext, StandsRight};
 
 use cw_jobs::effect::Effect;
 use cw_jobs::job::Job;
@@ -44,6 +46,7 @@ fn unrun(strand: &mut Strand, rest: Job)
     ensures of { strand.new.of ≡ strand.old.of }
     ensures running { IsRunning strand.new }
     ensures outs { rest ∷ outs strand.new ≡ outs strand.old }
+    ensures back { IsBackIn strand.old strand.new }
 {
     if strand.stopped() {
         strand.skip(rest);
@@ -72,7 +75,9 @@ impl Post {
     pub(crate) fn stand(&mut self) -> Option<Effect>
         requires running { IsRunning self.old.strand }
         requires even { IsEven self.old }
-        ensures { Comes result (posted self.old) (posted self.new) (outs self.old.strand) }
+        requires back { IsWaiting self.old.strand → ⊥ }
+        ensures comes { Comes result (posted self.old) (posted self.new) (outs self.old.strand) }
+        ensures leaves { LeavesEnd result self.old.strand self.new.strand }
     {
         if self.outs.is_empty() {
             self.at_join = false;
@@ -82,9 +87,10 @@ impl Post {
         None
     }
 
-    // A job is out, and gets the next number.
+    // A job is out, and gets the next number; the strand goes on with the call that it stands beside.
     fn hand_out(&mut self, jobs: &mut Vec<Snapshot<Job>>, job: Job)
         requires room { HasRoom self.old.outs × HasRoom jobs.old }
+        requires goes { IsGoing self.old.strand }
         ensures strand { self.new.strand ≡ self.old.strand }
         ensures numbered { self.new.number ≡ self.old.number }
         ensures outs { ListsNext self.old (jobs_of jobs.old) job self.new }
@@ -94,7 +100,7 @@ impl Post {
         let number = jobs.len();
         jobs.push_reserved(Snapshot::of(&job));
         self.outs.push_reserved(Out::Undecided(number, job));
-        self.at_join = self.strand.stopped();
+        self.at_join = false;
     }
 
     /// One instruction, with its effect, where it has ended. A rest that is handed out gets the next number. The error is
@@ -107,6 +113,7 @@ impl Post {
         requires even { IsEven self.old }
         ensures does { HasStepped result self.old self.new jobs.old jobs.new }
         ensures full { OnErr result (IsFull jobs.old ⊎ IsFull self.old.outs) }
+        ensures lacks { IfOk result (λ r. LacksAfter r self.new.strand → MayLack self.old.strand) }
     {
         jobs.reserve(1)?;
         self.outs.reserve(1)?;
@@ -128,7 +135,9 @@ impl Post {
     pub(crate) fn take_in(&mut self, rest: Job) -> Option<Effect>
         requires at_sync { IsRunning self.old.strand × IsAtSync self.old.strand }
         requires lacks { Lacks self.old rest }
-        ensures { ComesBack result self.old rest self.new }
+        ensures comes { ComesBack result self.old rest self.new }
+        ensures lacks { LacksAfter result self.new.strand
+            → IsLost self.old.strand ⊎ (IsWaiting self.old.strand × IsSome result) }
     {
         unrun(&mut self.strand, rest);
         self.stand()
@@ -139,7 +148,8 @@ impl Post {
         requires at_sync { IsRunning self.old.strand × IsAtSync self.old.strand }
         requires lacks { LacksOne self.old }
         requires given { IsGiven self.old.strand effect }
-        ensures { (out : jobs.Job) → ComesBack result self.old out self.new }
+        ensures comes { (out : jobs.Job) → ComesBack result self.old out self.new }
+        ensures lacks { LacksAfter result self.new.strand → MayLose self.old.strand effect }
     {
         self.strand.give(effect);
         self.stand()

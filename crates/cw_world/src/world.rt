@@ -15,6 +15,7 @@ ghost use Rattle.cw_world.specs.Posts.{Begins};
 ghost use Rattle.cw_world.specs.Sound.{KeepsRuns, Sound};
 ghost use Rattle.cw_world.specs.Worlds.{answer_in, answer_of, has_ended, idle, AnswersAsCode, IsSound, Starts};
 ghost use Rattle.cw_world.specs.Worlds.{Happens, HasHappened, IsForMemory, IsNotNow, KeepsAnswer};
+ghost use Rattle.cw_world.specs.Lacking.{KeepsMemory};
 ghost use Rattle.cw_world.specs.Table as table;
 ghost use Rattle.cw_world.specs.Table.{is_possible};
 ghost use Rattle.cw_world.specs.Events.{board_without, but_top, with_top, HasRoomIn, HasTurned, IsBack, IsBegun};
@@ -543,7 +544,8 @@ impl World {
     /// The error is `NotNow` exactly where the event is not possible; otherwise `Memory`, where there was none for the
     /// world's own lists or for a strand's beginning: only at `Run`, `Offer` and `Settle` where a list that the event may
     /// add to is full, and at `Steal`. After either the world is as it was. Where memory is wanting in a strand the event
-    /// happens, and the strand stops for that.
+    /// happens, and the strand stops for that: only by `Run`, by `Collect` of what a rest has shown, and at the join of a
+    /// job that `Retake` or `Steal` have led to its end.
     pub fn apply(&mut self, event: Event) -> Result<(), Refused>
         requires { IsSound self.old }
         ensures sound { IsSound self.new }
@@ -552,6 +554,7 @@ impl World {
         ensures stays { KeepsAnswer (scene self.old) (scene self.new) }
         ensures not_now { IsNotNow result ↔ (is_possible (scene self.old) event ≡ false) }
         ensures wants { IsForMemory result → MayWant self.old event }
+        ensures keeps { KeepsMemory event (scene self.old) (scene self.new) }
         ensures does { Happens self.old event result self.new }
     {
         if !self.is_possible(event) {

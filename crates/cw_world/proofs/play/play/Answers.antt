@@ -1,6 +1,7 @@
 use Rattle.std.proofs.Common.{◌≡◌, ◌+◌, ◌∷◌, ◌∙◌, ap, suc, arith, drop, slice_index_or}
 use Rattle.cw_world.specs.declared.event.Event.TheVariants as event
 use Rattle.cw_world.proofs.After.{still_world}
+use Rattle.cw_world.proofs.Keeping.{memory_was_wanting}
 use Rattle.cw_world.proofs.Plays.{drop_next, drop_none, plays_on, plays_out}
 use Rattle.cw_world.proofs.play.play.Goals as goal
 
@@ -19,7 +20,7 @@ loop-event-preserved c =
     let left = drop_next events k (event.Run 0) c.loop-event-test.true ∙ ap (λ i. e ∷ drop i events) next in
     plays_on v c.args.args.now c.args.n c.args.burden c.args.workers events (drop k events) (drop (k + 1) events) e w c.apply.new.self p left
     (still_world v c.args.args.now c.args.n c.args.burden w c.apply.new.self p.is c.apply.ensures.sound c.apply.ensures.code c.apply.ensures.run)
-    (record { answer = c.apply.result; happens = c.apply.ensures.does; not_now = c.apply.ensures.not_now; wants = c.apply.ensures.wants })
+    (record { answer = c.apply.result; happens = c.apply.ensures.does; not_now = c.apply.ensures.not_now; wants = c.apply.ensures.wants; memory = c.apply.ensures.keeps })
 
 pub returns : goal.returns
 returns c =
@@ -29,11 +30,13 @@ returns c =
     let w = c.loop-event.world in
     let p = c.loop-event.invariant in
     let none = drop_none events k (omega (arith, c.loop-event-test.false)) in
+    let leads = plays_out v c.args.args.now c.args.n c.args.burden c.args.workers events (drop k events) w p none in
     record {
       first = p.first;
       started = p.started;
       last = w;
-      leads = plays_out v c.args.args.now c.args.n c.args.burden c.args.workers events (drop k events) w p none;
+      leads = leads;
       copy = c.outcome-outcome.ensures.copy;
+      memory = memory_was_wanting v c.args.args.now c.args.n c.args.burden c.args.workers events p.first w p.started leads;
       serial = c.outcome-outcome.ensures.answers v c.args.args.now c.args.n c.args.burden p.is;
     }

@@ -10,3 +10,6 @@ returns-clause-means c =
 
 pub returns-clause-none : goal.returns-clause-none
 returns-clause-none c = gave_none c.calls_on_a_strand_keep_its_job.ensures c.args.self.now c.args.end c.args.value c.requires.comes
+
+pub returns-clause-comes : goal.returns-clause-comes
+returns-clause-comes c = c.requires.comes.going

@@ -7,6 +7,7 @@ use Rattle.cw_strand.specs.Giving.{target_of, HasJoined}
 use Rattle.cw_strand.proofs.Same.{newest_of, others_left, pops}
 use Rattle.cw_strand.proofs.Gave.{lost_runs, may_waits, passes_runs, mode_back}
 use Rattle.cw_strand.proofs.GaveJoin.{may_join, join_runs}
+use Rattle.cw_strand.proofs.Losing.{lacks_not, waits_not, goes_not_waits}
 use Rattle.cw_strand.proofs.strand.Strand.give_joined.Goals as goal
 
 pub pop_home-requires : goal.pop_home-requires
@@ -65,3 +66,21 @@ returns-clause-running c =
       mode = refl;
       left = λ x xs are. (pops self.lent.items c.pop.new.self.items self.lent.len c.pop.new.self.len c.pop.result x xs self.lent.ok.0 c.pop.ensures.items c.pop.ensures.cases are).left;
     })
+
+pub returns-then-passes-clause-lacks : goal.returns-then-passes-clause-lacks
+returns-then-passes-clause-lacks c = λ l. absurd (lacks_not mode.Over refl refl l)
+
+pub returns-then-passes-clause-back : goal.returns-then-passes-clause-back
+returns-then-passes-clause-back c = λ w. waits_not mode.Over refl w
+
+pub returns-in-Ok-clause-lacks : goal.returns-in-Ok-clause-lacks
+returns-in-Ok-clause-lacks c = λ _. sym c.passes.ensures ∙ c.if-passes.false
+
+pub returns-in-Ok-clause-back : goal.returns-in-Ok-clause-back
+returns-in-Ok-clause-back c = λ w. goes_not_waits w
+
+pub returns-clause-lacks : goal.returns-clause-lacks
+returns-clause-lacks c = λ _. sym c.passes.ensures ∙ c.if-passes.false
+
+pub returns-clause-back : goal.returns-clause-back
+returns-clause-back c = λ w. waits_not mode.Memory refl w

@@ -1,5 +1,8 @@
 use Rattle.cw_strand.proofs.Same.{newest_of, others_left}
 use Rattle.cw_strand.proofs.Gave.{lost_runs, may_stopped, stopped_runs}
+use Rattle.std.proofs.Common.{◌∙◌, ap, inl, inr}
+use Rattle.cw_strand.specs.Holds.{stops}
+use Rattle.cw_strand.proofs.Losing.{lost_before, waits_not}
 use Rattle.cw_strand.proofs.strand.Strand.give_stopped.Goals as goal
 
 pub pop_home-requires : goal.pop_home-requires
@@ -28,3 +31,15 @@ returns-in-None-clause-running c =
 
 pub returns-in-None-clause-outs : goal.returns-in-None-clause-outs
 returns-in-None-clause-outs c = λ out others e. others_left c.args.self.now c.lose.new.self out others e (λ x xs. c.lose.ensures.left x xs)
+
+pub returns-in-Some-clause-lacks : goal.returns-in-Some-clause-lacks
+returns-in-Some-clause-lacks c = λ l. inl (lost_before c.args.self.now.mode c.pop_home.new.self.mode c.pop_home.ensures.mode c.requires.stopped l)
+
+pub returns-in-Some-clause-back : goal.returns-in-Some-clause-back
+returns-in-Some-clause-back c = λ w. waits_not c.pop_home.new.self.mode (ap stops c.pop_home.ensures.mode ∙ c.requires.stopped) w
+
+pub returns-in-None-clause-lacks : goal.returns-in-None-clause-lacks
+returns-in-None-clause-lacks c = λ _. inr (inl c.in-None.ensures)
+
+pub returns-in-None-clause-back : goal.returns-in-None-clause-back
+returns-in-None-clause-back c = λ w. waits_not c.lose.new.self.mode (ap stops c.lose.ensures.mode) w

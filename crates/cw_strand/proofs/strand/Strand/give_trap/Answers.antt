@@ -3,10 +3,12 @@ use Rattle.cw_jobs.specs.declared.effect.Effect.{Effect}
 use Rattle.cw_jobs.specs.declared.effect.Effect.TheVariants as effect
 use Rattle.cw_strand.specs.declared.strand.Mode.TheVariants as mode
 use Rattle.cw_strand.specs.declared.strand.Strand.{Strand}
+use Rattle.cw_strand.specs.Holds.{stops}
 use Rattle.cw_strand.specs.Moves.{MayPopHome, HasPoppedHome}
 use Rattle.cw_strand.proofs.Same.{newest_of, others_left}
 use Rattle.cw_strand.proofs.Gave.{lost_runs, may_waits, passes_runs, mode_back}
 use Rattle.cw_strand.proofs.GaveTrap.{may_trapped, trap_runs}
+use Rattle.cw_strand.proofs.Losing.{lacks_not, waits_not}
 use Rattle.cw_strand.proofs.strand.Strand.give_trap.Goals as goal
 
 pub pop_home-requires : goal.pop_home-requires
@@ -67,3 +69,21 @@ returns-clause-running c =
 
 pub returns-clause-outs : goal.returns-clause-outs
 returns-clause-outs c = λ out others e. others_left c.args.self.now c.lose.new.self out others e (λ x xs. c.lose.ensures.left x xs)
+
+pub returns-then-passes-clause-lacks : goal.returns-then-passes-clause-lacks
+returns-then-passes-clause-lacks c = λ l. absurd (lacks_not mode.Over refl refl l)
+
+pub returns-then-passes-clause-back : goal.returns-then-passes-clause-back
+returns-then-passes-clause-back c = λ w. waits_not mode.Over refl w
+
+pub returns-in-Ok-clause-lacks : goal.returns-in-Ok-clause-lacks
+returns-in-Ok-clause-lacks c = λ _. sym c.passes.ensures ∙ c.if-passes.false
+
+pub returns-in-Ok-clause-back : goal.returns-in-Ok-clause-back
+returns-in-Ok-clause-back c = λ w. waits_not (mode.Trapped c.args.trap c.args.line) refl w
+
+pub returns-clause-lacks : goal.returns-clause-lacks
+returns-clause-lacks c = λ _. sym c.passes.ensures ∙ c.if-passes.false
+
+pub returns-clause-back : goal.returns-clause-back
+returns-clause-back c = λ w. waits_not c.lose.new.self.mode (ap stops c.lose.ensures.mode) w

@@ -1,5 +1,10 @@
 use Rattle.cw_strand.proofs.Same.{newest_of, others_left}
 use Rattle.cw_strand.proofs.Gave.{lost_runs}
+use Rattle.std.proofs.Common.{sym, ap, subst, inl, inr}
+use Rattle.cw_strand.specs.Giving.{IsMemory}
+use Rattle.cw_strand.specs.Holds.{stops, is_lost}
+use Rattle.cw_strand.specs.Losing.{TakesIn}
+use Rattle.cw_strand.proofs.Losing.{lacks_not, waits_not}
 use Rattle.cw_strand.proofs.strand.Strand.give_waiting.Goals as goal
 
 pub returns-in-Memory-clause-running : goal.returns-in-Memory-clause-running
@@ -11,3 +16,21 @@ returns-in-Memory-clause-running c =
 
 pub returns-in-Memory-clause-outs : goal.returns-in-Memory-clause-outs
 returns-in-Memory-clause-outs c = λ out others e. others_left c.args.self.now c.lose.new.self out others e (λ x xs. c.lose.ensures.left x xs)
+
+pub returns-in-Joined-clause-lacks : goal.returns-in-Joined-clause-lacks
+returns-in-Joined-clause-lacks c = λ l. inr (inr (subst (TakesIn c.args.self.now) (sym c.in-Joined.is) (c.requires.waiting, c.give_joined.ensures.lacks l)))
+
+pub returns-in-Trapped-clause-lacks : goal.returns-in-Trapped-clause-lacks
+returns-in-Trapped-clause-lacks c = λ l. inr (inr (subst (TakesIn c.args.self.now) (sym c.in-Trapped.is) (c.requires.waiting, c.give_trap.ensures.lacks l)))
+
+pub returns-in-OverLimit-clause-lacks : goal.returns-in-OverLimit-clause-lacks
+returns-in-OverLimit-clause-lacks c = λ l. absurd (lacks_not c.give_over.new.self.mode (ap stops c.give_over.ensures.over) (ap is_lost c.give_over.ensures.over) l)
+
+pub returns-in-OverLimit-clause-back : goal.returns-in-OverLimit-clause-back
+returns-in-OverLimit-clause-back c = λ w. waits_not c.give_over.new.self.mode (ap stops c.give_over.ensures.over) w
+
+pub returns-in-Memory-clause-lacks : goal.returns-in-Memory-clause-lacks
+returns-in-Memory-clause-lacks c = λ _. inr (inl (subst IsMemory (sym c.in-Memory.is) tt))
+
+pub returns-in-Memory-clause-back : goal.returns-in-Memory-clause-back
+returns-in-Memory-clause-back c = λ w. waits_not c.lose.new.self.mode (ap stops c.lose.ensures.mode) w

@@ -1,4 +1,4 @@
-use Rattle.std.proofs.Common.{◌≡◌, length, refl, sym, ap, ◌∙◌, subst}
+use Rattle.std.proofs.Common.{◌≡◌, length, refl, sym, ap, ◌∙◌, subst, inl}
 use Rattle.cw_jobs.specs.declared.call.Parts.{Parts}
 use Rattle.cw_jobs.specs.declared.effect.Effect.TheVariants as effect
 use Rattle.cw_machine.specs.JobRuns as runs
@@ -34,3 +34,6 @@ returns-in-Err-clause-means c = memory_means (its_job c.args.self.now) (effect.M
 
 pub returns-in-Err-clause-none : goal.returns-in-Err-clause-none
 returns-in-Err-clause-none c = join_none c.calls_on_a_strand_keep_its_job.ensures c.args.self.now c.args.end c.rests_stay_in_their_functions.ensures c.runs_stay_in_their_functions.ensures.seats c.requires.comes
+
+pub returns-in-Err-clause-comes : goal.returns-in-Err-clause-comes
+returns-in-Err-clause-comes c = inl c.requires.comes.going

@@ -1,4 +1,4 @@
-use Rattle.std.proofs.Common.{refl}
+use Rattle.std.proofs.Common.{refl, ◌∙◌}
 use Rattle.cw_machine.specs.declared.run.Stop.TheVariants as stop
 use Rattle.cw_strand.proofs.Cutting.{cut_sound}
 use Rattle.cw_strand.proofs.Halts.{spared_runs}
@@ -17,3 +17,6 @@ pub returns-in-Ok-clause-keeps : goal.returns-in-Ok-clause-keeps
 returns-in-Ok-clause-keeps c =
     lent_step c.calls_on_a_strand_keep_its_job.ensures c.machines_that_stop_remain.ensures.apart c.args.self.now c.cut_out.new.self _ c.args.end c.args.spawn _ c.in-Ok.first
     (record { job = c.of.result; first = c.in-Ok.first; target = c.args.spawn.target }) c.requires.comes c.in-Ok.ensures.cut c.of.ensures refl refl refl refl refl refl refl refl c.push_reserved.ensures.items
+
+pub returns-in-Ok-clause-goes : goal.returns-in-Ok-clause-goes
+returns-in-Ok-clause-goes c = c.in-Ok.ensures.cut.mode ∙ c.requires.comes.going

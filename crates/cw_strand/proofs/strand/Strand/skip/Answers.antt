@@ -46,3 +46,6 @@ returns-clause-outs c =
     let others = c.requires.out.0 in
     ap (λ l. c.args.job ∷ l) (others_left self c.spare.new.self c.args.job others c.requires.out.1 (λ x xs are. ap reverse c.spare.ensures.kept.lent ∙ c.pop_home.ensures.left x xs are))
     ∙ sym c.requires.out.1
+
+pub returns-clause-mode : goal.returns-clause-mode
+returns-clause-mode c = c.spare.ensures.kept.mode ∙ c.pop_home.ensures.mode

@@ -21,3 +21,6 @@ returns-in-Over-clause-advances c =
       ap (λ v. map (λ l. l.job.value) (reverse v.items)) c.run_on-stop.ensures.same.1,
       over_count mid (self.count + 1) comes,
     )
+
+pub returns-in-Over-clause-leaves : goal.returns-in-Over-clause-leaves
+returns-in-Over-clause-leaves c = (c.requires.going, c.run_on-stop.ensures.comes.going)

@@ -1,9 +1,10 @@
-use Rattle.std.proofs.Common.{length, refl, sym, ap, subst}
+use Rattle.std.proofs.Common.{length, refl, sym, ap, subst, inr}
 use Rattle.cw_jobs.specs.declared.call.Parts.{Parts}
 use Rattle.cw_jobs.specs.declared.effect.Effect.TheVariants as effect
 use Rattle.cw_machine.specs.JobRuns as runs
 use Rattle.cw_strand.specs.Holds.{its_job}
 use Rattle.cw_strand.proofs.Ends.{may_with, gives_with, may_trapped, may_over, trap_means, over_means, memory_means}
+use Rattle.cw_strand.proofs.Losing.{stopped_lost}
 use Rattle.cw_strand.proofs.strand.Strand.stop_effect.Goals as goal
 
 pub given_up-back-requires : goal.given_up-back-requires
@@ -40,5 +41,8 @@ returns-in-Over-clause-means c =
     (effect.OverLimit c.given_up.result) c.in-Over.is
     (subst (λ (q : Parts). runs.GivesUp self.run.machine (length q.rest.slices.items) c.given_up.result.items) c.deref_mut-in-Over.ensures.value c.given_up.ensures)
 
-pub returns-in_default : goal.returns-in_default
-returns-in_default c = record { of = refl; means = memory_means (its_job c.args.self.now) (effect.Memory c.new-in_default.result) tt }
+pub returns-in_default-clause-means : goal.returns-in_default-clause-means
+returns-in_default-clause-means c = memory_means (its_job c.args.self.now) (effect.Memory c.new-in_default.result) tt
+
+pub returns-in_default-clause-comes : goal.returns-in_default-clause-comes
+returns-in_default-clause-comes c = inr (stopped_lost c.args.self.now.mode c.requires.stopped c.in_default.not-Trapped c.in_default.not-Over)

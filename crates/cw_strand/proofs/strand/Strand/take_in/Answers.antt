@@ -43,3 +43,6 @@ returns-clause-outs c =
     let others = c.requires.out.0 in
     ap (λ l. c.args.job ∷ l) (others_left self c.spare.new.self c.args.job others c.requires.out.1 (λ x xs are. ap reverse c.spare.ensures.kept.lent ∙ lasts self.lent.items c.take_last.new.self.items c.take_last.result x xs c.take_last.ensures.items are))
     ∙ sym c.requires.out.1
+
+pub returns-clause-goes : goal.returns-clause-goes
+returns-clause-goes c = c.spare.ensures.kept.mode

@@ -1,12 +1,16 @@
 use Rattle.std.proofs.Common.{refl, ap}
 use Rattle.cw_world.specs.Scenes.{Posted, posted}
+use Rattle.cw_world.proofs.Lacking.{after_end}
 use Rattle.cw_world.proofs.Posts.{comes_back}
 use Rattle.cw_world.proofs.post.Post.give.Goals as goal
 
-pub returns : goal.returns
-returns c =
+pub returns-clause-comes : goal.returns-clause-comes
+returns-clause-comes c =
     let p = c.args.self.now in
     let mid : Posted = record { number = p.number; strand = c.give.new.self; at_join = p.at_join; outs = p.outs.items } in
     λ newest others e.
     comes_back c.stand.result (posted p) mid (posted c.stand.new.self) newest others refl refl
-    (ap (λ o. o.value) c.give.ensures.of) (c.give.ensures.outs newest others e) c.stand.ensures
+    (ap (λ o. o.value) c.give.ensures.of) (c.give.ensures.outs newest others e) c.stand.ensures.comes
+
+pub returns-clause-lacks : goal.returns-clause-lacks
+returns-clause-lacks c = λ l. c.give.ensures.lacks (after_end c.stand.result c.give.new.self c.stand.new.self.strand c.stand.ensures.leaves l)

@@ -1,10 +1,12 @@
-use Rattle.std.proofs.Common.{◌≡◌, ◌∙◌, ◌++◌, true, List, [], ◌∷◌, refl, sym, ap, subst, length}
+use Rattle.std.proofs.Common.{◌≡◌, ◌∙◌, ◌++◌, true, List, [], ◌∷◌, refl, sym, ap, subst, length, inl}
 use Rattle.std.specs.Prelude.{map}
 use Rattle.cw_jobs.specs.declared.job.Job as jobs
 use Rattle.cw_strand.specs.Holds.{its_job}
+use Rattle.cw_strand.specs.Losing.{Leaves}
 use Rattle.cw_strand.specs.Moves.{KeptBy}
 use Rattle.cw_world.specs.declared.post.Out.TheVariants as out
 use Rattle.cw_world.specs.Scenes.{Posted, jobs_of, posted}
+use Rattle.cw_world.proofs.Lacking.{goes_not_waits, goes_not_lost, after_end, after_event, after_stop}
 use Rattle.cw_world.proofs.Posts.{steps_on, steps_to_join, steps_to_spawn}
 use Rattle.cw_world.proofs.post.Post.step.Goals as goal
 
@@ -13,7 +15,7 @@ returns-in-Ran-clause-does c =
     let p = c.args.self.now in
     let mid : Posted = record { number = p.number; strand = c.advance.new.self; at_join = p.at_join; outs = c.reserve-2.new.self.items } in
     steps_on c.stand.result (posted p) mid (posted c.stand.new.self) (jobs_of c.args.jobs.now) (jobs_of c.reserve.new.self) refl c.reserve-2.ensures.items
-    (ap (λ o. o.value) c.advance.ensures.of) c.in-Ran.ensures.advances c.stand.ensures (ap (map (λ j. j.value)) c.reserve.ensures.items)
+    (ap (λ o. o.value) c.advance.ensures.of) c.in-Ran.ensures.advances c.stand.ensures.comes (ap (map (λ j. j.value)) c.reserve.ensures.items)
 
 pub returns-in-Came-Spawned-clause-does : goal.returns-in-Came-Spawned-clause-does
 returns-in-Came-Spawned-clause-does c =
@@ -28,6 +30,7 @@ returns-in-Came-Spawned-clause-does c =
     c.hand_out.ensures.stands
     (subst (λ e. KeptBy e p.strand c.hand_out.new.self.strand) c.in-Came-Spawned.field-0-is
     (subst (λ s. KeptBy c.in-Came-Spawned.field-0 p.strand s) (sym c.hand_out.ensures.strand) c.in-Came-Spawned.ensures.advances))
+    (ap (λ t. t.mode) c.hand_out.ensures.strand ∙ subst (λ e. Leaves e p.strand c.advance.new.self) c.in-Came-Spawned.field-0-is c.in-Came-Spawned.ensures.leaves)
     (c.hand_out.ensures.jobs ∙ ap (λ (k : List jobs.Job). k ++ job ∷ []) same)
 
 pub returns-in-Came-AtSync-clause-does : goal.returns-in-Came-AtSync-clause-does
@@ -38,3 +41,25 @@ returns-in-Came-AtSync-clause-does c =
     (ap (λ o. o.value) c.advance.ensures.of) c.requires.even refl
     (subst (λ e. KeptBy e p.strand c.advance.new.self) c.in-Came-AtSync.field-0-is c.in-Came-AtSync.ensures.advances)
     (ap (map (λ j. j.value)) c.reserve.ensures.items)
+
+pub stand-requires-clause-back : goal.stand-requires-clause-back
+stand-requires-clause-back c = λ w. goes_not_waits c.advance.new.self.mode c.in-Ran.ensures.leaves.1 w
+
+pub hand_out-requires-clause-goes : goal.hand_out-requires-clause-goes
+hand_out-requires-clause-goes c = subst (λ e. Leaves e c.args.self.now.strand c.advance.new.self) c.in-Came-Spawned.field-0-is c.in-Came-Spawned.ensures.leaves
+
+pub returns-in-Ran-clause-lacks : goal.returns-in-Ran-clause-lacks
+returns-in-Ran-clause-lacks c = λ _. inl c.in-Ran.ensures.leaves.0
+
+pub returns-in-Came-Spawned-clause-lacks : goal.returns-in-Came-Spawned-clause-lacks
+returns-in-Came-Spawned-clause-lacks c =
+    let goes = subst (λ e. Leaves e c.args.self.now.strand c.advance.new.self) c.in-Came-Spawned.field-0-is c.in-Came-Spawned.ensures.leaves in
+    λ lost. absurd (goes_not_lost c.hand_out.new.self.strand.mode (ap (λ t. t.mode) c.hand_out.ensures.strand ∙ goes) lost)
+
+pub returns-in-Came-AtSync-clause-lacks : goal.returns-in-Came-AtSync-clause-lacks
+returns-in-Came-AtSync-clause-lacks c =
+    after_stop c.args.self.now.strand c.advance.new.self (subst (λ e. Leaves e c.args.self.now.strand c.advance.new.self) c.in-Came-AtSync.field-0-is c.in-Came-AtSync.ensures.leaves)
+
+pub returns-in-Came-Ended-clause-lacks : goal.returns-in-Came-Ended-clause-lacks
+returns-in-Came-Ended-clause-lacks c =
+    after_event c.in-Came-Ended.effect c.args.self.now.strand (subst (λ e. Leaves e c.args.self.now.strand c.advance.new.self) c.in-Came-Ended.field-0-is c.in-Came-Ended.ensures.leaves)

@@ -1,13 +1,20 @@
 use Rattle.std.proofs.Common.{◌∙◌, refl, ap}
 use Rattle.cw_world.specs.Scenes.{Posted, posted}
 use Rattle.cw_world.proofs.Lists.{tail_of}
+use Rattle.cw_world.proofs.Lacking.{back_not_waits, after_back}
 use Rattle.cw_world.proofs.Posts.{comes_back}
 use Rattle.cw_world.proofs.post.Post.take_in.Goals as goal
 
-pub returns : goal.returns
-returns c =
+pub returns-clause-comes : goal.returns-clause-comes
+returns-clause-comes c =
     let p = c.args.self.now in
     let mid : Posted = record { number = p.number; strand = c.unrun.new.strand; at_join = p.at_join; outs = p.outs.items } in
     λ others e.
     comes_back c.stand.result (posted p) mid (posted c.stand.new.self) c.args.rest others refl refl
-    (ap (λ o. o.value) c.unrun.ensures.of) (ap tail_of (c.unrun.ensures.outs ∙ e)) c.stand.ensures
+    (ap (λ o. o.value) c.unrun.ensures.of) (ap tail_of (c.unrun.ensures.outs ∙ e)) c.stand.ensures.comes
+
+pub stand-requires-clause-back : goal.stand-requires-clause-back
+stand-requires-clause-back c = λ w. back_not_waits c.args.self.now.strand c.unrun.new.strand c.unrun.ensures.back w
+
+pub returns-clause-lacks : goal.returns-clause-lacks
+returns-clause-lacks c = after_back c.stand.result c.args.self.now.strand c.unrun.new.strand c.stand.new.self.strand c.unrun.ensures.back c.stand.ensures.leaves

@@ -5,6 +5,7 @@ use Rattle.cw_world.specs.declared.board.Offer.{Offer}
 use Rattle.cw_world.specs.Boards.{Boarded, returned, stolen}
 use Rattle.cw_world.specs.Scenes.{posted, scene, stacks}
 use Rattle.cw_world.specs.Events.{with_top}
+use Rattle.cw_world.proofs.Lacking.{goes_not_waits, fresh_lacks}
 use Rattle.cw_world.proofs.Doing.{scene_is, stolen_to, stolen_whole, offer_job, set_back}
 use Rattle.cw_world.proofs.world.World.begin_stolen.Goals as goal
 
@@ -20,7 +21,7 @@ turn-requires-clause-root c =
     let b = c.in-Ok.ensures in
     let p = posted c.in-Ok.post in
     let q = posted c.stand-ended.new.self in
-    stolen_whole v s p q c.stand-ended.result o.number o.job c.requires.sound job_is b.numbered b.of c.stand-ended.ensures
+    stolen_whole v s p q c.stand-ended.result o.number o.job c.requires.sound job_is b.numbered b.of c.stand-ended.ensures.comes
 
 pub returns-in-Ok-clause-does : goal.returns-in-Ok-clause-does
 returns-in-Ok-clause-does c =
@@ -39,7 +40,8 @@ returns-in-Ok-clause-does c =
       stage = x;
       post = p;
       begins = (b.numbered, b.of, b.outs_are);
-      comes = stolen_to v s.jobs p q c.stand-ended.result x o.number o.job job_is b.numbered b.of b.outs_are b.none c.stand-ended.ensures c.turn.ensures.begun;
+      comes = stolen_to v s.jobs p q c.stand-ended.result x o.number o.job job_is b.numbered b.of b.outs_are b.none c.stand-ended.ensures.comes c.turn.ensures.begun;
+      lacks = fresh_lacks v p.strand q c.stand-ended.result x b.fresh c.stand-ended.ensures.leaves c.turn.ensures.begun;
       is = scene_is s.jobs s.jobs (stacks c.turn.new.begun) (with_top s.begun c.args.w x) _ _ refl
           c.turn.ensures.is c.steal-number.ensures.stolen;
     }
@@ -54,3 +56,6 @@ returns-in-Err-clause-does c =
     ∙ (ap (λ (y : Boarded). returned y c.args.v (record { number = o.number; job = c.in-Err.job })) c.steal-number.ensures.stolen
     ∙ (ap (λ (y : Offer). returned (stolen s.board c.args.v) c.args.v y) same
     ∙ ap (λ (l : List (List Offer)). record { offers = l; cells = s.board.cells }) (set_back s.board.offers c.args.v o c.steal-number.ensures.oldest))))
+
+pub stand-ended-requires-clause-back : goal.stand-ended-requires-clause-back
+stand-ended-requires-clause-back c = λ w. goes_not_waits c.in-Ok.post.strand.mode c.in-Ok.ensures.fresh w

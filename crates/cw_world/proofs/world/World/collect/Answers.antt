@@ -3,6 +3,7 @@ use Rattle.std.specs.Arc.{arc_value}
 use Rattle.cw_world.specs.declared.post.Out.TheVariants as out
 use Rattle.cw_world.specs.Scenes.{posted, scene, stacks, top}
 use Rattle.cw_world.specs.Table as table
+use Rattle.cw_world.proofs.Lacking.{stage_lacks}
 use Rattle.cw_world.proofs.Turns.{came_back, back_whole}
 use Rattle.cw_world.proofs.Doing.{and_left, and_right, turned_scene, taken_works, at_sync, gives, popped, popped_are, settled_out, join_goes}
 use Rattle.cw_world.proofs.world.World.collect.Goals as goal
@@ -70,7 +71,7 @@ turn-requires-clause-root c =
     let older = c.pop-latest.new.self.items in
     let are = popped_are c.take-post.result.outs c.pop-latest.new.self latest (out.Offered n) c.pop-latest.ensures.items c.settled-number.ensures.number in
     let g = gives v s p older n c.settled-number.result.1 c.collect-effect.result c.requires.sound.right works are c.collect-effect.ensures.cell in
-    back_whole v s.jobs p (posted c.give-ended.new.self) older (out.Offered n) p.at_join c.give-ended.result c.requires.sound.right.root works are (λ job others is _. c.give-ended.ensures job others is)
+    back_whole v s.jobs p (posted c.give-ended.new.self) older (out.Offered n) p.at_join c.give-ended.result c.requires.sound.right.root works are (λ job others is _. c.give-ended.ensures.comes job others is)
 
 pub returns-clause-does : goal.returns-clause-does
 returns-clause-does c =
@@ -91,7 +92,10 @@ returns-clause-does c =
       newest = refl;
       place = c.settled-number.result.1;
       waits = c.settled-number.ensures.place;
+      effect = c.collect-effect.result;
+      cell = c.collect-effect.ensures.cell;
       stage = x;
-      comes = came_back v s.jobs p (posted c.give-ended.new.self) older (out.Offered n) p.at_join c.give-ended.result x works are (λ job others is _. c.give-ended.ensures job others is) c.turn.ensures.begun;
+      comes = came_back v s.jobs p (posted c.give-ended.new.self) older (out.Offered n) p.at_join c.give-ended.result x works are (λ job others is _. c.give-ended.ensures.comes job others is) c.turn.ensures.begun;
+      lacks = λ l. c.give-ended.ensures.lacks (stage_lacks v (posted c.give-ended.new.self) c.give-ended.result x c.turn.ensures.begun l);
       is = turned_scene s c.args.w x x (stacks c.take-post.new.begun) (stacks c.turn.new.begun) _ _ c.take-post.ensures.left c.turn.ensures.is refl c.collect-effect.ensures.collected;
     }

@@ -27,7 +27,7 @@ turn-requires-clause-root c =
 pub returns-in-Ok-clause-does : goal.returns-in-Ok-clause-does
 returns-in-Ok-clause-does c =
     ran (arc_value c.args.self.now.code) (scene c.args.self.now) c.args.w (posted c.take-post.result) (posted c.step.new.self) c.in-Ok.ended (jobs_of c.step.new.jobs) (stacks c.turn.new.begun) c.turn.ensures.stage
-    c.requires.sound.right c.take-post.ensures.top c.in-Ok.ensures.does c.turn.ensures.begun
+    c.requires.sound.right c.take-post.ensures.top c.in-Ok.ensures.does c.in-Ok.ensures.lacks c.turn.ensures.begun
     (c.turn.ensures.is ∙ ap (λ (l : List (List Stage)). with_top l c.args.w c.turn.ensures.stage) c.take-post.ensures.left)
 
 pub returns-in-Err-clause-does : goal.returns-in-Err-clause-does

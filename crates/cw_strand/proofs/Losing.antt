@@ -1,0 +1,62 @@
+-- How strands stand, and where memory may be wanting in them.
+use Rattle.std.proofs.Common.{◌≡◌, ◌≢◌, ℕ, true, false, refl, sym, ap, ◌∙◌, inl, inr}
+use Rattle.std.specs.Prelude.{◌⊎◌}
+use Rattle.cw_model.specs.declared.trap.Trap.{Trap}
+use Rattle.cw_jobs.specs.declared.effect.Effect.{Effect}
+use Rattle.cw_jobs.specs.declared.effect.Effect.TheVariants as effect
+use Rattle.cw_strand.specs.declared.strand.Event.{Event}
+use Rattle.cw_strand.specs.declared.strand.Event.TheVariants as event
+use Rattle.cw_strand.specs.declared.strand.Mode.{Mode}
+use Rattle.cw_strand.specs.declared.strand.Mode.TheVariants as mode
+use Rattle.cw_strand.specs.declared.strand.Strand.{Strand}
+use Rattle.cw_strand.specs.Holds.{stops, is_lost, IsGoing, IsLost}
+use Rattle.cw_strand.specs.Losing.{MayLack, StandsAs, ComesFrom, LeavesAt, GoesOn}
+
+never : true ≡ false → ⊥
+never e = cc
+
+-- one that has stopped for something else lacks none
+pub lacks_not : (m : Mode) → stops m ≡ true → is_lost m ≡ false → (m ≡ mode.Going) ⊎ (is_lost m ≡ true) → ⊥
+lacks_not m s known (inl going) = never (sym s ∙ ap stops going)
+lacks_not m s known (inr lost) = never (sym lost ∙ known)
+
+-- one that has stopped lacks memory only if it has stopped for that, and does not wait
+pub lost_before : (m m' : Mode) → m' ≡ m → stops m ≡ true → (m' ≡ mode.Going) ⊎ (is_lost m' ≡ true) → is_lost m ≡ true
+lost_before m m' same s (inl going) = absurd (never (sym s ∙ ap stops (sym same ∙ going)))
+lost_before m m' same s (inr lost) = ap is_lost (sym same) ∙ lost
+
+pub waits_not : (m : Mode) → stops m ≡ true → m ≡ mode.Waiting → ⊥
+waits_not m s waits = never (sym s ∙ ap stops waits)
+
+pub goes_not_waits : mode.Going ≡ mode.Waiting → ⊥
+goes_not_waits e = cc
+
+pub stopped_lost : (m : Mode) → stops m ≡ true → ((trap : Trap) (line : ℕ) → m ≢ mode.Trapped trap line) → m ≢ mode.Over → is_lost m ≡ true
+stopped_lost mode.Going s t o = absurd (never (sym s))
+stopped_lost mode.Waiting s t o = absurd (never (sym s))
+stopped_lost (mode.Trapped trap line) s t o = absurd (t trap line refl)
+stopped_lost mode.Over s t o = absurd (o refl)
+stopped_lost mode.Memory s t o = refl
+
+went_before : (old mid : Strand) → StandsAs old mid → IsGoing mid → IsGoing old
+went_before old mid (inl going) g = going
+went_before old mid (inr same) g = sym same ∙ g
+
+lacked_before : (old mid : Strand) → StandsAs old mid → MayLack mid → MayLack old
+lacked_before old mid (inl going) l = inl going
+lacked_before old mid (inr same) (inl g) = inl (sym same ∙ g)
+lacked_before old mid (inr same) (inr lost) = inr (ap is_lost (sym same) ∙ lost)
+
+-- an effect, told of the strand as it stood before
+pub comes_from : (e : Effect) (old mid : Strand) → StandsAs old mid → ComesFrom e mid → ComesFrom e old
+comes_from (effect.Ended value shown) old mid s c = went_before old mid s c
+comes_from (effect.Joined frame replaced shown) old mid s c = tt
+comes_from (effect.Trapped trap line lines cost back) old mid s c = tt
+comes_from (effect.OverLimit back) old mid s c = tt
+comes_from (effect.Memory back) old mid s c = lacked_before old mid s c
+
+-- an event of one that went on
+pub leaves_going : (e : Event) (old new : Strand) → IsGoing old → GoesOn e new → LeavesAt e old new
+leaves_going (event.Spawned job) old new going on = on
+leaves_going event.AtSync old new going on = inl going
+leaves_going (event.AtEnd end) old new going on = inl going

@@ -1,0 +1,64 @@
+-- Where memory may be wanting in a strand.
+use Rattle.std.specs.Prelude.{◌≡◌, ◌⊎◌, false, Option, Some, None}
+use Rattle.cw_jobs.specs.declared.effect.Effect.{Effect}
+use Rattle.cw_jobs.specs.declared.effect.Effect.TheVariants as effect
+use Rattle.cw_strand.specs.declared.strand.Advance.{Advance}
+use Rattle.cw_strand.specs.declared.strand.Advance.TheVariants as advance
+use Rattle.cw_strand.specs.declared.strand.Event.{Event}
+use Rattle.cw_strand.specs.declared.strand.Event.TheVariants as event
+use Rattle.cw_strand.specs.declared.strand.Step.{Step}
+use Rattle.cw_strand.specs.declared.strand.Step.TheVariants as step
+use Rattle.cw_strand.specs.declared.strand.Strand.{Strand}
+use Rattle.cw_strand.specs.Holds.{IsGoing, IsWaiting, IsLost}
+use Rattle.cw_strand.specs.Giving.{passes_limit, IsMemory}
+
+-- MEMORY MAY BE WANTING IN A STRAND: it goes on, or has stopped for that
+abbrev pub MayLack : Strand → Type 0
+MayLack self = IsGoing self ⊎ IsLost self
+
+-- how a strand stands has changed only if it went on
+abbrev pub StandsAs : (old new : Strand) → Type 0
+StandsAs old new = IsGoing old ⊎ (new.mode ≡ old.mode)
+
+-- A STRAND THAT STOOD SO HAS THIS EFFECT: its call has ended only if it went on; and memory was wanting only where it
+-- may have been
+abbrev pub ComesFrom : Effect → Strand → Type 0
+ComesFrom (effect.Ended value shown) self = IsGoing self
+ComesFrom (effect.Memory back) self = MayLack self
+ComesFrom _ self = Unit {0}
+
+-- SO IT STANDS AFTER AN EVENT: it goes on where it handed a job out; else it has changed only if it went on
+abbrev pub Leaves : Step → (old new : Strand) → Type 0
+Leaves (step.Spawned job) old new = IsGoing new
+Leaves step.AtSync old new = StandsAs old new
+Leaves (step.Ended e) old new = ComesFrom e old
+
+abbrev pub LeavesAt : Event → (old new : Strand) → Type 0
+LeavesAt (event.Spawned job) old new = IsGoing new
+LeavesAt _ old new = StandsAs old new
+
+-- after one instruction, by which it went on or came to an event
+abbrev pub LeavesBy : Advance → (old new : Strand) → Type 0
+LeavesBy advance.Ran old new = IsGoing old × IsGoing new
+LeavesBy (advance.Came s) old new = Leaves s old new
+
+-- after it was looked whether it has ended
+abbrev pub LeavesEnd : Option Effect → (old new : Strand) → Type 0
+LeavesEnd None old new = new.mode ≡ old.mode
+LeavesEnd (Some e) old new = ComesFrom e old
+
+-- it goes on where it handed a job out
+abbrev pub GoesOn : Event → Strand → Type 0
+GoesOn (event.Spawned job) new = IsGoing new
+GoesOn _ new = Unit {0}
+
+-- what a rest has shown is taken in: by a strand that waits, within the limit
+abbrev pub TakesIn : Strand → Effect → Type 0
+TakesIn self (effect.Joined frame replaced shown) = IsWaiting self × (passes_limit self shown.cost ≡ false)
+TakesIn self (effect.Trapped trap line lines cost back) = IsWaiting self × (passes_limit self cost ≡ false)
+TakesIn self _ = ⊥
+
+-- AN EFFECT MAY LOSE THE STRAND THAT IT IS GIVEN TO: memory was wanting in the strand, or in the rest; or what the rest
+-- has shown is taken in
+abbrev pub MayLose : Strand → Effect → Type 0
+MayLose self e = IsLost self ⊎ IsMemory e ⊎ TakesIn self e

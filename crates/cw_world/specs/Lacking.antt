@@ -1,0 +1,77 @@
+-- Where memory was wanting in a world.
+use Rattle.std.specs.Prelude.{◌≡◌, ◌⊎◌, ℕ, Bool, true, false, List, Option, Some, None, Result, Ok, Err, slice_get}
+use Rattle.cw_text.specs.declared.fault.Fault.{Fault}
+use Rattle.cw_text.specs.declared.fault.Fault.TheVariants as fault
+use Rattle.cw_jobs.specs.declared.effect.Effect.{Effect}
+use Rattle.cw_jobs.specs.declared.effect.Effect.TheVariants as effect
+use Rattle.cw_machine.specs.declared.alone.Ended as alone
+use Rattle.cw_strand.specs.declared.strand.Strand.{Strand}
+use Rattle.cw_strand.specs.Holds.{is_lost, IsGoing, IsWaiting, IsLost}
+use Rattle.cw_strand.specs.Losing.{TakesIn}
+use Rattle.cw_world.specs.declared.board.Cell.{Cell}
+use Rattle.cw_world.specs.declared.event.Event.{Event}
+use Rattle.cw_world.specs.declared.event.Event.TheVariants as event
+use Rattle.cw_world.specs.Boards.{Each}
+use Rattle.cw_world.specs.Scenes.{Posted, Stage, Goes, Made, Answered, Scene, top}
+
+-- an effect says that memory was wanting; a run answers so
+abbrev pub is_memory : Effect → Bool
+is_memory (effect.Memory back) = true
+is_memory _ = false
+
+abbrev pub answers_memory : Result alone.Ended Fault → Bool
+answers_memory (Err fault.Memory) = true
+answers_memory _ = false
+
+-- it has stopped for want of memory, or ended so
+abbrev pub lacks_memory : Stage → Bool
+lacks_memory (Goes p) = is_lost p.strand.mode
+lacks_memory (Made n e) = is_memory e
+lacks_memory (Answered r) = answers_memory r
+
+-- MEMORY WAS WANTING NOWHERE IN A WORLD: in no strand, no effect and no answer of it
+abbrev pub LacksNone : Scene → Type 0
+LacksNone s = Each (Each (λ x. lacks_memory x ≡ false)) s.begun × Each (λ c. is_memory c.effect ≡ false) s.board.cells
+
+-- it has ended
+abbrev pub HasEnded : Stage → Type 0
+HasEnded (Goes p) = ⊥
+HasEnded _ = Unit {0}
+
+-- what memory may be answered of: an effect that says that it was wanting, and that of a whole call, which is still to
+-- be told
+abbrev pub IsAnsweredMemory : Effect → Type 0
+IsAnsweredMemory (effect.Ended value shown) = Unit {0}
+IsAnsweredMemory (effect.Memory back) = Unit {0}
+IsAnsweredMemory _ = ⊥
+
+-- so a strand may have lacked memory that stands so, or has ended with this effect
+abbrev pub LacksAfter : Option Effect → Strand → Type 0
+LacksAfter None self = IsLost self
+LacksAfter (Some e) self = IsAnsweredMemory e
+
+-- the newest of a worker, which was a strand, lacks memory now
+pub record Loses (s s' : Scene) (w : ℕ) : Type 0 where
+  pub post : Posted
+  pub was : top s w ≡ Some (Goes post)
+  pub stage : Stage
+  pub is : top s' w ≡ Some stage
+  pub lacks : lacks_memory stage ≡ true
+
+-- MEMORY IS WANTING BY AN EVENT: in what a strand that goes on does by Run; in what a rest has shown that is given to a
+-- strand by Collect; at the join of a job that Retake or Steal have led to its end at once. By no other
+abbrev pub LacksBy : Event → (s s' : Scene) → Type 0
+LacksBy (event.Run w) s s' = (l : Loses s s' w) × IsGoing l.post.strand
+LacksBy (event.Offer w) s s' = ⊥
+LacksBy (event.Inline w) s s' = ⊥
+LacksBy (event.Retake w) s s' = (l : Loses s s' w) × IsWaiting l.post.strand × HasEnded l.stage
+LacksBy (event.Steal w victim) s s' =
+    (x : Stage) × (top s' w ≡ Some x) × (lacks_memory x ≡ true) × HasEnded x
+LacksBy (event.Settle w) s s' = ⊥
+LacksBy (event.Collect w) s s' =
+    (l : Loses s s' w) × (place : ℕ) × (c : Cell) × (slice_get s.board.cells place ≡ Some c)
+    × TakesIn l.post.strand c.effect
+
+-- an event keeps that memory was wanting nowhere, or it was wanting by it
+abbrev pub KeepsMemory : Event → (s s' : Scene) → Type 0
+KeepsMemory event s s' = LacksNone s → LacksNone s' ⊎ LacksBy event s s'
