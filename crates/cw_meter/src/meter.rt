@@ -116,7 +116,7 @@ impl Meter {
     }
 
     /// A call in place begins by the instruction after `count` ones, at the site of this number.
-    #[inline(always)]
+    #[inline(never)]
     pub fn call(&mut self, count: u64, site: u32) -> Result<(), AllocError>
         ensures { OnOk result (Begins self.old self.new count false (Some (Invocation site))) }
     {
@@ -222,7 +222,7 @@ impl Meter {
     }
 
     // The innermost part, whose block has joined, ends at this count.
-    #[inline(always)]
+    #[inline(never)]
     fn close(&mut self, count: u64) -> Result<(), AllocError>
         ensures { OnOk result (ClosesPart self.old self.new count) }
     {

@@ -143,7 +143,7 @@ impl Tables {
     }
 
     /// The block that runs, which has spawned since its last join, joins at this count.
-    #[inline(always)]
+    #[inline(never)]
     pub fn join(&mut self, count: u64) -> Result<(), AllocError>
         ensures told { OnOk result (JoinsSpawned self.old self.new count) }
         ensures joined { OnOk result (self.new.spawned ≡ false) }
@@ -169,7 +169,7 @@ impl Tables {
         }
     }
 
-    #[inline(always)]
+    #[inline(never)]
     fn end_call(&mut self, count: u64, part: Part) -> Result<(), AllocError>
         ensures { OnOk result (part.kind ≡ Call → Closes self.old self.new count part) }
     {
@@ -179,7 +179,7 @@ impl Tables {
         Ok(())
     }
 
-    #[inline(always)]
+    #[inline(never)]
     fn end_spawned_call(&mut self, count: u64, part: Part) -> Result<(), AllocError>
         ensures { OnOk result (part.kind ≡ SpawnedCall → Closes self.old self.new count part) }
     {
