@@ -82,6 +82,15 @@ choose {U} {n} {s} m x y apart = record {
   exact = if_next_exact U n n (omega arith) (is_mark m) (Is m) (passes m) (λ t. (x t).rel) y.rel s (λ t. (x t).read) y.read (λ t. (x t).exact) y.exact apart;
 }
 
+-- a choice halts where each way does
+pub choose_halts : {A : Type 0} (m : Mark) (s : Kind → Bool) (n : ℕ) (f : Token → Reader A) (g : Reader A) → ((t : Token) → Halts n s (f t)) → Halts n s g → Halts n s (if_next (is_mark m) f g)
+choose_halts m s n f g x y [] b rest le e = y [] b rest le e
+choose_halts {A} m s n f g x y (t ∷ ts) b rest le e = go (is_mark m t.kind) e
+  where
+    go : (c : Bool) → cond {A = Read A} c (f t ts) (g (t ∷ ts)) ≡ Ok (b, rest) → Stops s rest
+    go true e = x t ts b rest (omega arith) e
+    go false e = y (t ∷ ts) b rest le e
+
 -- any kind but one that a mark stands for
 abbrev pub but : Mark → Kind → Bool
 but m k = not (is_mark m k)
