@@ -63,7 +63,7 @@ cut_source = record {
             (in_line 2 (source.Call Spawned 1 (Some n_name) f_name (source.Variable r_name ∷ []))
             (in_line 2 (source.AssignElement l_name (source.Number (pos 0)) (source.Number (pos 5))) End)))
             (in_line 2 (source.Return (Some (source.Binary Plus (source.Element a_name (source.Number (pos 1)))
-                (source.Variable n_name)))) End)));
+            (source.Variable n_name)))) End)));
       }
       ∷ [];
 }
@@ -75,18 +75,19 @@ cut_code = record {
       Push (pos 0) ∷ Push (pos 7) ∷ SetElement 0 1 ∷ Length 0 ∷ ReturnValue
       ∷ Push (pos 3) ∷ NewArray 0 2 ∷ Push (pos 0) ∷ Store 0 ∷ Push (pos 1)
       ∷ Cut (record { array = 0; left = 1; right = 2 }) 2
-      ∷ Call Spawned (record { function = 0; site = 1; line = 2; target = Some 0; passed = 0 }) ∷ Push (pos 0)
+      ∷ Call Spawned (record { function = 0; site = 1; line = 2; target = Some 0; passed = 0; lent = 0 }) ∷ Push (pos 0)
       ∷ Push (pos 5) ∷ SetElement 1 2 ∷ EndCut
       ∷ Push (pos 1) ∷ Element 0 2 ∷ Load 0 ∷ Binary Plus 2 ∷ ReturnValue ∷ [];
   funcs =
-      record { start = 0; end = 5; gives_int = true; params = 0; slots = 0; array_params = 1; arrays = 1 }
-      ∷ record { start = 5; end = 21; gives_int = true; params = 0; slots = 1; array_params = 0; arrays = 3 } ∷ [];
+      record { start = 0; end = 5; gives_int = true; params = 0; slots = 0; array_params = 1; arrays = 1; readers = 0 }
+      ∷ record { start = 5; end = 21; gives_int = true; params = 0; slots = 1; array_params = 0; arrays = 3; readers = 0 } ∷ [];
   main = 1;
   main_line = 1;
   sites = record { told = record { number = 1; kind = Of Spawned; line = 2; callee = f_name }; function = 0 } ∷ [];
   reducers = [];
   tags = [];
   passed = (2 ∷ []) ∷ [];
+  lent = [];
 }
 
 -- int main() { int a[3]; cilk_for (int i = 1; i < 3; i++) grain 1 over (a) { a[i] = i; } return a[2]; }
@@ -101,7 +102,7 @@ loop_source = record {
     body =
         in_line 1 (source.DeclareArray a_name (source.Number (pos 3)))
         (in_line 1 (source.For i_name i_name i_name (source.Number (pos 1)) (source.Number (pos 3)) 1 (a_name
-            ∷ []) (in_line 1 (source.AssignElement a_name (source.Variable i_name) (source.Variable i_name)) End))
+        ∷ []) (in_line 1 (source.AssignElement a_name (source.Variable i_name) (source.Variable i_name)) End))
         (in_line 1 (source.Return (Some (source.Element a_name (source.Number (pos 2))))) End));
   } ∷ [];
 }
@@ -124,14 +125,15 @@ loop_code = record {
       ∷ Push (pos 3) ∷ NewArray 0 1 ∷ Push (pos 1) ∷ Push (pos 3) ∷ Start (record { function = 0; passed = 2 }) 1
       ∷ Push (pos 2) ∷ Element 0 1 ∷ ReturnValue ∷ [];
   funcs =
-      record { start = 0; end = 45; gives_int = false; params = 2; slots = 3; array_params = 1; arrays = 3 }
-      ∷ record { start = 45; end = 53; gives_int = true; params = 0; slots = 0; array_params = 0; arrays = 1 } ∷ [];
+      record { start = 0; end = 45; gives_int = false; params = 2; slots = 3; array_params = 1; arrays = 3; readers = 0 }
+      ∷ record { start = 45; end = 53; gives_int = true; params = 0; slots = 0; array_params = 0; arrays = 1; readers = 0 } ∷ [];
   main = 1;
   main_line = 1;
   sites = [];
   reducers = [];
   tags = [];
   passed = (1 ∷ []) ∷ (2 ∷ []) ∷ (0 ∷ []) ∷ [];
+  lent = [];
 }
 
 -- each code answers as its source does, its tree included, and costs as much

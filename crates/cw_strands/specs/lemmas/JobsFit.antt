@@ -118,6 +118,7 @@ module _ (code : Code) (fits : Fits code) (steps_well : FitSteps code fits) (set
         place = w.place;
         slots = w.slots;
         arrays = w.arrays;
+        readers = w.readers;
         depth = w.depth;
         limit = limit;
         before = before;
@@ -142,8 +143,11 @@ module _ (code : Code) (fits : Fits code) (steps_well : FitSteps code fits) (set
               subst (λ ops. Good f shape
               (record (going_on w around quiet) { operands = ops; results = r.results; arrived = r.arrived }))
               none
-              (subst (λ x. Good f shape (record (going_on w around quiet) { arrays = x; results = r.results;
-                  arrived = r.arrived })) (sym same.arrays)
+              (subst (λ x. Good f shape (record (going_on w around quiet) {
+                arrays = x;
+                results = r.results;
+                arrived = r.arrived;
+              })) (sym same.arrays)
               (subst (λ x. Good f shape (record after { slots = x })) (sym same.slots) r.good));
           others = h.1;
         };
@@ -181,6 +185,7 @@ module _ (code : Code) (fits : Fits code) (steps_well : FitSteps code fits) (set
           operands = frame.operands;
           slots = slots;
           arrays = arrays;
+          readers = frame.readers;
           results = results ++ b.results;
           arrived = returned ++ b.arrived;
         })
@@ -202,7 +207,7 @@ module _ (code : Code) (fits : Fits code) (steps_well : FitSteps code fits) (set
             results = s.results;
             returned = s.arrived;
             good = record
-                { as_many = g.call.as_many; ints = g.call.ints; arrays = g.call.arrays; cuts = g.call.cuts };
+                { as_many = g.call.as_many; ints = g.call.ints; arrays = g.call.arrays; readers = g.call.readers; cuts = g.call.cuts };
             same = refl;
             same_arrays = refl;
             others = g.others;
@@ -236,7 +241,7 @@ module _ (code : Code) (fits : Fits code) (steps_well : FitSteps code fits) (set
             results = s.results;
             returned = s.arrived;
             good = record
-                { as_many = g.call.as_many; ints = g.call.ints; arrays = g.call.arrays; cuts = g.call.cuts };
+                { as_many = g.call.as_many; ints = g.call.ints; arrays = g.call.arrays; readers = g.call.readers; cuts = g.call.cuts };
             same = refl;
             same_arrays = refl;
             others = g.others;
@@ -276,6 +281,7 @@ module _ (code : Code) (fits : Fits code) (steps_well : FitSteps code fits) (set
         operands = frame.operands;
         slots = slots;
         arrays = arrays;
+        readers = frame.readers;
         results = first ++ (second ++ others);
         arrived = first' ++ (second' ++ others');
       })
@@ -284,16 +290,17 @@ module _ (code : Code) (fits : Fits code) (steps_well : FitSteps code fits) (set
         operands = frame.operands;
         slots = settled second frame.slots;
         arrays = settled second' frame.arrays;
+        readers = frame.readers;
         results = others;
         arrived = others';
       })
   gone_back f shape b frame slots arrays first second others first' second' others' same same' g =
-      let s : State = record b { place = frame.place; operands = frame.operands; slots = slots; arrays = arrays } in
+      let s : State = record b { place = frame.place; operands = frame.operands; slots = slots; arrays = arrays; readers = frame.readers } in
       let one = settles f shape s (first ++ second) others (first' ++ second') others'
       (subst (λ r. Good f shape (record s { results = r; arrived = (first' ++ second') ++ others' }))
-          (sym (append_assoc first second others))
+      (sym (append_assoc first second others))
       (subst (λ r. Good f shape (record s { results = first ++ (second ++ others); arrived = r }))
-          (sym (append_assoc first' second' others')) g)) in
+      (sym (append_assoc first' second' others')) g)) in
       subst (λ x. Good f shape
       (record s { slots = x; arrays = settled second' frame.arrays; results = others; arrived = others' }))
       (settled_append first second slots ∙ ap (settled second) (sym same))
@@ -309,15 +316,29 @@ module _ (code : Code) (fits : Fits code) (steps_well : FitSteps code fits) (set
       let g =
       gone_back a.seat.func a.seat.shape s frame a.slots a.arrays a.results s.results [] a.returned s.arrived []
       a.same a.same_arrays
-      (subst (λ r. Good a.seat.func a.seat.shape (record s { place = frame.place; operands = frame.operands;
-          slots = a.slots; arrays = a.arrays; results = a.results ++ r; arrived = a.returned ++ (s.arrived ++ []) }))
-          (sym (append-nil s.results))
-      (subst (λ r. Good a.seat.func a.seat.shape (record s { place = frame.place; operands = frame.operands;
-          slots = a.slots; arrays = a.arrays; results = a.results ++ s.results; arrived = a.returned ++ r }))
-          (sym (append-nil s.arrived)) a.good)) in
+      (subst (λ r. Good a.seat.func a.seat.shape (record s {
+        place = frame.place;
+        operands = frame.operands;
+        slots = a.slots;
+        arrays = a.arrays;
+        readers = frame.readers;
+        results = a.results ++ r;
+        arrived = a.returned ++ (s.arrived ++ []);
+      }))
+      (sym (append-nil s.results))
+      (subst (λ r. Good a.seat.func a.seat.shape (record s {
+        place = frame.place;
+        operands = frame.operands;
+        slots = a.slots;
+        arrays = a.arrays;
+        readers = frame.readers;
+        results = a.results ++ s.results;
+        arrived = a.returned ++ r;
+      }))
+      (sym (append-nil s.arrived)) a.good)) in
       record {
         seat = a.seat;
-        call = record { as_many = g.as_many; ints = g.ints; arrays = g.arrays; cuts = g.cuts };
+        call = record { as_many = g.as_many; ints = g.ints; arrays = g.arrays; readers = g.readers; cuts = g.cuts };
         others = a.others;
       }
   gives_fit x (Upon b) s frame t good a = cases s.around a.good a.others
@@ -328,6 +349,7 @@ module _ (code : Code) (fits : Fits code) (steps_well : FitSteps code fits) (set
             operands = frame.operands;
             slots = a.slots;
             arrays = a.arrays;
+            readers = frame.readers;
             results = a.results ++ results_under b around s.results;
             arrived = a.returned ++ arrived_under b around s.arrived;
           })
@@ -339,21 +361,33 @@ module _ (code : Code) (fits : Fits code) (steps_well : FitSteps code fits) (set
           s.results b.results a.returned s.arrived b.arrived a.same a.same_arrays g in
           record {
             seat = a.seat;
-            call = record { as_many = k.as_many; ints = k.ints; arrays = k.arrays; cuts = k.cuts };
+            call = record { as_many = k.as_many; ints = k.ints; arrays = k.arrays; readers = k.readers; cuts = k.cuts };
             others = others;
           }
       cases (y ∷ around) g others =
           let k =
           gone_back a.seat.func a.seat.shape (under b (record s { around = y ∷ around })) frame a.slots a.arrays
           a.results s.results [] a.returned s.arrived [] a.same a.same_arrays
-          (subst (λ r. Good a.seat.func a.seat.shape (record (under b (record s { around = y ∷ around }))
-              { place = frame.place; operands = frame.operands; slots = a.slots; arrays = a.arrays;
-              results = a.results ++ r; arrived = a.returned ++ (s.arrived ++ []) })) (sym (append-nil s.results))
-          (subst (λ r. Good a.seat.func a.seat.shape (record (under b (record s { around = y ∷ around }))
-              { place = frame.place; operands = frame.operands; slots = a.slots; arrays = a.arrays;
-              results = a.results ++ s.results; arrived = a.returned ++ r })) (sym (append-nil s.arrived)) g)) in
+          (subst (λ r. Good a.seat.func a.seat.shape (record (under b (record s { around = y ∷ around })) {
+            place = frame.place;
+            operands = frame.operands;
+            slots = a.slots;
+            arrays = a.arrays;
+            readers = frame.readers;
+            results = a.results ++ r;
+            arrived = a.returned ++ (s.arrived ++ []);
+          })) (sym (append-nil s.results))
+          (subst (λ r. Good a.seat.func a.seat.shape (record (under b (record s { around = y ∷ around })) {
+            place = frame.place;
+            operands = frame.operands;
+            slots = a.slots;
+            arrays = a.arrays;
+            readers = frame.readers;
+            results = a.results ++ s.results;
+            arrived = a.returned ++ r;
+          })) (sym (append-nil s.arrived)) g)) in
           record {
             seat = a.seat;
-            call = record { as_many = k.as_many; ints = k.ints; arrays = k.arrays; cuts = k.cuts };
+            call = record { as_many = k.as_many; ints = k.ints; arrays = k.arrays; readers = k.readers; cuts = k.cuts };
             others = others;
           }

@@ -9,7 +9,7 @@ use Rattle.cw_verify.specs.Table.{shape_view, shapes_of, come_all, next_distance
 use Rattle.cw_verify.proofs.Lists.{same_some}
 use Rattle.cw_verify.proofs.Numbering.{known_next}
 use Rattle.cw_verify.proofs.Spreading.{shapes_at, tells_from}
-use Rattle.cw_verify.proofs.Tables.{visited_ready}
+use Rattle.cw_verify.proofs.Tables.{may_both, visited_ready}
 use Rattle.cw_verify.proofs.search.Search.visit.Goals as goal
 
 pub returns-clause-visits : goal.returns-clause-visits
@@ -26,7 +26,9 @@ returns-clause-visits c = λ i is.
     let at = shapes_at items k found found c.requires.row c.index-2.ensures ∙ ap (λ o. Some (option_map shape_view o)) c.in-Some.is in
     let ready = sym c.is_ready.ensures ∙ c.if-not-is_ready.false in
     let left = c.in_ok-left.ensures ∙ ap (λ s. leaves code s here) c.in_ok-shape-in-Some.ensures in
-    let comes = visited_ready code start (shapes_of items) k here shape at ready ∙ ap (come_all (shapes_of items) (next_distances start k here)) (sym left) in
+    let thawed = sym c.is_thawed.ensures ∙ c.if-not-is_thawed.false in
+    let acts = may_both code shape here ready thawed in
+    let comes = visited_ready code start (shapes_of items) k here shape at acts ∙ ap (come_all (shapes_of items) (next_distances start k here)) (sym left) in
     subst (λ o. Tells c.spread.result o c.args.self.now c.spread.new.self) (sym comes ∙ ap (visited code start (shapes_of items) k) same)
     (tells_from c.spread.result (come_all (shapes_of items) (next_distances start k here) (shape_view c.in_ok-left.left)) c.args.self.now c.spread.new.self c.next-number.new.self c.spread.ensures.spreads)
 
