@@ -1,9 +1,12 @@
 //! Work, span and burdened span of small runs, whole and joined from pieces, by hand.
 
 use crate::burdens::{on_both, on_spawns};
+use Step::{EndChild, Join, Note, Spawn};
 use cw_measure::{BurdenedPath, Measure};
+use cw_model::burden::Burden;
 use cw_model::monoid::Monoid;
 use std::alloc::AllocError;
+use std::process::Abort;
 use std::test::Fail;
 
 // So many instructions.
@@ -11,6 +14,12 @@ fn strand(n: u64) -> Measure {
     let mut measure = Measure::new();
     measure.tick(n);
     measure
+}
+
+// Its work, its span and its burdened span are these.
+pub(crate) fn check(rt: &impl Abort, whole: &Measure, wanted: (u64, u64, u128)) {
+    let found = (whole.work(), whole.span(), whole.burdened());
+    assert_eq!(rt; found, wanted);
 }
 
 // 3 instructions, a child of 5 beside 2, a join, 1 instruction: the child is the longer one, and with a burden of 4 on
@@ -23,9 +32,7 @@ fn a_child_beside_a_rest(rt: HostRuntime) -> Result<(), Fail> {
         whole.tick(2);
         whole.sync();
         whole.tick(1);
-        assert_eq!(rt; whole.work(), 11);
-        assert_eq!(rt; whole.span(), 9);
-        assert_eq!(rt; whole.burdened(), burdened);
+        check(&rt, &whole, (11, 9, burdened));
     }
     Ok(())
 }
@@ -40,9 +47,7 @@ fn two_children(rt: HostRuntime) -> Result<(), Fail> {
         whole.tick(3);
         whole.spawned(burden, &strand(4));
         whole.sync();
-        assert_eq!(rt; whole.work(), 12);
-        assert_eq!(rt; whole.span(), 8);
-        assert_eq!(rt; whole.burdened(), burdened);
+        check(&rt, &whole, (12, 8, burdened));
     }
     Ok(())
 }
@@ -57,9 +62,7 @@ fn one_rest_beside_two_children(rt: HostRuntime) -> Result<(), Fail> {
         whole.spawned(burden, &strand(1));
         whole.tick(5);
         whole.sync();
-        assert_eq!(rt; whole.work(), 11);
-        assert_eq!(rt; whole.span(), 9);
-        assert_eq!(rt; whole.burdened(), 29);
+        check(&rt, &whole, (11, 9, 29));
     }
     Ok(())
 }
@@ -77,18 +80,14 @@ fn pieces_join_to_the_whole(rt: HostRuntime) -> Result<(), AllocError> {
             .join(Measure::unit(alloc))?
             .join(rest)?
             .join(strand(1))?;
-        assert_eq!(rt; whole.work(), 11);
-        assert_eq!(rt; whole.span(), 9);
-        assert_eq!(rt; whole.burdened(), burdened);
+        check(&rt, &whole, (11, 9, burdened));
         let mut forked = Measure::unit(alloc);
         forked.spawned(burden, &strand(5));
         let mut rest = strand(2);
         rest.sync();
         let later = forked.join(rest.join(strand(1))?)?;
         let whole = strand(3).join(later)?;
-        assert_eq!(rt; whole.work(), 11);
-        assert_eq!(rt; whole.span(), 9);
-        assert_eq!(rt; whole.burdened(), burdened);
+        check(&rt, &whole, (11, 9, burdened));
     }
     Ok(())
 }
@@ -102,9 +101,7 @@ fn a_part_in_series(rt: HostRuntime) -> Result<(), Fail> {
         part.sync();
         let mut whole = strand(2);
         whole.called(&part);
-        assert_eq!(rt; whole.work(), 10);
-        assert_eq!(rt; whole.span(), 10);
-        assert_eq!(rt; whole.burdened(), burdened);
+        check(&rt, &whole, (10, 10, burdened));
     }
     Ok(())
 }
@@ -117,12 +114,50 @@ fn readings_stop_at_the_greatest_number(rt: HostRuntime) -> Result<(), Fail> {
         whole.spawned(burden, &strand(1));
         whole.tick(1);
         whole.sync();
-        assert_eq!(rt; whole.work(), u64::MAX);
-        assert_eq!(rt; whole.span(), u64::MAX);
-        assert_eq!(rt; whole.burdened(), 36_893_488_147_419_103_231);
+        check(
+            &rt,
+            &whole,
+            (u64::MAX, u64::MAX, 36_893_488_147_419_103_231),
+        );
     }
     Ok(())
 }
+
+// What a path is told of, each at a count of instructions.
+#[derive(Clone, Copy)]
+enum Step {
+    Spawn(u64, bool),
+    EndChild(u64),
+    Join(u64),
+    Note(u64),
+}
+
+fn tell_all(path: &mut BurdenedPath, burden: Burden, steps: &[Step]) -> Result<(), AllocError> {
+    for step in steps {
+        match *step {
+            Spawn(count, first) => path.spawn(count, first)?,
+            EndChild(count) => path.end_child(count, burden),
+            Join(count) => path.join(count),
+            Note(count) => path.note(count),
+        }
+    }
+    Ok(())
+}
+
+const CHILD: &[Step] = &[Spawn(2, true), EndChild(3), Join(5)];
+
+const NEXT_CHILD: &[Step] = &[Spawn(8, true), EndChild(9), Join(11), Note(14)];
+
+const NESTED: &[Step] = &[
+    Spawn(15, true),
+    EndChild(115),
+    Spawn(116, false),
+    Spawn(120, true),
+    EndChild(121),
+    Join(122),
+    EndChild(122),
+    Join(123),
+];
 
 // 2 instructions, a child of 1 beside 2, and so twice, with a burden of 10 for each spawn; a child in the rest. At last
 // a child of 100 is the longest, and is charged on its return edge alone.
@@ -130,24 +165,10 @@ fn readings_stop_at_the_greatest_number(rt: HostRuntime) -> Result<(), Fail> {
 fn a_burdened_path(rt: HostRuntime) -> Result<(), AllocError> {
     for (burden, burdened) in [(on_spawns(10), 133), (on_both(10), 143)] {
         let mut path = BurdenedPath::new(rt.alloc());
-        path.spawn(2, true)?;
-        path.end_child(3, burden);
-        path.join(5);
-        assert_eq!(rt; path.weight(), 14);
-        path.spawn(8, true)?;
-        path.end_child(9, burden);
-        path.join(11);
-        path.note(14);
-        assert_eq!(rt; path.weight(), 32);
-        path.spawn(15, true)?;
-        path.end_child(115, burden);
-        path.spawn(116, false)?;
-        path.spawn(120, true)?;
-        path.end_child(121, burden);
-        path.join(122);
-        path.end_child(122, burden);
-        path.join(123);
-        assert_eq!(rt; path.weight(), burdened);
+        for (steps, weight) in [(CHILD, 14), (NEXT_CHILD, 32), (NESTED, burdened)] {
+            tell_all(&mut path, burden, steps)?;
+            assert_eq!(rt; path.weight(), weight);
+        }
     }
     Ok(())
 }

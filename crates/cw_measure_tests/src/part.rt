@@ -1,6 +1,7 @@
 //! Small parts of a run: how joined parts come out and what they show, by hand.
 
 use crate::burdens::{on_both, on_spawns};
+use crate::measure::check;
 use cw_measure::Measure;
 use cw_model::limits::MOST_LIMIT;
 use cw_model::monoid::Monoid;
@@ -92,11 +93,7 @@ fn a_call_and_what_follows(rt: HostRuntime) -> Result<(), AllocError> {
     let call = ran(alloc, 50, 5, 1, 0)?.into_call();
     let whole = call.join(ran(alloc, 50, 4, 2, 0)?)?;
     match whole.into_outcome() {
-        Outcome::Completed(read) => {
-            assert_eq!(rt; read.measure.work(), 9);
-            assert_eq!(rt; read.measure.span(), 9);
-            assert_eq!(rt; read.measure.burdened(), 9);
-        }
+        Outcome::Completed(read) => check(&rt, &read.measure, (9, 9, 9)),
         _ => assert!(rt; false),
     }
     Ok(())
@@ -112,11 +109,7 @@ fn a_child_beside_its_rest(rt: HostRuntime) -> Result<(), AllocError> {
         let rest = ran(alloc, 50, 4, 2, 0)?;
         let whole = Part::unit(alloc).join(child)?.join(rest)?;
         match whole.into_outcome() {
-            Outcome::Completed(read) => {
-                assert_eq!(rt; read.measure.work(), 9);
-                assert_eq!(rt; read.measure.span(), 5);
-                assert_eq!(rt; read.measure.burdened(), burdened);
-            }
+            Outcome::Completed(read) => check(&rt, &read.measure, (9, 5, burdened)),
             _ => assert!(rt; false),
         }
     }

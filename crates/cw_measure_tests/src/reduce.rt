@@ -1,10 +1,11 @@
 //! Sums, greatest numbers, lines and views of small pieces, and what joined pieces show, by hand.
 
+use Told::{Greatest, Line, Summand};
 use cw_model::monoid::Monoid;
 use cw_model::syntax::Reduction;
 use cw_model::total::Total;
 use cw_reduce::{Lines, Max, Sum, Views};
-use std::alloc::AllocError;
+use std::alloc::{AllocError, Global};
 
 // A sum goes past 64 bits and comes back below 0.
 #[test]
@@ -51,37 +52,65 @@ fn greatest_of(numbers: &[i64; 2]) -> Max {
     greatest
 }
 
+fn lines_of(alloc: Global, numbers: &[i64]) -> Result<Lines, AllocError> {
+    let mut lines = Lines::new(alloc);
+    for number in numbers {
+        lines.print(*number)?;
+    }
+    Ok(lines)
+}
+
 // The lines of the left piece stand first.
 #[test]
 fn lines_in_order(rt: HostRuntime) -> Result<(), AllocError> {
     let alloc = rt.alloc();
-    let mut left = Lines::new(alloc);
-    left.print(1)?;
-    left.print(-2)?;
-    let mut right = Lines::new(alloc);
-    right.print(3)?;
+    let left = lines_of(alloc, &[1, -2])?;
+    let right = lines_of(alloc, &[3])?;
     let whole = left.join(right)?.join(Lines::unit(alloc))?;
     assert_eq!(rt; whole.values(), [1, -2, 3].as_slice());
     Ok(())
 }
 
+// What views are told: a number for a reducer that sums, or for one that keeps the greatest, or a line.
+#[derive(Clone, Copy)]
+enum Told {
+    Summand(u32, i64),
+    Greatest(u32, i64),
+    Line(i64),
+}
+
+// These views, told more.
+fn told_more(views: Views, all: &[Told]) -> Result<Views, AllocError> {
+    let mut views = views;
+    for told in all {
+        match *told {
+            Summand(reducer, number) => views.tell(reducer, Reduction::Sum, number)?,
+            Greatest(reducer, number) => views.tell(reducer, Reduction::Max, number)?,
+            Line(number) => views.print(number)?,
+        }
+    }
+    Ok(views)
+}
+
+const LEFT: &[Told] = &[Summand(0, 5), Greatest(4, -8), Line(1)];
+
+const RIGHT: &[Told] = &[
+    Line(2),
+    Summand(2, -7),
+    Summand(0, 4),
+    Greatest(3, -2),
+    Greatest(3, -6),
+];
+
+const LAST: &[Told] = &[Summand(1, 3), Greatest(4, -7)];
+
 // Views with totals of different reducers, the fewer on either side; a reducer that was told nothing has 0, or none.
 #[test]
 fn views_of_two_pieces(rt: HostRuntime) -> Result<(), AllocError> {
     let alloc = rt.alloc();
-    let mut left = Views::new(alloc);
-    left.tell(0, Reduction::Sum, 5)?;
-    left.tell(4, Reduction::Max, -8)?;
-    left.print(1)?;
-    let mut right = Views::new(alloc);
-    right.print(2)?;
-    right.tell(2, Reduction::Sum, -7)?;
-    right.tell(0, Reduction::Sum, 4)?;
-    right.tell(3, Reduction::Max, -2)?;
-    right.tell(3, Reduction::Max, -6)?;
-    let mut last = Views::unit(alloc);
-    last.tell(1, Reduction::Sum, 3)?;
-    last.tell(4, Reduction::Max, -7)?;
+    let left = told_more(Views::new(alloc), LEFT)?;
+    let right = told_more(Views::new(alloc), RIGHT)?;
+    let last = told_more(Views::unit(alloc), LAST)?;
     let whole = left.join(right)?.join(last)?;
     for (reducer, sum) in [(0, 9), (1, 3), (2, -7), (5, 0)] {
         assert_eq!(rt; whole.total(reducer, Reduction::Sum), Total::Sum(sum));

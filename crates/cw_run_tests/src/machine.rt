@@ -5,6 +5,8 @@ mod measures;
 mod schedules;
 mod strands;
 
+use Ending::{Gives, Traps};
+use Instr::{Binary, Close, GoBack, Load, Open, Print, Push, SkipIfZero, Store, Sync, Unary};
 use cw_code::code::{BlockKind, Callee, Code, Func, Instr, Reducer, Site, UnaryOperator};
 use cw_machine::alone::{Ended, run_alone};
 use cw_machine::values::{Values, values_alone};
@@ -13,6 +15,7 @@ use cw_model::syntax::{CallKind, Name, Operator, Reduction};
 use cw_text::Fault;
 use cw_verify::verify::verify;
 use std::alloc::{AllocError, Global};
+use std::process::Abort;
 use std::sync::Arc;
 
 const MOST: u64 = 4_611_686_018_427_387_904;
@@ -112,23 +115,103 @@ fn code_of(alloc: Global, main: &[Instr]) -> Result<Code, AllocError> {
     Ok(code)
 }
 
-fn callee(function: u32, site: u32, target: Option<u32>) -> Callee {
+const END: Instr = Instr::ReturnValue;
+
+// The second function is called in place, its result into slot 2.
+const TAKES_AWAY: Instr = Instr::Call(
+    CallKind::Plain,
     Callee {
-        function,
-        site,
+        function: 1,
+        site: 3,
         line: 9,
-        target,
+        target: Some(2),
         passed: 0,
-    }
-}
+    },
+);
 
-fn called(function: u32, site: u32, target: Option<u32>) -> Instr {
-    Instr::Call(CallKind::Plain, callee(function, site, target))
-}
+// The same, with its result dropped.
+const TAKES_AWAY_IN_VAIN: Instr = Instr::Call(
+    CallKind::Plain,
+    Callee {
+        function: 1,
+        site: 3,
+        line: 9,
+        target: None,
+        passed: 0,
+    },
+);
 
-fn spawned(function: u32, site: u32, target: Option<u32>) -> Instr {
-    Instr::Call(CallKind::Spawned, callee(function, site, target))
-}
+// It is spawned, its result into slot 1.
+const TAKES_AWAY_INTO_1: Instr = Instr::Call(
+    CallKind::Spawned,
+    Callee {
+        function: 1,
+        site: 4,
+        line: 9,
+        target: Some(1),
+        passed: 0,
+    },
+);
+
+// It is spawned, its result into slot 2.
+const TAKES_AWAY_INTO_2: Instr = Instr::Call(
+    CallKind::Spawned,
+    Callee {
+        function: 1,
+        site: 4,
+        line: 9,
+        target: Some(2),
+        passed: 0,
+    },
+);
+
+// The third function is called in place.
+const PRINTS: Instr = Instr::Call(
+    CallKind::Plain,
+    Callee {
+        function: 2,
+        site: 5,
+        line: 9,
+        target: None,
+        passed: 0,
+    },
+);
+
+// The third function is spawned.
+const PRINTS_BESIDE: Instr = Instr::Call(
+    CallKind::Spawned,
+    Callee {
+        function: 2,
+        site: 6,
+        line: 9,
+        target: None,
+        passed: 0,
+    },
+);
+
+// Main calls itself.
+const MAIN_IN_PLACE: Instr = Instr::Call(
+    CallKind::Plain,
+    Callee {
+        function: 0,
+        site: 1,
+        line: 9,
+        target: Some(1),
+        passed: 0,
+    },
+);
+
+// Main spawns itself.
+const MAIN_BESIDE: Instr = Instr::Call(
+    CallKind::Spawned,
+    Callee {
+        function: 0,
+        site: 2,
+        line: 9,
+        target: Some(1),
+        passed: 0,
+    },
+);
 
 // So much is charged for each continuation edge.
 pub(crate) fn charged(charge: u64) -> Burden {
@@ -213,171 +296,297 @@ fn traps(
     exact && plain && is_over(alloc, main, arg, cost.wrapping_sub(1))
 }
 
+// How a run ends: with a value, or by a trap of a number in a line.
+#[derive(Clone, Copy)]
+enum Ending {
+    Gives(i64),
+    Traps(u8, u32),
+}
+
+// A main on an argument: what it costs, how it ends, and the lines that it prints before.
+#[derive(Clone, Copy)]
+struct Row<'a> {
+    main: &'a [Instr],
+    arg: i64,
+    cost: u64,
+    ending: Ending,
+    lines: &'a [i64],
+}
+
+fn holds(alloc: Global, row: &Row) -> bool {
+    match row.ending {
+        Gives(value) => gives(alloc, row.main, row.arg, row.cost, value, row.lines),
+        Traps(number, line) => {
+            let trap = (number, line);
+            traps(alloc, row.main, row.arg, row.cost, trap, row.lines)
+        }
+    }
+}
+
+fn check(rt: &impl Abort, alloc: Global, rows: &[Row]) {
+    for (index, row) in rows.iter().enumerate() {
+        assert!(rt; holds(alloc, row), "row {index}");
+    }
+}
+
+const VALUES: &[Row] = &[
+    Row {
+        main: &[Load(0), END],
+        arg: 8,
+        cost: 2,
+        ending: Gives(8),
+        lines: &[],
+    },
+    // a name without a value yet is 0
+    Row {
+        main: &[Load(1), END],
+        arg: 8,
+        cost: 2,
+        ending: Gives(0),
+        lines: &[],
+    },
+    Row {
+        main: &[Push(5), Load(0), Binary(Operator::Minus, 4), END],
+        arg: 8,
+        cost: 4,
+        ending: Gives(-3),
+        lines: &[],
+    },
+    Row {
+        main: &[Load(0), Unary(UnaryOperator::Negative, 4), END],
+        arg: 8,
+        cost: 3,
+        ending: Gives(-8),
+        lines: &[],
+    },
+    Row {
+        main: &[Load(0), Unary(UnaryOperator::Not, 4), END],
+        arg: 8,
+        cost: 3,
+        ending: Gives(0),
+        lines: &[],
+    },
+    Row {
+        main: &[Load(0), Unary(UnaryOperator::Not, 4), END],
+        arg: 0,
+        cost: 3,
+        ending: Gives(1),
+        lines: &[],
+    },
+];
+
 #[test]
 fn values(rt: HostRuntime) -> Result<(), AllocError> {
-    let alloc = rt.alloc();
-    let end = Instr::ReturnValue;
-    assert!(rt; gives(alloc, &[Instr::Load(0), end], 8, 2, 8, &[]));
-    // a name without a value yet is 0
-    assert!(rt; gives(alloc, &[Instr::Load(1), end], 8, 2, 0, &[]));
-    let less = Instr::Binary(Operator::Minus, 4);
-    assert!(rt;
-        gives(
-            alloc,
-            &[Instr::Push(5), Instr::Load(0), less, end],
-            8,
-            4,
-            -3,
-            &[]
-        )
-    );
-    let negative = Instr::Unary(UnaryOperator::Negative, 4);
-    assert!(rt; gives(alloc, &[Instr::Load(0), negative, end], 8, 3, -8, &[]));
-    let not = Instr::Unary(UnaryOperator::Not, 4);
-    assert!(rt; gives(alloc, &[Instr::Load(0), not, end], 8, 3, 0, &[]));
-    assert!(rt; gives(alloc, &[Instr::Load(0), not, end], 0, 3, 1, &[]));
+    check(&rt, rt.alloc(), VALUES);
     Ok(())
 }
+
+// The sum of 1 up to the argument: a turn is 11 instructions, and the end 4.
+const SUM: &[Instr] = &[
+    Load(0),
+    SkipIfZero(9),
+    Load(1),
+    Load(0),
+    Binary(Operator::Plus, 5),
+    Store(1),
+    Load(0),
+    Push(1),
+    Binary(Operator::Minus, 6),
+    Store(0),
+    GoBack(10),
+    Load(1),
+    END,
+];
+
+const SUMS: &[Row] = &[
+    Row {
+        main: SUM,
+        arg: 0,
+        cost: 4,
+        ending: Gives(0),
+        lines: &[],
+    },
+    Row {
+        main: SUM,
+        arg: 5,
+        cost: 59,
+        ending: Gives(15),
+        lines: &[],
+    },
+    Row {
+        main: SUM,
+        arg: 100,
+        cost: 1104,
+        ending: Gives(5050),
+        lines: &[],
+    },
+];
 
 #[test]
 fn loops(rt: HostRuntime) -> Result<(), AllocError> {
-    let alloc = rt.alloc();
-    // the sum of 1 up to the argument: a turn is 11 instructions, and the end 4
-    let sum = [
-        Instr::Load(0),
-        Instr::SkipIfZero(9),
-        Instr::Load(1),
-        Instr::Load(0),
-        Instr::Binary(Operator::Plus, 5),
-        Instr::Store(1),
-        Instr::Load(0),
-        Instr::Push(1),
-        Instr::Binary(Operator::Minus, 6),
-        Instr::Store(0),
-        Instr::GoBack(10),
-        Instr::Load(1),
-        Instr::ReturnValue,
-    ];
-    assert!(rt; gives(alloc, &sum, 0, 4, 0, &[]));
-    assert!(rt; gives(alloc, &sum, 5, 59, 15, &[]));
-    assert!(rt; gives(alloc, &sum, 100, 1104, 5050, &[]));
-    assert!(rt; is_over(alloc, &[Instr::GoBack(0)], 0, 1_000_000));
+    check(&rt, rt.alloc(), SUMS);
+    assert!(rt; is_over(rt.alloc(), &[GoBack(0)], 0, 1_000_000));
     Ok(())
 }
+
+const CALLS: &[Row] = &[
+    // arguments in order, the result into its slot, an operand of the caller kept
+    Row {
+        main: &[
+            Push(100),
+            Push(9),
+            Push(2),
+            TAKES_AWAY,
+            Load(2),
+            Binary(Operator::Plus, 4),
+            END,
+        ],
+        arg: 0,
+        cost: 11,
+        ending: Gives(107),
+        lines: &[],
+    },
+    // the result is dropped
+    Row {
+        main: &[Push(9), Push(2), TAKES_AWAY_IN_VAIN, Load(0), END],
+        arg: 8,
+        cost: 9,
+        ending: Gives(8),
+        lines: &[],
+    },
+    // two spawned results, each in its own slot once they are joined
+    Row {
+        main: &[
+            Push(9),
+            Push(2),
+            TAKES_AWAY_INTO_2,
+            Push(5),
+            Push(1),
+            TAKES_AWAY_INTO_1,
+            Sync,
+            Load(1),
+            Push(10),
+            Binary(Operator::Times, 4),
+            Load(2),
+            Binary(Operator::Plus, 4),
+            END,
+        ],
+        arg: 0,
+        cost: 21,
+        ending: Gives(47),
+        lines: &[],
+    },
+    // a spawn in a scope, whose end joins it, beside one that waits for the outer join
+    Row {
+        main: &[
+            Push(9),
+            Push(2),
+            TAKES_AWAY_INTO_2,
+            Open(BlockKind::Region(0)),
+            Push(5),
+            Push(1),
+            TAKES_AWAY_INTO_1,
+            Close,
+            Load(1),
+            Store(0),
+            Sync,
+            Load(2),
+            END,
+        ],
+        arg: 0,
+        cost: 21,
+        ending: Gives(7),
+        lines: &[],
+    },
+    // calls that give nothing, in serial order
+    Row {
+        main: &[
+            Push(3),
+            PRINTS_BESIDE,
+            Push(4),
+            PRINTS,
+            Push(5),
+            Print,
+            Sync,
+            Load(0),
+            END,
+        ],
+        arg: 8,
+        cost: 15,
+        ending: Gives(8),
+        lines: &[3, 4, 5],
+    },
+];
 
 #[test]
 fn calls(rt: HostRuntime) -> Result<(), AllocError> {
-    let alloc = rt.alloc();
-    let end = Instr::ReturnValue;
-    let load = Instr::Load(2);
-    // arguments in order, the result into its slot, an operand of the caller kept
-    let main = [
-        Instr::Push(100),
-        Instr::Push(9),
-        Instr::Push(2),
-        called(1, 3, Some(2)),
-        load,
-        Instr::Binary(Operator::Plus, 4),
-        end,
-    ];
-    assert!(rt; gives(alloc, &main, 0, 11, 107, &[]));
-    // the result is dropped
-    let main = [
-        Instr::Push(9),
-        Instr::Push(2),
-        called(1, 3, None),
-        Instr::Load(0),
-        end,
-    ];
-    assert!(rt; gives(alloc, &main, 8, 9, 8, &[]));
-    // two spawned results, each in its own slot once they are joined
-    let main = [
-        Instr::Push(9),
-        Instr::Push(2),
-        spawned(1, 4, Some(2)),
-        Instr::Push(5),
-        Instr::Push(1),
-        spawned(1, 4, Some(1)),
-        Instr::Sync,
-        Instr::Load(1),
-        Instr::Push(10),
-        Instr::Binary(Operator::Times, 4),
-        load,
-        Instr::Binary(Operator::Plus, 4),
-        end,
-    ];
-    assert!(rt; gives(alloc, &main, 0, 21, 47, &[]));
-    // a spawn in a scope, whose end joins it, beside one that waits for the outer join
-    let main = [
-        Instr::Push(9),
-        Instr::Push(2),
-        spawned(1, 4, Some(2)),
-        Instr::Open(BlockKind::Region(0)),
-        Instr::Push(5),
-        Instr::Push(1),
-        spawned(1, 4, Some(1)),
-        Instr::Close,
-        Instr::Load(1),
-        Instr::Store(0),
-        Instr::Sync,
-        load,
-        end,
-    ];
-    assert!(rt; gives(alloc, &main, 0, 21, 7, &[]));
-    // calls that give nothing, in serial order
-    let main = [
-        Instr::Push(3),
-        spawned(2, 6, None),
-        Instr::Push(4),
-        called(2, 5, None),
-        Instr::Push(5),
-        Instr::Print,
-        Instr::Sync,
-        Instr::Load(0),
-        end,
-    ];
-    assert!(rt; gives(alloc, &main, 8, 15, 8, &[3, 4, 5]));
+    check(&rt, rt.alloc(), CALLS);
     Ok(())
 }
 
+const TRAPPING: &[Row] = &[
+    Row {
+        main: &[
+            Push(4),
+            Print,
+            Push(1),
+            Load(0),
+            Binary(Operator::Divide, 7),
+            END,
+        ],
+        arg: 0,
+        cost: 5,
+        ending: Traps(2, 7),
+        lines: &[4],
+    },
+    Row {
+        main: &[
+            Push(4),
+            Print,
+            Push(1),
+            Load(0),
+            Binary(Operator::Divide, 7),
+            END,
+        ],
+        arg: 1,
+        cost: 6,
+        ending: Gives(1),
+        lines: &[4],
+    },
+    Row {
+        main: &[Load(0), Unary(UnaryOperator::Negative, 8), END],
+        arg: i64::MIN,
+        cost: 2,
+        ending: Traps(1, 8),
+        lines: &[],
+    },
+    Row {
+        main: &[Load(0), Push(1), Binary(Operator::Plus, 6), END],
+        arg: i64::MAX,
+        cost: 3,
+        ending: Traps(1, 6),
+        lines: &[],
+    },
+    // main calls itself: the call at depth 10,000 traps, after 9,999 calls of two instructions
+    Row {
+        main: &[Load(0), MAIN_IN_PLACE, Load(1), END],
+        arg: 3,
+        cost: 20_000,
+        ending: Traps(6, 9),
+        lines: &[],
+    },
+    Row {
+        main: &[Load(0), MAIN_BESIDE, Sync, Load(1), END],
+        arg: 3,
+        cost: 20_000,
+        ending: Traps(6, 9),
+        lines: &[],
+    },
+];
+
 #[test]
 fn trapping(rt: HostRuntime) -> Result<(), AllocError> {
-    let alloc = rt.alloc();
-    let end = Instr::ReturnValue;
-    let main = [
-        Instr::Push(4),
-        Instr::Print,
-        Instr::Push(1),
-        Instr::Load(0),
-        Instr::Binary(Operator::Divide, 7),
-        end,
-    ];
-    assert!(rt; traps(alloc, &main, 0, 5, (2, 7), &[4]));
-    assert!(rt; gives(alloc, &main, 1, 6, 1, &[4]));
-    let main = [
-        Instr::Load(0),
-        Instr::Unary(UnaryOperator::Negative, 8),
-        end,
-    ];
-    assert!(rt; traps(alloc, &main, i64::MIN, 2, (1, 8), &[]));
-    let main = [
-        Instr::Load(0),
-        Instr::Push(1),
-        Instr::Binary(Operator::Plus, 6),
-        end,
-    ];
-    assert!(rt; traps(alloc, &main, i64::MAX, 3, (1, 6), &[]));
-    // main calls itself: the call at depth 10,000 traps, after 9,999 calls of two instructions
-    let main = [Instr::Load(0), called(0, 1, Some(1)), Instr::Load(1), end];
-    assert!(rt; traps(alloc, &main, 3, 20_000, (6, 9), &[]));
-    let main = [
-        Instr::Load(0),
-        spawned(0, 2, Some(1)),
-        Instr::Sync,
-        Instr::Load(1),
-        end,
-    ];
-    assert!(rt; traps(alloc, &main, 3, 20_000, (6, 9), &[]));
+    check(&rt, rt.alloc(), TRAPPING);
     Ok(())
 }
 
@@ -406,13 +615,18 @@ fn refusals(alloc: Global, args: &[i64], limit: u64, charge: u64) -> Result<(u8,
 #[test]
 fn requests(rt: HostRuntime) -> Result<(), Fault> {
     let alloc = rt.alloc();
-    assert!(rt; refusals(alloc, &[5], 4, 0)? == (0, 0));
-    assert!(rt; refusals(alloc, &[5], 3, 0)? == (7, 7));
-    assert!(rt; refusals(alloc, &[5], MOST, 1_000_000_000)? == (0, 0));
-    assert!(rt; refusals(alloc, &[], 4, 0)? == (11, 11));
-    assert!(rt; refusals(alloc, &[5, 6], 4, 0)? == (11, 11));
-    assert!(rt; refusals(alloc, &[5], 0, 0)? == (11, 11));
-    assert!(rt; refusals(alloc, &[5], MOST + 1, 0)? == (11, 11));
-    assert!(rt; refusals(alloc, &[5], 4, 1_000_000_001)? == (11, 11));
+    let cases: [(&[i64], u64, u64, u8); 8] = [
+        (&[5], 4, 0, 0),
+        (&[5], 3, 0, 7),
+        (&[5], MOST, 1_000_000_000, 0),
+        (&[], 4, 0, 11),
+        (&[5, 6], 4, 0, 11),
+        (&[5], 0, 0, 11),
+        (&[5], MOST + 1, 0, 11),
+        (&[5], 4, 1_000_000_001, 11),
+    ];
+    for (args, limit, charge, number) in cases {
+        assert_eq!(rt; refusals(alloc, args, limit, charge)?, (number, number));
+    }
     Ok(())
 }
