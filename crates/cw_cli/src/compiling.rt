@@ -36,6 +36,7 @@ pub fn compile(alloc: Global, bytes: &[u8]) -> Result<Verified, Fault>
     let tokens = lex(alloc, &source)?;
     let ast = parse(alloc, &source, tokens.as_slice())?;
     drop(tokens);
+    drop(source);
     let typed = check(alloc, ast)?;
     let owned = own(alloc, typed)?;
     let core = lower(alloc, owned)?;

@@ -10,7 +10,8 @@ use Rattle.cw_loops.specs.declared.tree.Stmt.TheVariants as variant
 use Rattle.cw_loops.specs.Slotted as spec
 use Rattle.cw_loops.specs.View.{expr_of, stmt_of, block_of, stmt_step, line_step}
 
-pub if_else_is : (e : Expr) (b d : Vec Line Global) → stmt_of (variant.IfElse e b d) ≡ spec.IfElse (expr_of e) (block_of b.items) (block_of d.items)
+pub if_else_is : (e : Expr) (b : Vec Line Global) (d : Box (Vec Line Global) Global) →
+    stmt_of (variant.IfElse e b d) ≡ spec.IfElse (expr_of e) (block_of b.items) (block_of d.value.items)
 unfolding tree_stmt.roll-Stmt denote.Hole.Carrier.roll
 if_else_is e b d = fold-roll-Stmt spec.Stmt (ℕ × spec.Stmt) stmt_step line_step (Stmt-F.IfElse e b d)
 

@@ -44,7 +44,7 @@ stmt_step (Stmt-F.Begin b) =
     spec.Begin b.value.callee (expr_of b.value.from) (expr_of b.value.to) b.value.captured.items b.value.over.items
 stmt_step Stmt-F.Sync = spec.Sync
 stmt_step (Stmt-F.If e b) = spec.If (expr_of e) (block_from b.items)
-stmt_step (Stmt-F.IfElse e b c) = spec.IfElse (expr_of e) (block_from b.items) (block_from c.items)
+stmt_step (Stmt-F.IfElse e b c) = spec.IfElse (expr_of e) (block_from b.items) (block_from c.value.items)
 stmt_step (Stmt-F.While e b) = spec.While (expr_of e) (block_from b.items)
 stmt_step (Stmt-F.Scope b) = spec.Scope (block_from b.items)
 stmt_step (Stmt-F.Cut c b) =

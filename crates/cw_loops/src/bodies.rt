@@ -82,7 +82,7 @@ fn statement(
             let condition = expression(alloc, here.moves, e)?;
             let body = block(alloc, here, b, loops)?;
             let other = block(alloc, here, c, loops)?;
-            Ok(tree::Stmt::IfElse(condition, body, other))
+            Ok(tree::Stmt::IfElse(condition, body, Box::new(alloc, other)?))
         }
         Stmt::While(e, b) => {
             let condition = expression(alloc, here.moves, e)?;

@@ -108,7 +108,7 @@ pub enum Stmt {
     /// A condition, and what is done where it is not 0.
     If(Expr, Vec<Line>),
     /// A condition, what is done where it is not 0, and what is done where it is.
-    IfElse(Expr, Vec<Line>, Vec<Line>),
+    IfElse(Expr, Vec<Line>, Box<Vec<Line>>),
     /// A condition, and what is done again and again while it is not 0.
     While(Expr, Vec<Line>),
     /// A block that joins what it has spawned.

@@ -1,5 +1,5 @@
 -- What a statement with blocks is, and how deep.
-use Rattle.std.proofs.Common.{◌≡◌, ℕ, List, ◌∷◌, Vec, Global, ap}
+use Rattle.std.proofs.Common.{◌≡◌, ℕ, List, ◌∷◌, Box, Vec, Global, ap}
 use Rattle.cw_tree.specs.declared.resolved.Expr.{Expr}
 use Rattle.cw_tree.specs.declared.resolved.Line.{Line}
 use Rattle.cw_tree.specs.declared.resolved.Stmt as tree_stmt
@@ -9,7 +9,8 @@ use Rattle.cw_tree.specs.declared.resolved.Stmt.TheVariants as variant
 use Rattle.cw_tree.specs.Resolved as spec
 use Rattle.cw_tree.specs.ResolvedView.{expr_of, stmt_of, block_of, stmt_step, line_step}
 
-pub if_else_is : (e : Expr) (b d : Vec Line Global) → stmt_of (variant.IfElse e b d) ≡ spec.IfElse (expr_of e) (block_of b.items) (block_of d.items)
+pub if_else_is : (e : Expr) (b : Vec Line Global) (d : Box (Vec Line Global) Global) →
+    stmt_of (variant.IfElse e b d) ≡ spec.IfElse (expr_of e) (block_of b.items) (block_of d.value.items)
 unfolding tree_stmt.roll-Stmt denote.Hole.Carrier.roll
 if_else_is e b d = fold-roll-Stmt spec.Stmt (ℕ × spec.Stmt) stmt_step line_step (Stmt-F.IfElse e b d)
 

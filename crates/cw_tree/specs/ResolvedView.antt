@@ -67,14 +67,14 @@ abbrev pub stmt_step : Stmt-F spec.Stmt (ℕ × spec.Stmt) → spec.Stmt
 stmt_step (Stmt-F.Declare u e) = spec.Declare (use_of u) (expr_of e)
 stmt_step (Stmt-F.DeclareArray u e) = spec.DeclareArray (use_of u) (expr_of e)
 stmt_step (Stmt-F.Assign u e) = spec.Assign (use_of u) (expr_of e)
-stmt_step (Stmt-F.AssignElement u i e) = spec.AssignElement (use_of u) (expr_of i) (expr_of e)
+stmt_step (Stmt-F.AssignElement u i e) = spec.AssignElement (use_of u) (expr_of i.value) (expr_of e)
 stmt_step (Stmt-F.Reduce how s e) = spec.Reduce how (listed_of s) (expr_of e)
 stmt_step (Stmt-F.Call c) =
     spec.Call c.value.kind c.value.site (option_map use_of c.value.target) (listed_of c.value.callee)
     (map argument_of c.value.arguments.items)
 stmt_step Stmt-F.Sync = spec.Sync
 stmt_step (Stmt-F.If e b) = spec.If (expr_of e) (block_from b.items)
-stmt_step (Stmt-F.IfElse e b c) = spec.IfElse (expr_of e) (block_from b.items) (block_from c.items)
+stmt_step (Stmt-F.IfElse e b c) = spec.IfElse (expr_of e) (block_from b.items) (block_from c.value.items)
 stmt_step (Stmt-F.While e b) = spec.While (expr_of e) (block_from b.items)
 stmt_step (Stmt-F.For h b) = spec.For (head_of h.value) (block_from b.items)
 stmt_step (Stmt-F.Scope b) = spec.Scope (block_from b.items)

@@ -115,7 +115,7 @@ pub enum Stmt {
     /// An integer and its new value.
     Assign(Use, Expr),
     /// An array, an index, and the new value of the element there.
-    AssignElement(Use, Expr, Expr),
+    AssignElement(Use, Box<Expr>, Expr),
     /// How a reducer reduces, the reducer, and what it is told.
     Reduce(Reduction, Listed, Expr),
     /// A call, plain or spawned.
@@ -125,7 +125,7 @@ pub enum Stmt {
     /// A condition, and what is done where it is not 0.
     If(Expr, Vec<Line>),
     /// A condition, what is done where it is not 0, and what is done where it is.
-    IfElse(Expr, Vec<Line>, Vec<Line>),
+    IfElse(Expr, Vec<Line>, Box<Vec<Line>>),
     /// A condition, and what is done again and again while it is not 0.
     While(Expr, Vec<Line>),
     /// A parallel loop.

@@ -63,7 +63,8 @@ fn statement<'a>(
         Stmt::IfElse(e, b, c) => {
             let condition = expression(alloc, locals, e)?;
             let body = block(alloc, lists, locals, b)?;
-            Ok(tree::Stmt::IfElse(condition, body, block(alloc, lists, locals, c)?))
+            let other = block(alloc, lists, locals, c)?;
+            Ok(tree::Stmt::IfElse(condition, body, Box::new(alloc, other)?))
         }
         Stmt::While(e, b) => {
             let condition = expression(alloc, locals, e)?;
@@ -168,7 +169,7 @@ fn plain(
         }
         Stmt::AssignElement(a, i, e) => {
             let name = use_of(alloc, &locals.arrays, a)?;
-            let index = expression(alloc, locals, i)?;
+            let index = Box::new(alloc, expression(alloc, locals, i)?)?;
             Ok(tree::Stmt::AssignElement(name, index, expression(alloc, locals, e)?))
         }
         Stmt::Reduce(how, s, e) => {

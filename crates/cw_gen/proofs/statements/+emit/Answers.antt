@@ -42,14 +42,14 @@ statement-returns-then-one-clause-instrs t c =
     let first = c.args.first in
     let test_code = spec.emitted_expr c.args.line (view.expr_of c.in-IfElse.e) in
     let one = spec.emitted_block first (view.block_of c.in-IfElse.b.items) in
-    let other = spec.emitted_block first (view.block_of c.in-IfElse.c.items) in
+    let other = spec.emitted_block first (view.block_of c.in-IfElse.c.value.items) in
     if_else_emitted start test_code c.expression-in-IfElse.new.instrs.items c.hole.new.instrs.items c.block.new.instrs.items c.hole-in-IfElse.new.instrs.items c.land.new.instrs.items c.block-in-IfElse.new.instrs.items c.land_past.new.instrs.items
     one other c.in_ok-test-in-IfElse.test c.in_ok-end-in-IfElse.end (spec.returns (view.block_of c.in-IfElse.b.items)) c.in_ok-one-in-IfElse.one
     c.in_ok-expression-in-IfElse.ensures c.in_ok-test-in-IfElse.ensures.instrs c.in_ok-test-in-IfElse.ensures.place
     (c.in_ok-one-in-IfElse.ensures.instrs ∙ ap (λ l. c.hole.new.instrs.items ++ spec.emitted_block first (view.block_of l)) c.deref-in-IfElse.ensures.value)
     (c.in_ok-one-in-IfElse.ensures.returns ∙ ap (λ l. spec.returns (view.block_of l)) c.deref-in-IfElse.ensures.value)
     c.in_ok-end-in-IfElse.ensures.instrs c.in_ok-end-in-IfElse.ensures.place c.land.ensures
-    (c.in_ok-other-in-IfElse.ensures.instrs ∙ ap (λ l. c.land.new.instrs.items ++ spec.emitted_block first (view.block_of l)) c.deref-in-IfElse-2.ensures.value)
+    (c.in_ok-other-in-IfElse.ensures.instrs ∙ ap (λ l. c.land.new.instrs.items ++ spec.emitted_block first (view.block_of l)) (c.deref-in-IfElse-3.ensures.value ∙ ap (λ v. v.items) c.deref-in-IfElse-2.ensures))
     c.land_past.ensures
     ∙ sym (ap (λ s. start ++ spec.emitted_stmt first c.args.line s) (ap view.stmt_of c.in-IfElse.is ∙ if_else_is c.in-IfElse.e c.in-IfElse.b c.in-IfElse.c))
 
@@ -59,14 +59,14 @@ statement-returns-else-one-clause-instrs t c =
     let first = c.args.first in
     let test_code = spec.emitted_expr c.args.line (view.expr_of c.in-IfElse.e) in
     let one = spec.emitted_block first (view.block_of c.in-IfElse.b.items) in
-    let other = spec.emitted_block first (view.block_of c.in-IfElse.c.items) in
+    let other = spec.emitted_block first (view.block_of c.in-IfElse.c.value.items) in
     if_else_emitted start test_code c.expression-in-IfElse.new.instrs.items c.hole.new.instrs.items c.block.new.instrs.items c.hole-in-IfElse.new.instrs.items c.land.new.instrs.items c.block-in-IfElse.new.instrs.items c.land_past.new.instrs.items
     one other c.in_ok-test-in-IfElse.test c.in_ok-end-in-IfElse.end (spec.returns (view.block_of c.in-IfElse.b.items)) c.in_ok-one-in-IfElse.one
     c.in_ok-expression-in-IfElse.ensures c.in_ok-test-in-IfElse.ensures.instrs c.in_ok-test-in-IfElse.ensures.place
     (c.in_ok-one-in-IfElse.ensures.instrs ∙ ap (λ l. c.hole.new.instrs.items ++ spec.emitted_block first (view.block_of l)) c.deref-in-IfElse.ensures.value)
     (c.in_ok-one-in-IfElse.ensures.returns ∙ ap (λ l. spec.returns (view.block_of l)) c.deref-in-IfElse.ensures.value)
     c.in_ok-end-in-IfElse.ensures.instrs c.in_ok-end-in-IfElse.ensures.place c.land.ensures
-    (c.in_ok-other-in-IfElse.ensures.instrs ∙ ap (λ l. c.land.new.instrs.items ++ spec.emitted_block first (view.block_of l)) c.deref-in-IfElse-2.ensures.value)
+    (c.in_ok-other-in-IfElse.ensures.instrs ∙ ap (λ l. c.land.new.instrs.items ++ spec.emitted_block first (view.block_of l)) (c.deref-in-IfElse-3.ensures.value ∙ ap (λ v. v.items) c.deref-in-IfElse-2.ensures))
     c.land_past.ensures
     ∙ sym (ap (λ s. start ++ spec.emitted_stmt first c.args.line s) (ap view.stmt_of c.in-IfElse.is ∙ if_else_is c.in-IfElse.e c.in-IfElse.b c.in-IfElse.c))
 

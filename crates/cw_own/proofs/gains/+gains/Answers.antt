@@ -52,8 +52,8 @@ after_all-loop-line-preserved t c =
 
 pub after_other-after_block-requires : goal.after_other-after_block-requires
 after_other-after_block-requires t c =
-    let e : stmt_of c.args.stmt.now ≡ spec.IfElse (expr_of c.in-IfElse.field-0) (block_of c.in-IfElse.field-1.items) (block_of c.in-IfElse.block.items) = ap stmt_of c.in-IfElse.is ∙ if_else_is c.in-IfElse.field-0 c.in-IfElse.field-1 c.in-IfElse.block in
+    let e : stmt_of c.args.stmt.now ≡ spec.IfElse (expr_of c.in-IfElse.field-0) (block_of c.in-IfElse.field-1.items) (block_of c.in-IfElse.block.value.items) = ap stmt_of c.in-IfElse.is ∙ if_else_is c.in-IfElse.field-0 c.in-IfElse.field-1 c.in-IfElse.block in
     let small =
-    ap (λ ls. small_block (block_of ls)) c.deref.ensures.value
-    ∙ both_right (small_block (block_of c.in-IfElse.field-1.items)) (small_block (block_of c.in-IfElse.block.items)) (sym (ap small_stmt e) ∙ c.requires) in
+    ap (λ ls. small_block (block_of ls)) (c.deref-in-IfElse.ensures.value ∙ ap (λ v. v.items) c.deref.ensures)
+    ∙ both_right (small_block (block_of c.in-IfElse.field-1.items)) (small_block (block_of c.in-IfElse.block.value.items)) (sym (ap small_stmt e) ∙ c.requires) in
     (search (rules, the_lemmas), small)

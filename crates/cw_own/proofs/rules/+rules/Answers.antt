@@ -18,7 +18,7 @@ pub note_within-returns-in-IfElse-clause-turns : goal.note_within-returns-in-IfE
 note_within-returns-in-IfElse-clause-turns t c =
     let known = row_of c.args.known.now in
     let b = block_of c.in-IfElse.block.items in
-    let d = block_of c.in-IfElse.field-2.items in
+    let d = block_of c.in-IfElse.field-2.value.items in
     let rows = map row_of c.args.rest.now.left.now in
     let e : stmt_of c.args.stmt.now ≡ spec.IfElse (expr_of c.in-IfElse.field-0) b d = ap stmt_of c.in-IfElse.is ∙ if_else_is c.in-IfElse.field-0 c.in-IfElse.block c.in-IfElse.field-2 in
     c.note_other-other.ensures.turns
@@ -33,7 +33,7 @@ note_within-returns-in-IfElse-clause-lines t c =
     let around = option_map loop_of c.args.around.now in
     let taken = taken_of c.args.taken in
     let b = block_of c.in-IfElse.block.items in
-    let d = block_of c.in-IfElse.field-2.items in
+    let d = block_of c.in-IfElse.field-2.value.items in
     let e : stmt_of c.args.stmt.now ≡ spec.IfElse (expr_of c.in-IfElse.field-0) b d = ap stmt_of c.in-IfElse.is ∙ if_else_is c.in-IfElse.field-0 c.in-IfElse.block c.in-IfElse.field-2 in
     c.note_other-other.ensures.lines
     ∙ ap (λ s. lowest c.note_block-branch-in-IfElse.new.least.line (block_lines around known taken Leaves (other_of s))) e

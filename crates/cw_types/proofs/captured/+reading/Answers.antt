@@ -25,11 +25,12 @@ pub statement-returns-in_ok-expression-in-AssignElement-2 :
 statement-returns-in_ok-expression-in-AssignElement-2 t c =
     let n = c.args.count in
     let found = map use_of c.args.found.now.items in
-    let i = reads (expr_of c.in-AssignElement.i) in
+    let i = reads (expr_of c.in-AssignElement.i.value) in
     let e = reads (expr_of c.in-AssignElement.e) in
     let seen : reads_in (stmt_of c.args.stmt.now) ≡ i ++ e = grind (arith, common_steps, stmt_lemmas) in
     c.in_ok-expression-in-AssignElement-2.ensures
-    ∙ ap (λ us. first_uses n us e) c.in_ok-expression-in-AssignElement.ensures
+    ∙ ap (λ us. first_uses n us e)
+    (c.in_ok-expression-in-AssignElement.ensures ∙ ap (λ x. first_uses n found (reads (expr_of x))) c.deref.ensures)
     ∙ sym (uses_append n found i e)
     ∙ ap (first_uses n found) (sym seen)
 
@@ -39,10 +40,11 @@ statement-returns-in_ok-block-in-IfElse-2 t c =
     let found = map use_of c.args.found.now.items in
     let e = reads (expr_of c.in-IfElse.e) in
     let b = reads_in_block (block_of c.in-IfElse.b.items) in
-    let d = reads_in_block (block_of c.in-IfElse.c.items) in
+    let d = reads_in_block (block_of c.in-IfElse.c.value.items) in
     let seen : reads_in (stmt_of c.args.stmt.now) ≡ e ++ (b ++ d) = grind (arith, common_steps, stmt_lemmas) in
     c.in_ok-block-in-IfElse-2.ensures
-    ∙ ap (λ ls. first_uses n (map use_of c.block.new.found.items) (reads_in_block (block_of ls))) c.deref-in-IfElse-2.ensures.value
+    ∙ ap (λ ls. first_uses n (map use_of c.block.new.found.items) (reads_in_block (block_of ls)))
+    (c.deref-in-IfElse-3.ensures.value ∙ ap (λ v. v.items) c.deref-in-IfElse-2.ensures)
     ∙ ap (λ us. first_uses n us d)
     (c.in_ok-block-in-IfElse.ensures
     ∙ ap (λ ls. first_uses n (map use_of c.expression-in-IfElse.new.found.items) (reads_in_block (block_of ls))) c.deref-in-IfElse.ensures.value
