@@ -1,5 +1,6 @@
 -- The heaviest path of a strand with the blocks round it that have spawned, and which run so far it shows.
 use Rattle.std.specs.Prelude.{◌≡◌, ℕ, ◌+◌, ◌-◌, ◌^◌, ◌<◌, ◌≤◌, max, Bool, true, false, not, List, [], ◌∷◌, ◌++◌, Option}
+use Rattle.std.specs.Vec.{vec_len, vec_capacity}
 use Rattle.cw_model.specs.declared.burden.Burden.{Burden}
 use Rattle.cw_model.specs.Burdens.{at_child, at_rest}
 use Rattle.cw_model.specs.Trees.{Mark, Event, Join, tree_of, burdened_span}
@@ -19,6 +20,10 @@ reversed (b ∷ more) bs = reversed more (b ∷ bs)
 
 abbrev pub strand_weight : BurdenedPath → StrandWeight
 strand_weight path = record { now = path.weight; blocks = reversed path.blocks.items [] }
+
+-- there is room for a block
+abbrev pub HasRoomForBlock : BurdenedPath → Type 0
+HasRoomForBlock path = vec_len path.blocks < vec_capacity path.blocks
 
 -- so many instructions more
 abbrev pub goes_on : ℕ → StrandWeight → StrandWeight

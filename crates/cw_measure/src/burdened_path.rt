@@ -4,7 +4,7 @@ ghost use Rattle.std.specs.Prelude.{◌≡◌, ℕ, [], true, false, OnOk};
 ghost use Rattle.cw_model.specs.declared.burden.Burden.{Burden};
 ghost use Rattle.cw_measure.specs.PathCalls.{AppendsWithin, BeginsChild, EndsWithin, Lengthens};
 ghost use Rattle.cw_measure.specs.StrandWeights.{begins, begins_again, joins, strand_weight};
-ghost use Rattle.cw_measure.specs.StrandWeights.{AppendsWeight, EndsChildWeight, JoinsWeight, HasGoneOn, NotesLate, NotesWeight, ReadsWeight, SpawnsWeight, TellsWeight};
+ghost use Rattle.cw_measure.specs.StrandWeights.{AppendsWeight, EndsChildWeight, JoinsWeight, HasGoneOn, HasRoomForBlock, NotesLate, NotesWeight, ReadsWeight, SpawnsWeight, TellsWeight};
 
 use cw_model::burden::Burden;
 use std::alloc::{AllocError, Global};
@@ -52,6 +52,7 @@ impl BurdenedPath {
         ensures late { NotesLate self.old self.new count }
         ensures weight { HasGoneOn self.old self.new count }
         ensures noted { self.new.noted ≡ count }
+        ensures blocks { self.new.blocks ≡ self.old.blocks }
     {
         let since = count.wrapping_sub(self.noted);
         self.weight = self.weight.wrapping_add(since as u128);
@@ -66,6 +67,24 @@ impl BurdenedPath {
         self.note(count);
         self.begin(first)?;
         Ok(())
+    }
+
+    /// Whether there is room for a block.
+    #[inline(always)]
+    pub fn has_room(&self) -> bool
+        ensures { result ≡ true → HasRoomForBlock self.now }
+    {
+        self.blocks.len() < self.blocks.capacity()
+    }
+
+    /// The first spawned part of a block since its last join begins, where there is room for a block.
+    #[inline(always)]
+    pub fn spawn_within(&mut self, count: u64)
+        requires { HasRoomForBlock self.old }
+        ensures { SpawnsWeight self.old self.new count true }
+    {
+        self.note(count);
+        self.begin_within();
     }
 
     /// The spawned part that runs ends, its block joined: with what a path into it is charged its path may be the
@@ -187,6 +206,20 @@ impl BurdenedPath {
         })?;
         self.weight = 0;
         Ok(())
+    }
+
+    // The same, where there is room for a block.
+    #[inline(always)]
+    fn begin_within(&mut self)
+        requires { HasRoomForBlock self.old }
+        ensures weight { strand_weight self.new ≡ begins (strand_weight self.old) }
+        ensures noted { self.new.noted ≡ self.old.noted }
+    {
+        self.blocks.push_reserved(BurdenedBlock {
+            longest: 0,
+            saved: self.weight,
+        });
+        self.weight = 0;
     }
 
     // A further spawn of the innermost block that has spawned.
