@@ -1,5 +1,6 @@
 -- The open blocks of a strand, whose paths are parts of one list, as one site sees them.
-use Rattle.std.specs.Prelude.{◌≡◌, ℕ, ◌+◌, ◌-◌, ◌^◌, ◌≤◌, ◌<◌, Bool, List, [], ◌∷◌, length, option_map}
+use Rattle.std.specs.Prelude.{◌≡◌, ℕ, ◌+◌, ◌-◌, ◌^◌, ◌≤◌, ◌<◌, Bool, List, [], ◌∷◌, ◌++◌, length, option_map}
+use Rattle.std.specs.Vec.{vec_len, vec_capacity}
 use Rattle.cw_sites.specs.ChosenPaths.{Path, plus, best, steps_of}
 use Rattle.cw_sites.specs.declared.steps.Steps.{Steps}
 use Rattle.cw_sites.specs.declared.paths.Block.{Block}
@@ -58,6 +59,19 @@ IsShort paths = length paths.steps.items ≤ paths.start + paths.limit + 1
 -- it has no step more
 abbrev pub IsWithinLimit : Paths → Type 0
 IsWithinLimit paths = length paths.steps.items ≤ paths.start + paths.limit
+
+-- neither more steps than it may have, nor more than there is room for
+pub record HasRoom (paths : Paths) : Type 0 where
+  pub within : IsWithinLimit paths
+  pub room : vec_len paths.steps < vec_capacity paths.steps
+
+-- there is room for a block
+abbrev pub HasRoomForBlock : Paths → Type 0
+HasRoomForBlock paths = vec_len paths.blocks < vec_capacity paths.blocks
+
+-- no step of the innermost block lies between its base and the child that runs
+abbrev pub HasFirstChild : Paths → Type 0
+HasFirstChild paths = (f : Block) (fs : List Block) → paths.blocks.items ≡ fs ++ f ∷ [] → f.mid ≡ f.child
 
 -- at most one step is new
 abbrev pub GrowsByOne : Paths → Paths → Type 0

@@ -1,5 +1,5 @@
 -- What a site table tells of a run so far.
-use Rattle.std.specs.Prelude.{◌≡◌, ℕ, ◌-◌, ◌^◌, ◌<◌, ◌≤◌, ◌==◌, Bool, true, false, ◌||◌, not, List, [], ◌∷◌, ◌++◌}
+use Rattle.std.specs.Prelude.{◌≡◌, ℕ, ◌-◌, ◌^◌, ◌<◌, ◌≤◌, ◌==◌, Bool, true, false, ◌||◌, not, List, [], ◌∷◌, ◌++◌, length}
 use Rattle.std.specs.Prelude.{Option, Some, None}
 use Rattle.cw_model.specs.Trees.{Mark, Invocation, Execution, Event, Join, tree_of}
 use Rattle.cw_model.specs.Rows.{SiteRow, is_site, site_row}
@@ -10,7 +10,7 @@ use Rattle.cw_sites.specs.declared.table.SiteTable.{SiteTable}
 use Rattle.cw_sites.specs.ChosenPaths.{plus, steps_of}
 use Rattle.cw_measure.specs.OpenParts.{no_joins}
 use Rattle.cw_sites.specs.StepSums.{Fits}
-use Rattle.cw_sites.specs.StepLists.{strand_path, Laid}
+use Rattle.cw_sites.specs.StepLists.{strand_path, HasRoom, Laid}
 use Rattle.cw_sites.specs.PathBounds.{IsBounded, IsTight}
 use Rattle.cw_sites.specs.OpenPaths.{here_in, path_in, Shows}
 use Rattle.cw_sites.specs.SiteRows.{row_of, worked, entered, left, calls_in, CountsSite, FitsRow}
@@ -35,6 +35,11 @@ called site es os = in_series (Some (Invocation site)) es os
 
 abbrev pub spawned : (site : ℕ) → List Event → List Open → List Open
 spawned site es os = in_fork (Some (Invocation site)) es os
+
+-- what is so far can be given to the innermost invocation's site as it is
+pub record IsReady (table : SiteTable) : Type 0 where
+  pub here : table.here < length table.rows.by_site.items
+  pub paths : HasRoom table.paths
 
 -- the steps of a table's calls, where counts only grow
 pub record Flushed (old new : SiteTable) (count : ℕ) : Type 0 where

@@ -8,20 +8,21 @@
 //! the strand that runs before a step is put to it, and a block's base where it takes a rest in. So each step that is
 //! put pays for its moves and its adding up once, whatever the length of the paths that are joined.
 
-ghost use Rattle.std.specs.Prelude.{◌≡◌, ℕ, ◌+◌, ◌-◌, ◌^◌, ◌<◌, ◌==◌, ◌≤◌, length, min, if◌then◌else◌, IfOk, OnOk};
+ghost use Rattle.std.specs.Prelude.{◌≡◌, ℕ, ◌+◌, ◌-◌, ◌^◌, ◌<◌, ◌==◌, ◌≤◌, true, length, min, if◌then◌else◌, IfOk, OnOk};
 ghost use Rattle.std.specs.Vec.{vec_len, vec_capacity};
 ghost use Rattle.cw_sites.specs.Compacting.{AddsUpWithin, CountsOn};
 ghost use Rattle.cw_sites.specs.PathBounds.{ComesToFit, FitsAt, FitsBeside, GrowsAt, IsTight, JoinsTight, JoinsTightWith, KeepsLimit};
 ghost use Rattle.cw_sites.specs.PathBounds.{StaysShort, StaysTight, StaysTightBeside, StaysTightWith};
 ghost use Rattle.cw_sites.specs.PathCalls.{ReadsOwn, ReadsOwnBySite};
 ghost use Rattle.cw_sites.specs.StepLists.{strand_path, Comes, ComesWithin, ClosesBlock, Extends, GathersBase, GrowsByOne, IsShort, IsWithinLimit};
+ghost use Rattle.cw_sites.specs.StepLists.{HasFirstChild, HasRoom, HasRoomForBlock};
 ghost use Rattle.cw_sites.specs.StepLists.{AddsStep, Appends, AppendsBlock, ExtendsBy, Forks, JoinsBlock, KeepsBlocks};
 ghost use Rattle.cw_sites.specs.StepLists.{Laid, LaidWith, LetsChildGo, SaysTheSame, TakesChild};
 ghost use Rattle.cw_sites.specs.StepSums.{StaysBelow};
 ghost use Rattle.cw_sites.specs.StrandPaths.{nothing_run, begins, again, spawns, is_longer, ends, joins};
 
 use crate::compacting::{add_up, sum_up};
-use crate::steps::{Steps, add_steps, close_up, take_out};
+use crate::steps::{Steps, add_steps, add_steps_within, close_up, take_out};
 use std::alloc::{AllocError, Global};
 
 /// A block that has spawned since its last join: weights of paths, and where their steps lie in the list.
@@ -110,6 +111,33 @@ impl Paths {
         Ok(at)
     }
 
+    /// Whether the path that runs is within its limit, and there is room for steps more.
+    #[inline(always)]
+    pub fn has_room(&self) -> bool
+        ensures { result ≡ true → HasRoom self.now }
+    {
+        // As in `shorten`.
+        let len = self.steps.len();
+        if len > self.start.wrapping_add(self.limit) {
+            return false;
+        }
+        len < self.steps.capacity()
+    }
+
+    /// So many instructions of a site more, as `extend` tells, where there is room.
+    #[inline(always)]
+    pub fn extend_within(&mut self, place: usize, site: u32, count: u64) -> Option<usize>
+        requires { HasRoom self.old }
+        ensures laid { Laid self.old → Laid self.new }
+        ensures strand_path { Extends self.old self.new site count }
+        ensures bounded { FitsAt site self.old self.new }
+        ensures blocks { self.new.blocks ≡ self.old.blocks }
+    {
+        let at = add_steps_within(&mut self.steps, self.start, place, site, count);
+        self.weight = self.weight.wrapping_add(count);
+        at
+    }
+
     // The path that runs is added up by site where it is longer than its limit.
     #[inline(always)]
     fn shorten(&mut self) -> Result<(), AllocError>
@@ -164,6 +192,36 @@ impl Paths {
         self.weight = 0;
         self.start = len;
         Ok(())
+    }
+
+    /// Whether there is room for a block.
+    #[inline(always)]
+    pub fn has_room_for_block(&self) -> bool
+        ensures { result ≡ true → HasRoomForBlock self.now }
+    {
+        self.blocks.len() < self.blocks.capacity()
+    }
+
+    /// As `begin`, where there is room for a block.
+    #[inline(always)]
+    pub fn begin_within(&mut self)
+        requires { HasRoomForBlock self.old }
+        ensures laid { Laid self.old → Laid self.new }
+        ensures bounded { StaysTight self.old self.new }
+        ensures strand_path { Comes begins self.old self.new }
+    {
+        let len = self.steps.len();
+        self.blocks.push_reserved(Block {
+            base: self.weight,
+            longest: None,
+            rest: 0,
+            from: self.start,
+            mid: len,
+            end: len,
+            child: len,
+        });
+        self.weight = 0;
+        self.start = len;
     }
 
     /// A further spawn of the innermost block that has spawned.
@@ -235,6 +293,57 @@ impl Paths {
                 }
             }
         }
+    }
+
+    /// Whether no step of the block that runs lies between its base and its child, as for its first child.
+    #[inline(always)]
+    pub fn is_first_child(&self) -> bool
+        ensures { result ≡ true → HasFirstChild self.now }
+    {
+        match self.blocks.last() {
+            Some(f) => f.mid == f.child,
+            None => true,
+        }
+    }
+
+    /// The spawned child that ran has ended, of which that is so.
+    #[inline(always)]
+    pub fn end_first(&mut self)
+        requires { HasFirstChild self.old }
+        ensures laid { Laid self.old → Laid self.new }
+        ensures bounded { StaysTight self.old self.new }
+        ensures strand_path { ComesWithin ends self.old self.new }
+    {
+        if let Some(f) = self.blocks.pop() {
+            if is_longest(f, self.weight) {
+                self.take_first(f);
+            } else {
+                self.let_go(f);
+            }
+        }
+    }
+
+    // As `take`, where the block's base ends where the child begins.
+    #[inline(always)]
+    fn take_first(&mut self, f: Block)
+        requires room { vec_len self.old.blocks < vec_capacity self.old.blocks }
+        requires first { f.mid ≡ f.child }
+        ensures laid { LaidWith self.old f → Laid self.new }
+        ensures bounded { StaysTightWith self.old f self.new }
+        ensures strand_path { TakesChild self.old self.new f }
+    {
+        let len = self.steps.len();
+        self.blocks.push_reserved(Block {
+            base: f.base.wrapping_add(f.rest),
+            longest: Some(self.weight),
+            rest: 0,
+            from: f.from,
+            mid: f.mid,
+            end: len,
+            child: len,
+        });
+        self.weight = 0;
+        self.start = len;
     }
 
     // The child that ran is the longest of this block: what was the longest is taken out.
@@ -385,9 +494,10 @@ impl Paths {
         ensures bounded { JoinsTightWith self.old f self.new }
         ensures strand_path { ClosesBlock self.old self.new f }
     {
-        take_out(&mut self.steps, f.mid, self.start);
+        let start = self.start;
         self.weight = f.base.wrapping_add(self.weight);
         self.start = f.from;
+        take_out(&mut self.steps, f.mid, start);
     }
 
     /// Joins the path of a piece of the block that runs, which ran apart and of which nothing is open; `first` tells that

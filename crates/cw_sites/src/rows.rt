@@ -100,6 +100,14 @@ impl Rows {
         Ok(())
     }
 
+    /// Whether a site has a row.
+    #[inline(always)]
+    pub fn has(&self, site: u32) -> bool
+        ensures { result ≡ true → site < length self.now.by_site.items }
+    {
+        (site as usize) < self.by_site.len()
+    }
+
     /// So many instructions of a site more. Gives the place where its steps were put last.
     #[inline(always)]
     pub fn work(&mut self, site: u32, count: u64) -> Result<usize, AllocError>
@@ -110,12 +118,25 @@ impl Rows {
         if place >= self.by_site.len() {
             self.reach(place)?;
         }
+        let at = self.work_here(site, count);
+        Ok(at)
+    }
+
+    /// The same for a site that has a row.
+    #[inline(always)]
+    pub fn work_here(&mut self, site: u32, count: u64) -> usize
+        requires { site < length self.old.by_site.items }
+        ensures own { Becomes (tallies.worked count) self.old self.new site }
+        ensures others { OthersStay self.old self.new site }
+        ensures as_long { length self.new.by_site.items ≡ length self.old.by_site.items }
+    {
+        let place = site as usize;
         let kept = self.by_site[place];
         self.by_site[place] = Kept {
             row: worked(kept.row, count),
             place: kept.place,
         };
-        Ok(kept.place)
+        kept.place
     }
 
     /// The steps of a site were put elsewhere, if a place is given.
@@ -135,6 +156,23 @@ impl Rows {
         }
     }
 
+    /// The same for a site that has a row.
+    #[inline(always)]
+    pub fn tell_here(&mut self, site: u32, at: Option<usize>)
+        requires { site < length self.old.by_site.items }
+        ensures same { SayTheSame self.old self.new }
+        ensures as_long { length self.new.by_site.items ≡ length self.old.by_site.items }
+    {
+        let Some(to) = at else {
+            return;
+        };
+        let place = site as usize;
+        self.by_site[place] = Kept {
+            row: self.by_site[place].row,
+            place: to,
+        };
+    }
+
     /// An invocation of a site begins, at this work and on a path of this weight.
     #[inline(always)]
     pub fn begin(&mut self, site: u32, count: u64, path: u64) -> Result<(), AllocError>
@@ -145,13 +183,24 @@ impl Rows {
         if place >= self.by_site.len() {
             self.reach(place)?;
         }
+        self.begin_here(site, count, path);
+        Ok(())
+    }
+
+    /// The same for a site that has a row.
+    #[inline(always)]
+    pub fn begin_here(&mut self, site: u32, count: u64, path: u64)
+        requires { site < length self.old.by_site.items }
+        ensures own { Becomes (tallies.entered count path) self.old self.new site }
+        ensures others { OthersStay self.old self.new site }
+    {
+        let place = site as usize;
         let row = self.by_site[place].row;
         if row.active == 0 {
             self.put(place, entered_first(row, count, path));
-            return Ok(());
+            return;
         }
         self.put(place, entered_again(row));
-        Ok(())
     }
 
     /// An invocation of a site ends.
@@ -164,13 +213,24 @@ impl Rows {
         if place >= self.by_site.len() {
             self.reach(place)?;
         }
+        self.end_here(site, count, path);
+        Ok(())
+    }
+
+    /// The same for a site that has a row.
+    #[inline(always)]
+    pub fn end_here(&mut self, site: u32, count: u64, path: u64)
+        requires { site < length self.old.by_site.items }
+        ensures own { Becomes (tallies.left count path) self.old self.new site }
+        ensures others { OthersStay self.old self.new site }
+    {
+        let place = site as usize;
         let row = self.by_site[place].row;
         if row.active == 1 {
             self.put(place, left_last(row, count, path));
-            return Ok(());
+            return;
         }
         self.put(place, left_inner(row));
-        Ok(())
     }
 
     /// Adds the sums of a piece that ran apart, of which no invocation is open. Where invocations of a site are open here,

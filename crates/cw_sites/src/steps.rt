@@ -46,6 +46,39 @@ pub fn add_steps(
     Ok(Some(len))
 }
 
+/// The same, where there is room for steps more.
+#[inline(always)]
+pub fn add_steps_within(
+    steps: &mut Vec<Steps>,
+    start: usize,
+    place: usize,
+    site: u32,
+    count: u64,
+) -> Option<usize>
+    requires { vec_len steps.old < vec_capacity steps.old }
+    ensures below { AsBelow start steps.old.items steps.new.items }
+    ensures all { AddsSteps start site count steps.old.items steps.new.items }
+    ensures longer { length steps.old.items ≤ length steps.new.items }
+    ensures short { length steps.new.items ≤ length steps.old.items + 1 }
+    ensures kept { StaysBelowWith site steps.old.items steps.new.items }
+{
+    let len = steps.len();
+    if place >= start {
+        if place < len {
+            let one = steps[place];
+            if one.site == site {
+                steps[place] = Steps {
+                    site,
+                    count: one.count.wrapping_add(count),
+                };
+                return None;
+            }
+        }
+    }
+    steps.push_reserved(Steps { site, count });
+    Some(len)
+}
+
 // These steps at the end.
 #[inline(always)]
 fn put(steps: &mut Vec<Steps>, one: Steps) -> Result<(), AllocError>

@@ -1,10 +1,10 @@
 //! The table of a strand: the rows of the sites, and the chosen path so far.
 
-ghost use Rattle.std.specs.Prelude.{◌≡◌, ◌<◌, ℕ, [], OnOk};
+ghost use Rattle.std.specs.Prelude.{◌≡◌, ◌<◌, ℕ, [], true, length, OnOk};
 ghost use Rattle.cw_sites.specs.PathCalls.{ReadsOwn};
-ghost use Rattle.cw_sites.specs.StepLists.{IsShort};
+ghost use Rattle.cw_sites.specs.StepLists.{HasFirstChild, HasRoomForBlock, IsShort};
 ghost use Rattle.cw_sites.specs.StepSums.{sum_at};
-ghost use Rattle.cw_sites.specs.Tables.{Flushed, FlushesBounded, IsBoundedTable, RowBegun, RowLeft, StaysBoundedIn, Tells};
+ghost use Rattle.cw_sites.specs.Tables.{Flushed, FlushesBounded, IsBoundedTable, IsReady, RowBegun, RowLeft, StaysBoundedIn, Tells};
 ghost use Rattle.cw_sites.specs.Tables.{EndsChild, EndsHalf, Enters, Joins, Leaves, Notes};
 ghost use Rattle.cw_sites.specs.Tables.{JoinsPiece, StaysBoundedBeside};
 ghost use Rattle.cw_sites.specs.Tables.{ReadsPath, ReadsSite, Spawns, SpawnsHalf};
@@ -56,6 +56,35 @@ impl SiteTable {
         Ok(())
     }
 
+    /// Whether what is so far can be given to the innermost invocation's site as it is: it has a row, the path that runs
+    /// is within its limit, and there is room for steps.
+    #[inline(always)]
+    pub fn is_ready(&self) -> bool
+        ensures { result ≡ true → IsReady self.now }
+    {
+        if self.rows.has(self.here) {
+            return self.paths.has_room();
+        }
+        false
+    }
+
+    // As `flush`, where that is so.
+    #[inline(always)]
+    fn flush_ready(&mut self, count: u64)
+        requires { IsReady self.old }
+        ensures flushed { Flushed self.old self.new count }
+        ensures as_long { length self.new.rows.by_site.items ≡ length self.old.rows.by_site.items }
+        ensures blocks { self.new.paths.blocks.items ≡ self.old.paths.blocks.items }
+        ensures room { HasRoomForBlock self.old.paths → HasRoomForBlock self.new.paths }
+    {
+        let here = self.here;
+        let since = count.wrapping_sub(self.noted);
+        let place = self.rows.work_here(here, since);
+        let at = self.paths.extend_within(place, here, since);
+        self.rows.tell_here(here, at);
+        self.noted = count;
+    }
+
     // An invocation begins on a path of this weight.
     #[inline(always)]
     fn begin_row(&mut self, site: u32, path: u64) -> Result<(), AllocError>
@@ -99,6 +128,38 @@ impl SiteTable {
         Ok(())
     }
 
+    /// As `enter`, where the table is ready and the site has a row.
+    #[inline(always)]
+    pub fn enter_ready(&mut self, count: u64, site: u32)
+        requires ready { IsReady self.old }
+        requires there { site < length self.old.rows.by_site.items }
+        ensures { Enters self.old self.new count site }
+    {
+        self.flush_ready(count);
+        let path = self.paths.weight;
+        self.begin_row_ready(site, path);
+    }
+
+    // As `begin_row`, where the site has a row.
+    #[inline(always)]
+    fn begin_row_ready(&mut self, site: u32, path: u64)
+        requires { site < length self.old.rows.by_site.items }
+        ensures { RowBegun self.old self.new site path }
+    {
+        self.rows.begin_here(site, self.noted, path);
+        self.here = site;
+    }
+
+    // As `end_row`, where the innermost invocation's site has a row.
+    #[inline(always)]
+    fn end_row_ready(&mut self, outer: u32)
+        requires { self.old.here < length self.old.rows.by_site.items }
+        ensures { RowLeft self.old self.new outer }
+    {
+        self.rows.end_here(self.here, self.noted, self.paths.weight);
+        self.here = outer;
+    }
+
     /// A spawned call of this site begins, in this strand; `first` tells that its block has not spawned since its last join.
     #[inline(always)]
     pub fn spawn(&mut self, count: u64, site: u32, first: bool) -> Result<(), AllocError>
@@ -109,6 +170,19 @@ impl SiteTable {
         self.paths.spawn(first)?;
         self.begin_row(site, 0)?;
         Ok(())
+    }
+
+    /// As `spawn`, the first of its block, where the table is ready, the site has a row, and there is room for a block.
+    #[inline(always)]
+    pub fn spawn_ready(&mut self, count: u64, site: u32)
+        requires ready { IsReady self.old }
+        requires there { site < length self.old.rows.by_site.items }
+        requires room { HasRoomForBlock self.old.paths }
+        ensures { Spawns self.old self.new count site true }
+    {
+        self.flush_ready(count);
+        self.paths.begin_within();
+        self.begin_row_ready(site, 0);
     }
 
     /// The innermost invocation, a call in place whose block has joined, ends inside one of the site `outer`.
@@ -132,6 +206,38 @@ impl SiteTable {
         self.end_row(outer)?;
         self.paths.end()?;
         Ok(())
+    }
+
+    /// As `leave`, where the table is ready.
+    #[inline(always)]
+    pub fn leave_ready(&mut self, count: u64, outer: u32)
+        requires { IsReady self.old }
+        ensures { Leaves self.old self.new count outer }
+    {
+        self.flush_ready(count);
+        self.end_row_ready(outer);
+    }
+
+    /// As `end_child`, where the table is ready and no step lies between the block's base and the child.
+    #[inline(always)]
+    pub fn end_child_ready(&mut self, count: u64, outer: u32)
+        requires ready { IsReady self.old }
+        requires first { HasFirstChild self.old.paths }
+        ensures { EndsChild self.old self.new count outer }
+    {
+        self.flush_ready(count);
+        self.end_row_ready(outer);
+        self.paths.end_first();
+    }
+
+    /// As `join`, where the table is ready.
+    #[inline(always)]
+    pub fn join_ready(&mut self, count: u64)
+        requires { IsReady self.old }
+        ensures { Joins self.old self.new count }
+    {
+        self.flush_ready(count);
+        self.paths.join();
     }
 
     /// A block joins that has spawned since its last join. Where it has not, there is nothing to call.
