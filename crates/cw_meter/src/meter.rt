@@ -1,6 +1,7 @@
 //! A meter of a run.
 
-ghost use Rattle.std.specs.Prelude.{◌≡◌, Some, None, true, false, IfOk, OnOk};
+ghost use Rattle.std.specs.Prelude.{◌≡◌, ◌<◌, Some, None, true, false, IfOk, OnOk};
+ghost use Rattle.std.specs.Vec.{vec_len, vec_capacity};
 ghost use Rattle.cw_model.specs.Trees.{Invocation};
 ghost use Rattle.cw_meter.specs.Meters.{Starts, StartsRest, Begins, BeginsRegion, Ends, IsHere, IsInnermost, Rests, Returns, Syncs};
 ghost use Rattle.cw_meter.specs.Parts as kept;
@@ -120,6 +121,22 @@ impl Meter {
     pub fn call(&mut self, count: u64, site: u32) -> Result<(), AllocError>
         ensures { OnOk result (Begins self.old self.new count false (Some (Invocation site))) }
     {
+        if self.has_room() {
+            if self.tables.can_call(site) {
+                self.stack_within(PartKind::Call);
+                self.tables.call_ready(count.wrapping_add(1), site);
+                return Ok(());
+            }
+        }
+        self.call_apart(count, site)
+    }
+
+    // The same in any case. Apart, so that nothing is kept over the call of a function where there is room.
+    #[cold]
+    #[inline(never)]
+    fn call_apart(&mut self, count: u64, site: u32) -> Result<(), AllocError>
+        ensures { OnOk result (Begins self.old self.new count false (Some (Invocation site))) }
+    {
         self.stack(PartKind::Call)?;
         self.tables.call(count.wrapping_add(1), site)?;
         Ok(())
@@ -128,6 +145,21 @@ impl Meter {
     /// A spawned call begins by the instruction after `count` ones, at the site of this number, in this strand.
     #[inline(never)]
     pub fn spawn(&mut self, count: u64, site: u32) -> Result<(), AllocError>
+        ensures { OnOk result (Begins self.old self.new count true (Some (Invocation site))) }
+    {
+        if self.has_room() {
+            if self.tables.can_spawn(site) {
+                self.stack_within(PartKind::SpawnedCall);
+                self.tables.spawn_ready(count.wrapping_add(1), site);
+                return Ok(());
+            }
+        }
+        self.spawn_apart(count, site)
+    }
+
+    // The same in any case.
+    #[inline(never)]
+    fn spawn_apart(&mut self, count: u64, site: u32) -> Result<(), AllocError>
         ensures { OnOk result (Begins self.old self.new count true (Some (Invocation site))) }
     {
         self.stack(PartKind::SpawnedCall)?;
@@ -206,6 +238,27 @@ impl Meter {
             spawned: self.tables.spawned,
         })?;
         Ok(())
+    }
+
+    // Whether there is room for a part.
+    #[inline(always)]
+    fn has_room(&self) -> bool
+        ensures { result ≡ true → vec_len self.now.parts < vec_capacity self.now.parts }
+    {
+        self.parts.len() < self.parts.capacity()
+    }
+
+    // A part of this kind begins in the block that runs, where there is room for it.
+    #[inline(always)]
+    fn stack_within(&mut self, kind: PartKind)
+        requires { vec_len self.old.parts < vec_capacity self.old.parts }
+        ensures { Stacks self.old self.new kind }
+    {
+        self.parts.push_reserved(Part {
+            kind,
+            site: self.tables.sites.here,
+            spawned: self.tables.spawned,
+        });
     }
 
     // The block that runs joins: where it has spawned nothing, there is nothing to do.

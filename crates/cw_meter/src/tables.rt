@@ -3,7 +3,10 @@
 ghost use Rattle.std.specs.Prelude.{◌≡◌, true, false, IfOk, OnOk, Some, None};
 ghost use Rattle.cw_model.specs.Trees.{Invocation};
 ghost use Rattle.cw_meter.specs.Moves.{ListsRegions, ListsSites};
-ghost use Rattle.cw_meter.specs.Tables.{Closes, JoinsSpawned, Opens, OpensRegion, Settles, StartsTables, StartsTablesOfRest, TakesIn};
+ghost use Rattle.cw_sites.specs.StepLists.{HasFirstChild};
+ghost use Rattle.cw_sites.specs.Tables.{IsReady};
+ghost use Rattle.cw_meter.specs.Tables.{part_of, CanCall, CanSpawn, Closes, JoinsSpawned, Opens, OpensRegion};
+ghost use Rattle.cw_meter.specs.Tables.{Settles, StartsTables, StartsTablesOfRest, TakesIn};
 ghost use Rattle.cw_meter.specs.declared.parts.PartKind.TheVariants.{Call, Half, Quiet, Region, SpawnedCall};
 
 use crate::parts::{Part, PartKind};
@@ -93,6 +96,56 @@ impl Tables {
         Ok(())
     }
 
+    /// Whether a call in place of this site can begin with the memory that the tables have.
+    #[inline(always)]
+    pub fn can_call(&self, site: u32) -> bool
+        ensures { result ≡ true → CanCall self.now site }
+    {
+        if self.sites.rows.has(site) {
+            return self.sites.is_ready();
+        }
+        false
+    }
+
+    /// As `call`, where that is so.
+    #[inline(always)]
+    pub fn call_ready(&mut self, next: u64, site: u32)
+        requires { CanCall self.old site }
+        ensures { Opens self.old self.new next false (Some (Invocation site)) }
+    {
+        late_paths_wait();
+        self.sites.enter_ready(next, site);
+        self.spawned = false;
+    }
+
+    /// Whether a spawned call of this site can begin so, the first of its block since the last join.
+    #[inline(always)]
+    pub fn can_spawn(&self, site: u32) -> bool
+        ensures { result ≡ true → CanSpawn self.now site }
+    {
+        if self.spawned {
+            return false;
+        }
+        if self.sites.paths.has_room_for_block() {
+            if self.path.has_room() {
+                return self.can_call(site);
+            }
+        }
+        false
+    }
+
+    /// As `spawn`, where that is so.
+    #[inline(always)]
+    pub fn spawn_ready(&mut self, next: u64, site: u32)
+        requires { CanSpawn self.old site }
+        ensures { Opens self.old self.new next true (Some (Invocation site)) }
+    {
+        self.sites.spawn_ready(next, site);
+        self.path.note(next);
+        self.path.spawn_within(next);
+        self.spawned = false;
+    }
+
     /// A spawned call begins by the instruction before `next`, in this strand.
     #[inline(always)]
     pub fn spawn(&mut self, next: u64, site: u32) -> Result<(), AllocError>
@@ -148,6 +201,24 @@ impl Tables {
         ensures told { OnOk result (JoinsSpawned self.old self.new count) }
         ensures joined { OnOk result (self.new.spawned ≡ false) }
     {
+        if self.sites.is_ready() {
+            // The sites last, so that nothing is kept over a call that takes a child's steps out.
+            self.path.note(count);
+            self.path.join(count);
+            self.spawned = false;
+            self.sites.join_ready(count);
+            return Ok(());
+        }
+        self.join_apart(count)
+    }
+
+    // The same in any case. Apart, as what follows for parts: where no function is called, nothing is kept over its call.
+    #[cold]
+    #[inline(never)]
+    fn join_apart(&mut self, count: u64) -> Result<(), AllocError>
+        ensures told { OnOk result (JoinsSpawned self.old self.new count) }
+        ensures joined { OnOk result (self.new.spawned ≡ false) }
+    {
         self.sites.join(count)?;
         self.path.note(count);
         self.path.join(count);
@@ -160,7 +231,82 @@ impl Tables {
     pub fn close(&mut self, count: u64, part: Part) -> Result<(), AllocError>
         ensures { OnOk result (Closes self.old self.new count part) }
     {
+        if self.sites.is_ready() {
+            return self.close_ready(count, part);
+        }
+        self.close_apart(count, part.kind, part.site, part.spawned)
+    }
+
+    // The same, where the sites are ready.
+    #[inline(always)]
+    fn close_ready(&mut self, count: u64, part: Part) -> Result<(), AllocError>
+        requires { IsReady self.old.sites }
+        ensures { OnOk result (Closes self.old self.new count part) }
+    {
         match part.kind {
+            PartKind::Call => {
+                self.end_call_ready(count, part);
+                Ok(())
+            }
+            PartKind::SpawnedCall => self.end_child_ready(count, part),
+            _ => self.close_apart(count, part.kind, part.site, part.spawned),
+        }
+    }
+
+    // As `end_call`, where the sites are ready.
+    #[inline(always)]
+    fn end_call_ready(&mut self, count: u64, part: Part)
+        requires { IsReady self.old.sites }
+        ensures { part.kind ≡ Call → Closes self.old self.new count part }
+    {
+        late_paths_wait();
+        self.sites.leave_ready(count, part.site);
+        self.spawned = part.spawned;
+    }
+
+    // As `end_spawned_call`, where the sites are ready.
+    #[inline(always)]
+    fn end_child_ready(&mut self, count: u64, part: Part) -> Result<(), AllocError>
+        requires { IsReady self.old.sites }
+        ensures { OnOk result (part.kind ≡ SpawnedCall → Closes self.old self.new count part) }
+    {
+        if self.sites.paths.is_first_child() {
+            self.end_first_child_ready(count, part);
+            return Ok(());
+        }
+        self.close_apart(count, part.kind, part.site, part.spawned)
+    }
+
+    // The same, where no step lies between the block's base and the child.
+    #[inline(always)]
+    fn end_first_child_ready(&mut self, count: u64, part: Part)
+        requires ready { IsReady self.old.sites }
+        requires first { HasFirstChild self.old.sites.paths }
+        ensures { part.kind ≡ SpawnedCall → Closes self.old self.new count part }
+    {
+        self.sites.end_child_ready(count, part.site);
+        self.path.note(count);
+        self.path.end_child(count, self.burden);
+        self.spawned = true;
+    }
+
+    // A part that is this ends, in any case.
+    #[inline(never)]
+    fn close_apart(
+        &mut self,
+        count: u64,
+        kind: PartKind,
+        site: u32,
+        spawned: bool,
+    ) -> Result<(), AllocError>
+        ensures { OnOk result (Closes self.old self.new count (part_of kind site spawned)) }
+    {
+        let part = Part {
+            kind,
+            site,
+            spawned,
+        };
+        match kind {
             PartKind::Call => self.end_call(count, part),
             PartKind::SpawnedCall => self.end_spawned_call(count, part),
             PartKind::Quiet => self.end_quiet(count, part),

@@ -1,9 +1,16 @@
-use Rattle.std.proofs.Common.{false, Some, refl, arith}
+use Rattle.std.proofs.Common.{false, Some, refl, sym, subst, arith}
 use Rattle.cw_model.specs.Trees.{Invocation}
 use Rattle.cw_meter.specs.declared.parts.PartKind.TheVariants as kind
 use Rattle.std.proofs.Math.Nat.{mod-eq_of_lt}
+use Rattle.cw_meter.specs.declared.tables.Tables.{Tables}
+use Rattle.cw_meter.specs.Tables.{CanCall}
 use Rattle.cw_meter.proofs.MeterLaws.{meter_begins}
 use Rattle.cw_meter.proofs.meter.Meter.call.Goals as goal
 
-pub returns : goal.returns
-returns c = meter_begins c.args.self.now c.stack.new.self c.call.new.self c.args.count _ kind.Call false (Some (Invocation c.args.site)) c.in_ok-stack.ensures c.in_ok-call.ensures (λ tags outer. (refl, (c.args.site, refl))) (λ small. mod-eq_of_lt (omega arith))
+pub call_ready-requires : goal.call_ready-requires
+call_ready-requires c =
+    let P : Tables → Type 0 = λ t. CanCall t c.args.site in
+    subst P (sym c.stack_within.ensures.tables) (c.can_call.ensures c.if-can_call.true)
+
+pub returns-then-can_call : goal.returns-then-can_call
+returns-then-can_call c = meter_begins c.args.self.now c.stack_within.new.self c.call_ready.new.self c.args.count _ kind.Call false (Some (Invocation c.args.site)) c.stack_within.ensures c.call_ready.ensures (λ tags outer. (refl, (c.args.site, refl))) (λ small. mod-eq_of_lt (omega arith))
